@@ -1,0 +1,4 @@
+-- In reading order.
+-- Value sets and their order.
+pub mod Semilattice
+pub mod ValueSets
