@@ -1,44 +1,52 @@
--- The equations of source 000 hold for value and follower, of each closed guarded rule (the wider class).
+-- The equations of source 000, section 3, hold for the computed value and follower of each closed guarded formula (the wider class).
 -- Assumes nothing.
 use mathlib.Core.Path.{_≡_, refl, sym, _∙_, ap, ap₂, subst}
-use mathlib.Core.Bool.{Bool, true, false}
+use mathlib.Core.Bool.{Bool, true, false, cond}
+use mathlib.Core.List.{List, [], _∷_}
 use Prim.Native.Nat.{ℕ, zero, suc, max, _≤_, _<_, zero-le, suc-le-suc}
-use native.Mathlib.Nat.{le-of-suc-le-suc, not-suc-le-zero}
+use native.Mathlib.Nat.{not-suc-le-zero}
 use native.Mathlib.Omega.{arith}
 use lib.Dec.{eqb}
 use Rattle.theory.specs.Semilattice.{MeetSemilattice}
-use Rattle.theory.specs.Formula.{Formula, truth, variable, transition, output, conjunction, greatest, substitute, unfolded, FreeBelow, WellFormed as WellFormed}
-use Rattle.theory.specs.Evaluation.{unguarded-depth, cond, step-by, step-in, step, value, follower}
-use mathlib.Core.List.{List, [], _∷_}
-use Rattle.theory.specs.MealyMachine.{formulas, after}
-use Rattle.theory.proofs.Substitution.{scoped-substitute, wide-substitute, fit-substitute, N-substitute}
+use Rattle.theory.specs.Formula.{Formula, truth, variable, transition, output, conjunction, greatest, unfolded, WellFormed}
+use Rattle.theory.specs.MealyMachine.{after, Runs}
+use Rattle.theory.specs.Evaluation.{unguarded-depth, step-by, step-in, step, value, follower, formulas}
+use Rattle.theory.proofs.Substitution.{free-substitute, guarded-substitute, fits-substitute, depth-substitute}
 
 module _ {B : Type 0} (events : ℕ) (In : B → Type 0) where
-  abbrev pub WellFormed : Formula B → Type 0
-  WellFormed r = WellFormed events In r
+  abbrev Good : Formula B → Type 0
+  Good φ = WellFormed events In φ
 
-  pub well-formed-unfolded : (r : Formula B) → WellFormed (greatest r) → WellFormed (unfolded r)
-  well-formed-unfolded r g = (
-    scoped-substitute zero zero (greatest r) r (g .0) zero-le (g .0),
-    wide-substitute zero (greatest r) r (g .0) (g .1) (g .1 .1),
-    fit-substitute events In zero (greatest r) r (g .2) (g .2),
-  )
+  pub well-formed-truth : Good truth
+  well-formed-truth = record { closed = tt; guarded = tt; fits = tt }
 
-  pub well-formed-left : (p q : Formula B) → WellFormed (conjunction p q) → WellFormed p
-  well-formed-left p q g = (g .0 .0, g .1 .0, g .2 .0)
+  pub well-formed-unfolded : (r : Formula B) → Good (greatest r) → Good (unfolded r)
+  well-formed-unfolded r g =
+      record {
+        closed = free-substitute zero (greatest r) r (g .closed) (g .closed);
+        guarded = guarded-substitute zero (greatest r) r (g .closed) (g .guarded) (g .guarded .1);
+        fits = fits-substitute events In zero (greatest r) r (g .fits) (g .fits);
+      }
 
-  pub well-formed-right : (p q : Formula B) → WellFormed (conjunction p q) → WellFormed q
-  well-formed-right p q g = (g .0 .1, g .1 .1, g .2 .1)
+  pub well-formed-left : (p q : Formula B) → Good (conjunction p q) → Good p
+  well-formed-left p q g = record { closed = g .closed .0; guarded = g .guarded .0; fits = g .fits .0 }
 
-  pub depth-unfolded : (r : Formula B) → WellFormed (greatest r) → unguarded-depth (unfolded r) ≡ unguarded-depth r
-  depth-unfolded r g = N-substitute zero (greatest r) r (g .1 .0)
+  pub well-formed-right : (p q : Formula B) → Good (conjunction p q) → Good q
+  well-formed-right p q g = record { closed = g .closed .1; guarded = g .guarded .1; fits = g .fits .1 }
 
-  well-formed-pick : (b : Bool) (r : Formula B) → WellFormed r → WellFormed (cond b r truth)
-  well-formed-pick true r g = g
-  well-formed-pick false r g = (tt, tt, tt)
+  pub well-formed-conjunction : (p q : Formula B) → Good p → Good q → Good (conjunction p q)
+  well-formed-conjunction p q g h =
+      record { closed = (g .closed, h .closed); guarded = (g .guarded, h .guarded); fits = (g .fits, h .fits) }
+
+  pub depth-unfolded : (r : Formula B) → Good (greatest r) → unguarded-depth (unfolded r) ≡ unguarded-depth r
+  depth-unfolded r g = depth-substitute zero (greatest r) r (g .guarded .0)
+
+  good-cond : (b : Bool) (r : Formula B) → Good r → Good (cond b r truth)
+  good-cond true r g = g
+  good-cond false r g = well-formed-truth
 
   module _ (meet : B → B → B) (top : B) where
-    stable : (e k j : ℕ) (r : Formula B) → WellFormed r → unguarded-depth r < k → unguarded-depth r < j → step-in meet top k e r ≡ step-in meet top j e r
+    stable : (e k j : ℕ) (r : Formula B) → Good r → unguarded-depth r < k → unguarded-depth r < j → step-in meet top k e r ≡ step-in meet top j e r
     stable e zero j r g h l = absurd (not-suc-le-zero h)
     stable e (suc k) zero r g h l = absurd (not-suc-le-zero l)
     stable e (suc k) (suc j) truth g h l = refl
@@ -67,7 +75,7 @@ module _ {B : Type 0} (events : ℕ) (In : B → Type 0) where
 
     pub step-conjunction :
         (e : ℕ) (p q : Formula B) →
-        WellFormed p → WellFormed q →
+        Good p → Good q →
         step meet top e (conjunction p q) ≡ (meet (value meet top e p) (value meet top e q), conjunction (follower meet top e p) (follower meet top e q))
     unfolding step
     step-conjunction e p q gp gq =
@@ -75,31 +83,30 @@ module _ {B : Type 0} (events : ℕ) (In : B → Type 0) where
         (stable e (suc (max (unguarded-depth p) (unguarded-depth q))) (suc (unguarded-depth p)) p gp (omega arith) (omega arith))
         (stable e (suc (max (unguarded-depth p) (unguarded-depth q))) (suc (unguarded-depth q)) q gq (omega arith) (omega arith))
 
-    pub step-greatest : (e : ℕ) (r : Formula B) → WellFormed (greatest r) → step meet top e (greatest r) ≡ step meet top e (unfolded r)
+    pub step-greatest : (e : ℕ) (r : Formula B) → Good (greatest r) → step meet top e (greatest r) ≡ step meet top e (unfolded r)
     unfolding step
     step-greatest e r g =
         stable e (suc (unguarded-depth r)) (suc (unguarded-depth (unfolded r))) (unfolded r) (well-formed-unfolded r g) (omega (arith, depth-unfolded r g)) (omega arith)
 
     -- followers are closed and guarded again, values are of the set
-    follow-in-well-formed : (k e : ℕ) (r : Formula B) → WellFormed r → WellFormed (step-in meet top k e r .1)
-    follow-in-well-formed zero e r g = (tt, tt, tt)
-    follow-in-well-formed (suc k) e truth g = (tt, tt, tt)
-    follow-in-well-formed (suc k) e (variable n) g = (tt, tt, tt)
-    follow-in-well-formed (suc k) e (transition a r) g = well-formed-pick (eqb a e) r (g .0, g .1, g .2 .1)
-    follow-in-well-formed (suc k) e (output a b) g = (tt, tt, tt)
-    follow-in-well-formed (suc k) e (conjunction p q) g =
-        let hp : WellFormed (step-in meet top k e p .1) = follow-in-well-formed k e p (well-formed-left p q g) in
-        let hq : WellFormed (step-in meet top k e q .1) = follow-in-well-formed k e q (well-formed-right p q g) in
-        ((hp .0, hq .0), (hp .1, hq .1), (hp .2, hq .2))
-    follow-in-well-formed (suc k) e (greatest r) g = follow-in-well-formed k e (unfolded r) (well-formed-unfolded r g)
+    follower-in-well-formed : (k e : ℕ) (r : Formula B) → Good r → Good (step-in meet top k e r .1)
+    follower-in-well-formed zero e r g = well-formed-truth
+    follower-in-well-formed (suc k) e truth g = well-formed-truth
+    follower-in-well-formed (suc k) e (variable n) g = well-formed-truth
+    follower-in-well-formed (suc k) e (transition a r) g = good-cond (eqb a e) r (record { closed = g .closed; guarded = g .guarded; fits = g .fits .1 })
+    follower-in-well-formed (suc k) e (output a b) g = well-formed-truth
+    follower-in-well-formed (suc k) e (conjunction p q) g =
+        well-formed-conjunction (step-in meet top k e p .1) (step-in meet top k e q .1)
+        (follower-in-well-formed k e p (well-formed-left p q g)) (follower-in-well-formed k e q (well-formed-right p q g))
+    follower-in-well-formed (suc k) e (greatest r) g = follower-in-well-formed k e (unfolded r) (well-formed-unfolded r g)
 
-    pub follower-well-formed : (e : ℕ) (r : Formula B) → WellFormed r → WellFormed (follower meet top e r)
+    pub follower-well-formed : (e : ℕ) (r : Formula B) → Good r → Good (follower meet top e r)
     unfolding step
-    follower-well-formed e r g = follow-in-well-formed (suc (unguarded-depth r)) e r g
+    follower-well-formed e r g = follower-in-well-formed (suc (unguarded-depth r)) e r g
 
     -- F-14: A gives the meet of the two values on each sequence
     pub conjunction-values :
-        (w : List ℕ) (e : ℕ) (p q : Formula B) → WellFormed p → WellFormed q →
+        (w : List ℕ) (e : ℕ) (p q : Formula B) → Good p → Good q →
         value meet top e (after (formulas meet top) (conjunction p q) w)
         ≡ meet (value meet top e (after (formulas meet top) p w)) (value meet top e (after (formulas meet top) q w))
     conjunction-values [] e p q gp gq = ap (λ x. x .0) (step-conjunction e p q gp gq)
@@ -108,20 +115,20 @@ module _ {B : Type 0} (events : ℕ) (In : B → Type 0) where
         ∙ conjunction-values w e (follower meet top a p) (follower meet top a q) (follower-well-formed a p gp) (follower-well-formed a q gq)
 
     module _ (L : MeetSemilattice In meet top) where
-      pick-set : (t : Bool) (b : B) → In b → In (cond t b top)
-      pick-set true b h = h
-      pick-set false b h = L .top-in
+      cond-in : (t : Bool) (b : B) → In b → In (cond t b top)
+      cond-in true b h = h
+      cond-in false b h = L .top-in
 
-      value-in-set : (k e : ℕ) (r : Formula B) → WellFormed r → In (step-in meet top k e r .0)
+      value-in-set : (k e : ℕ) (r : Formula B) → Good r → In (step-in meet top k e r .0)
       value-in-set zero e r g = L .top-in
       value-in-set (suc k) e truth g = L .top-in
       value-in-set (suc k) e (variable n) g = L .top-in
       value-in-set (suc k) e (transition a r) g = L .top-in
-      value-in-set (suc k) e (output a b) g = pick-set (eqb a e) b (g .2 .1)
+      value-in-set (suc k) e (output a b) g = cond-in (eqb a e) b (g .fits .1)
       value-in-set (suc k) e (conjunction p q) g =
           L .meet-in _ _ (value-in-set k e p (well-formed-left p q g)) (value-in-set k e q (well-formed-right p q g))
       value-in-set (suc k) e (greatest r) g = value-in-set k e (unfolded r) (well-formed-unfolded r g)
 
-      pub value-in : (e : ℕ) (r : Formula B) → WellFormed r → In (value meet top e r)
+      pub value-in : (e : ℕ) (r : Formula B) → Good r → In (value meet top e r)
       unfolding step
       value-in e r g = value-in-set (suc (unguarded-depth r)) e r g

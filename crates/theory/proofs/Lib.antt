@@ -2,3 +2,4 @@
 pub mod Order
 pub mod Substitution
 pub mod Instantiation
+pub mod Equations

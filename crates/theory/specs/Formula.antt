@@ -30,6 +30,15 @@ module _ {B : Type 0} where
   size (conjunction φ χ) = suc (size φ + size χ)
   size (greatest φ) = suc (size φ)
 
+  -- How many V nodes it has.
+  abbrev pub binders : Formula B → ℕ
+  binders truth = zero
+  binders (variable n) = zero
+  binders (transition e φ) = binders φ
+  binders (output e b) = zero
+  binders (conjunction φ χ) = binders φ + binders χ
+  binders (greatest φ) = suc (binders φ)
+
   -- Each variable without a binder of its own in the formula is below n.
   abbrev pub FreeBelow : ℕ → Formula B → Type 0
   FreeBelow n truth = Unit {0}

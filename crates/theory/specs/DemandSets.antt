@@ -1,0 +1,61 @@
+-- First set, next set and value computed: the computing twin of `Demands`.
+-- Assumes nothing.
+use mathlib.Core.Bool.{Bool, false, _||_, _&&_, cond}
+use mathlib.Core.List.{List, [], _∷_}
+use Prim.Native.Nat.{ℕ, zero, suc, _+_}
+use lib.Dec.{eqb}
+use Rattle.theory.specs.Formula.{Formula, truth, variable, transition, output, conjunction, greatest, size}
+use Rattle.theory.specs.MealyMachine.{Machine}
+use Rattle.theory.specs.Demands.{NodeSet}
+
+unfoldable pub empty : NodeSet
+empty i = false
+
+unfoldable pub only : ℕ → NodeSet
+only j i = eqb j i
+
+unfoldable pub union : NodeSet → NodeSet → NodeSet
+union C D i = C i || D i
+
+-- The set kept for the binder of a variable.
+abbrev pub binder-set : List NodeSet → ℕ → NodeSet
+binder-set [] n = empty
+binder-set (D ∷ ρ) zero = D
+binder-set (D ∷ ρ) (suc n) = binder-set ρ n
+
+module _ {B : Type 0} where
+  -- The demands of the formula at node i, below binders whose demands are ρ. The variable of a binder stands in its part only
+  -- below a transition, so that what is put for it there is no matter.
+  abbrev pub demands : List NodeSet → ℕ → Formula B → NodeSet
+  demands ρ i truth = empty
+  demands ρ i (variable n) = binder-set ρ n
+  demands ρ i (transition e φ) = only i
+  demands ρ i (output e b) = only i
+  demands ρ i (conjunction φ χ) = union (demands ρ (suc i) φ) (demands ρ (suc i + size φ) χ)
+  demands ρ i (greatest φ) = demands (empty ∷ ρ) (suc i) φ
+
+  -- The union of the demands of the parts of the G nodes of D for e, among the nodes of the formula at i.
+  abbrev pub moved : NodeSet → ℕ → List NodeSet → ℕ → Formula B → NodeSet
+  moved D e ρ i truth = empty
+  moved D e ρ i (variable n) = empty
+  moved D e ρ i (transition a φ) = union (cond (D i && eqb a e) (demands ρ (suc i) φ) empty) (moved D e ρ (suc i) φ)
+  moved D e ρ i (output a b) = empty
+  moved D e ρ i (conjunction φ χ) = union (moved D e ρ (suc i) φ) (moved D e ρ (suc i + size φ) χ)
+  moved D e ρ i (greatest φ) = moved D e (demands ρ i (greatest φ) ∷ ρ) (suc i) φ
+
+  -- The meet of the values of the O nodes of D for e, among the nodes of the formula at i.
+  module _ (meet : B → B → B) (top : B) where
+    abbrev pub shown : NodeSet → ℕ → ℕ → Formula B → B
+    shown D e i truth = top
+    shown D e i (variable n) = top
+    shown D e i (transition a φ) = shown D e (suc i) φ
+    shown D e i (output a b) = cond (D i && eqb a e) b top
+    shown D e i (conjunction φ χ) = meet (shown D e (suc i) φ) (shown D e (suc i + size φ) χ)
+    shown D e i (greatest φ) = shown D e (suc i) φ
+
+    -- The machine of node sets of a formula.
+    abbrev pub set-machine : Formula B → Machine NodeSet B
+    set-machine φ = record { value = λ D e. shown D e zero φ; next = λ D e. moved D e [] zero φ }
+
+  abbrev pub first-set : Formula B → NodeSet
+  first-set φ = demands [] zero φ
