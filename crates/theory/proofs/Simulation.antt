@@ -1,0 +1,59 @@
+-- Simulation (definition 1) is being at or below on every event sequence, and is being so up to every length.
+-- Assumes nothing.
+use mathlib.Core.Logic.{_↔_}
+use mathlib.Core.List.{List, [], _∷_}
+use Prim.Native.Nat.{ℕ, zero, suc, _<_}
+use lib.ListN.{length}
+use Rattle.theory.specs.Semilattice.{AtOrBelow}
+use Rattle.theory.specs.MealyMachine.{Machine, Word, after, Runs, IsSimulation, Simulated, BelowOnWords}
+use Rattle.theory.specs.Claims.{SimulationClaim}
+
+-- The state that a word reaches is a state.
+module _ {B S : Type 0} (events : ℕ) (In : B → Type 0) (State : S → Type 0) (m : Machine S B) (runs : Runs events In State m) where
+  pub after-state : (w : List ℕ) (s : S) → State s → Word events w → State (after m s w)
+  after-state [] s h v = h
+  after-state (e ∷ w) s h v = after-state w (m .next s e) (runs .next-in s h e (v .0)) (v .1)
+
+module _ {B S Q : Type 0} (events : ℕ) (In : B → Type 0) (meet : B → B → B)
+    (StateS : S → Type 0) (m : Machine S B) (StateQ : Q → Type 0) (q : Machine Q B) where
+  simulation-below :
+      Runs events In StateS m → Runs events In StateQ q →
+      (R : S → Q → Type 0) → IsSimulation events meet StateS m StateQ q R →
+      (w : List ℕ) (s : S) (t : Q) → StateS s → StateQ t → R s t → Word events w → (e : ℕ) → e < events →
+      AtOrBelow meet (m .value (after m s w) e) (q .value (after q t w) e)
+  simulation-below rm rq R h [] s t hs ht r v e l = h s t hs ht r e l .0
+  simulation-below rm rq R h (a ∷ w) s t hs ht r v e l =
+      simulation-below rm rq R h w (m .next s a) (q .next t a) (rm .next-in s hs a (v .0)) (rq .next-in t ht a (v .0))
+      (h s t hs ht r a (v .0) .1) (v .1) e l
+
+  below-simulation :
+      IsSimulation events meet StateS m StateQ q (BelowOnWords events meet m q)
+  below-simulation s t hs ht r e l = (r [] tt e l, λ w v a k. r (e ∷ w) (l, v) a k)
+
+-- The same for sequences of at most k events, event by event.
+module _ {B S Q : Type 0} (events : ℕ) (meet : B → B → B) (m : Machine S B) (q : Machine Q B) where
+  abbrev pub BelowUpTo : ℕ → S → Q → Type 0
+  BelowUpTo zero s t = Unit {0}
+  BelowUpTo (suc k) s t =
+      (e : ℕ) → e < events → AtOrBelow meet (m .value s e) (q .value t e) × BelowUpTo k (m .next s e) (q .next t e)
+
+  words-up-to : (k : ℕ) (s : S) (t : Q) → BelowOnWords events meet m q s t → BelowUpTo k s t
+  words-up-to zero s t h = tt
+  words-up-to (suc k) s t h = λ e l.
+      (h [] tt e l, words-up-to k (m .next s e) (q .next t e) (λ w v a j. h (e ∷ w) (l, v) a j))
+
+  up-to-word :
+      (w : List ℕ) (s : S) (t : Q) → BelowUpTo (suc (length w)) s t → Word events w → (e : ℕ) → e < events →
+      AtOrBelow meet (m .value (after m s w) e) (q .value (after q t w) e)
+  up-to-word [] s t h v e l = h e l .0
+  up-to-word (a ∷ w) s t h v e l = up-to-word w (m .next s a) (q .next t a) (h a (v .0) .1) (v .1) e l
+
+  pub up-to-iff : (s : S) (t : Q) → ((k : ℕ) → BelowUpTo k s t) ↔ BelowOnWords events meet m q s t
+  up-to-iff s t = ((λ h w v e l. up-to-word w s t (h (suc (length w))) v e l), λ h k. words-up-to k s t h)
+
+module _ {B : Type 0} (In : B → Type 0) (meet : B → B → B) (top : B) (events : ℕ) where
+  pub simulation-claim : SimulationClaim In meet top events
+  simulation-claim S Q StateS m StateQ q rm rq s t hs ht = (
+    (λ h w v e l. simulation-below events In meet StateS m StateQ q rm rq (h .0) (h .1) w s t hs ht (h .2) v e l),
+    λ h. (BelowOnWords events meet m q, below-simulation events In meet StateS m StateQ q, h),
+  )
