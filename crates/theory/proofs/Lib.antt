@@ -5,3 +5,5 @@ pub mod Instantiation
 pub mod Equations
 pub mod SemanticsEquality
 pub mod Simulation
+pub mod SatisfactionUpTo
+pub mod Satisfaction
