@@ -7,3 +7,5 @@ pub mod SemanticsEquality
 pub mod Simulation
 pub mod SatisfactionUpTo
 pub mod Satisfaction
+pub mod Counting
+pub mod TableSatisfaction

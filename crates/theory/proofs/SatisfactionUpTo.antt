@@ -82,16 +82,16 @@ module _ {B S : Type 0} (events : ℕ) (In : B → Type 0) (meet : B → B → B
   conjunction-up-to zero s φ χ h gφ gχ u = (tt, tt)
   conjunction-up-to (suc k) s φ χ h gφ gχ u =
       let first :
-          (e : ℕ) → e < events →
-          Ahead k s e (meet (value meet top e φ) (value meet top e χ), conjunction (follower meet top e φ) (follower meet top e χ))
+      (e : ℕ) → e < events →
+      Ahead k s e (meet (value meet top e φ) (value meet top e χ), conjunction (follower meet top e φ) (follower meet top e χ))
       = λ e l. subst (Ahead k s e) (step-conjunction events In meet top e φ χ gφ gχ) (u e l) in
       let values :
-          (e : ℕ) → e < events →
-          AtOrBelow meet (m .value s e) (value meet top e φ) × AtOrBelow meet (m .value s e) (value meet top e χ)
+      (e : ℕ) → e < events →
+      AtOrBelow meet (m .value s e) (value meet top e φ) × AtOrBelow meet (m .value s e) (value meet top e χ)
       = λ e l. below-meet-iff In meet top L (m .value s e) (value meet top e φ) (value meet top e χ)
       (runs .value-in s h e l) (value-in events In meet top L e φ gφ) (value-in events In meet top L e χ gχ) .0 (first e l .0) in
       let rest :
-          (e : ℕ) → e < events → UpTo k (m .next s e) (follower meet top e φ) × UpTo k (m .next s e) (follower meet top e χ)
+      (e : ℕ) → e < events → UpTo k (m .next s e) (follower meet top e φ) × UpTo k (m .next s e) (follower meet top e χ)
       = λ e l. conjunction-up-to k (m .next s e) (follower meet top e φ) (follower meet top e χ) (runs .next-in s h e l)
       (follower-well-formed events In meet top e φ gφ) (follower-well-formed events In meet top e χ gχ) (first e l .1) in
       ((λ e l. (values e l .0, rest e l .0)), λ e l. (values e l .1, rest e l .1))
