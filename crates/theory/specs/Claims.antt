@@ -89,13 +89,12 @@ module _ {B : Type 0} (In : B → Type 0) (meet : B → B → B) (top : B) (laws
       (n : ℕ) (m : Machine ℕ B) → Runs events In (States n) m → (φ : Formula B) → WellFormed events In φ →
       (s : ℕ) → s < n → TableSatisfies meet n m φ s ↔ Satisfies meet (States n) m φ s
 
-  -- The computed sets are document 01's demands, and the value of a set is the meet of its O values.
+  -- The computed sets are document 01's demands.
   abbrev pub DemandClaim : Type 0
   DemandClaim =
       (φ : Formula B) → WellFormed events In φ →
       IsFirstSet φ (first-set φ)
       × ((D : NodeSet) (e : ℕ) → IsNextSet φ D e (set-machine meet top φ .next D e))
-      × ((D : NodeSet) (e : ℕ) → set-machine meet top φ .value D e ≡ value-of-set meet top φ D e)
 
   -- The machine of demand sets has the formula's values on every event sequence.
   abbrev pub DemandValuesClaim : Type 0

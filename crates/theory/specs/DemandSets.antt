@@ -1,4 +1,4 @@
--- First set, next set and value computed: the computing twin of `Demands`.
+-- First set and next set computed: the computing twin of `Demands`.
 -- Assumes nothing.
 use mathlib.Core.Bool.{Bool, false, _||_, _&&_, cond}
 use mathlib.Core.List.{List, [], _∷_}
@@ -6,7 +6,7 @@ use Prim.Native.Nat.{ℕ, zero, suc, _+_}
 use lib.Dec.{eqb}
 use Rattle.theory.specs.Formula.{Formula, truth, variable, transition, output, conjunction, greatest, size}
 use Rattle.theory.specs.MealyMachine.{Machine}
-use Rattle.theory.specs.Demands.{NodeSet}
+use Rattle.theory.specs.Demands.{NodeSet, value-of-set}
 
 unfoldable pub empty : NodeSet
 empty i = false
@@ -43,19 +43,10 @@ module _ {B : Type 0} where
   moved D e ρ i (conjunction φ χ) = union (moved D e ρ (suc i) φ) (moved D e ρ (suc i + size φ) χ)
   moved D e ρ i (greatest φ) = moved D e (demands ρ i (greatest φ) ∷ ρ) (suc i) φ
 
-  -- The meet of the values of the O nodes of D for e, among the nodes of the formula at i.
   module _ (meet : B → B → B) (top : B) where
-    abbrev pub shown : NodeSet → ℕ → ℕ → Formula B → B
-    shown D e i truth = top
-    shown D e i (variable n) = top
-    shown D e i (transition a φ) = shown D e (suc i) φ
-    shown D e i (output a b) = cond (D i && eqb a e) b top
-    shown D e i (conjunction φ χ) = meet (shown D e (suc i) φ) (shown D e (suc i + size φ) χ)
-    shown D e i (greatest φ) = shown D e (suc i) φ
-
     -- The machine of node sets of a formula.
     abbrev pub set-machine : Formula B → Machine NodeSet B
-    set-machine φ = record { value = λ D e. shown D e zero φ; next = λ D e. moved D e [] zero φ }
+    set-machine φ = record { value = λ D e. value-of-set meet top φ D e; next = λ D e. moved D e [] zero φ }
 
   abbrev pub first-set : Formula B → NodeSet
   first-set φ = demands [] zero φ

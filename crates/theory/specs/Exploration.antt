@@ -8,8 +8,8 @@ use lib.Dec.{ltb}
 use lib.ListN.{length, getD}
 use Rattle.theory.specs.Formula.{Formula}
 use Rattle.theory.specs.MealyMachine.{Machine}
-use Rattle.theory.specs.Demands.{NodeSet}
-use Rattle.theory.specs.DemandSets.{moved, shown, first-set}
+use Rattle.theory.specs.Demands.{NodeSet, value-of-set}
+use Rattle.theory.specs.DemandSets.{moved, first-set}
 
 -- The state after a sequence, its last event first.
 abbrev pub reached : {S : Type 0} → (S → ℕ → S) → S → List ℕ → S
@@ -76,7 +76,7 @@ module _ (width : ℕ) {B : Type 0} (meet : B → B → B) (top : B) (φ : Formu
   abbrev pub bit-machine : Machine (List Bool) B
   bit-machine =
       record {
-        value = λ L e. shown meet top (member L) e zero φ;
+        value = λ L e. value-of-set meet top φ (member L) e;
         next = λ L e. bits width zero (moved (member L) e [] zero φ);
       }
 
