@@ -1,0 +1,6 @@
+-- In the order in which they build on each other.
+pub mod Bits
+pub mod NodeWords
+pub mod NodeSetLaws
+pub mod NodeWalks
+pub mod Binding

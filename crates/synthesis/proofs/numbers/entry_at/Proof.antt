@@ -1,0 +1,19 @@
+use Rattle.synthesis.proofs.numbers.entry_at.Statement.{statement}
+use Rattle.synthesis.proofs.numbers.entry_at.Tie as tie
+use Rattle.synthesis.proofs.numbers.entry_at.Reads as reads
+use Rattle.synthesis.proofs.numbers.entry_at.Lts as lts
+
+-- src/numbers.rt:29:5
+mul-result : tie.Need-mul-result
+mul-result c = ?
+
+-- src/numbers.rt:29:5
+add-result : tie.Need-add-result
+add-result c = ?
+
+-- src/numbers.rt:25:1
+returns : tie.Need-returns
+returns c = ?
+
+pub entry-at-spec : {M : Type 1} → statement M
+entry-at-spec = tie.close (tie.spec mul-result add-result returns)
