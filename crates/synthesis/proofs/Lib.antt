@@ -4,3 +4,5 @@ pub mod NodeWords
 pub mod NodeSetLaws
 pub mod NodeWalks
 pub mod Binding
+pub mod DemandRows
+pub mod Stepping

@@ -371,7 +371,7 @@ bind-bind-requires-4 : (t : ℕ) → bind-lts.Need-bind-requires-4 (
   narrow-reads.Asked,
   narrow-reads.Learnt,
 ) (bind-at t) bind.Post
-bind-bind-requires-4 t c κs = search needs
+bind-bind-requires-4 t c κs = (search needs, (search needs, search needs, search needs, search needs, simp length-set (search needs), search needs))
 
 -- src/demands.rt:64:9
 bind-returns-5 : (t : ℕ) → bind-lts.Need-returns-5 (
