@@ -6,3 +6,4 @@ pub mod NodeWalks
 pub mod Binding
 pub mod DemandRows
 pub mod Stepping
+pub mod Exploring

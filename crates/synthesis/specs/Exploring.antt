@@ -41,40 +41,41 @@ pub record Found (states : List ℕ) (n : ℕ) (set : List ℕ) (r : ℕ) : Type
 abbrev pub Unchanged : ℕ → List ℕ → List ℕ → Type 0
 Unchanged m before after = (x : ℕ) → m ≤ x → getD after x 0 ≡ getD before x 0
 
-module _ (next : List Bool → ℕ → List Bool) (start : List Bool) (events : ℕ) where
+module _ (next : List Bool → ℕ → List Bool) (start : List Bool) where
   -- The state that a sequence reaches, its last event first.
   abbrev pub state-of : List ℕ → List Bool
   state-of w = reached next start w
-
-  -- Entry x, by state and then event, is the number of the next state.
-  pub record Entry (P : List (List ℕ)) (n : ℕ) (nexts : List ℕ) (x : ℕ) : Type 0 where
-    pub of-state : x / events < n
-    pub to-state : getD nexts x 0 < n
-    pub number : index same-bits next start P (next (state-of (getD P (x / events) [])) (x % events)) ≡ getD nexts x 0
-
-  -- The n states kept are those of the sequences, and the first m entries have their numbers.
-  pub record Kept (P : List (List ℕ)) (n m : ℕ) (states nexts : List ℕ) : Type 0 where
-    pub count : length P ≡ n
-    pub state : (j : ℕ) → j < n → bits-at states (j * 4) ≡ state-of (getD P j [])
-    pub entry : (x : ℕ) → x < m → Entry P n nexts x
 
   -- P with the first c events after w.
   abbrev pub events-to : ℕ → List (List ℕ) → List ℕ → List (List ℕ)
   events-to zero P w = P
   events-to (suc c) P w = add same-bits next start (events-to c P w) (c ∷ w)
 
-  -- n is the length where at most `limit` states are kept, and above the limit where there are more.
-  pub record Counted (limit : ℕ) (P : List (List ℕ)) (n m : ℕ) (states nexts : List ℕ) : Type 0 where
-    pub at-most : n ≤ suc limit
-    pub all : n ≤ limit → Kept P n m states nexts
-    pub more : n ≡ suc limit → limit < length P
+  module _ (events : ℕ) where
+    -- Entry x, by state and then event, is the number of the next state.
+    pub record Entry (P : List (List ℕ)) (n : ℕ) (nexts : List ℕ) (x : ℕ) : Type 0 where
+      pub of-state : x / events < n
+      pub to-state : getD nexts x 0 < n
+      pub number : index same-bits next start P (next (state-of (getD P (x / events) [])) (x % events)) ≡ getD nexts x 0
+
+    -- The n states kept are those of the sequences, and the first m entries have their numbers.
+    pub record Kept (P : List (List ℕ)) (n m : ℕ) (states nexts : List ℕ) : Type 0 where
+      pub count : length P ≡ n
+      pub state : (j : ℕ) → j < n → bits-at states (j * 4) ≡ state-of (getD P j [])
+      pub entry : (x : ℕ) → x < m → Entry P n nexts x
+
+    -- n is the length where at most `limit` states are kept, and above the limit where there are more.
+    pub record Counted (limit : ℕ) (P : List (List ℕ)) (n m : ℕ) (states nexts : List ℕ) : Type 0 where
+      pub at-most : n ≤ suc limit
+      pub all : n ≤ limit → Kept P n m states nexts
+      pub more : n ≡ suc limit → limit < length P
 
 -- All events after sequence i.
 abbrev pub Expanded :
     (List Bool → ℕ → List Bool) → ℕ → ℕ → ℕ → ℕ → List ℕ → List ℕ → ℕ → List ℕ → List ℕ → Type 0
 Expanded next events limit i n states nexts r states′ nexts′ =
     (start : List Bool) (P : List (List ℕ)) → Kept next start events P n (i * events) states nexts →
-    Counted next start events limit (events-to next start events events P (getD P i [])) r (i * events + events) states′ nexts′
+    Counted next start events limit (events-to next start events P (getD P i [])) r (i * events + events) states′ nexts′
 
 -- The first sequence to each state, in order; more than `limit` where there are more.
 unfoldable pub sequences : (List Bool → ℕ → List Bool) → List Bool → ℕ → ℕ → List (List ℕ)

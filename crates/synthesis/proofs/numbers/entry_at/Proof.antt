@@ -1,3 +1,4 @@
+use mathlib.Core.Path.{refl}
 use borrow.Author.Needs.{needs}
 use Prim.Native.Nat.{_*_, _≤_, _<_}
 use native.Mathlib.Nat.{mul-le-mul-left}
@@ -17,7 +18,7 @@ add-result c = omega (arith, mul-le-mul-left (c .args .state) (c .pre .2), c .pr
 
 -- src/numbers.rt:25:1
 returns : tie.Need-returns
-returns c = search needs
+returns c = (refl, omega (arith, mul-le-mul-left (c .args .state) (c .pre .2), c .pre .0))
 
 pub entry-at-spec : {M : Type 1} → statement M
 entry-at-spec = tie.close (tie.spec mul-result add-result returns)
