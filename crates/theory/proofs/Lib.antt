@@ -3,4 +3,5 @@ pub mod Order
 pub mod Substitution
 pub mod Instantiation
 pub mod Equations
+pub mod PrefixCode
 pub mod NodeSets
