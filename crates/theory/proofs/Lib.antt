@@ -5,3 +5,4 @@ pub mod Instantiation
 pub mod Equations
 pub mod PrefixCode
 pub mod NodeSets
+pub mod Binders
