@@ -6,3 +6,4 @@ pub mod Equations
 pub mod PrefixCode
 pub mod NodeSets
 pub mod Binders
+pub mod Demands

@@ -1,12 +1,12 @@
 -- Laws of sets of nodes, and what demands, next set and value make of them.
 -- Assumes nothing.
-use mathlib.Core.Path.{_≡_, refl, sym, _∙_, ap, ap₂, fun-ext}
+use mathlib.Core.Path.{_≡_, refl, sym, _∙_, ap, ap₂, subst, fun-ext}
 use mathlib.Core.Logic.{_↔_, _⊎_, inl, inr}
 use mathlib.Core.Bool.{Bool, true, false, _||_, _&&_, cond, or-false, or-self, or-assoc, or-comm}
 use mathlib.Core.List.{List, [], _∷_}
 use Prim.Native.Nat.{ℕ, zero, suc, _+_, _≤_, _<_}
 use native.Mathlib.Omega.{arith}
-use lib.Dec.{T, eqb}
+use lib.Dec.{T, eqb, eqb→eq, eqb-refl}
 use borrow.Author.Tests.{eq-eqb, ne-eqb}
 use Rattle.theory.specs.Semilattice.{MeetSemilattice}
 use Rattle.theory.specs.Formula.{Formula, truth, variable, transition, output, conjunction, greatest, size, GuardedIn, Fits}
@@ -47,6 +47,10 @@ only-self i = eq-eqb i i refl
 pub only-other : (i j : ℕ) → ¬ (i ≡ j) → only i j ≡ false
 unfolding only
 only-other i j h = ne-eqb i j h
+
+pub in-only : (i d : ℕ) → T (only i d) ↔ (i ≡ d)
+unfolding only
+in-only i d = (eqb→eq i d, λ p. subst (λ x. T (eqb i x)) p (eqb-refl i))
 
 pub in-union : (C D : NodeSet) (d : ℕ) → T (union C D d) ↔ (T (C d) ⊎ T (D d))
 unfolding union
