@@ -6,7 +6,7 @@ use mathlib.Core.Bool.{Bool, true, false, _&&_, cond}
 use mathlib.Core.List.{List, [], _∷_, _++_, append-nil, append-assoc}
 use Prim.Native.Nat.{ℕ, zero, suc, _+_, _<_, zero-le, suc-le-suc}
 use native.Mathlib.Omega.{arith}
-use lib.Dec.{T, eqb, eqb→eq}
+use lib.Dec.{T, eqb, eqb→eq, eqb-refl}
 use lib.ListN.{length, getD}
 use borrow.Author.Tests.{eq-eqb}
 use Rattle.theory.specs.Semilattice.{MeetSemilattice}
@@ -60,7 +60,7 @@ module _ {B : Type 0} (φ : Formula B) where
 
   module _ (g : Guarded φ) where
     -- The part of a binder may be computed with the binder's own demands for its variable.
-    own-demands :
+    pub own-demands :
         {i : ℕ} {bs : List ℕ} {ψ : Formula B} (s : Stands φ i bs (greatest ψ)) →
         demands (binder-demands φ (part-of-greatest s)) (suc i) ψ ≡ demands (binder-demands φ s) i (greatest ψ)
     own-demands {i} {bs} {ψ} s =
@@ -103,5 +103,120 @@ module _ {B : Type 0} (φ : Formula B) where
         T (demands (binder-demands φ s) i ψ d) ↔ Demands φ i d
     demands-iff {bs = bs} {ψ = ψ} s d = (demands-sound s d, λ h. demands-complete h bs ψ s)
 
-    pub first-set-iff : IsFirstSet φ (first-set φ)
-    first-set-iff d = demands-iff root d
+    pub is-first-set : IsFirstSet φ (first-set φ)
+    is-first-set d = demands-iff root d
+
+-- Membership of a set that stands under a condition.
+in-cond : (t : Bool) (C : NodeSet) (d : ℕ) → T (cond t C empty d) ↔ (T t × T (C d))
+in-cond true C d = ((λ h. (tt, h)), λ h. h .1)
+in-cond false C d = ((λ h. absurd (not-in-empty d h)), λ h. absurd (h .0))
+
+-- The test for a node of D for e.
+node-for : (t : Bool) (a e : ℕ) → T (t && eqb a e) ↔ (T t × (a ≡ e))
+node-for true a e = ((λ h. (tt, eqb→eq a e h)), λ h. subst (λ x. T (eqb a x)) (h .1) (eqb-refl a))
+node-for false a e = ((λ h. absurd h), λ h. h .0)
+
+module _ {B : Type 0} (φ : Formula B) (D : NodeSet) (e d : ℕ) where
+  -- The next set among the nodes of a part has what the parts of its G nodes demand: for every formula.
+  moved-part :
+      (ψ : Formula B) (i : ℕ) (bs : List ℕ) (s : Stands φ i bs ψ) → T (moved D e (binder-demands φ s) i ψ d) →
+      InNextSet φ D e d
+  moved-part truth i bs s h = absurd (not-in-empty d h)
+  moved-part (variable n) i bs s h = absurd (not-in-empty d h)
+  moved-part (transition a ψ) i bs s h =
+      ⊎-elim here (moved-part ψ (suc i) bs (part-of-transition s))
+      (in-union (cond (D i && eqb a e) (demands (binder-demands φ s) (suc i) ψ) empty)
+      (moved D e (binder-demands φ s) (suc i) ψ) d .0 h)
+    where
+      here : T (cond (D i && eqb a e) (demands (binder-demands φ s) (suc i) ψ) empty d) → InNextSet φ D e d
+      here t =
+          let c = in-cond (D i && eqb a e) (demands (binder-demands φ s) (suc i) ψ) d .0 t in
+          let n = node-for (D i) a e .0 (c .0) in (
+            i,
+            bs,
+            ψ,
+            n .0,
+            subst (λ x. Stands φ i bs (transition x ψ)) (n .1) s,
+            demands-sound φ (part-of-transition s) d (c .1),
+          )
+  moved-part (output a b) i bs s h = absurd (not-in-empty d h)
+  moved-part (conjunction ψ χ) i bs s h =
+      ⊎-elim (moved-part ψ (suc i) bs (left-part s)) (moved-part χ (suc i + size ψ) bs (right-part s))
+      (in-union (moved D e (binder-demands φ s) (suc i) ψ) (moved D e (binder-demands φ s) (suc i + size ψ) χ) d .0 h)
+  moved-part (greatest ψ) i bs s h = moved-part ψ (suc i) (i ∷ bs) (part-of-greatest s) h
+
+  -- The next set among the nodes of a part lies in the whole next set.
+  moved-whole :
+      {i : ℕ} {bs : List ℕ} {ψ : Formula B} (s : Stands φ i bs ψ) → T (moved D e (binder-demands φ s) i ψ d) →
+      T (moved D e [] zero φ d)
+  moved-whole root h = h
+  moved-whole (part-of-transition {i = i} {e = a} {ψ = ψ} s) h =
+      moved-whole s
+      (in-union (cond (D i && eqb a e) (demands (binder-demands φ s) (suc i) ψ) empty)
+      (moved D e (binder-demands φ s) (suc i) ψ) d .1 (inr h))
+  moved-whole (left-part {i = i} {ψ = ψ} {χ = χ} s) h =
+      moved-whole s
+      (in-union (moved D e (binder-demands φ s) (suc i) ψ) (moved D e (binder-demands φ s) (suc i + size ψ) χ) d .1 (inl h))
+  moved-whole (right-part {i = i} {ψ = ψ} {χ = χ} s) h =
+      moved-whole s
+      (in-union (moved D e (binder-demands φ s) (suc i) ψ) (moved D e (binder-demands φ s) (suc i + size ψ) χ) d .1 (inr h))
+  moved-whole (part-of-greatest s) h = moved-whole s h
+
+  moved-node : Guarded φ → InNextSet φ D e d → T (moved D e [] zero φ d)
+  moved-node g (i, bs, ψ, t, s, h) =
+      moved-whole s
+      (in-union (cond (D i && eqb e e) (demands (binder-demands φ s) (suc i) ψ) empty)
+      (moved D e (binder-demands φ s) (suc i) ψ) d .1
+      (inl (in-cond (D i && eqb e e) (demands (binder-demands φ s) (suc i) ψ) d .1
+      (node-for (D i) e e .1 (t, refl), demands-complete φ g h bs ψ (part-of-transition s)))))
+
+pub is-next-set :
+    {B : Type 0} (φ : Formula B) → Guarded φ → (D : NodeSet) (e : ℕ) → IsNextSet φ D e (moved D e [] zero φ)
+is-next-set φ g D e d = (moved-part φ D e d φ zero [] root, moved-node φ D e d g)
+
+module _ {B : Type 0} (In : B → Type 0) (meet : B → B → B) (top : B) (L : MeetSemilattice In meet top) (events : ℕ) where
+  abbrev values : NodeSet → ℕ → ℕ → List (Node B) → B
+  values D e i ns = meet-all meet top (outputs D e i ns)
+
+  value-of-output :
+      (t : Bool) (b : B) (bs : List B) → In (meet-all meet top bs) →
+      meet-all meet top (cond t (b ∷ bs) bs) ≡ meet (cond t b top) (meet-all meet top bs)
+  value-of-output true b bs h = refl
+  value-of-output false b bs h = sym (top-meet In meet top L (meet-all meet top bs) h)
+
+  -- The O values of a part's nodes, then those of more nodes.
+  value-of-part :
+      (D : NodeSet) (e i k : ℕ) (ψ : Formula B) (ns : List (Node B)) → i + size ψ ≡ k → Fits events In ψ →
+      In (values D e k ns) → values D e i (nodes ψ ++ ns) ≡ meet (shown meet top D e i ψ) (values D e k ns)
+  value-of-part D e i k truth ns p f h =
+      let q : suc i ≡ k = omega arith in
+      ap (λ j. values D e j ns) q ∙ sym (top-meet In meet top L (values D e k ns) h)
+  value-of-part D e i k (variable n) ns p f h =
+      let q : suc i ≡ k = omega arith in
+      ap (λ j. values D e j ns) q ∙ sym (top-meet In meet top L (values D e k ns) h)
+  value-of-part D e i k (transition a ψ) ns p f h = value-of-part D e (suc i) k ψ ns (omega arith) (f .1) h
+  value-of-part D e i k (output a b) ns p f h =
+      let q : suc i ≡ k = omega arith in
+      ap (λ j. meet-all meet top (cond (D i && eqb a e) (b ∷ outputs D e j ns) (outputs D e j ns))) q
+      ∙ value-of-output (D i && eqb a e) b (outputs D e k ns) h
+  value-of-part D e i k (conjunction ψ χ) ns p f h =
+      let right : values D e (suc i + size ψ) (nodes χ ++ ns)
+      ≡ meet (shown meet top D e (suc i + size ψ) χ) (values D e k ns)
+      = value-of-part D e (suc i + size ψ) k χ ns (omega arith) (f .1) h in
+      let in-left : In (shown meet top D e (suc i) ψ) = shown-in meet top In L events D e (suc i) ψ (f .0) in
+      let in-right : In (shown meet top D e (suc i + size ψ) χ)
+      = shown-in meet top In L events D e (suc i + size ψ) χ (f .1) in
+      ap (values D e (suc i)) (append-assoc (nodes ψ) (nodes χ) ns)
+      ∙ value-of-part D e (suc i) (suc i + size ψ) ψ (nodes χ ++ ns) refl (f .0)
+      (subst⁻¹ In right (L .meet-in _ _ in-right h))
+      ∙ ap (meet (shown meet top D e (suc i) ψ)) right ∙ sym (L .associative _ _ _ in-left in-right h)
+  value-of-part D e i k (greatest ψ) ns p f h = value-of-part D e (suc i) k ψ ns (omega arith) f h
+
+  -- The computed value of a set is the meet of its O values.
+  pub shown-is-value :
+      (φ : Formula B) → Fits events In φ → (D : NodeSet) (e : ℕ) →
+      shown meet top D e zero φ ≡ value-of-set meet top φ D e
+  shown-is-value φ f D e =
+      sym (L .neutral _ (shown-in meet top In L events D e zero φ f))
+      ∙ sym (value-of-part D e zero (zero + size φ) φ [] refl f (L .top-in))
+      ∙ ap (values D e zero) (append-nil (nodes φ))

@@ -7,3 +7,4 @@ pub mod PrefixCode
 pub mod NodeSets
 pub mod Binders
 pub mod Demands
+pub mod DemandValues
