@@ -8,3 +8,4 @@ pub mod NodeSets
 pub mod Binders
 pub mod Demands
 pub mod DemandValues
+pub mod DemandClaims
