@@ -5,7 +5,7 @@ use mathlib.Core.List.{List, [], _∷_}
 use Prim.Native.Nat.{ℕ, zero, suc, _<_}
 use native.Mathlib.Nat.{not-suc-le-zero, le-of-suc-le-suc}
 use lib.ListN.{length, getD}
-use Rattle.theory.specs.Formula.{Formula, transition, conjunction, greatest, FreeBelow, Closed, Guarded, Fits, WellFormed}
+use Rattle.theory.specs.Formula.{Formula, greatest, FreeBelow, Closed, Guarded, Fits, WellFormed}
 use Rattle.theory.specs.PrefixCode.{Stands, root, part-of-transition, left-part, right-part, part-of-greatest}
 use Rattle.theory.specs.Demands.{NodeSet}
 use Rattle.theory.specs.DemandSets.{binder-set, demands}

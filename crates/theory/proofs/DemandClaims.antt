@@ -1,6 +1,6 @@
 -- The claims about demands (specs/Claims).
 -- Assumes nothing.
-use mathlib.Core.Path.{_≡_, _∙_, subst}
+use mathlib.Core.Path.{_∙_, subst}
 use mathlib.Core.List.{List}
 use Prim.Native.Nat.{ℕ}
 use Rattle.theory.specs.Semilattice.{MeetSemilattice}

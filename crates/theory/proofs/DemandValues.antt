@@ -17,7 +17,7 @@ use Rattle.theory.specs.Evaluation.{unguarded-depth, step, value, follow
 use Rattle.theory.specs.DemandSets.{empty, only, union, binder-set, demands, moved, shown, set-machine, first-set}
 use Rattle.theory.proofs.Order.{top-meet}
 use Rattle.theory.proofs.Instantiation.{instantiate, nth, instantiate-truth, instantiate-transition, instantiate-output, instantiate-conjunction, instantiate-greatest, instantiate-variable, all-closed}
-use Rattle.theory.proofs.Equations.{well-formed-left, well-formed-right, step-truth, step-transition, step-output, step-conjunction, step-greatest, depth-unfolded, follower-well-formed}
+use Rattle.theory.proofs.Equations.{step-truth, step-transition, step-output, step-conjunction, step-greatest, depth-unfolded, follower-well-formed}
 use Rattle.theory.proofs.NodeSets.{Misses, Lies, only-self, only-other, only-lies, empty-misses, union-empty, empty-union, moved-union, moved-miss, shown-miss, shown-in, shown-union}
 use Rattle.theory.proofs.Binders.{binder-demands, binder-formulas, binder-formulas-length, IsBinder, binder-of, part-free, part-fits, binder-formulas-well-formed, part-well-formed}
 use Rattle.theory.proofs.Demands.{own-demands}

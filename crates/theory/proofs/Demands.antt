@@ -1,23 +1,22 @@
 -- The computed demands, first set, next set and value are the printed ones (document 01, "Table of a rule").
 -- Assumes nothing.
-use mathlib.Core.Path.{_≡_, refl, sym, _∙_, ap, ap₂, subst, subst⁻¹, subst₂}
-use mathlib.Core.Logic.{_↔_, _⊎_, inl, inr, ⊎-elim}
+use mathlib.Core.Path.{_≡_, refl, sym, _∙_, ap, subst, subst⁻¹, subst₂}
+use mathlib.Core.Logic.{_↔_, inl, inr, ⊎-elim, Iff·symm, Iff·trans}
 use mathlib.Core.Bool.{Bool, true, false, _&&_, cond}
 use mathlib.Core.List.{List, [], _∷_, _++_, append-nil, append-assoc}
 use Prim.Native.Nat.{ℕ, zero, suc, _+_, _<_, zero-le, suc-le-suc}
 use native.Mathlib.Omega.{arith}
 use lib.Dec.{T, eqb, eqb→eq, eqb-refl}
 use lib.ListN.{length, getD}
-use borrow.Author.Tests.{eq-eqb}
 use Rattle.theory.specs.Semilattice.{MeetSemilattice}
 use Rattle.theory.specs.Formula.{Formula, truth, variable, transition, output, conjunction, greatest, size, Guarded, Fits}
 use Rattle.theory.specs.PrefixCode.{Node, nodes, Stands, root, part-of-transition, left-part, right-part, part-of-greatest}
 use Rattle.theory.specs.Demands.{NodeSet, Demands, of-transition, of-output, of-left, of-right, of-greatest, of-variable, IsFirstSet, InNextSet, IsNextSet, outputs, meet-all, value-of-set}
-use Rattle.theory.specs.DemandSets.{empty, only, union, binder-set, demands, moved, shown, first-set}
+use Rattle.theory.specs.DemandSets.{empty, binder-set, demands, moved, shown, first-set}
 use Rattle.theory.proofs.Order.{top-meet}
 use Rattle.theory.proofs.PrefixCode.{stands-once}
-use Rattle.theory.proofs.NodeSets.{not-in-empty, in-only, in-union, demands-swap, shown-in}
-use Rattle.theory.proofs.Binders.{binder-demands, IsBinder, binder-of, part-guarded}
+use Rattle.theory.proofs.NodeSets.{not-in-empty, in-only, in-union, same-members, demands-swap, shown-in}
+use Rattle.theory.proofs.Binders.{binder-demands, binder-of, part-guarded}
 
 module _ {B : Type 0} (φ : Formula B) where
   -- What is kept for a variable is demanded by its binder.
@@ -67,7 +66,7 @@ module _ {B : Type 0} (φ : Formula B) where
         demands-swap zero (demands (binder-demands φ s) i (greatest ψ)) (empty ∷ binder-demands φ s) (suc i) ψ
         (part-guarded φ g s .0)
 
-    -- One part stands at a node, so that it may be taken for any other that does.
+    -- What is computed at a node may be shown for any part that stands there, since only one does.
     at-node :
         {i : ℕ} {bs cs : List ℕ} {ψ χ : Formula B} (d : ℕ) → Stands φ i cs χ →
         ((t : Stands φ i cs χ) → T (demands (binder-demands φ t) i χ d)) →
@@ -105,6 +104,9 @@ module _ {B : Type 0} (φ : Formula B) where
 
     pub is-first-set : IsFirstSet φ (first-set φ)
     is-first-set d = demands-iff root d
+
+    pub only-first-set : (D : NodeSet) → IsFirstSet φ D → D ≡ first-set φ
+    only-first-set D f = same-members D (first-set φ) (λ d. Iff·trans (f d) (Iff·symm (is-first-set d)))
 
 -- Membership of a set that stands under a condition.
 in-cond : (t : Bool) (C : NodeSet) (d : ℕ) → T (cond t C empty d) ↔ (T t × T (C d))
@@ -170,9 +172,20 @@ module _ {B : Type 0} (φ : Formula B) (D : NodeSet) (e d : ℕ) where
       (inl (in-cond (D i && eqb e e) (demands (binder-demands φ s) (suc i) ψ) d .1
       (node-for (D i) e e .1 (t, refl), demands-complete φ g h bs ψ (part-of-transition s)))))
 
+-- What is computed as next set is in it: for every formula.
+pub next-set-sound :
+    {B : Type 0} (φ : Formula B) (D : NodeSet) (e d : ℕ) → T (moved D e [] zero φ d) → InNextSet φ D e d
+next-set-sound φ D e d h = moved-part φ D e d φ zero [] root h
+
 pub is-next-set :
     {B : Type 0} (φ : Formula B) → Guarded φ → (D : NodeSet) (e : ℕ) → IsNextSet φ D e (moved D e [] zero φ)
-is-next-set φ g D e d = (moved-part φ D e d φ zero [] root, moved-node φ D e d g)
+is-next-set φ g D e d = (next-set-sound φ D e d, moved-node φ D e d g)
+
+pub only-next-set :
+    {B : Type 0} (φ : Formula B) → Guarded φ → (D : NodeSet) (e : ℕ) (D′ : NodeSet) → IsNextSet φ D e D′ →
+    D′ ≡ moved D e [] zero φ
+only-next-set φ g D e D′ f =
+    same-members D′ (moved D e [] zero φ) (λ d. Iff·trans (f d) (Iff·symm (is-next-set φ g D e d)))
 
 module _ {B : Type 0} (In : B → Type 0) (meet : B → B → B) (top : B) (L : MeetSemilattice In meet top) (events : ℕ) where
   abbrev values : NodeSet → ℕ → ℕ → List (Node B) → B

@@ -7,5 +7,6 @@ pub mod PrefixCode
 pub mod NodeSets
 pub mod Binders
 pub mod Demands
+pub mod ReachedSets
 pub mod DemandValues
 pub mod DemandClaims

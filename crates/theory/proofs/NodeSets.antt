@@ -65,6 +65,16 @@ in-union C D d = (to (C d) (D d), from (C d) (D d))
     from false b (inl h) = absurd h
     from false b (inr h) = h
 
+-- Sets with the same members are the same set.
+pub same-members : (C D : NodeSet) → ((d : ℕ) → T (C d) ↔ T (D d)) → C ≡ D
+same-members C D f = fun-ext (λ d. same (C d) (D d) (f d .0) (f d .1))
+  where
+    same : (a b : Bool) → (T a → T b) → (T b → T a) → a ≡ b
+    same true true f g = refl
+    same true false f g = absurd (f tt)
+    same false true f g = absurd (g tt)
+    same false false f g = refl
+
 -- C and D have the same of the n nodes from i on; D has none of them; D has no others.
 abbrev pub Agree : NodeSet → NodeSet → ℕ → ℕ → Type 0
 Agree C D i n = (j : ℕ) → i ≤ j → j < i + n → C j ≡ D j
