@@ -3,3 +3,5 @@ pub mod Order
 pub mod Substitution
 pub mod Instantiation
 pub mod Equations
+pub mod Numbers
+pub mod WordOrder
