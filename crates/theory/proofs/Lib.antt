@@ -5,3 +5,4 @@ pub mod Instantiation
 pub mod Equations
 pub mod Numbers
 pub mod WordOrder
+pub mod Exploration

@@ -1,0 +1,447 @@
+-- `explored` has different states' sequences in rising order; where they are within the limit, the first sequence of each state
+-- that is reached. Sequences have their last event first here. For any test `same` that decides equality of states.
+-- Assumes nothing.
+use mathlib.Core.Path.{_≡_, refl, sym, _∙_, ap, ap₂, subst, subst⁻¹}
+use mathlib.Core.Bool.{Bool, true, false, _||_, not, cond}
+use mathlib.Core.Logic.{_↔_, _⊎_, inl, inr}
+use mathlib.Core.List.{List, [], _∷_, _++_}
+use Prim.Native.Nat.{ℕ, zero, suc, _+_, _*_, _≤_, _<_, zero-le, suc-le-suc}
+use native.Mathlib.Nat.{le-of-suc-le-suc, not-suc-le-zero, eq-or-lt-of-le, suc-inj, mul-le-mul-right, mul-le-mul-left, suc-mul}
+use native.Mathlib.Decide.{decLt}
+use native.Mathlib.Omega.{arith}
+use lib.Dec.{T, ltb}
+use lib.ListN.{length, getD, length-append, List·getD-append}
+use lib.Seq.{getD-append-seam}
+use borrow.Author.Tests.{ltb-true, ltb-false}
+use Rattle.theory.specs.MealyMachine.{Word}
+use Rattle.theory.specs.Exploration.{reached, has-state, add, add-events, explore, explored}
+use Rattle.theory.proofs.Numbers.{Comparison, less, equal, greater, comparison, digits-less, digits-equal}
+use Rattle.theory.proofs.WordOrder.{code}
+
+abbrev Seqs : Type 0
+Seqs = List (List ℕ)
+
+-- The sequence at a number.
+abbrev pub at : List (List ℕ) → ℕ → List ℕ
+at P l = getD P l []
+
+length-end : (P : Seqs) (w : List ℕ) → length (P ++ (w ∷ [])) ≡ suc (length P)
+length-end P w = omega (arith, length-append P (w ∷ []))
+
+at-before : (P : Seqs) (w : List ℕ) (l : ℕ) → l < length P → at (P ++ (w ∷ [])) l ≡ at P l
+at-before P w l h = List·getD-append P (w ∷ []) [] l h
+
+-- The second list begins with the first.
+abbrev pub Grows : List (List ℕ) → List (List ℕ) → Type 0
+Grows P Q = (length P ≤ length Q) × ((l : ℕ) → l < length P → at Q l ≡ at P l)
+
+grows-refl : (P : Seqs) → Grows P P
+grows-refl P = (omega arith, λ l u. refl)
+
+grows-trans : (P Q R : Seqs) → Grows P Q → Grows Q R → Grows P R
+grows-trans P Q R g h = (omega (arith, g .0, h .0), λ l u. h .1 l (omega (arith, g .0)) ∙ g .1 l u)
+
+less-times : (base x : ℕ) → 0 < base → x ≤ x * base
+less-times base x h = omega (arith, mul-le-mul-left x h)
+
+module _ {S : Type 0} (same : S → S → Bool) (same-iff : (x y : S) → T (same x y) ↔ (x ≡ y)) (next : S → ℕ → S) (start : S) (events : ℕ) where
+  abbrev st : List ℕ → S
+  st w = reached next start w
+
+  abbrev cd : List ℕ → ℕ
+  cd w = code events w
+
+  -- A sequence of the list reaches x and its code is at most c.
+  abbrev pub Hits : Seqs → S → ℕ → Type 0
+  Hits P x c = (l : ℕ) × (l < length P) × (st (at P l) ≡ x) × (cd (at P l) ≤ c)
+
+  has-hit : (P : Seqs) (x : S) → T (has-state same next start P x) → (l : ℕ) × (l < length P) × (st (at P l) ≡ x)
+  has-hit [] x t = absurd t
+  has-hit (w ∷ P) x t = go (same (st w) x) refl t (has-hit P x)
+    where
+      go :
+          (b : Bool) → same (st w) x ≡ b → T (b || has-state same next start P x) →
+          (T (has-state same next start P x) → (l : ℕ) × (l < length P) × (st (at P l) ≡ x)) →
+          (l : ℕ) × (l < suc (length P)) × (st (at (w ∷ P) l) ≡ x)
+      go true e t f = (zero, suc-le-suc zero-le, same-iff (st w) x .0 (subst⁻¹ T e tt))
+      go false e t f = let r = f t in (suc (r .0), suc-le-suc (r .1), r .2)
+
+  hit-has : (P : Seqs) (x : S) (l : ℕ) → l < length P → st (at P l) ≡ x → T (has-state same next start P x)
+  hit-has [] x l h e = absurd (not-suc-le-zero h)
+  hit-has (w ∷ P) x zero h e = or-left (same (st w) x) (has-state same next start P x) (same-iff (st w) x .1 e)
+    where
+      or-left : (a b : Bool) → T a → T (a || b)
+      or-left true b t = tt
+      or-left false b t = absurd t
+  hit-has (w ∷ P) x (suc l) h e =
+      or-right (same (st w) x) (has-state same next start P x) (hit-has P x l (le-of-suc-le-suc h) e)
+    where
+      or-right : (a b : Bool) → T b → T (a || b)
+      or-right true b t = tt
+      or-right false b t = t
+
+  -- What holds once every candidate (a sequence of the list, then one event) with a code below c is taken in.
+  pub record Invariant (c : ℕ) (P : Seqs) : Type 0 where
+    pub nonempty : 0 < length P
+    pub empty-first : at P 0 ≡ []
+    pub words : (l : ℕ) → l < length P → Word events (at P l)
+    pub different : (j l : ℕ) → j < l → l < length P → ¬ (st (at P j) ≡ st (at P l))
+    pub rising : (j l : ℕ) → j < l → l < length P → cd (at P j) < cd (at P l)
+    pub below : (l : ℕ) → l < length P → cd (at P l) < c
+    pub short : (l : ℕ) → l < length P → length (at P l) ≤ l
+    pub taken : (j a : ℕ) → j < length P → a < events → cd (a ∷ at P j) < c → Hits P (st (a ∷ at P j)) (cd (a ∷ at P j))
+
+  by-code : (c : ℕ) (P : Seqs) → Invariant c P → (j i : ℕ) → j < length P → i < length P → cd (at P j) ≡ cd (at P i) → j ≡ i
+  by-code c P v j i hj hi q = go (comparison j i)
+    where
+      go : Comparison j i → j ≡ i
+      go (less h) = absurd (omega (arith, v .rising j i h hi, q))
+      go (equal h) = h
+      go (greater h) = absurd (omega (arith, v .rising i j h hj, q))
+
+  -- Taking in the next candidate.
+  module _ (P : Seqs) (i e : ℕ) (hi : i < length P) (he : e < events) (v : Invariant (cd (e ∷ at P i)) P) where
+    abbrev candidate : List ℕ
+    candidate = e ∷ at P i
+
+    -- A candidate with this code is this candidate.
+    one-candidate : (j a : ℕ) → j < length P → a < events → cd (a ∷ at P j) ≡ cd candidate → (a ∷ at P j) ≡ candidate
+    one-candidate j a h k q =
+        let d : (cd (at P j) ≡ cd (at P i)) × (a ≡ e)
+        = digits-equal events (cd (at P j)) (cd (at P i)) a e k he (suc-inj q) in
+        ap₂ _∷_ (d .1) (ap (at P) (by-code (cd candidate) P v j i h hi (d .0)))
+
+    keep : T (has-state same next start P (st candidate)) → Invariant (suc (cd candidate)) P
+    keep t =
+        record {
+          nonempty = v .nonempty;
+          empty-first = v .empty-first;
+          words = v .words;
+          different = v .different;
+          rising = v .rising;
+          below = λ l h. omega (arith, v .below l h);
+          short = v .short;
+          taken = λ j a h k u. go j a h k (eq-or-lt-of-le (le-of-suc-le-suc u));
+        }
+      where
+        go : (j a : ℕ) → j < length P → a < events → (cd (a ∷ at P j) ≡ cd candidate) ⊎ (cd (a ∷ at P j) < cd candidate) → Hits P (st (a ∷ at P j)) (cd (a ∷ at P j))
+        go j a h k (inr u) = v .taken j a h k u
+        go j a h k (inl q) =
+            let r : (l : ℕ) × (l < length P) × (st (at P l) ≡ st candidate) = has-hit P (st candidate) t in
+            (r .0, r .1, r .2 ∙ sym (ap st (one-candidate j a h k q)), omega (arith, v .below (r .0) (r .1), q))
+
+    abbrev P′ : Seqs
+    P′ = P ++ (candidate ∷ [])
+
+    data Spot (l : ℕ) : Type 0 where
+      old : l < length P → at P′ l ≡ at P l → Spot l
+      new : l ≡ length P → at P′ l ≡ candidate → Spot l
+
+    at-end : at P′ (length P) ≡ candidate
+    at-end = getD-append-seam P candidate [] []
+
+    spot : (l : ℕ) → l < length P′ → Spot l
+    spot l h = go (eq-or-lt-of-le {n = suc l} {m = suc (length P)} (omega (arith, h, length-end P candidate)))
+      where
+        go : (suc l ≡ suc (length P)) ⊎ (suc l < suc (length P)) → Spot l
+        go (inl q) = new (suc-inj q) (ap (at P′) (suc-inj q) ∙ at-end)
+        go (inr u) = old (le-of-suc-le-suc u) (at-before P candidate l (le-of-suc-le-suc u))
+
+    hits-more : (x : S) (c : ℕ) → Hits P x c → Hits P′ x c
+    hits-more x c h = (
+      h .0,
+      omega (arith, h .1, length-end P candidate),
+      ap st (at-before P candidate (h .0) (h .1)) ∙ h .2,
+      subst⁻¹ (λ w. cd w ≤ c) (at-before P candidate (h .0) (h .1)) (h .3),
+    )
+
+    push : (T (has-state same next start P (st candidate)) → ⊥) → Invariant (suc (cd candidate)) P′
+    push t =
+        record {
+          nonempty = omega (arith, length-end P candidate);
+          empty-first = at-before P candidate 0 (v .nonempty) ∙ v .empty-first;
+          words = λ l h. words′ l (spot l h);
+          different = λ j l u h. different′ j l u (spot j (omega arith)) (spot l h);
+          rising = λ j l u h. rising′ j l u (spot j (omega arith)) (spot l h);
+          below = λ l h. below′ l (spot l h);
+          short = λ l h. short′ l (spot l h);
+          taken = λ j a h k u. taken′ j a k (spot j h) u;
+        }
+      where
+        words′ : (l : ℕ) → Spot l → Word events (at P′ l)
+        words′ l (old h q) = subst⁻¹ (Word events) q (v .words l h)
+        words′ l (new h q) = subst⁻¹ (Word events) q (he, v .words i hi)
+
+        different′ : (j l : ℕ) → j < l → Spot j → Spot l → ¬ (st (at P′ j) ≡ st (at P′ l))
+        different′ j l u (old a p) (old b q) x = v .different j l u b (sym (ap st p) ∙ x ∙ ap st q)
+        different′ j l u (old a p) (new b q) x = t (hit-has P (st candidate) j a (sym (ap st p) ∙ x ∙ ap st q))
+        different′ j l u (new a p) (old b q) x = omega arith
+        different′ j l u (new a p) (new b q) x = omega arith
+
+        rising′ : (j l : ℕ) → j < l → Spot j → Spot l → cd (at P′ j) < cd (at P′ l)
+        rising′ j l u (old a p) (old b q) =
+            subst⁻¹ (λ x. cd x < cd (at P′ l)) p (subst⁻¹ (λ x. cd (at P j) < cd x) q (v .rising j l u b))
+        rising′ j l u (old a p) (new b q) =
+            subst⁻¹ (λ x. cd x < cd (at P′ l)) p (subst⁻¹ (λ x. cd (at P j) < cd x) q (v .below j a))
+        rising′ j l u (new a p) (old b q) = absurd (omega arith)
+        rising′ j l u (new a p) (new b q) = absurd (omega arith)
+
+        below′ : (l : ℕ) → Spot l → cd (at P′ l) < suc (cd candidate)
+        below′ l (old h q) = subst⁻¹ (λ x. cd x < suc (cd candidate)) q (omega (arith, v .below l h))
+        below′ l (new h q) = subst⁻¹ (λ x. cd x < suc (cd candidate)) q (omega arith)
+
+        short′ : (l : ℕ) → Spot l → length (at P′ l) ≤ l
+        short′ l (old h q) = subst⁻¹ (λ x. length x ≤ l) q (v .short l h)
+        short′ l (new h q) = subst⁻¹ (λ x. length x ≤ l) q (omega (arith, v .short i hi))
+
+        taken′ : (j a : ℕ) → a < events → Spot j → cd (a ∷ at P′ j) < suc (cd candidate) → Hits P′ (st (a ∷ at P′ j)) (cd (a ∷ at P′ j))
+        taken′ j a k (new h q) u =
+            absurd (omega (arith, less-times events (cd candidate) (omega arith), subst (λ x. cd (a ∷ x) < suc (cd candidate)) q u))
+        taken′ j a k (old h q) u =
+            subst⁻¹ (λ x. Hits P′ (st (a ∷ x)) (cd (a ∷ x))) q
+            (go (eq-or-lt-of-le (le-of-suc-le-suc (subst (λ x. cd (a ∷ x) < suc (cd candidate)) q u))))
+          where
+            go : (cd (a ∷ at P j) ≡ cd candidate) ⊎ (cd (a ∷ at P j) < cd candidate) → Hits P′ (st (a ∷ at P j)) (cd (a ∷ at P j))
+            go (inr x) = hits-more (st (a ∷ at P j)) (cd (a ∷ at P j)) (v .taken j a h k x)
+            go (inl x) = (
+              length P,
+              omega (arith, length-end P candidate),
+              ap st (at-end ∙ sym (one-candidate j a h k x)),
+              subst⁻¹ (λ y. cd y ≤ cd (a ∷ at P j)) at-end (omega (arith, x)),
+            )
+
+  add-invariant :
+      (P : Seqs) (i e : ℕ) (w : List ℕ) → i < length P → at P i ≡ w → e < events → Invariant (cd (e ∷ w)) P →
+      Invariant (suc (cd (e ∷ w))) (add same next start P (e ∷ w))
+  add-invariant P i e w hi q he v =
+      go (has-state same next start P (st (e ∷ w))) refl
+    where
+      v′ : Invariant (cd (e ∷ at P i)) P
+      v′ = subst⁻¹ (λ x. Invariant (cd (e ∷ x)) P) q v
+
+      kept : T (has-state same next start P (st (e ∷ w))) → Invariant (suc (cd (e ∷ w))) P
+      kept t =
+          subst (λ x. Invariant (suc (cd (e ∷ x))) P) q
+          (keep P i e hi he v′ (subst⁻¹ (λ x. T (has-state same next start P (st (e ∷ x)))) q t))
+
+      pushed : (T (has-state same next start P (st (e ∷ w))) → ⊥) → Invariant (suc (cd (e ∷ w))) (P ++ ((e ∷ w) ∷ []))
+      pushed t =
+          subst (λ x. Invariant (suc (cd (e ∷ x))) (P ++ ((e ∷ x) ∷ []))) q
+          (push P i e hi he v′ (λ u. t (subst (λ x. T (has-state same next start P (st (e ∷ x)))) q u)))
+
+      go :
+          (b : Bool) → has-state same next start P (st (e ∷ w)) ≡ b →
+          Invariant (suc (cd (e ∷ w))) (cond b P (P ++ ((e ∷ w) ∷ [])))
+      go true r = kept (subst⁻¹ T r tt)
+      go false r = pushed (λ u. subst T r u)
+
+  -- The list with the successors of sequence i.
+  abbrev successors : Seqs → ℕ → Seqs
+  successors P i = add-events same next start events zero P (at P i)
+
+  abbrev explore-from : ℕ → ℕ → Seqs → Seqs
+  explore-from k i P = explore same next start events k i P
+
+  -- The list only grows.
+  add-grows : (P : Seqs) (w : List ℕ) → Grows P (add same next start P w)
+  add-grows P w = go (has-state same next start P (st w))
+    where
+      go : (b : Bool) → Grows P (cond b P (P ++ (w ∷ [])))
+      go true = grows-refl P
+      go false = (omega (arith, length-end P w), λ l u. at-before P w l u)
+
+  add-events-grows : (c e : ℕ) (P : Seqs) (w : List ℕ) → Grows P (add-events same next start c e P w)
+  add-events-grows zero e P w = grows-refl P
+  add-events-grows (suc c) e P w =
+      grows-trans P (add same next start P (e ∷ w)) (add-events same next start (suc c) e P w)
+      (add-grows P (e ∷ w)) (add-events-grows c (suc e) (add same next start P (e ∷ w)) w)
+
+  pub explore-grows : (k i : ℕ) (P : Seqs) → Grows P (explore-from k i P)
+  explore-grows zero i P = grows-refl P
+  explore-grows (suc k) i P = go (ltb i (length P)) (explore-grows k (suc i) (successors P i))
+    where
+      go :
+          (b : Bool) →
+          Grows (successors P i) (explore-from k (suc i) (successors P i)) →
+          Grows P (cond b (explore-from k (suc i) (successors P i)) P)
+      go true g =
+          grows-trans P (successors P i)
+          (explore-from k (suc i) (successors P i))
+          (add-events-grows events zero P (at P i)) g
+      go false g = grows-refl P
+
+  add-events-invariant :
+      (c e : ℕ) (P : Seqs) (i : ℕ) (w : List ℕ) → i < length P → at P i ≡ w → e + c ≡ events → Invariant (cd (e ∷ w)) P →
+      Invariant (cd (events ∷ w)) (add-events same next start c e P w)
+  add-events-invariant zero e P i w hi q h v = subst (λ x. Invariant (cd (x ∷ w)) P) (omega arith) v
+  add-events-invariant (suc c) e P i w hi q h v =
+      let Q : Seqs = add same next start P (e ∷ w) in
+      let r : Invariant (suc (cd (e ∷ w))) Q = add-invariant P i e w hi q (omega arith) v in
+      let g : Grows P Q = add-grows P (e ∷ w) in
+      let p : suc (cd (e ∷ w)) ≡ cd (suc e ∷ w) = omega arith in
+      add-events-invariant c (suc e) Q i w (omega (arith, hi, g .0)) (g .1 i hi ∙ q) (omega arith) (subst (λ x. Invariant x Q) p r)
+
+  -- Every candidate is taken in.
+  pub Done : Seqs → Type 0
+  Done P = (c : ℕ) × Invariant c P × ((j a : ℕ) → j < length P → a < events → cd (a ∷ at P j) < c)
+
+  raise :
+      (c d : ℕ) (P : Seqs) → Invariant c P → c ≤ d →
+      ((j a : ℕ) → j < length P → a < events → cd (a ∷ at P j) < d → cd (a ∷ at P j) < c) → Invariant d P
+  raise c d P v h f =
+      record {
+        nonempty = v .nonempty;
+        empty-first = v .empty-first;
+        words = v .words;
+        different = v .different;
+        rising = v .rising;
+        below = λ l u. omega (arith, v .below l u);
+        short = v .short;
+        taken = λ j a u k x. v .taken j a u k (f j a u k x);
+      }
+
+  -- The candidates of the sequences up to i come before those after i.
+  up-to : (c : ℕ) (P : Seqs) (i : ℕ) → Invariant c P → i < length P → (j a : ℕ) → j ≤ i → a < events → cd (a ∷ at P j) < cd (events ∷ at P i)
+  up-to c P i v hi j a h k = go (eq-or-lt-of-le h)
+    where
+      go : (j ≡ i) ⊎ (j < i) → cd (a ∷ at P j) < cd (events ∷ at P i)
+      go (inl q) = subst⁻¹ (λ x. cd (a ∷ at P x) < cd (events ∷ at P i)) q (omega arith)
+      go (inr u) = suc-le-suc (digits-less events (cd (at P j)) (cd (at P i)) a events (v .rising j i u hi) k)
+
+  abbrev Ready : ℕ → Seqs → Type 0
+  Ready i P = (i < length P → Invariant (cd (0 ∷ at P i)) P) × (length P ≤ i → Done P)
+
+  after-events : (Q : Seqs) (i : ℕ) → i < length Q → Invariant (cd (events ∷ at Q i)) Q → Ready (suc i) Q
+  unfolding Done
+  after-events Q i hi v = (
+    (λ h. raise (cd (events ∷ at Q i)) (cd (0 ∷ at Q (suc i))) Q v
+        (omega (arith, mul-le-mul-right events (v .rising i (suc i) (omega arith) h), suc-mul (cd (at Q i)) events))
+        (λ j a u k x. into j a u k (earlier h j a u k x))),
+    λ h. (cd (events ∷ at Q i), v, λ j a u k. into j a u k (omega arith)),
+  )
+    where
+      into : (j a : ℕ) → j < length Q → a < events → j ≤ i → cd (a ∷ at Q j) < cd (events ∷ at Q i)
+      into j a u k h = up-to (cd (events ∷ at Q i)) Q i v hi j a h k
+
+      earlier : suc i < length Q → (j a : ℕ) → j < length Q → a < events → cd (a ∷ at Q j) < cd (0 ∷ at Q (suc i)) → j ≤ i
+      earlier h j a u k x = go (comparison j (suc i))
+        where
+          go : Comparison j (suc i) → j ≤ i
+          go (less l) = omega arith
+          go (equal l) = absurd (omega (arith, x, ap (λ y. cd (at Q y) * events) l))
+          go (greater l) =
+              absurd (omega (arith, x, digits-less events (cd (at Q (suc i))) (cd (at Q j)) 0 a (v .rising (suc i) j l u) (omega arith)))
+
+  abbrev Result : ℕ → Seqs → Type 0
+  Result b R = ((c : ℕ) × Invariant c R) × (length R ≤ b → Done R)
+
+  explore-invariant : (k i : ℕ) (P : Seqs) → Ready i P → Result (i + k) (explore-from k i P)
+  unfolding Done
+  explore-invariant zero i P r = (go (decLt i (length P)), λ h. r .1 (omega arith))
+    where
+      go : Dec (i < length P) → (c : ℕ) × Invariant c P
+      go (yes h) = (cd (0 ∷ at P i), r .0 h)
+      go (no h) = let d : Done P = r .1 (omega arith) in (d .0, d .1)
+  explore-invariant (suc k) i P r =
+      go (ltb i (length P)) refl (λ h. explore-invariant k (suc i) (successors P i) h)
+    where
+      ready : i < length P → Ready (suc i) (successors P i)
+      ready h =
+          let R : Seqs = successors P i in
+          let g : Grows P R = add-events-grows events zero P (at P i) in
+          let t : Invariant (cd (events ∷ at P i)) R = add-events-invariant events zero P i (at P i) h refl (omega arith) (r .0 h) in
+          after-events R i (omega (arith, g .0, h)) (subst⁻¹ (λ x. Invariant (cd (events ∷ x)) R) (g .1 i h) t)
+
+      go :
+          (b : Bool) → ltb i (length P) ≡ b →
+          (Ready (suc i) (successors P i) →
+          Result (suc i + k) (explore-from k (suc i) (successors P i))) →
+          Result (i + suc k) (cond b (explore-from k (suc i) (successors P i)) P)
+      go true e f =
+          let t : Result (suc i + k) (explore-from k (suc i) (successors P i))
+          = f (ready (ltb-true i (length P) e)) in
+          (t .0, λ h. t .1 (omega arith))
+      go false e f =
+          let d : Done P = r .1 (ltb-false i (length P) e) in
+          ((d .0, d .1), λ h. d)
+
+  begin : Ready zero ([] ∷ [])
+  unfolding Done
+  begin = (
+    (λ h. record {
+      nonempty = omega arith;
+      empty-first = refl;
+      words = λ l u. words′ l u;
+      different = λ j l u k. absurd (omega arith);
+      rising = λ j l u k. absurd (omega arith);
+      below = λ l u. below′ l u;
+      short = λ l u. short′ l u;
+      taken = λ j a u k x. absurd (not-yet j a u x);
+    }),
+    λ h. absurd (omega arith),
+  )
+    where
+      none-else : (l : ℕ) → suc l < 1 → ⊥
+      none-else l h = omega arith
+
+      not-yet : (j a : ℕ) → j < 1 → cd (a ∷ at ([] ∷ []) j) < cd (0 ∷ []) → ⊥
+      not-yet zero a h x = omega arith
+      not-yet (suc j) a h x = none-else j h
+
+      words′ : (l : ℕ) → l < 1 → Word events (at ([] ∷ []) l)
+      words′ zero h = tt
+      words′ (suc l) h = absurd (none-else l h)
+
+      below′ : (l : ℕ) → l < 1 → cd (at ([] ∷ []) l) < cd (0 ∷ [])
+      below′ zero h = omega arith
+      below′ (suc l) h = absurd (none-else l h)
+
+      short′ : (l : ℕ) → l < 1 → length (at ([] ∷ []) l) ≤ l
+      short′ zero h = omega arith
+      short′ (suc l) h = absurd (none-else l h)
+
+  module _ (limit : ℕ) where
+    abbrev Q : Seqs
+    Q = explored same next start events limit
+
+    result : Result (zero + limit) Q
+    result = explore-invariant limit zero ([] ∷ []) begin
+
+    -- Whatever the limit: words to different states, in order, none longer than its number.
+    pub invariant : (c : ℕ) × Invariant c Q
+    invariant = result .0
+
+    -- Within the limit: every word's state is there, with a sequence that is no later.
+    pub all-reached : length Q ≤ limit → (w : List ℕ) → Word events w → Hits Q (st w) (cd w)
+    unfolding Done
+    all-reached h [] v = (
+      zero,
+      result .0 .1 .nonempty,
+      ap st (result .0 .1 .empty-first),
+      subst⁻¹ (λ x. cd x ≤ zero) (result .0 .1 .empty-first) zero-le,
+    )
+    all-reached h (a ∷ w) v =
+        let d : Done Q = result .1 (omega (arith, h)) in
+        let r : Hits Q (st w) (cd w) = all-reached h w (v .1) in
+        let t : Hits Q (st (a ∷ at Q (r .0))) (cd (a ∷ at Q (r .0)))
+        = d .1 .taken (r .0) a (r .1) (v .0) (d .2 (r .0) a (r .1) (v .0)) in (
+          t .0,
+          t .1,
+          t .2 ∙ ap (λ x. next x a) (r .2),
+          omega (arith, t .3, mul-le-mul-right events (r .3)),
+        )
+
+    -- So the sequence of a state is the first of all that reach it.
+    pub is-first :
+        length Q ≤ limit → (l : ℕ) → l < length Q → (w : List ℕ) → Word events w → st w ≡ st (at Q l) → cd (at Q l) ≤ cd w
+    is-first h l u w v q =
+        let r : Hits Q (st w) (cd w) = all-reached h w v in
+        subst (λ x. cd (at Q x) ≤ cd w) (one-place (r .0) (r .1) (r .2 ∙ q)) (r .3)
+      where
+        one-place : (j : ℕ) → j < length Q → st (at Q j) ≡ st (at Q l) → j ≡ l
+        one-place j b e = go (comparison j l)
+          where
+            go : Comparison j l → j ≡ l
+            go (less x) = absurd (result .0 .1 .different j l x u e)
+            go (equal x) = x
+            go (greater x) = absurd (result .0 .1 .different l j x b (sym e))
