@@ -6,3 +6,4 @@ pub mod Equations
 pub mod Numbers
 pub mod WordOrder
 pub mod Exploration
+pub mod ReachableStates
