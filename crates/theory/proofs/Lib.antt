@@ -7,3 +7,5 @@ pub mod Numbers
 pub mod WordOrder
 pub mod Exploration
 pub mod ReachableStates
+pub mod Transport
+pub mod ExploredStates

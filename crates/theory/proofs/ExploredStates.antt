@@ -1,0 +1,141 @@
+-- Exploration finds the numbering of the states reached and the table, where at most `limit` states are reached; and it finds more
+-- than `limit` sequences exactly where more are reached. For any test `same` that decides equality of states.
+-- Assumes nothing.
+use mathlib.Core.Path.{_≡_, refl, sym, _∙_, ap, subst, subst⁻¹}
+use mathlib.Core.Bool.{Bool, true, false, cond}
+use mathlib.Core.Logic.{_↔_}
+use mathlib.Core.List.{List, [], _∷_, map, reverse, reverse-reverse}
+use Prim.Native.Nat.{ℕ, zero, suc, _≤_, _<_, zero-le, suc-le-suc}
+use native.Mathlib.Nat.{le-of-suc-le-suc, not-suc-le-zero}
+use native.Mathlib.Decide.{decLt}
+use native.Mathlib.Omega.{arith}
+use lib.Dec.{T}
+use lib.ListN.{length, getD, length-map, List·getD-map, List·getD-eq-default}
+use Rattle.theory.specs.MealyMachine.{Machine, Word, after}
+use Rattle.theory.specs.WordOrder.{Before, NoLater}
+use Rattle.theory.specs.ReachableStates.{state-at, Numbering, ReachesAtMost, IsTable}
+use Rattle.theory.specs.Exploration.{reached, explored, index, numbered}
+use Rattle.theory.proofs.Numbers.{pigeonhole}
+use Rattle.theory.proofs.WordOrder.{code, word-reverse, number-before, no-later-iff-number}
+use Rattle.theory.proofs.Exploration.{at, Invariant, Hits, invariant, all-reached}
+use Rattle.theory.proofs.ReachableStates.{after-reverse, reached-reverse}
+
+-- The sequences in order of play.
+abbrev pub in-order : List (List ℕ) → List (List ℕ)
+in-order P = map reverse P
+
+entry-in-order : (P : List (List ℕ)) (l : ℕ) → getD (in-order P) l [] ≡ reverse (at P l)
+entry-in-order P l = List·getD-map reverse P l []
+
+module _ {S B : Type 0} (same : S → S → Bool) (same-iff : (x y : S) → T (same x y) ↔ (x ≡ y)) (events : ℕ) (m : Machine S B) (start : S) where
+  abbrev st : List ℕ → S
+  st w = reached (m .next) start w
+
+  abbrev P : ℕ → List (List ℕ)
+  P limit = explored same (m .next) start events limit
+
+  state-in-order : (Q : List (List ℕ)) (l : ℕ) → state-at events m start (in-order Q) l ≡ st (at Q l)
+  state-in-order Q l = ap (after m start) (entry-in-order Q l) ∙ after-reverse m start (at Q l)
+
+  -- The index of a state that is there.
+  index-at :
+      (Q : List (List ℕ)) (x : S) (l : ℕ) → l < length Q → st (at Q l) ≡ x →
+      (index same (m .next) start Q x < length Q) × (st (at Q (index same (m .next) start Q x)) ≡ x)
+  index-at [] x l h e = absurd (not-suc-le-zero h)
+  index-at (w ∷ Q) x l h e = go (same (st w) x) (same-iff (st w) x) (index-at Q x) l h e
+    where
+      i : ℕ
+      i = index same (m .next) start Q x
+
+      go :
+          (b : Bool) → T b ↔ (st w ≡ x) →
+          ((l : ℕ) → l < length Q → st (at Q l) ≡ x → (i < length Q) × (st (at Q i) ≡ x)) →
+          (l : ℕ) → l < suc (length Q) → st (at (w ∷ Q) l) ≡ x →
+          (cond b zero (suc i) < suc (length Q)) × (st (at (w ∷ Q) (cond b zero (suc i))) ≡ x)
+      go true f r l h e = (suc-le-suc zero-le, f .0 tt)
+      go false f r zero h e = absurd (f .1 e)
+      go false f r (suc l) h e = (suc-le-suc (r l (le-of-suc-le-suc h) e .0), r l (le-of-suc-le-suc h) e .1)
+
+  module _ (limit : ℕ) where
+    inv : Invariant same same-iff (m .next) start events (invariant same same-iff (m .next) start events limit .0) (P limit)
+    inv = invariant same same-iff (m .next) start events limit .1
+
+    reached-word : (l : ℕ) → Word events (at (P limit) l)
+    reached-word l = go (decLt l (length (P limit)))
+      where
+        go : Dec (l < length (P limit)) → Word events (at (P limit) l)
+        go (yes h) = inv .words l h
+        go (no h) = rw (List·getD-eq-default (P limit) [] {n = l} (omega arith)) tt
+
+    module _ (few : length (P limit) ≤ limit) where
+      pub explored-numbering : Numbering events m start (in-order (P limit))
+      explored-numbering =
+          record {
+            words = λ l h. rw entry-in-order (word l);
+            rising = λ j l u h. rw (entry-in-order (P limit) j, entry-in-order (P limit) l) (before j l u (below l h));
+            different = λ j l u h e.
+                inv .different j l u (below l h) (sym (state-in-order (P limit) j) ∙ e ∙ state-in-order (P limit) l);
+            complete = λ w v. complete w v;
+          }
+        where
+          below : (l : ℕ) → l < length (in-order (P limit)) → l < length (P limit)
+          below l h = rw length-map at h
+
+          word : (l : ℕ) → Word events (reverse (at (P limit) l))
+          word l = word-reverse events (at (P limit) l) (reached-word l)
+
+          before : (j l : ℕ) → j < l → l < length (P limit) → Before (reverse (at (P limit) j)) (reverse (at (P limit) l))
+          before j l u h =
+              number-before events (reverse (at (P limit) j)) (reverse (at (P limit) l)) (word j) (word l)
+              (rw (reverse-reverse (at (P limit) j), reverse-reverse (at (P limit) l)) (inv .rising j l u h))
+
+          complete :
+              (w : List ℕ) → Word events w →
+              (l : ℕ) × (l < length (in-order (P limit))) × (state-at events m start (in-order (P limit)) l ≡ after m start w)
+              × NoLater (getD (in-order (P limit)) l []) w
+          complete w v =
+              let r : Hits same same-iff (m .next) start events (P limit) (st (reverse w)) (code events (reverse w))
+              = all-reached same same-iff (m .next) start events limit few (reverse w) (word-reverse events w v) in (
+                r .0,
+                rw length-map (r .1),
+                state-in-order (P limit) (r .0) ∙ r .2 ∙ reached-reverse m start w,
+                rw (entry-in-order (P limit) (r .0))
+                    (no-later-iff-number events (reverse (at (P limit) (r .0))) w (word (r .0)) v .1 (rw (reverse-reverse (at (P limit) (r .0))) (r .3))),
+              )
+
+      -- The table computed from the sequences is the machine's.
+      pub explored-table : IsTable events m start (length (P limit)) (numbered same m start (P limit))
+      explored-table =
+          record {
+            sequences = in-order (P limit);
+            numbering = explored-numbering;
+            count = length-map (P limit) reverse;
+            values = λ l e h a. ap (λ x. m .value x e) (sym (state-in-order (P limit) l));
+            nexts = λ l e h a.
+                let x : S = m .next (st (at (P limit) l)) e in
+                let r : Hits same same-iff (m .next) start events (P limit) x (code events (e ∷ at (P limit) l))
+                = all-reached same same-iff (m .next) start events limit few (e ∷ at (P limit) l) (a, inv .words l h) in
+                let i : (index same (m .next) start (P limit) x < length (P limit)) × (st (at (P limit) (index same (m .next) start (P limit) x)) ≡ x)
+                = index-at (P limit) x (r .0) (r .1) (r .2) in
+                (i .0, state-in-order (P limit) (index same (m .next) start (P limit) x) ∙ i .1 ∙ ap (λ s. m .next s e) (sym (state-in-order (P limit) l)));
+          }
+
+    -- Each sequence found has a number of its own in any numbering.
+    no-more-found : (W : List (List ℕ)) → Numbering events m start W → length (P limit) ≤ length W
+    no-more-found W N =
+        pigeonhole (length W) (length (P limit)) (λ j. place j .0) (λ j h. place j .1)
+        (λ j l u h e. inv .different j l u h
+        (sym (after-reverse m start (at (P limit) j)) ∙ sym (place j .2) ∙ ap (state-at events m start W) e ∙ place l .2 ∙ after-reverse m start (at (P limit) l)))
+      where
+        place :
+            (j : ℕ) →
+            (l : ℕ) × (l < length W) × (state-at events m start W l ≡ after m start (reverse (at (P limit) j)))
+            × NoLater (getD W l []) (reverse (at (P limit) j))
+        place j = N .complete (reverse (at (P limit) j)) (word-reverse events (at (P limit) j) (reached-word j))
+
+    -- The count tells whether more than `limit` states are reached.
+    pub explored-at-most : (length (P limit) ≤ limit) ↔ ReachesAtMost events m start limit
+    explored-at-most = (
+      (λ few. (in-order (P limit), explored-numbering few, rw length-map few)),
+      λ r. omega (arith, no-more-found (r .0) (r .1), r .2),
+    )
