@@ -9,3 +9,5 @@ pub mod Exploration
 pub mod ReachableStates
 pub mod Transport
 pub mod ExploredStates
+pub mod BitSets
+pub mod TableClaims

@@ -21,7 +21,7 @@ module _ {S Q B : Type 0} (events : ℕ) (m : Machine S B) (start : S) (q : Mach
     pub values :
         (w : List ℕ) → Word events w → (e : ℕ) → e < events → m .value (after m start w) e ≡ q .value (after q begin w) e
 
-module _ {S Q B : Type 0} (events : ℕ) (m : Machine S B) (start : S) (q : Machine Q B) (begin : Q) where
+module _ {S Q B : Type 0} {events : ℕ} {m : Machine S B} {start : S} {q : Machine Q B} {begin : Q} where
   pub same-states-sym : SameStates events m start q begin → SameStates events q begin m start
   same-states-sym c =
       record { together = c .apart; apart = c .together; values = λ w v e h. sym (c .values w v e h) }
