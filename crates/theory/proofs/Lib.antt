@@ -11,3 +11,5 @@ pub mod Transport
 pub mod ExploredStates
 pub mod BitSets
 pub mod TableClaims
+pub mod FirstBad
+pub mod Conformance
