@@ -10,6 +10,7 @@ use native.Mathlib.Nat.{le-of-suc-le-suc, not-suc-le-zero}
 use native.Mathlib.Decide.{decLt}
 use native.Mathlib.Omega.{arith}
 use lib.Dec.{T, eqb}
+use mir.Facts.{and-yes}
 use borrow.Author.Tests.{ne-eqb}
 use Rattle.theory.specs.Formula.{Formula, truth, variable, transition, output, conjunction, greatest, size}
 use Rattle.theory.specs.Demands.{NodeSet}
@@ -27,21 +28,13 @@ bit-iff false false = ((λ t. refl), λ e. tt)
 pub same-bits-iff : (L K : List Bool) → T (same-bits L K) ↔ (L ≡ K)
 same-bits-iff L K = (to L K, λ e. subst (λ x. T (same-bits L x)) e (self L))
   where
-    and-left : (a b : Bool) → T (a && b) → T a
-    and-left true b h = tt
-    and-left false b h = h
-
-    and-right : (a b : Bool) → T (a && b) → T b
-    and-right true b h = h
-    and-right false b h = absurd h
-
     to : (L K : List Bool) → T (same-bits L K) → L ≡ K
     to [] [] h = refl
     to [] (y ∷ K) h = absurd h
     to (x ∷ L) [] h = absurd h
     to (x ∷ L) (y ∷ K) h =
-        ap₂ _∷_ (bit-iff x y .0 (and-left (Bool·beq x y) (same-bits L K) h))
-        (to L K (and-right (Bool·beq x y) (same-bits L K) h))
+        let r : T (Bool·beq x y) × T (same-bits L K) = and-yes (Bool·beq x y) (same-bits L K) h in
+        ap₂ _∷_ (bit-iff x y .0 (r .0)) (to L K (r .1))
 
     self : (L : List Bool) → T (same-bits L L)
     self [] = tt

@@ -1,34 +1,27 @@
 -- The check of one table against another: no word is found exactly where every value is at or below on every word, which is
 -- simulation; a word that is found is the first counterexample, of at least one and at most n × k events.
 -- Assumes nothing.
-use mathlib.Core.Path.{_≡_, refl, sym, _∙_, ap, ap₂, subst, subst⁻¹}
-use mathlib.Core.Bool.{Bool, true, false, not, _&&_}
+use mathlib.Core.Path.{_≡_, refl, sym, _∙_, ap, subst, subst⁻¹}
+use mathlib.Core.Bool.{Bool, true, false, not}
 use mathlib.Core.Logic.{_↔_}
 use mathlib.Core.List.{List, [], _∷_, _++_, reverse, reverse-cons, reverse-reverse, reverse-append}
 use mathlib.Core.Option.{Option, none, some}
-use Prim.Native.Nat.{ℕ, zero, suc, _+_, _*_, _≤_, _<_}
+use Prim.Native.Nat.{ℕ, _+_, _*_, _≤_, _<_}
 use native.Mathlib.Nat.{mul-le-mul-right, suc-mul}
 use native.Mathlib.Omega.{arith}
 use lib.Dec.{T, eqb, eqb→eq, eqb-refl, T-not, not-T}
 use lib.ListN.{length, length-reverse}
+use mir.Facts.{and-yes, yes-and}
 use Rattle.theory.specs.Semilattice.{AtOrBelow}
-use Rattle.theory.specs.MealyMachine.{Machine, Word, after, Runs, States, IsSimulation, Simulated, SimulatedTable, BelowOnWords}
+use Rattle.theory.specs.MealyMachine.{Machine, Word, after, Runs, States, IsSimulation, BelowOnWords}
 use Rattle.theory.specs.WordOrder.{NoLater}
 use Rattle.theory.specs.Exploration.{reached, explored}
 use Rattle.theory.specs.Conformance.{Counterexample, FirstCounterexample, first-bad, next-pair, bad-pair, same-pair, in-play-order, counterexample}
-use Rattle.theory.proofs.Numbers.{digits-less, digits-equal, pigeonhole}
-use Rattle.theory.proofs.WordOrder.{code, word-reverse, word-left, word-right, no-later-iff-number}
+use Rattle.theory.proofs.Numbers.{digits-equal, pigeonhole}
+use Rattle.theory.proofs.WordOrder.{word-reverse, word-left, word-right, no-later-iff-number}
 use Rattle.theory.proofs.Exploration.{at, Invariant, invariant}
-use Rattle.theory.proofs.ReachableStates.{after-reverse, reached-reverse}
+use Rattle.theory.proofs.ReachableStates.{reached-reverse}
 use Rattle.theory.proofs.FirstBad.{Answer, answer}
-
-and-left : (a b : Bool) → T (a && b) → T a
-and-left true b h = tt
-and-left false b h = h
-
-and-right : (a b : Bool) → T (a && b) → T b
-and-right true b h = h
-and-right false b h = absurd h
 
 -- A simulation that holds of two states has the first at or below the second on every word.
 pub simulation-below :
@@ -58,19 +51,15 @@ module _ {B : Type 0} (In : B → Type 0) (meet : B → B → B) (at-or-below : 
 
   same-pair-iff : (x y : ℕ × ℕ) → T (same-pair at-or-below m q x y) ↔ (x ≡ y)
   same-pair-iff x y = (
-    (λ h. λ i. (
-      eqb→eq (x .0) (y .0) (and-left (eqb (x .0) (y .0)) (eqb (x .1) (y .1)) h) i,
-      eqb→eq (x .1) (y .1) (and-right (eqb (x .0) (y .0)) (eqb (x .1) (y .1)) h) i,
-    )),
+    (λ h. λ i. (eqb→eq (x .0) (y .0) (both h .0) i, eqb→eq (x .1) (y .1) (both h .1) i)),
     λ e. subst (λ z. T (same-pair at-or-below m q x z)) e (self x),
   )
     where
-      and-both : (a b : Bool) → T a → T b → T (a && b)
-      and-both true b s t = t
-      and-both false b s t = s
+      both : T (same-pair at-or-below m q x y) → T (eqb (x .0) (y .0)) × T (eqb (x .1) (y .1))
+      both h = and-yes (eqb (x .0) (y .0)) (eqb (x .1) (y .1)) h
 
       self : (z : ℕ × ℕ) → T (same-pair at-or-below m q z z)
-      self z = and-both (eqb (z .0) (z .0)) (eqb (z .1) (z .1)) (eqb-refl (z .0)) (eqb-refl (z .1))
+      self z = yes-and (eqb (z .0) (z .0)) (eqb (z .1) (z .1)) (eqb-refl (z .0)) (eqb-refl (z .1))
 
   module _ (s t : ℕ) (s-in : s < n) (t-in : t < k) where
     abbrev pair-after : List ℕ → ℕ × ℕ

@@ -1,7 +1,7 @@
 -- Exploration finds the numbering of the states reached and the table, where at most `limit` states are reached; and it finds more
 -- than `limit` sequences exactly where more are reached. For any test `same` that decides equality of states.
 -- Assumes nothing.
-use mathlib.Core.Path.{_≡_, refl, sym, _∙_, ap, subst, subst⁻¹}
+use mathlib.Core.Path.{_≡_, sym, _∙_, ap}
 use mathlib.Core.Bool.{Bool, true, false, cond}
 use mathlib.Core.Logic.{_↔_}
 use mathlib.Core.List.{List, [], _∷_, map, reverse, reverse-reverse}

@@ -13,3 +13,4 @@ pub mod BitSets
 pub mod TableClaims
 pub mod FirstBad
 pub mod Conformance
+pub mod ConformanceClaims

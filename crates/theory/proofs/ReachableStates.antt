@@ -1,23 +1,19 @@
 -- Numberings of the states that a machine reaches: there is only one, it depends only on which words reach the same state, and
 -- exploration finds it. The same for the table, which has the machine's values on every word.
 -- Assumes nothing.
-use mathlib.Core.Path.{_≡_, refl, sym, _∙_, ap, ap₂, subst, subst⁻¹}
-use mathlib.Core.Bool.{Bool, true, false, cond}
-use mathlib.Core.Logic.{_↔_, _⊎_, inl, inr}
-use mathlib.Core.List.{List, [], _∷_, _++_, map, reverse, reverse-cons, reverse-reverse}
-use Prim.Native.Nat.{ℕ, zero, suc, _+_, _*_, _≤_, _<_, zero-le, suc-le-suc}
-use native.Mathlib.Nat.{le-of-suc-le-suc, not-suc-le-zero}
+use mathlib.Core.Path.{_≡_, refl, sym, _∙_, ap, subst}
+use mathlib.Core.Logic.{inl, inr}
+use mathlib.Core.List.{List, [], _∷_, _++_, reverse, reverse-cons, reverse-reverse}
+use Prim.Native.Nat.{ℕ, zero, suc, _≤_, _<_, zero-le}
 use native.Mathlib.Omega.{arith}
-use lib.Dec.{T}
-use lib.ListN.{length, getD, length-map, List·getD-map}
+use lib.ListN.{length, getD}
 use lib.Seq.{ext-getD}
 use Rattle.theory.specs.MealyMachine.{Machine, Word, after}
 use Rattle.theory.specs.WordOrder.{Before, NoLater}
-use Rattle.theory.specs.ReachableStates.{state-at, Numbering, ReachesAtMost, IsTable}
-use Rattle.theory.specs.Exploration.{reached, explored, index, numbered}
-use Rattle.theory.proofs.Numbers.{Comparison, less, equal, greater, comparison, pigeonhole}
-use Rattle.theory.proofs.WordOrder.{code, word-append, word-reverse, not-before-empty, before-irreflexive, before-asymmetric, no-later-antisymmetric, no-later-iff-number, number-before}
-use Rattle.theory.proofs.Exploration.{at, Invariant, Hits, invariant, all-reached}
+use Rattle.theory.specs.ReachableStates.{state-at, Numbering, IsTable}
+use Rattle.theory.specs.Exploration.{reached}
+use Rattle.theory.proofs.Numbers.{Comparison, less, equal, greater, comparison}
+use Rattle.theory.proofs.WordOrder.{not-before-empty, before-irreflexive, before-asymmetric, no-later-antisymmetric}
 
 pub after-append : {S B : Type 0} (m : Machine S B) (s : S) (v w : List ℕ) → after m s (v ++ w) ≡ after m (after m s v) w
 after-append m s [] w = refl
@@ -36,13 +32,20 @@ module _ {S B : Type 0} (events : ℕ) (m : Machine S B) (start : S) where
   abbrev entry : List (List ℕ) → ℕ → List ℕ
   entry W l = getD W l []
 
+  abbrev state : List (List ℕ) → ℕ → S
+  state W l = state-at events m start W l
+
+  -- An entry of W reaches the state of w, and is no later than w.
+  abbrev Found : List (List ℕ) → List ℕ → Type 0
+  Found W w = (l : ℕ) × (l < length W) × (state W l ≡ after m start w) × NoLater (entry W l) w
+
   abbrev Numbers : List (List ℕ) → Type 0
   Numbers W = Numbering events m start W
 
   -- A state has one number.
   pub one-number :
       (W : List (List ℕ)) → Numbers W → (j l : ℕ) → j < length W → l < length W →
-      state-at events m start W j ≡ state-at events m start W l → j ≡ l
+      state W j ≡ state W l → j ≡ l
   one-number W N j l hj hl e = go (comparison j l)
     where
       go : Comparison j l → j ≡ l
@@ -59,8 +62,7 @@ module _ {S B : Type 0} (events : ℕ) (m : Machine S B) (start : S) where
       is-empty w (inr b) = absurd (not-before-empty w b)
 
       at-least :
-          ((l : ℕ) × (l < length W) × (state-at events m start W l ≡ start) × NoLater (entry W l) []) →
-          (0 < length W) × (entry W zero ≡ [])
+          Found W [] → (0 < length W) × (entry W zero ≡ [])
       at-least (zero, h, e, k) = (h, is-empty (entry W zero) k)
       at-least (suc l, h, e, k) =
           absurd (not-before-empty (entry W zero)
@@ -70,12 +72,11 @@ module _ {S B : Type 0} (events : ℕ) (m : Machine S B) (start : S) where
   module _ (U W : List (List ℕ)) (M : Numbers U) (N : Numbers W) where
     pub shared : (l : ℕ) → l < length U → (j : ℕ) × (j < length W) × (entry W j ≡ entry U l)
     shared l h =
-        let r : (j : ℕ) × (j < length W) × (state-at events m start W j ≡ state-at events m start U l) × NoLater (entry W j) (entry U l)
-        = N .complete (entry U l) (M .words l h) in
-        let b : (i : ℕ) × (i < length U) × (state-at events m start U i ≡ state-at events m start W (r .0)) × NoLater (entry U i) (entry W (r .0))
-        = M .complete (entry W (r .0)) (N .words (r .0) (r .1)) in
+        let r : Found W (entry U l) = N .complete (entry U l) (M .words l h) in
+        let b : Found U (entry W (r .0)) = M .complete (entry W (r .0)) (N .words (r .0) (r .1)) in
         let q : b .0 ≡ l = one-number U M (b .0) l (b .1) h (b .2 ∙ r .2) in
-        (r .0, r .1, no-later-antisymmetric (entry W (r .0)) (entry U l) (r .3) (subst (λ i. NoLater (entry U i) (entry W (r .0))) q (b .3)))
+        let back : NoLater (entry U l) (entry W (r .0)) = subst (λ i. NoLater (entry U i) (entry W (r .0))) q (b .3) in
+        (r .0, r .1, no-later-antisymmetric (entry W (r .0)) (entry U l) (r .3) back)
 
     shared-rising : (j l : ℕ) (hj : j < length U) (hl : l < length U) → j < l → shared j hj .0 < shared l hl .0
     shared-rising j l hj hl u = go (comparison (shared j hj .0) (shared l hl .0))
@@ -118,6 +119,10 @@ module _ {S B : Type 0} (events : ℕ) (m : Machine S B) (start : S) where
   numbering-unique U W M N =
       ext-getD [] U W (omega (arith, no-longer U W M N, no-longer W U N M)) (λ l h. same-entry U W M N l h .1)
 
+  -- What a table says of a next state.
+  abbrev NextIs : ℕ → Machine ℕ B → List (List ℕ) → ℕ → ℕ → Type 0
+  NextIs n t W l e = (t .next l e < n) × (state W (t .next l e) ≡ m .next (state W l) e)
+
   -- The table is the only one.
   pub table-unique :
       (n k : ℕ) (t u : Machine ℕ B) → IsTable events m start n t → IsTable events m start k u →
@@ -133,8 +138,8 @@ module _ {S B : Type 0} (events : ℕ) (m : Machine S B) (start : S) where
       count : n ≡ k
       count = sym (x .count) ∙ ap length lists ∙ y .count
 
-      states : (l : ℕ) → state-at events m start (x .sequences) l ≡ state-at events m start (y .sequences) l
-      states l = ap (λ W. state-at events m start W l) lists
+      states : (l : ℕ) → state (x .sequences) l ≡ state (y .sequences) l
+      states l = ap (λ W. state W l) lists
 
       value : (l e : ℕ) → l < n → e < events → t .value l e ≡ u .value l e
       value l e h a =
@@ -142,9 +147,8 @@ module _ {S B : Type 0} (events : ℕ) (m : Machine S B) (start : S) where
 
       next : (l e : ℕ) → l < n → e < events → t .next l e ≡ u .next l e
       next l e h a =
-          let b : l < k = omega (arith, count) in
-          let p : (t .next l e < n) × (state-at events m start (x .sequences) (t .next l e) ≡ m .next (state-at events m start (x .sequences) l) e) = x .nexts l e h a in
-          let q : (u .next l e < k) × (state-at events m start (y .sequences) (u .next l e) ≡ m .next (state-at events m start (y .sequences) l) e) = y .nexts l e b a in
+          let p : NextIs n t (x .sequences) l e = x .nexts l e h a in
+          let q : NextIs k u (y .sequences) l e = y .nexts l e (omega (arith, count)) a in
           one-number (x .sequences) (x .numbering) (t .next l e) (u .next l e) (omega (arith, x .count)) (omega (arith, x .count, count))
           (p .1 ∙ ap (λ z. m .next z e) (states l) ∙ sym (q .1) ∙ sym (states (u .next l e)))
 
@@ -153,22 +157,21 @@ module _ {S B : Type 0} (events : ℕ) (m : Machine S B) (start : S) where
     pub table-nonempty : 0 < n
     table-nonempty = omega (arith, x .count, first-entry (x .sequences) (x .numbering) .0)
 
-    pub table-start : state-at events m start (x .sequences) zero ≡ start
+    pub table-start : state (x .sequences) zero ≡ start
     table-start = ap (after m start) (first-entry (x .sequences) (x .numbering) .1)
 
-    pub table-after :
-        (w : List ℕ) → Word events w → (l : ℕ) → l < n →
-        (after t l w < n) × (state-at events m start (x .sequences) (after t l w) ≡ after m (state-at events m start (x .sequences) l) w)
+    abbrev Follows : ℕ → List ℕ → Type 0
+    Follows l w = (after t l w < n) × (state (x .sequences) (after t l w) ≡ after m (state (x .sequences) l) w)
+
+    pub table-after : (w : List ℕ) → Word events w → (l : ℕ) → l < n → Follows l w
     table-after [] v l h = (h, refl)
     table-after (e ∷ w) v l h =
-        let r : (t .next l e < n) × (state-at events m start (x .sequences) (t .next l e) ≡ m .next (state-at events m start (x .sequences) l) e) = x .nexts l e h (v .0) in
-        let a : (after t (t .next l e) w < n) × (state-at events m start (x .sequences) (after t (t .next l e) w) ≡ after m (state-at events m start (x .sequences) (t .next l e)) w)
-        = table-after w (v .1) (t .next l e) (r .0) in
+        let r : NextIs n t (x .sequences) l e = x .nexts l e h (v .0) in
+        let a : Follows (t .next l e) w = table-after w (v .1) (t .next l e) (r .0) in
         (a .0, a .1 ∙ ap (λ z. after m z w) (r .1))
 
     pub table-values :
         (w : List ℕ) → Word events w → (e : ℕ) → e < events → t .value (after t zero w) e ≡ m .value (after m start w) e
     table-values w v e h =
-        let a : (after t zero w < n) × (state-at events m start (x .sequences) (after t zero w) ≡ after m (state-at events m start (x .sequences) zero) w)
-        = table-after w v zero table-nonempty in
+        let a : Follows zero w = table-after w v zero table-nonempty in
         x .values (after t zero w) e (a .0) h ∙ ap (λ z. m .value z e) (a .1 ∙ ap (λ z. after m z w) table-start)
