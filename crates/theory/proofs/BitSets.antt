@@ -119,7 +119,9 @@ module _ {B : Type 0} where
       moved-bounded n D e (demands ρ i (greatest φ) ∷ ρ) (suc i) φ (demands-bounded n ρ i (greatest φ) h l, h) (omega arith)
 
   module _ (width : ℕ) (meet : B → B → B) (top : B) (φ : Formula B) (wide : size φ ≤ width) where
-    pub same-as-bits : (events : ℕ) → SameStates events (set-machine meet top φ) (first-set φ) (bit-machine width meet top φ) (first-bits width meet top φ)
+    pub same-as-bits :
+        (events : ℕ) →
+        SameStates events (set-machine meet top φ) (first-set φ) (bit-machine width meet top φ) (first-bits width meet top φ)
     same-as-bits events =
         map-same-states events (set-machine meet top φ) (first-set φ) (bit-machine width meet top φ) (first-bits width meet top φ)
         (BoundedBy width) (demands-bounded width [] zero φ tt (omega arith))

@@ -19,19 +19,20 @@ use Rattle.theory.specs.Exploration.{reached, explored}
 use Rattle.theory.specs.Conformance.{Counterexample, FirstCounterexample, first-bad, next-pair, bad-pair, same-pair, in-play-order, counterexample}
 use Rattle.theory.proofs.Numbers.{digits-equal, pigeonhole}
 use Rattle.theory.proofs.WordOrder.{word-reverse, word-left, word-right, no-later-iff-number}
-use Rattle.theory.proofs.Exploration.{at, Invariant, invariant}
+use Rattle.theory.proofs.Exploration.{at, Kept, invariant}
 use Rattle.theory.proofs.ReachableStates.{reached-reverse}
 use Rattle.theory.proofs.FirstBad.{Answer, answer}
 
 -- A simulation that holds of two states has the first at or below the second on every word.
-pub simulation-below :
-    {B S Q : Type 0} (events : ℕ) (In : B → Type 0) (meet : B → B → B) (StateS : S → Type 0) (m : Machine S B) (StateQ : Q → Type 0) (q : Machine Q B) →
-    Runs events In StateS m → Runs events In StateQ q → (R : S → Q → Type 0) → IsSimulation events meet StateS m StateQ q R →
-    (s : S) (t : Q) → StateS s → StateQ t → R s t → BelowOnWords events meet m q s t
-simulation-below events In meet StateS m StateQ q runs-m runs-q R sim s t hs ht r [] v e l = sim s t hs ht r e l .0
-simulation-below events In meet StateS m StateQ q runs-m runs-q R sim s t hs ht r (a ∷ w) v e l =
-    simulation-below events In meet StateS m StateQ q runs-m runs-q R sim (m .next s a) (q .next t a)
-    (runs-m .next-in s hs a (v .0)) (runs-q .next-in t ht a (v .0)) (sim s t hs ht r a (v .0) .1) w (v .1) e l
+module _ {B S Q : Type 0} (events : ℕ) (In : B → Type 0) (meet : B → B → B)
+    (StateS : S → Type 0) (m : Machine S B) (StateQ : Q → Type 0) (q : Machine Q B)
+    (runs-m : Runs events In StateS m) (runs-q : Runs events In StateQ q)
+    (R : S → Q → Type 0) (simulation : IsSimulation events meet StateS m StateQ q R) where
+  pub simulation-below : (s : S) (t : Q) → StateS s → StateQ t → R s t → BelowOnWords events meet m q s t
+  simulation-below s t hs ht r [] v e l = simulation s t hs ht r e l .0
+  simulation-below s t hs ht r (a ∷ w) v e l =
+      simulation-below (m .next s a) (q .next t a) (runs-m .next-in s hs a (v .0)) (runs-q .next-in t ht a (v .0))
+      (simulation s t hs ht r a (v .0) .1) w (v .1) e l
 
 module _ {B : Type 0} (In : B → Type 0) (meet : B → B → B) (at-or-below : B → B → Bool)
     (decides : (b c : B) → T (at-or-below b c) ↔ AtOrBelow meet b c) (events n : ℕ) (m : Machine ℕ B) (k : ℕ) (q : Machine ℕ B)
@@ -65,41 +66,48 @@ module _ {B : Type 0} (In : B → Type 0) (meet : B → B → B) (at-or-below : 
     abbrev pair-after : List ℕ → ℕ × ℕ
     pair-after w = reached (next-pair at-or-below m q) (s, t) w
 
-    pair-after-is : (w : List ℕ) → pair-after w ≡ (reached (m .next) s w, reached (q .next) t w)
+    abbrev left : List ℕ → ℕ
+    left w = reached (m .next) s w
+
+    abbrev right : List ℕ → ℕ
+    right w = reached (q .next) t w
+
+    pair-after-is : (w : List ℕ) → pair-after w ≡ (left w, right w)
     pair-after-is [] = refl
     pair-after-is (e ∷ w) = ap (λ x. next-pair at-or-below m q x e) (pair-after-is w)
 
-    pair-in : (w : List ℕ) → Word events w → (reached (m .next) s w < n) × (reached (q .next) t w < k)
+    pair-in : (w : List ℕ) → Word events w → (left w < n) × (right w < k)
     pair-in [] v = (s-in, t-in)
     pair-in (e ∷ w) v =
-        let r : (reached (m .next) s w < n) × (reached (q .next) t w < k) = pair-in w (v .1) in
-        (runs-m .next-in (reached (m .next) s w) (r .0) e (v .0), runs-q .next-in (reached (q .next) t w) (r .1) e (v .0))
+        let r : (left w < n) × (right w < k) = pair-in w (v .1) in
+        (runs-m .next-in (left w) (r .0) e (v .0), runs-q .next-in (right w) (r .1) e (v .0))
 
     abbrev P : List (List ℕ)
     P = explored (same-pair at-or-below m q) (next-pair at-or-below m q) (s, t) events (n * k)
 
     -- There are no more pairs of states than n × k.
     pair-number : ℕ → ℕ
-    pair-number l = reached (m .next) s (at P l) * k + reached (q .next) t (at P l)
+    pair-number l = left (at P l) * k + right (at P l)
 
     few-pairs : length P ≤ n * k
     unfolding pair-number
     few-pairs = pigeonhole (n * k) (length P) pair-number in-range different
       where
-        inv : Invariant (same-pair at-or-below m q) same-pair-iff (next-pair at-or-below m q) (s, t) events (invariant (same-pair at-or-below m q) same-pair-iff (next-pair at-or-below m q) (s, t) events (n * k) .0) P
-        inv = invariant (same-pair at-or-below m q) same-pair-iff (next-pair at-or-below m q) (s, t) events (n * k) .1
+        inv : Kept (same-pair at-or-below m q) same-pair-iff (next-pair at-or-below m q) (s, t) events P
+        inv = invariant (same-pair at-or-below m q) same-pair-iff (next-pair at-or-below m q) (s, t) events (n * k)
 
         in-range : (l : ℕ) → l < length P → pair-number l < n * k
         in-range l h =
-            let r : (reached (m .next) s (at P l) < n) × (reached (q .next) t (at P l) < k) = pair-in (at P l) (inv .words l h) in
-            omega (arith, r .1, mul-le-mul-right k (r .0), suc-mul (reached (m .next) s (at P l)) k)
+            let r : (left (at P l) < n) × (right (at P l) < k) = pair-in (at P l) (inv .1 .words l h) in
+            omega (arith, r .1, mul-le-mul-right k (r .0), suc-mul (left (at P l)) k)
 
         different : (j l : ℕ) → j < l → l < length P → ¬ (pair-number j ≡ pair-number l)
         different j l u h e =
-            let d : (reached (m .next) s (at P j) ≡ reached (m .next) s (at P l)) × (reached (q .next) t (at P j) ≡ reached (q .next) t (at P l))
-            = digits-equal k (reached (m .next) s (at P j)) (reached (m .next) s (at P l)) (reached (q .next) t (at P j)) (reached (q .next) t (at P l))
-            (pair-in (at P j) (inv .words j (omega arith)) .1) (pair-in (at P l) (inv .words l h) .1) e in
-            inv .different j l u h (pair-after-is (at P j) ∙ (λ i. (d .0 i, d .1 i)) ∙ sym (pair-after-is (at P l)))
+            let low-j : right (at P j) < k = pair-in (at P j) (inv .1 .words j (omega arith)) .1 in
+            let low-l : right (at P l) < k = pair-in (at P l) (inv .1 .words l h) .1 in
+            let d : (left (at P j) ≡ left (at P l)) × (right (at P j) ≡ right (at P l))
+            = digits-equal k (left (at P j)) (left (at P l)) (right (at P j)) (right (at P l)) low-j low-l e in
+            inv .1 .different j l u h (pair-after-is (at P j) ∙ (λ i. (d .0 i, d .1 i)) ∙ sym (pair-after-is (at P l)))
 
     -- A word in order of play: the test strikes exactly where the value is not at or below.
     abbrev BelowAfter : List ℕ → ℕ → Type 0

@@ -44,7 +44,8 @@ grows-trans P Q R g h = (omega (arith, g .0, h .0), λ l u. h .1 l (omega (arith
 less-times : (base x : ℕ) → 0 < base → x ≤ x * base
 less-times base x h = omega (arith, mul-le-mul-left x h)
 
-module _ {S : Type 0} (same : S → S → Bool) (same-iff : (x y : S) → T (same x y) ↔ (x ≡ y)) (next : S → ℕ → S) (start : S) (events : ℕ) where
+module _ {S : Type 0} (same : S → S → Bool) (same-iff : (x y : S) → T (same x y) ↔ (x ≡ y))
+    (next : S → ℕ → S) (start : S) (events : ℕ) where
   abbrev st : List ℕ → S
   st w = reached next start w
 
@@ -54,6 +55,10 @@ module _ {S : Type 0} (same : S → S → Bool) (same-iff : (x y : S) → T (sam
   -- A sequence of the list reaches x and its code is at most c.
   abbrev pub Hits : Seqs → S → ℕ → Type 0
   Hits P x c = (l : ℕ) × (l < length P) × (st (at P l) ≡ x) × (cd (at P l) ≤ c)
+
+  -- So does one for the successor of sequence j on event a, no later than that successor.
+  abbrev pub HitsNext : Seqs → ℕ → ℕ → Type 0
+  HitsNext P j a = Hits P (st (a ∷ at P j)) (cd (a ∷ at P j))
 
   has-hit : (P : Seqs) (x : S) → T (has-state same next start P x) → (l : ℕ) × (l < length P) × (st (at P l) ≡ x)
   has-hit [] x t = absurd t
@@ -89,7 +94,7 @@ module _ {S : Type 0} (same : S → S → Bool) (same-iff : (x y : S) → T (sam
     pub rising : (j l : ℕ) → j < l → l < length P → cd (at P j) < cd (at P l)
     pub below : (l : ℕ) → l < length P → cd (at P l) < c
     pub short : (l : ℕ) → l < length P → length (at P l) ≤ l
-    pub taken : (j a : ℕ) → j < length P → a < events → cd (a ∷ at P j) < c → Hits P (st (a ∷ at P j)) (cd (a ∷ at P j))
+    pub taken : (j a : ℕ) → j < length P → a < events → cd (a ∷ at P j) < c → HitsNext P j a
 
   by-code : (c : ℕ) (P : Seqs) → Invariant c P → (j i : ℕ) → j < length P → i < length P → cd (at P j) ≡ cd (at P i) → j ≡ i
   by-code c P v j i hj hi q = go (comparison j i)
@@ -124,7 +129,9 @@ module _ {S : Type 0} (same : S → S → Bool) (same-iff : (x y : S) → T (sam
           taken = λ j a h k u. go j a h k (eq-or-lt-of-le (le-of-suc-le-suc u));
         }
       where
-        go : (j a : ℕ) → j < length P → a < events → (cd (a ∷ at P j) ≡ cd candidate) ⊎ (cd (a ∷ at P j) < cd candidate) → Hits P (st (a ∷ at P j)) (cd (a ∷ at P j))
+        go :
+            (j a : ℕ) → j < length P → a < events → (cd (a ∷ at P j) ≡ cd candidate) ⊎ (cd (a ∷ at P j) < cd candidate) →
+            HitsNext P j a
         go j a h k (inr u) = v .taken j a h k u
         go j a h k (inl q) =
             let r : (l : ℕ) × (l < length P) × (st (at P l) ≡ st candidate) = has-hit P (st candidate) t in
@@ -194,7 +201,7 @@ module _ {S : Type 0} (same : S → S → Bool) (same-iff : (x y : S) → T (sam
         short′ l (old h q) = subst⁻¹ (λ x. length x ≤ l) q (v .short l h)
         short′ l (new h q) = subst⁻¹ (λ x. length x ≤ l) q (omega (arith, v .short i hi))
 
-        taken′ : (j a : ℕ) → a < events → Spot j → cd (a ∷ at P′ j) < suc (cd candidate) → Hits P′ (st (a ∷ at P′ j)) (cd (a ∷ at P′ j))
+        taken′ : (j a : ℕ) → a < events → Spot j → cd (a ∷ at P′ j) < suc (cd candidate) → HitsNext P′ j a
         taken′ j a k (new h q) u =
             absurd (omega (arith, less-times events (cd candidate) (omega arith), subst (λ x. cd (a ∷ x) < suc (cd candidate)) q u))
         taken′ j a k (old h q) u =
@@ -301,7 +308,9 @@ module _ {S : Type 0} (same : S → S → Bool) (same-iff : (x y : S) → T (sam
       }
 
   -- The candidates of the sequences up to i come before those after i.
-  up-to : (c : ℕ) (P : Seqs) (i : ℕ) → Invariant c P → i < length P → (j a : ℕ) → j ≤ i → a < events → cd (a ∷ at P j) < cd (events ∷ at P i)
+  up-to :
+      (c : ℕ) (P : Seqs) (i : ℕ) → Invariant c P → i < length P → (j a : ℕ) → j ≤ i → a < events →
+      cd (a ∷ at P j) < cd (events ∷ at P i)
   up-to c P i v hi j a h k = go (eq-or-lt-of-le h)
     where
       go : (j ≡ i) ⊎ (j < i) → cd (a ∷ at P j) < cd (events ∷ at P i)
@@ -332,14 +341,17 @@ module _ {S : Type 0} (same : S → S → Bool) (same-iff : (x y : S) → T (sam
           go (greater l) =
               absurd (omega (arith, x, digits-less events (cd (at Q (suc i))) (cd (at Q j)) 0 a (v .rising (suc i) j l u) (omega arith)))
 
+  abbrev pub Kept : Seqs → Type 0
+  Kept P = (c : ℕ) × Invariant c P
+
   abbrev Result : ℕ → Seqs → Type 0
-  Result b R = ((c : ℕ) × Invariant c R) × (length R ≤ b → Done R)
+  Result b R = Kept R × (length R ≤ b → Done R)
 
   explore-invariant : (k i : ℕ) (P : Seqs) → Ready i P → Result (i + k) (explore-from k i P)
   unfolding Done
   explore-invariant zero i P r = (go (decLt i (length P)), λ h. r .1 (omega arith))
     where
-      go : Dec (i < length P) → (c : ℕ) × Invariant c P
+      go : Dec (i < length P) → Kept P
       go (yes h) = (cd (0 ∷ at P i), r .0 h)
       go (no h) = let d : Done P = r .1 (omega arith) in (d .0, d .1)
   explore-invariant (suc k) i P r =
@@ -408,7 +420,7 @@ module _ {S : Type 0} (same : S → S → Bool) (same-iff : (x y : S) → T (sam
     result = explore-invariant limit zero ([] ∷ []) begin
 
     -- Whatever the limit: words to different states, in order, none longer than its number.
-    pub invariant : (c : ℕ) × Invariant c Q
+    pub invariant : Kept Q
     invariant = result .0
 
     -- Within the limit: every word's state is there, with a sequence that is no later.
@@ -423,7 +435,7 @@ module _ {S : Type 0} (same : S → S → Bool) (same-iff : (x y : S) → T (sam
     all-reached h (a ∷ w) v =
         let d : Done Q = result .1 (omega (arith, h)) in
         let r : Hits Q (st w) (cd w) = all-reached h w (v .1) in
-        let t : Hits Q (st (a ∷ at Q (r .0))) (cd (a ∷ at Q (r .0)))
+        let t : HitsNext Q (r .0) a
         = d .1 .taken (r .0) a (r .1) (v .0) (d .2 (r .0) a (r .1) (v .0)) in (
           t .0,
           t .1,

@@ -17,7 +17,7 @@ use Rattle.theory.specs.ReachableStates.{state-at, Numbering, ReachesAtM
 use Rattle.theory.specs.Exploration.{reached, explored, index, numbered}
 use Rattle.theory.proofs.Numbers.{pigeonhole}
 use Rattle.theory.proofs.WordOrder.{code, word-reverse, number-before, no-later-iff-number}
-use Rattle.theory.proofs.Exploration.{at, Invariant, Hits, invariant, all-reached}
+use Rattle.theory.proofs.Exploration.{at, Kept, Hits, invariant, all-reached}
 use Rattle.theory.proofs.ReachableStates.{after-reverse, reached-reverse}
 
 -- The sequences in order of play.
@@ -27,12 +27,13 @@ in-order P = map reverse P
 entry-in-order : (P : List (List ℕ)) (l : ℕ) → getD (in-order P) l [] ≡ reverse (at P l)
 entry-in-order P l = List·getD-map reverse P l []
 
-module _ {S B : Type 0} (same : S → S → Bool) (same-iff : (x y : S) → T (same x y) ↔ (x ≡ y)) (events : ℕ) (m : Machine S B) (start : S) where
+module _ {S B : Type 0} (same : S → S → Bool) (same-iff : (x y : S) → T (same x y) ↔ (x ≡ y))
+    (events : ℕ) (m : Machine S B) (start : S) where
   abbrev st : List ℕ → S
   st w = reached (m .next) start w
 
-  abbrev P : ℕ → List (List ℕ)
-  P limit = explored same (m .next) start events limit
+  abbrev number-in : List (List ℕ) → S → ℕ
+  number-in Q x = index same (m .next) start Q x
 
   state-in-order : (Q : List (List ℕ)) (l : ℕ) → state-at events m start (in-order Q) l ≡ st (at Q l)
   state-in-order Q l = ap (after m start) (entry-in-order Q l) ∙ after-reverse m start (at Q l)
@@ -40,12 +41,12 @@ module _ {S B : Type 0} (same : S → S → Bool) (same-iff : (x y : S) → T (s
   -- The index of a state that is there.
   index-at :
       (Q : List (List ℕ)) (x : S) (l : ℕ) → l < length Q → st (at Q l) ≡ x →
-      (index same (m .next) start Q x < length Q) × (st (at Q (index same (m .next) start Q x)) ≡ x)
+      (number-in Q x < length Q) × (st (at Q (number-in Q x)) ≡ x)
   index-at [] x l h e = absurd (not-suc-le-zero h)
   index-at (w ∷ Q) x l h e = go (same (st w) x) (same-iff (st w) x) (index-at Q x) l h e
     where
       i : ℕ
-      i = index same (m .next) start Q x
+      i = number-in Q x
 
       go :
           (b : Bool) → T b ↔ (st w ≡ x) →
@@ -57,85 +58,94 @@ module _ {S B : Type 0} (same : S → S → Bool) (same-iff : (x y : S) → T (s
       go false f r (suc l) h e = (suc-le-suc (r l (le-of-suc-le-suc h) e .0), r l (le-of-suc-le-suc h) e .1)
 
   module _ (limit : ℕ) where
-    inv : Invariant same same-iff (m .next) start events (invariant same same-iff (m .next) start events limit .0) (P limit)
-    inv = invariant same same-iff (m .next) start events limit .1
+    abbrev P : List (List ℕ)
+    P = explored same (m .next) start events limit
 
-    reached-word : (l : ℕ) → Word events (at (P limit) l)
-    reached-word l = go (decLt l (length (P limit)))
+    inv : Kept same same-iff (m .next) start events P
+    inv = invariant same same-iff (m .next) start events limit
+
+    abbrev FoundNoLater : List ℕ → Type 0
+    FoundNoLater w = Hits same same-iff (m .next) start events P (st w) (code events w)
+
+    all-found : length P ≤ limit → (w : List ℕ) → Word events w → FoundNoLater w
+    all-found few w v = all-reached same same-iff (m .next) start events limit few w v
+
+    reached-word : (l : ℕ) → Word events (at P l)
+    reached-word l = go (decLt l (length P))
       where
-        go : Dec (l < length (P limit)) → Word events (at (P limit) l)
-        go (yes h) = inv .words l h
-        go (no h) = rw (List·getD-eq-default (P limit) [] {n = l} (omega arith)) tt
+        go : Dec (l < length P) → Word events (at P l)
+        go (yes h) = inv .1 .words l h
+        go (no h) = rw (List·getD-eq-default P [] {n = l} (omega arith)) tt
 
-    module _ (few : length (P limit) ≤ limit) where
-      pub explored-numbering : Numbering events m start (in-order (P limit))
+    module _ (few : length P ≤ limit) where
+      pub explored-numbering : Numbering events m start (in-order P)
       explored-numbering =
           record {
             words = λ l h. rw entry-in-order (word l);
-            rising = λ j l u h. rw (entry-in-order (P limit) j, entry-in-order (P limit) l) (before j l u (below l h));
+            rising = λ j l u h. rw (entry-in-order P j, entry-in-order P l) (before j l u (below l h));
             different = λ j l u h e.
-                inv .different j l u (below l h) (sym (state-in-order (P limit) j) ∙ e ∙ state-in-order (P limit) l);
+                inv .1 .different j l u (below l h) (sym (state-in-order P j) ∙ e ∙ state-in-order P l);
             complete = λ w v. complete w v;
           }
         where
-          below : (l : ℕ) → l < length (in-order (P limit)) → l < length (P limit)
+          below : (l : ℕ) → l < length (in-order P) → l < length P
           below l h = rw length-map at h
 
-          word : (l : ℕ) → Word events (reverse (at (P limit) l))
-          word l = word-reverse events (at (P limit) l) (reached-word l)
+          word : (l : ℕ) → Word events (reverse (at P l))
+          word l = word-reverse events (at P l) (reached-word l)
 
-          before : (j l : ℕ) → j < l → l < length (P limit) → Before (reverse (at (P limit) j)) (reverse (at (P limit) l))
+          before : (j l : ℕ) → j < l → l < length P → Before (reverse (at P j)) (reverse (at P l))
           before j l u h =
-              number-before events (reverse (at (P limit) j)) (reverse (at (P limit) l)) (word j) (word l)
-              (rw (reverse-reverse (at (P limit) j), reverse-reverse (at (P limit) l)) (inv .rising j l u h))
+              number-before events (reverse (at P j)) (reverse (at P l)) (word j) (word l)
+              (rw (reverse-reverse (at P j), reverse-reverse (at P l)) (inv .1 .rising j l u h))
 
           complete :
               (w : List ℕ) → Word events w →
-              (l : ℕ) × (l < length (in-order (P limit))) × (state-at events m start (in-order (P limit)) l ≡ after m start w)
-              × NoLater (getD (in-order (P limit)) l []) w
+              (l : ℕ) × (l < length (in-order P)) × (state-at events m start (in-order P) l ≡ after m start w)
+              × NoLater (getD (in-order P) l []) w
           complete w v =
-              let r : Hits same same-iff (m .next) start events (P limit) (st (reverse w)) (code events (reverse w))
-              = all-reached same same-iff (m .next) start events limit few (reverse w) (word-reverse events w v) in (
+              let r : FoundNoLater (reverse w) = all-found few (reverse w) (word-reverse events w v) in
+              let u : List ℕ = at P (r .0) in (
                 r .0,
                 rw length-map (r .1),
-                state-in-order (P limit) (r .0) ∙ r .2 ∙ reached-reverse m start w,
-                rw (entry-in-order (P limit) (r .0))
-                    (no-later-iff-number events (reverse (at (P limit) (r .0))) w (word (r .0)) v .1 (rw (reverse-reverse (at (P limit) (r .0))) (r .3))),
+                state-in-order P (r .0) ∙ r .2 ∙ reached-reverse m start w,
+                rw (entry-in-order P (r .0))
+                    (no-later-iff-number events (reverse u) w (word (r .0)) v .1 (rw (reverse-reverse u) (r .3))),
               )
 
       -- The table computed from the sequences is the machine's.
-      pub explored-table : IsTable events m start (length (P limit)) (numbered same m start (P limit))
+      pub explored-table : IsTable events m start (length P) (numbered same m start P)
       explored-table =
           record {
-            sequences = in-order (P limit);
+            sequences = in-order P;
             numbering = explored-numbering;
-            count = length-map (P limit) reverse;
-            values = λ l e h a. ap (λ x. m .value x e) (sym (state-in-order (P limit) l));
+            count = length-map P reverse;
+            values = λ l e h a. ap (λ x. m .value x e) (sym (state-in-order P l));
             nexts = λ l e h a.
-                let x : S = m .next (st (at (P limit) l)) e in
-                let r : Hits same same-iff (m .next) start events (P limit) x (code events (e ∷ at (P limit) l))
-                = all-reached same same-iff (m .next) start events limit few (e ∷ at (P limit) l) (a, inv .words l h) in
-                let i : (index same (m .next) start (P limit) x < length (P limit)) × (st (at (P limit) (index same (m .next) start (P limit) x)) ≡ x)
-                = index-at (P limit) x (r .0) (r .1) (r .2) in
-                (i .0, state-in-order (P limit) (index same (m .next) start (P limit) x) ∙ i .1 ∙ ap (λ s. m .next s e) (sym (state-in-order (P limit) l)));
+                let x : S = m .next (st (at P l)) e in
+                let r : FoundNoLater (e ∷ at P l) = all-found few (e ∷ at P l) (a, inv .1 .words l h) in
+                let i : (number-in P x < length P) × (st (at P (number-in P x)) ≡ x) = index-at P x (r .0) (r .1) (r .2) in
+                (i .0, state-in-order P (number-in P x) ∙ i .1 ∙ ap (λ s. m .next s e) (sym (state-in-order P l)));
           }
 
     -- Each sequence found has a number of its own in any numbering.
-    no-more-found : (W : List (List ℕ)) → Numbering events m start W → length (P limit) ≤ length W
+    no-more-found : (W : List (List ℕ)) → Numbering events m start W → length P ≤ length W
     no-more-found W N =
-        pigeonhole (length W) (length (P limit)) (λ j. place j .0) (λ j h. place j .1)
-        (λ j l u h e. inv .different j l u h
-        (sym (after-reverse m start (at (P limit) j)) ∙ sym (place j .2) ∙ ap (state-at events m start W) e ∙ place l .2 ∙ after-reverse m start (at (P limit) l)))
+        pigeonhole (length W) (length P) (λ j. place j .0) (λ j h. place j .1)
+        (λ j l u h e. inv .1 .different j l u h (sym (place-state j) ∙ ap (state-at events m start W) e ∙ place-state l))
       where
         place :
             (j : ℕ) →
-            (l : ℕ) × (l < length W) × (state-at events m start W l ≡ after m start (reverse (at (P limit) j)))
-            × NoLater (getD W l []) (reverse (at (P limit) j))
-        place j = N .complete (reverse (at (P limit) j)) (word-reverse events (at (P limit) j) (reached-word j))
+            (l : ℕ) × (l < length W) × (state-at events m start W l ≡ after m start (reverse (at P j)))
+            × NoLater (getD W l []) (reverse (at P j))
+        place j = N .complete (reverse (at P j)) (word-reverse events (at P j) (reached-word j))
+
+        place-state : (j : ℕ) → state-at events m start W (place j .0) ≡ st (at P j)
+        place-state j = place j .2 ∙ after-reverse m start (at P j)
 
     -- The count tells whether more than `limit` states are reached.
-    pub explored-at-most : (length (P limit) ≤ limit) ↔ ReachesAtMost events m start limit
+    pub explored-at-most : (length P ≤ limit) ↔ ReachesAtMost events m start limit
     explored-at-most = (
-      (λ few. (in-order (P limit), explored-numbering few, rw length-map few)),
+      (λ few. (in-order P, explored-numbering few, rw length-map few)),
       λ r. omega (arith, no-more-found (r .0) (r .1), r .2),
     )

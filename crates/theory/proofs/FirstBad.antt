@@ -16,7 +16,7 @@ use Rattle.theory.specs.Exploration.{reached, explored}
 use Rattle.theory.specs.Conformance.{bad-event, or-else, first-bad}
 use Rattle.theory.proofs.Numbers.{digits-less}
 use Rattle.theory.proofs.WordOrder.{code}
-use Rattle.theory.proofs.Exploration.{at, Invariant, Hits, invariant, all-reached}
+use Rattle.theory.proofs.Exploration.{at, Kept, Hits, invariant, all-reached}
 
 module _ {S : Type 0} (next : S → ℕ → S) (start : S) (bad : S → ℕ → Bool) (events : ℕ) where
   abbrev st : List ℕ → S
@@ -64,7 +64,9 @@ module _ {S : Type 0} (next : S → ℕ → S) (start : S) (bad : S → ℕ → 
           WordFound (w ∷ P) (or-else next start bad o r)
       go (some u) s r k = (zero, s .0, suc-le-suc zero-le, omega (arith, s .2), s .3, s .4, first)
         where
-          first : (j b : ℕ) → j < suc (length P) → b < events → T (bad (st (at (w ∷ P) j)) b) → (zero < j) ⊎ ((zero ≡ j) × (s .0 ≤ b))
+          first :
+              (j b : ℕ) → j < suc (length P) → b < events → T (bad (st (at (w ∷ P) j)) b) →
+              (zero < j) ⊎ ((zero ≡ j) × (s .0 ≤ b))
           first zero b h l x = inr (refl, s .5 b zero-le x)
           first (suc j) b h l x = inl (suc-le-suc zero-le)
       go none s none k = nowhere
@@ -74,7 +76,9 @@ module _ {S : Type 0} (next : S → ℕ → S) (start : S) (bad : S → ℕ → 
           nowhere (suc j) a h l x = k j a (le-of-suc-le-suc h) l x
       go none s (some u) k = (suc (k .0), k .1, suc-le-suc (k .2), k .3, k .4, k .5, first)
         where
-          first : (j b : ℕ) → j < suc (length P) → b < events → T (bad (st (at (w ∷ P) j)) b) → (suc (k .0) < j) ⊎ ((suc (k .0) ≡ j) × (k .1 ≤ b))
+          first :
+              (j b : ℕ) → j < suc (length P) → b < events → T (bad (st (at (w ∷ P) j)) b) →
+              (suc (k .0) < j) ⊎ ((suc (k .0) ≡ j) × (k .1 ≤ b))
           first zero b h l x = absurd (s b zero-le (omega arith) x)
           first (suc j) b h l x = up (k .6 j b (le-of-suc-le-suc h) l x)
             where
@@ -97,8 +101,8 @@ module _ {S : Type 0} (next : S → ℕ → S) (start : S) (bad : S → ℕ → 
     unfolding Answer WordFound
     answer h = go (first-bad next start bad events Q) (word-found Q)
       where
-        inv : Invariant same same-iff next start events (invariant same same-iff next start events limit .0) Q
-        inv = invariant same same-iff next start events limit .1
+        inv : Kept same same-iff next start events Q
+        inv = invariant same same-iff next start events limit
 
         hits : (w : List ℕ) → Word events w → Hits same same-iff next start events Q (st w) (code events w)
         hits w i = all-reached same same-iff next start events limit h w i
@@ -111,9 +115,9 @@ module _ {S : Type 0} (next : S → ℕ → S) (start : S) (bad : S → ℕ → 
           at Q (s .0),
           s .1,
           s .4,
-          subst⁻¹ (Word events) (s .4) (s .3, inv .words (s .0) (s .2)),
+          subst⁻¹ (Word events) (s .4) (s .3, inv .1 .words (s .0) (s .2)),
           s .5,
-          omega (arith, ap length (s .4), inv .short (s .0) (s .2), s .2),
+          omega (arith, ap length (s .4), inv .1 .short (s .0) (s .2), s .2),
           λ w b i l x. subst⁻¹ (λ y. code events y ≤ code events (b ∷ w)) (s .4) (no-later w b l x (hits w i)),
         )
           where
@@ -124,6 +128,11 @@ module _ {S : Type 0} (next : S → ℕ → S) (start : S) (bad : S → ℕ → 
               where
                 by-place : (s .0 < r .0) ⊎ ((s .0 ≡ r .0) × (s .1 ≤ b)) → code events (s .1 ∷ at Q (s .0)) ≤ code events (b ∷ w)
                 by-place (inl y) =
-                    omega (arith, digits-less events (code events (at Q (s .0))) (code events (at Q (r .0))) (s .1) b (inv .rising (s .0) (r .0) y (r .1)) (s .3), mul-le-mul-right events (r .3))
+                    let rising : code events (at Q (s .0)) < code events (at Q (r .0)) = inv .1 .rising (s .0) (r .0) y (r .1) in
+                    omega (
+                      arith,
+                      digits-less events (code events (at Q (s .0))) (code events (at Q (r .0))) (s .1) b rising (s .3),
+                      mul-le-mul-right events (r .3),
+                    )
                 by-place (inr y) =
                     omega (arith, ap (λ z. code events (at Q z) * events) (y .0), y .1, mul-le-mul-right events (r .3))
