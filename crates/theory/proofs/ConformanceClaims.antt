@@ -1,17 +1,19 @@
 -- Between tables, simulation by a decided relation is simulation, and the check decides it.
 -- Assumes nothing.
-use mathlib.Core.Path.{_≡_, refl}
+use mathlib.Core.Path.{_≡_, refl, subst, subst⁻¹}
 use mathlib.Core.Bool.{Bool, true, false}
 use mathlib.Core.Logic.{_↔_}
-use mathlib.Core.List.{[], _∷_}
+use mathlib.Core.List.{List, [], _∷_}
 use mathlib.Core.Option.{Option, none, some}
-use Prim.Native.Nat.{ℕ, _<_}
+use Prim.Native.Nat.{ℕ, zero, _<_}
 use native.Mathlib.Omega.{arith}
 use lib.Dec.{T}
 use Rattle.theory.specs.Semilattice.{MeetSemilattice, AtOrBelow}
-use Rattle.theory.specs.MealyMachine.{Machine, Runs, States, SimulatedTable, BelowOnWords}
+use Rattle.theory.specs.MealyMachine.{Machine, Word, after, Runs, States, SimulatedTable, BelowOnWords}
+use Rattle.theory.specs.ReachableStates.{IsTable}
 use Rattle.theory.specs.Conformance.{counterexample}
 use Rattle.theory.specs.Claims.{TableSimulationClaim, ConformanceClaim}
+use Rattle.theory.proofs.ReachableStates.{table-nonempty, table-runs, table-values}
 use Rattle.theory.proofs.Conformance.{simulation-below, conformance}
 
 is-none : {A : Type 0} → Option A → Bool
@@ -60,6 +62,27 @@ module _ {B : Type 0} (In : B → Type 0) (meet : B → B → B) (at-or-below : 
     (λ e. below-simulated s t hs ht (passes-iff s t hs ht .0 e)),
     λ r. passes-iff s t hs ht .1 (simulated-below s t hs ht r),
   )
+
+-- Against the table of a machine M from `begin`, the check decides being at or below M on every word.
+pub passes-table-iff :
+    {B S : Type 0} (In : B → Type 0) (meet : B → B → B) (at-or-below : B → B → Bool) →
+    ((b c : B) → T (at-or-below b c) ↔ AtOrBelow meet b c) →
+    (events n : ℕ) (m : Machine ℕ B) → Runs events In (States n) m →
+    (State : S → Type 0) (M : Machine S B) → Runs events In State M → (begin : S) → State begin →
+    (k : ℕ) (q : Machine ℕ B) → IsTable events M begin k q → (s : ℕ) → s < n →
+    (counterexample at-or-below m q events n k s zero ≡ none) ↔ BelowOnWords events meet m M s begin
+passes-table-iff In meet at-or-below decides events n m runs-m State M runs begin begin-in k q x s hs = (
+  (λ e w v a l. subst (AtOrBelow meet (m .value (after m s w) a)) (same w v a l) (passes .0 e w v a l)),
+  λ b. passes .1 (λ w v a l. subst⁻¹ (AtOrBelow meet (m .value (after m s w) a)) (same w v a l) (b w v a l)),
+)
+  where
+    same : (w : List ℕ) → Word events w → (a : ℕ) → a < events → q .value (after q zero w) a ≡ M .value (after M begin w) a
+    same = table-values events M begin k q x
+
+    passes : (counterexample at-or-below m q events n k s zero ≡ none) ↔ BelowOnWords events meet m q s zero
+    passes =
+        passes-iff In meet at-or-below decides events n m k q runs-m (table-runs events M begin k q x In State runs begin-in)
+        s zero hs (table-nonempty events M begin k q x)
 
 module _ {B : Type 0} (In : B → Type 0) (meet : B → B → B) (top : B) (laws : MeetSemilattice In meet top) (events : ℕ) where
   pub table-simulation-claim : TableSimulationClaim In meet top laws events

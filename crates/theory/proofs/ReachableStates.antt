@@ -1,14 +1,14 @@
 -- Numberings of the states that a machine reaches: there is only one, it depends only on which words reach the same state, and
 -- exploration finds it. The same for the table, which has the machine's values on every word.
 -- Assumes nothing.
-use mathlib.Core.Path.{_≡_, refl, sym, _∙_, ap, subst}
+use mathlib.Core.Path.{_≡_, refl, sym, _∙_, ap, subst, subst⁻¹}
 use mathlib.Core.Logic.{inl, inr}
 use mathlib.Core.List.{List, [], _∷_, _++_, reverse, reverse-cons, reverse-reverse}
 use Prim.Native.Nat.{ℕ, zero, suc, _≤_, _<_, zero-le}
 use native.Mathlib.Omega.{arith}
 use lib.ListN.{length, getD}
 use lib.Seq.{ext-getD}
-use Rattle.theory.specs.MealyMachine.{Machine, Word, after}
+use Rattle.theory.specs.MealyMachine.{Machine, Word, after, Runs, States}
 use Rattle.theory.specs.WordOrder.{Before, NoLater}
 use Rattle.theory.specs.ReachableStates.{state-at, Numbering, IsTable}
 use Rattle.theory.specs.Exploration.{reached}
@@ -18,6 +18,14 @@ use Rattle.theory.proofs.WordOrder.{not-before-empty, before-irreflexiv
 pub after-append : {S B : Type 0} (m : Machine S B) (s : S) (v w : List ℕ) → after m s (v ++ w) ≡ after m (after m s v) w
 after-append m s [] w = refl
 after-append m s (e ∷ v) w = after-append m (m .next s e) v w
+
+-- States that every event keeps within a set are kept in it by every word.
+pub after-in :
+    {S B : Type 0} (events : ℕ) (m : Machine S B) (State : S → Type 0) →
+    ((s : S) → State s → (e : ℕ) → e < events → State (m .next s e)) →
+    (w : List ℕ) → Word events w → (s : S) → State s → State (after m s w)
+after-in events m State next-in [] v s h = h
+after-in events m State next-in (e ∷ w) v s h = after-in events m State next-in w (v .1) (m .next s e) (next-in s h e (v .0))
 
 -- The state after a word in order of play, and with its last event first.
 pub after-reverse : {S B : Type 0} (m : Machine S B) (s : S) (w : List ℕ) → after m s (reverse w) ≡ reached (m .next) s w
@@ -169,6 +177,19 @@ module _ {S B : Type 0} (events : ℕ) (m : Machine S B) (start : S) where
         let r : NextIs n t (x .sequences) l e = x .nexts l e h (v .0) in
         let a : Follows (t .next l e) w = table-after w (v .1) (t .next l e) (r .0) in
         (a .0, a .1 ∙ ap (λ z. after m z w) (r .1))
+
+    pub table-runs :
+        (In : B → Type 0) (State : S → Type 0) → Runs events In State m → State start → Runs events In (States n) t
+    table-runs In State runs start-in =
+        record {
+          value-in = λ l h e a.
+              subst⁻¹ In (x .values l e h a) (runs .value-in (state (x .sequences) l) (state-in l h) e a);
+          next-in = λ l h e a. x .nexts l e h a .0;
+        }
+      where
+        state-in : (l : ℕ) → l < n → State (state (x .sequences) l)
+        state-in l h =
+            after-in events m State (runs .next-in) (entry (x .sequences) l) (x .numbering .words l (omega (arith, x .count))) start start-in
 
     pub table-values :
         (w : List ℕ) → Word events w → (e : ℕ) → e < events → t .value (after t zero w) e ≡ m .value (after m start w) e

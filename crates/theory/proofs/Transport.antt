@@ -9,7 +9,7 @@ use lib.ListN.{length, getD}
 use Rattle.theory.specs.MealyMachine.{Machine, Word, after}
 use Rattle.theory.specs.ReachableStates.{state-at, Numbering, ReachesAtMost, IsTable}
 use Rattle.theory.proofs.WordOrder.{word-append}
-use Rattle.theory.proofs.ReachableStates.{after-append}
+use Rattle.theory.proofs.ReachableStates.{after-append, after-in}
 
 module _ {S Q B : Type 0} (events : ℕ) (m : Machine S B) (start : S) (q : Machine Q B) (begin : Q) where
   pub record SameStates : Type 0 where
@@ -73,9 +73,8 @@ module _ {S Q B : Type 0} (events : ℕ) (m : Machine S B) (start : S) (q : Mach
     (f-next : (s : S) → State s → (e : ℕ) → e < events → f (m .next s e) ≡ q .next (f s) e)
     (f-value : (s : S) → State s → (e : ℕ) → e < events → m .value s e ≡ q .value (f s) e)
     (f-injective : (s t : S) → State s → State t → f s ≡ f t → s ≡ t) where
-  after-in : (w : List ℕ) → Word events w → (s : S) → State s → State (after m s w)
-  after-in [] v s h = h
-  after-in (e ∷ w) v s h = after-in w (v .1) (m .next s e) (next-in s h e (v .0))
+  reached-in : (w : List ℕ) → Word events w → State (after m start w)
+  reached-in w v = after-in events m State next-in w v start start-in
 
   f-after : (w : List ℕ) → Word events w → (s : S) → State s → f (after m s w) ≡ after q (f s) w
   f-after [] v s h = refl
@@ -90,8 +89,8 @@ module _ {S Q B : Type 0} (events : ℕ) (m : Machine S B) (start : S) (q : Mach
       record {
         together = λ v w hv hw e. sym (f-reached v hv) ∙ ap f e ∙ f-reached w hw;
         apart = λ v w hv hw e.
-            f-injective (after m start v) (after m start w) (after-in v hv start start-in) (after-in w hw start start-in)
+            f-injective (after m start v) (after m start w) (reached-in v hv) (reached-in w hw)
             (f-reached v hv ∙ e ∙ sym (f-reached w hw));
         values = λ w v e h.
-            f-value (after m start w) (after-in w v start start-in) e h ∙ ap (λ x. q .value x e) (f-reached w v);
+            f-value (after m start w) (reached-in w v) e h ∙ ap (λ x. q .value x e) (f-reached w v);
       }
