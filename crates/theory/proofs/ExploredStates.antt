@@ -29,30 +29,30 @@ entry-in-order P l = List·getD-map reverse P l []
 
 module _ {S B : Type 0} (same : S → S → Bool) (same-iff : (x y : S) → T (same x y) ↔ (x ≡ y))
     (events : ℕ) (m : Machine S B) (start : S) where
-  abbrev st : List ℕ → S
-  st w = reached (m .next) start w
+  abbrev state : List ℕ → S
+  state w = reached (m .next) start w
 
   abbrev number-in : List (List ℕ) → S → ℕ
   number-in Q x = index same (m .next) start Q x
 
-  state-in-order : (Q : List (List ℕ)) (l : ℕ) → state-at events m start (in-order Q) l ≡ st (at Q l)
+  state-in-order : (Q : List (List ℕ)) (l : ℕ) → state-at events m start (in-order Q) l ≡ state (at Q l)
   state-in-order Q l = ap (after m start) (entry-in-order Q l) ∙ after-reverse m start (at Q l)
 
   -- The index of a state that is there.
   index-at :
-      (Q : List (List ℕ)) (x : S) (l : ℕ) → l < length Q → st (at Q l) ≡ x →
-      (number-in Q x < length Q) × (st (at Q (number-in Q x)) ≡ x)
+      (Q : List (List ℕ)) (x : S) (l : ℕ) → l < length Q → state (at Q l) ≡ x →
+      (number-in Q x < length Q) × (state (at Q (number-in Q x)) ≡ x)
   index-at [] x l h e = absurd (not-suc-le-zero h)
-  index-at (w ∷ Q) x l h e = go (same (st w) x) (same-iff (st w) x) (index-at Q x) l h e
+  index-at (w ∷ Q) x l h e = go (same (state w) x) (same-iff (state w) x) (index-at Q x) l h e
     where
       i : ℕ
       i = number-in Q x
 
       go :
-          (b : Bool) → T b ↔ (st w ≡ x) →
-          ((l : ℕ) → l < length Q → st (at Q l) ≡ x → (i < length Q) × (st (at Q i) ≡ x)) →
-          (l : ℕ) → l < suc (length Q) → st (at (w ∷ Q) l) ≡ x →
-          (cond b zero (suc i) < suc (length Q)) × (st (at (w ∷ Q) (cond b zero (suc i))) ≡ x)
+          (b : Bool) → T b ↔ (state w ≡ x) →
+          ((l : ℕ) → l < length Q → state (at Q l) ≡ x → (i < length Q) × (state (at Q i) ≡ x)) →
+          (l : ℕ) → l < suc (length Q) → state (at (w ∷ Q) l) ≡ x →
+          (cond b zero (suc i) < suc (length Q)) × (state (at (w ∷ Q) (cond b zero (suc i))) ≡ x)
       go true f r l h e = (suc-le-suc zero-le, f .0 tt)
       go false f r zero h e = absurd (f .1 e)
       go false f r (suc l) h e = (suc-le-suc (r l (le-of-suc-le-suc h) e .0), r l (le-of-suc-le-suc h) e .1)
@@ -65,7 +65,7 @@ module _ {S B : Type 0} (same : S → S → Bool) (same-iff : (x y : S) → T (s
     inv = invariant same same-iff (m .next) start events limit
 
     abbrev FoundNoLater : List ℕ → Type 0
-    FoundNoLater w = Hits same same-iff (m .next) start events P (st w) (code events w)
+    FoundNoLater w = Hits same same-iff (m .next) start events P (state w) (code events w)
 
     all-found : length P ≤ limit → (w : List ℕ) → Word events w → FoundNoLater w
     all-found few w v = all-reached same same-iff (m .next) start events limit few w v
@@ -122,9 +122,9 @@ module _ {S B : Type 0} (same : S → S → Bool) (same-iff : (x y : S) → T (s
             count = length-map P reverse;
             values = λ l e h a. ap (λ x. m .value x e) (sym (state-in-order P l));
             nexts = λ l e h a.
-                let x : S = m .next (st (at P l)) e in
+                let x : S = m .next (state (at P l)) e in
                 let r : FoundNoLater (e ∷ at P l) = all-found few (e ∷ at P l) (a, inv .1 .words l h) in
-                let i : (number-in P x < length P) × (st (at P (number-in P x)) ≡ x) = index-at P x (r .0) (r .1) (r .2) in
+                let i : (number-in P x < length P) × (state (at P (number-in P x)) ≡ x) = index-at P x (r .0) (r .1) (r .2) in
                 (i .0, state-in-order P (number-in P x) ∙ i .1 ∙ ap (λ s. m .next s e) (sym (state-in-order P l)));
           }
 
@@ -140,7 +140,7 @@ module _ {S B : Type 0} (same : S → S → Bool) (same-iff : (x y : S) → T (s
             × NoLater (getD W l []) (reverse (at P j))
         place j = N .complete (reverse (at P j)) (word-reverse events (at P j) (reached-word j))
 
-        place-state : (j : ℕ) → state-at events m start W (place j .0) ≡ st (at P j)
+        place-state : (j : ℕ) → state-at events m start W (place j .0) ≡ state (at P j)
         place-state j = place j .2 ∙ after-reverse m start (at P j)
 
     -- The count tells whether more than `limit` states are reached.

@@ -19,28 +19,28 @@ use Rattle.theory.proofs.WordOrder.{code}
 use Rattle.theory.proofs.Exploration.{at, Kept, Hits, invariant, all-reached}
 
 module _ {S : Type 0} (next : S → ℕ → S) (start : S) (bad : S → ℕ → Bool) (events : ℕ) where
-  abbrev st : List ℕ → S
-  st w = reached next start w
+  abbrev state : List ℕ → S
+  state w = reached next start w
 
   EventFound : ℕ → ℕ → List ℕ → Option (List ℕ) → Type 0
-  EventFound c e w none = (a : ℕ) → e ≤ a → a < e + c → T (bad (st w) a) → ⊥
+  EventFound c e w none = (a : ℕ) → e ≤ a → a < e + c → T (bad (state w) a) → ⊥
   EventFound c e w (some u) =
-      (a : ℕ) × (e ≤ a) × (a < e + c) × (u ≡ a ∷ w) × T (bad (st w) a) × ((b : ℕ) → e ≤ b → T (bad (st w) b) → a ≤ b)
+      (a : ℕ) × (e ≤ a) × (a < e + c) × (u ≡ a ∷ w) × T (bad (state w) a) × ((b : ℕ) → e ≤ b → T (bad (state w) b) → a ≤ b)
 
   event-found : (c e : ℕ) (w : List ℕ) → EventFound c e w (bad-event next start bad c e w)
   unfolding EventFound
   event-found zero e w = λ a l u x. omega arith
-  event-found (suc c) e w = go (bad (st w) e) refl (bad-event next start bad c (suc e) w) (event-found c (suc e) w)
+  event-found (suc c) e w = go (bad (state w) e) refl (bad-event next start bad c (suc e) w) (event-found c (suc e) w)
     where
-      later : bad (st w) e ≡ false → (a : ℕ) → e ≤ a → T (bad (st w) a) → suc e ≤ a
+      later : bad (state w) e ≡ false → (a : ℕ) → e ≤ a → T (bad (state w) a) → suc e ≤ a
       later q a l x = by-case (eq-or-lt-of-le l)
         where
           by-case : (e ≡ a) ⊎ (e < a) → suc e ≤ a
-          by-case (inl y) = absurd (subst T q (subst⁻¹ (λ z. T (bad (st w) z)) y x))
+          by-case (inl y) = absurd (subst T q (subst⁻¹ (λ z. T (bad (state w) z)) y x))
           by-case (inr y) = y
 
       go :
-          (t : Bool) → bad (st w) e ≡ t → (o : Option (List ℕ)) → EventFound c (suc e) w o →
+          (t : Bool) → bad (state w) e ≡ t → (o : Option (List ℕ)) → EventFound c (suc e) w o →
           EventFound (suc c) e w (cond t (some (e ∷ w)) o)
       go true q o s = (e, omega arith, omega arith, refl, subst⁻¹ T q tt, λ b l x. l)
       go false q none s = λ a l u x. s a (later q a l x) (omega arith) x
@@ -48,10 +48,10 @@ module _ {S : Type 0} (next : S → ℕ → S) (start : S) (bad : S → ℕ → 
           (s .0, omega (arith, s .1), omega (arith, s .2), s .3, s .4, λ b l x. s .5 b (later q b l x) x)
 
   WordFound : List (List ℕ) → Option (List ℕ) → Type 0
-  WordFound P none = (l a : ℕ) → l < length P → a < events → T (bad (st (at P l)) a) → ⊥
+  WordFound P none = (l a : ℕ) → l < length P → a < events → T (bad (state (at P l)) a) → ⊥
   WordFound P (some u) =
-      (l : ℕ) × (a : ℕ) × (l < length P) × (a < events) × (u ≡ a ∷ at P l) × T (bad (st (at P l)) a)
-      × ((j b : ℕ) → j < length P → b < events → T (bad (st (at P j)) b) → (l < j) ⊎ ((l ≡ j) × (a ≤ b)))
+      (l : ℕ) × (a : ℕ) × (l < length P) × (a < events) × (u ≡ a ∷ at P l) × T (bad (state (at P l)) a)
+      × ((j b : ℕ) → j < length P → b < events → T (bad (state (at P j)) b) → (l < j) ⊎ ((l ≡ j) × (a ≤ b)))
 
   word-found : (P : List (List ℕ)) → WordFound P (first-bad next start bad events P)
   unfolding WordFound EventFound
@@ -65,19 +65,19 @@ module _ {S : Type 0} (next : S → ℕ → S) (start : S) (bad : S → ℕ → 
       go (some u) s r k = (zero, s .0, suc-le-suc zero-le, omega (arith, s .2), s .3, s .4, first)
         where
           first :
-              (j b : ℕ) → j < suc (length P) → b < events → T (bad (st (at (w ∷ P) j)) b) →
+              (j b : ℕ) → j < suc (length P) → b < events → T (bad (state (at (w ∷ P) j)) b) →
               (zero < j) ⊎ ((zero ≡ j) × (s .0 ≤ b))
           first zero b h l x = inr (refl, s .5 b zero-le x)
           first (suc j) b h l x = inl (suc-le-suc zero-le)
       go none s none k = nowhere
         where
-          nowhere : (l a : ℕ) → l < suc (length P) → a < events → T (bad (st (at (w ∷ P) l)) a) → ⊥
+          nowhere : (l a : ℕ) → l < suc (length P) → a < events → T (bad (state (at (w ∷ P) l)) a) → ⊥
           nowhere zero a h l x = s a zero-le (omega arith) x
           nowhere (suc j) a h l x = k j a (le-of-suc-le-suc h) l x
       go none s (some u) k = (suc (k .0), k .1, suc-le-suc (k .2), k .3, k .4, k .5, first)
         where
           first :
-              (j b : ℕ) → j < suc (length P) → b < events → T (bad (st (at (w ∷ P) j)) b) →
+              (j b : ℕ) → j < suc (length P) → b < events → T (bad (state (at (w ∷ P) j)) b) →
               (suc (k .0) < j) ⊎ ((suc (k .0) ≡ j) × (k .1 ≤ b))
           first zero b h l x = absurd (s b zero-le (omega arith) x)
           first (suc j) b h l x = up (k .6 j b (le-of-suc-le-suc h) l x)
@@ -92,10 +92,10 @@ module _ {S : Type 0} (next : S → ℕ → S) (start : S) (bad : S → ℕ → 
 
     -- Nothing is bad anywhere; or u is bad, no longer than there are states, and none that is bad comes before it.
     unfoldable pub Answer : Option (List ℕ) → Type 0
-    Answer none = (w : List ℕ) (a : ℕ) → Word events w → a < events → T (bad (st w) a) → ⊥
+    Answer none = (w : List ℕ) (a : ℕ) → Word events w → a < events → T (bad (state w) a) → ⊥
     Answer (some u) =
-        (w : List ℕ) × (a : ℕ) × (u ≡ a ∷ w) × Word events u × T (bad (st w) a) × (length u ≤ length Q)
-        × ((v : List ℕ) (b : ℕ) → Word events v → b < events → T (bad (st v) b) → code events u ≤ code events (b ∷ v))
+        (w : List ℕ) × (a : ℕ) × (u ≡ a ∷ w) × Word events u × T (bad (state w) a) × (length u ≤ length Q)
+        × ((v : List ℕ) (b : ℕ) → Word events v → b < events → T (bad (state v) b) → code events u ≤ code events (b ∷ v))
 
     pub answer : length Q ≤ limit → Answer (first-bad next start bad events Q)
     unfolding Answer WordFound
@@ -104,12 +104,12 @@ module _ {S : Type 0} (next : S → ℕ → S) (start : S) (bad : S → ℕ → 
         inv : Kept same same-iff next start events Q
         inv = invariant same same-iff next start events limit
 
-        hits : (w : List ℕ) → Word events w → Hits same same-iff next start events Q (st w) (code events w)
+        hits : (w : List ℕ) → Word events w → Hits same same-iff next start events Q (state w) (code events w)
         hits w i = all-reached same same-iff next start events limit h w i
 
         go : (o : Option (List ℕ)) → WordFound Q o → Answer o
         go none s = λ w a i l x.
-            let r : Hits same same-iff next start events Q (st w) (code events w) = hits w i in
+            let r : Hits same same-iff next start events Q (state w) (code events w) = hits w i in
             s (r .0) a (r .1) l (subst⁻¹ (λ y. T (bad y a)) (r .2) x)
         go (some u) s = (
           at Q (s .0),
@@ -122,7 +122,7 @@ module _ {S : Type 0} (next : S → ℕ → S) (start : S) (bad : S → ℕ → 
         )
           where
             no-later :
-                (w : List ℕ) (b : ℕ) → b < events → T (bad (st w) b) → Hits same same-iff next start events Q (st w) (code events w) →
+                (w : List ℕ) (b : ℕ) → b < events → T (bad (state w) b) → Hits same same-iff next start events Q (state w) (code events w) →
                 code events (s .1 ∷ at Q (s .0)) ≤ code events (b ∷ w)
             no-later w b l x r = by-place (s .6 (r .0) b (r .1) l (subst⁻¹ (λ y. T (bad y b)) (r .2) x))
               where
