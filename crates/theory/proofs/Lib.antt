@@ -17,3 +17,15 @@ pub mod ReachedSets
 pub mod DemandValues
 pub mod SetMachine
 pub mod DemandClaims
+pub mod Numbers
+pub mod WordOrder
+pub mod Exploration
+pub mod ReachableStates
+pub mod Transport
+pub mod ExploredStates
+pub mod BitSets
+pub mod TableClaims
+pub mod FirstBad
+pub mod Conformance
+pub mod ConformanceClaims
+pub mod Trial
