@@ -1,0 +1,2 @@
+-- Both kinds of values are meet-semilattices.
+pub mod ValueSets
