@@ -2,7 +2,7 @@
 -- Assumes nothing.
 use mathlib.Core.Path.{_≡_, refl, sym, _∙_, ap, ap₂, subst}
 use mathlib.Core.Bool.{Bool, true, false, _&&_}
-use mathlib.Core.Logic.{⊎-elim}
+use mathlib.Core.Logic.{_⊎_, inl, inr, ⊎-elim}
 use mathlib.Core.List.{List, [], _∷_}
 use Prim.Native.Nat.{ℕ, zero, suc, _+_, _*_, _-_, _/_, _%_, _^_, min, _≤_, _<_}
 use native.Mathlib.Nat.{le-of-suc-le-suc, not-suc-le-zero, mod-eq-of-lt, eq-or-lt-of-le, lt-of-lt-of-le}
@@ -28,9 +28,19 @@ and-right false b e = let z : _≡_ {A = ℕ} 0 1 = cc in absurd (omega arith)
 pub and-both : {a b : Bool} → a ≡ true → b ≡ true → (a && b) ≡ true
 and-both {a} {b} p q = ap₂ _&&_ p q
 
+pub and-passed : {a b : Bool} → a ≡ true → (a && b) ≡ b
+and-passed {b = b} e = ap (λ t. t && b) e
+
+pub and-failed : {a : Bool} (b : Bool) → a ≡ false → (a && b) ≡ false
+and-failed b e = ap (λ t. t && b) e
+
 pub and-false-right : (a : Bool) {b : Bool} → b ≡ false → (a && b) ≡ false
 and-false-right true e = e
 and-false-right false e = refl
+
+pub and-cases : (a b : Bool) → (a && b) ≡ false → (a ≡ false) ⊎ (b ≡ false)
+and-cases true b e = inr e
+and-cases false b e = inl refl
 
 -- `every` is the test of all numbers below n.
 pub every-none : (test : ℕ → Bool) → every 0 test ≡ true
@@ -54,6 +64,9 @@ unfolding every
 every-of zero test all = refl
 every-of (suc n) test all = and-both (all n (omega arith)) (every-of n test (λ i h. all i (omega arith)))
 
+pub every-done : (n i : ℕ) (test : ℕ → Bool) → i ≤ n → n ≤ i → every i test ≡ true → every n test ≡ true
+every-done n i test below above all = let same : i ≡ n = omega arith in subst (λ k. every k test ≡ true) same all
+
 pub every-not : (n : ℕ) (test : ℕ → Bool) (i : ℕ) → i < n → test i ≡ false → every n test ≡ false
 unfolding every
 every-not zero test i h e = absurd (not-suc-le-zero h)
@@ -61,6 +74,14 @@ every-not (suc n) test i h e =
     ⊎-elim (λ same. ap (λ b. b && every n test) (ap test (sym same) ∙ e))
     (λ l. and-false-right (test n) (every-not n test i l e))
     (eq-or-lt-of-le (le-of-suc-le-suc h))
+
+pub every-some : (n : ℕ) (test : ℕ → Bool) → every n test ≡ false → (i : ℕ) × (i < n) × (test i ≡ false)
+unfolding every
+every-some zero test e = let z : _≡_ {A = ℕ} 0 1 = cc in absurd (omega arith)
+every-some (suc n) test e =
+    ⊎-elim (λ here. (n, omega arith, here))
+    (λ rest. let found = every-some n test rest in (found .0, omega (arith, found .1), found .2))
+    (and-cases (test n) (every n test) e)
 
 -- A table that passes the test has the laws.
 pub laws-of-test : (n : ℕ) (table : List ℕ) (top : ℕ) → lawful n table top ≡ true → MeetSemilattice (Below n) (meetAt n table) top

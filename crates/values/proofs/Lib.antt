@@ -1,0 +1,2 @@
+-- What the tests of a set-up say, and the claims of `specs/Setup.antt`.
+pub mod Setups
