@@ -53,11 +53,11 @@ First (C ∷ cs) answer =
     ((refusal : Refusal) × C refusal × (answer ≡ some refusal)) ⊎ (((refusal : Refusal) → ¬ C refusal) × First cs answer)
 
 -- Each condition of a list gives only refusals of its number.
-unfoldable pub Numbered : List ℕ → List Condition → Type 0
-Numbered [] [] = Unit
-Numbered [] (C ∷ cs) = ⊥
-Numbered (n ∷ ns) [] = ⊥
-Numbered (n ∷ ns) (C ∷ cs) = ((refusal : Refusal) → C refusal → number refusal ≡ n) × Numbered ns cs
+unfoldable pub HasNumbers : List ℕ → List Condition → Type 0
+HasNumbers [] [] = Unit
+HasNumbers [] (C ∷ cs) = ⊥
+HasNumbers (n ∷ ns) [] = ⊥
+HasNumbers (n ∷ ns) (C ∷ cs) = ((refusal : Refusal) → C refusal → number refusal ≡ n) × HasNumbers ns cs
 
 -- The first list is the second with some numbers left out.
 unfoldable pub part-of : List ℕ → List ℕ → Bool
@@ -67,7 +67,7 @@ part-of (n ∷ ns) (m ∷ ms) = cond (eqb n m) (part-of ns ms) (part-of (n ∷ n
 
 -- A call's conditions stand in document 01's order.
 pub record InOrder (numbers : List ℕ) (cs : List Condition) : Type 0 where
-  pub numbered : Numbered numbers cs
+  pub numbered : HasNumbers numbers cs
   pub ordered : part-of numbers order ≡ true
 
 -- Computing twins, for the definitions that contracts cite. The first of two answers that is a refusal.

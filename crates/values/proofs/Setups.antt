@@ -10,19 +10,19 @@ use native.Mathlib.Nat.{div-add-mod', mod-lt, div-lt-iff-lt-mul, mul-le-mul, lt-
 use native.Mathlib.Omega.{arith}
 use borrow.Author.Tests.{ltb-true, ltb-false, leb-true, leb-false, eqb-true, eqb-false, lt-ltb, le-leb, eq-eqb, ne-eqb}
 use lib.Arith.{digits-lt}
-use lib.Dec.{leb, ltb, eqb}
+use lib.Dec.{leb, ltb, eqb, lit≤}
 use lib.ListN.{length, getD}
 use Rattle.refusal.specs.declared.Refusal.{Refusal}
 use Rattle.refusal.specs.declared.Refusal.the-variants.{Plain}
 use Rattle.refusal.specs.declared.Judgement.the-variants.{Accepted, Refused}
-use Rattle.refusal.specs.Refusal.{plain, First, plain-unless, or-else, number, order, part-of, Numbered, InOrder, judgement}
+use Rattle.refusal.specs.Refusal.{plain, First, plain-unless, or-else, number, order, part-of, HasNumbers, InOrder, judgement}
 use Rattle.refusal.specs.RefusalClaims.{AllFunctional}
 use Rattle.refusal.proofs.Refusals.{plain-first, plain-functional, plain-number, first-append, first-unique, or-else-none, plain-none}
 use Rattle.theory.specs.Semilattice.{MeetSemilattice}
-use Rattle.theory.specs.ValueSets.{Below, meetAt}
+use Rattle.theory.specs.ValueSets.{Below, meetAt, four-value-meet}
 use Rattle.theory.specs.ValueSetClaims.{every, closed-test, idempotent-test, commutative-test, associative-test, neutral-test, lawful}
-use Rattle.theory.proofs.ValueSets.{and-left, and-right, and-both, and-cases, every-at, every-of, every-some, laws-of-test, test-of-laws}
-use Rattle.values.specs.Setup.{Setup, event-limit, value-limit, EventsFault, ValuesFault, values-out-of-limits, top-not-below, MeetFault, length-wrong, entry-not-below, law-broken, setup-conditions, WellFormed, events-test, values-test, entries-test, meet-test, setup-refusal, Square, SetupClaim, SetupAcceptedClaim}
+use Rattle.theory.proofs.ValueSets.{and-left, and-right, and-both, and-cases, every-at, every-of, every-some, laws-of-test, test-of-laws, four-value-semilattice}
+use Rattle.values.specs.Setup.{Setup, setup, event-limit, value-limit, EventsFault, ValuesFault, values-out-of-limits, top-not-below, MeetFault, length-wrong, entry-not-below, law-broken, setup-conditions, WellFormed, events-test, values-test, entries-test, meet-test, setup-refusal, Square, SetupClaim, SetupAcceptedClaim, FourValueSetupClaim}
 
 differ : {b : Bool} → b ≡ true → b ≡ false → ⊥
 differ p q = let z : _≡_ {A = ℕ} 0 1 = cc in omega arith
@@ -198,7 +198,7 @@ module _ (s : Setup) where
   setup-functional = (plain-functional 1 _, (plain-functional 2 _, (plain-functional 3 _, tt)))
 
   setup-order : InOrder (1 ∷ 2 ∷ 3 ∷ []) (setup-conditions s)
-  unfolding setup-conditions Numbered part-of order
+  unfolding setup-conditions HasNumbers part-of order
   setup-order = record { numbered = (plain-number 1 _, (plain-number 2 _, (plain-number 3 _, tt))); ordered = refl }
 
   -- A set-up that passes the tests is a meet-semilattice within the limits.
@@ -252,3 +252,16 @@ setup-correct =
 
 pub setup-accepted : SetupAcceptedClaim
 setup-accepted s = (accepted-well-formed s, well-formed-accepted s)
+
+pub four-value-setup : FourValueSetupClaim
+unfolding setup four-value-meet
+four-value-setup events some few =
+    setup-accepted (setup events 4 3 four-value-meet) .1
+    (record {
+      some-events = some;
+      few-events = few;
+      some-values = lit≤ tt;
+      few-values = lit≤ tt;
+      whole = refl;
+      laws = four-value-semilattice;
+    })

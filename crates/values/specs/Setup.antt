@@ -11,7 +11,7 @@ use lib.ListN.{length, getD}
 use Rattle.refusal.specs.declared.Refusal.{Refusal}
 use Rattle.refusal.specs.Refusal.{Condition, plain, First, InOrder, or-else, plain-unless}
 use Rattle.theory.specs.Semilattice.{MeetSemilattice}
-use Rattle.theory.specs.ValueSets.{Below, meetAt}
+use Rattle.theory.specs.ValueSets.{Below, meetAt, four-value-meet}
 use Rattle.theory.specs.ValueSetClaims.{every, lawful}
 
 -- A set-up as it is handed in: any numbers, and the meet table's entries, row by row.
@@ -77,11 +77,6 @@ setup-refusal s =
     or-else (plain-unless (events-test (s .events)) 1)
     (or-else (plain-unless (values-test (s .values) (s .top)) 2) (plain-unless (meet-test (s .values) (s .top) (s .meet)) 3))
 
--- A table of at most 16 values that is whole, as the tests of the laws are handed it.
-pub record Square (values : ℕ) (meet : List ℕ) : Type 0 where
-  pub small : values ≤ value-limit
-  pub whole : length meet ≡ values * values
-
 -- The twin is the first refusal of the list, and the only one; the list stands in document 01's order.
 pub record SetupClaim : Type 0 where
   pub first : (s : Setup) → First (setup-conditions s) (setup-refusal s)
@@ -91,3 +86,12 @@ pub record SetupClaim : Type 0 where
 -- A set-up is accepted exactly if it is a meet-semilattice with that top within the limits, at every size.
 abbrev pub SetupAcceptedClaim : Type 0
 SetupAcceptedClaim = (s : Setup) → (setup-refusal s ≡ none) ↔ WellFormed s
+
+-- The four-value set is accepted with any number of events within the limits.
+abbrev pub FourValueSetupClaim : Type 0
+FourValueSetupClaim = (events : ℕ) → 1 ≤ events → events ≤ event-limit → setup-refusal (setup events 4 3 four-value-meet) ≡ none
+
+-- What the private tests of the laws ask of a table: at most 16 values, and whole.
+pub record Square (values : ℕ) (meet : List ℕ) : Type 0 where
+  pub small : values ≤ value-limit
+  pub whole : length meet ≡ values * values

@@ -4,13 +4,12 @@ use refusal::Refusal;
 ghost use mathlib.Core.Path.{_≡_};
 ghost use mathlib.Core.Bool.{true};
 ghost use Prim.Native.Nat.{ℕ, _+_, _*_, _≤_, _<_};
-ghost use lib.Dec.{eqb};
 ghost use lib.ListN.{length, getD};
 ghost use Rattle.refusal.specs.Refusal.{judgement};
 ghost use Rattle.theory.specs.ValueSets.{meetAt, four-value-meet};
 ghost use Rattle.theory.specs.ValueSetClaims.{idempotent-test, commutative-test, associative-test, neutral-test};
 ghost use Rattle.values.specs.Setup.{setup, events-test, values-test, entries-test, meet-test, setup-refusal, Square};
-ghost use Rattle.values.specs.ValueKind.{meetOf};
+ghost use Rattle.values.specs.ValueKind.{meetOf, at-or-below};
 
 // Document 01's limits of a set-up.
 pub const EVENT_LIMIT: usize = 16;
@@ -67,7 +66,7 @@ pub fn meet_of(kind: ValueKind, table: &[u8], a: u32, b: u32) -> u32
 
 // Whether b is at or below c: the meet of b and c is b.
 pub fn at_or_below(kind: ValueKind, table: &[u8], b: u32, c: u32) -> bool
-    ensures { λ r. ⌜ r ≡ eqb (meetOf kind (now (table .entry)) b c) b ⌝ }
+    ensures { λ r. ⌜ r ≡ at-or-below kind (now (table .entry)) b c ⌝ }
 {
     meet_of(kind, table, b, c) == b
 }

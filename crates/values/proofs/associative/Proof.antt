@@ -1,21 +1,17 @@
+-- `values::associative` meets its contract. The loops' invariants: the law holds at every triple before (a, b, c).
+-- Assumes nothing.
+use mathlib.Core.Path.{_≡_, sym, _∙_}
+use mathlib.Core.Bool.{true}
+use Prim.Native.Nat.{_≤_, _-_}
 use borrow.Author.Needs.{needs}
-use mathlib.Core.Path.{_≡_, sym, _∙_, ap}
-use mathlib.Core.Bool.{true, false}
-use Prim.Native.Nat.{ℕ, _≤_, _-_}
-use native.Mathlib.Omega.{arith}
-use borrow.Author.Tests.{lt-ltb, le-ltb, eq-eqb, ne-eqb}
-use lib.Dec.{eqb, ltb}
-use lib.ListN.{length, getD}
+use borrow.Author.Tests.{eq-eqb, ne-eqb}
+use lib.Dec.{eqb}
 use Rattle.theory.specs.ValueSets.{meetAt}
 use Rattle.theory.specs.ValueSetClaims.{every, associative-test}
 use Rattle.theory.proofs.ValueSets.{every-none, every-more, every-not, every-done}
-use Rattle.values.proofs.Setups.{meet-below}
-use Rattle.values.proofs.Setups.{grouped}
+use Rattle.values.proofs.Setups.{meet-below, grouped}
 use Rattle.values.proofs.associative.Statement.{statement}
 use Rattle.values.proofs.associative.Tie as tie
-use Rattle.values.proofs.associative.Reads as reads
-use Rattle.values.proofs.associative.Lts as lts
-use Rattle.values.proofs.meet_at.Reads as meet-at-reads
 
 abbrev Inv-loop2 : tie.InvT-loop2
 Inv-loop2 meet values holds₀ a b c₀ holds c =
@@ -38,47 +34,37 @@ Inv-triples meet values holds₀ a₀ holds a =
 abbrev μ-triples : tie.MeasureT-triples
 μ-triples meet values holds₀ a₀ holds a = values - a
 
--- src/lib.rt:129:5
 triples-holds : tie.Need-triples-holds Inv-loop2 μ-loop2 Inv-loop μ-loop Inv-triples μ-triples
 triples-holds c = (search needs, search needs, every-none _)
 
--- src/lib.rt:130:9
 loop-holds : tie.Need-loop-holds Inv-loop2 μ-loop2 Inv-loop μ-loop Inv-triples μ-triples
 loop-holds c = (search needs, search needs, every-none _)
 
--- src/lib.rt:131:13
 loop2-holds : tie.Need-loop2-holds Inv-loop2 μ-loop2 Inv-loop μ-loop Inv-triples μ-triples
 loop2-holds c = (search needs, search needs, every-none _)
 
--- src/lib.rt:132:42
 meet-at-requires :
     tie.Need-meet-at-requires Inv-loop2 μ-loop2 Inv-loop μ-loop Inv-triples μ-triples
 meet-at-requires c κs = search needs
 
--- src/lib.rt:132:20
 meet-at-requires-2 :
     tie.Need-meet-at-requires-2 Inv-loop2 μ-loop2 Inv-loop μ-loop Inv-triples μ-triples
 meet-at-requires-2 c κs = (search needs, rw (c .meet-at .ensures) (meet-below _ _ (c .before .before .before .before .before .before .before .before .pre .0) (c .before .before .before .before .before .before .before .before .pre .1) (search needs) (search needs)), search needs)
 
--- src/lib.rt:133:49
 meet-at-requires-3 :
     tie.Need-meet-at-requires-3 Inv-loop2 μ-loop2 Inv-loop μ-loop Inv-triples μ-triples
 meet-at-requires-3 c κs = search needs
 
--- src/lib.rt:133:24
 meet-at-requires-4 :
     tie.Need-meet-at-requires-4 Inv-loop2 μ-loop2 Inv-loop μ-loop Inv-triples μ-triples
 meet-at-requires-4 c κs = (search needs, search needs, rw (c .meet-at3 .ensures) (meet-below _ _ (c .before .before .before .before .before .before .before .before .before .before .pre .0) (c .before .before .before .before .before .before .before .before .before .before .pre .1) (search needs) (search needs)))
 
--- src/lib.rt:131:17
 add-c : tie.Need-add-c Inv-loop2 μ-loop2 Inv-loop μ-loop Inv-triples μ-triples
 add-c c = search needs
 
--- src/lib.rt:131:13
 loop2-less : tie.Need-loop2-less Inv-loop2 μ-loop2 Inv-loop μ-loop Inv-triples μ-triples
 loop2-less c = search needs
 
--- src/lib.rt:131:13
 loop2-again : tie.Need-loop2-again Inv-loop2 μ-loop2 Inv-loop μ-loop Inv-triples μ-triples
 loop2-again c = (
   search needs,
@@ -89,15 +75,12 @@ loop2-again c = (
       .0 (c .if1 .left))),
 )
 
--- src/lib.rt:130:13
 add-b : tie.Need-add-b Inv-loop2 μ-loop2 Inv-loop μ-loop Inv-triples μ-triples
 add-b c = search needs
 
--- src/lib.rt:130:9
 loop-less : tie.Need-loop-less Inv-loop2 μ-loop2 Inv-loop μ-loop Inv-triples μ-triples
 loop-less c = search needs
 
--- src/lib.rt:130:9
 loop-again : tie.Need-loop-again Inv-loop2 μ-loop2 Inv-loop μ-loop Inv-triples μ-triples
 loop-again c = (
   search needs,
@@ -105,15 +88,12 @@ loop-again c = (
   every-more _ _ (c .before .before .before .loop .inv .2) (every-done _ _ _ (c .before .loop2 .inv .0) (search needs) (c .before .loop2 .inv .2)),
 )
 
--- src/lib.rt:129:19
 add-a : tie.Need-add-a Inv-loop2 μ-loop2 Inv-loop μ-loop Inv-triples μ-triples
 add-a c = search needs
 
--- src/lib.rt:129:5
 triples-less : tie.Need-triples-less Inv-loop2 μ-loop2 Inv-loop μ-loop Inv-triples μ-triples
 triples-less c = search needs
 
--- src/lib.rt:129:5
 triples-again : tie.Need-triples-again Inv-loop2 μ-loop2 Inv-loop μ-loop Inv-triples μ-triples
 triples-again c = (
   search needs,
@@ -121,12 +101,10 @@ triples-again c = (
   every-more _ _ (c .before .before .before .triples .inv .2) (every-done _ _ _ (c .before .loop .inv .0) (search needs) (c .before .loop .inv .2)),
 )
 
--- src/lib.rt:124:1
 returns : tie.Need-returns Inv-loop2 μ-loop2 Inv-loop μ-loop Inv-triples μ-triples
 unfolding associative-test
 returns c = c .before .triples .inv .1 ∙ sym (every-done _ _ _ (c .before .triples .inv .0) (search needs) (c .before .triples .inv .2))
 
--- src/lib.rt:124:1
 returns-2 : tie.Need-returns-2 Inv-loop2 μ-loop2 Inv-loop μ-loop Inv-triples μ-triples
 unfolding associative-test
 returns-2 c = sym

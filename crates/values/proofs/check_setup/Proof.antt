@@ -1,46 +1,36 @@
-use borrow.Author.Needs.{needs}
+-- `values::check_setup` meets its contract: each answer is the judgement at the first test that fails.
+-- Assumes nothing.
 use mathlib.Core.Path.{sym, _∙_}
+use borrow.Author.Needs.{needs}
+use borrow.Author.Tests.{not-true, not-false}
 use Rattle.values.specs.Setup.{setup}
 use Rattle.values.proofs.Setups.{judged-events, judged-values, judged-meet, judged-accepted}
-use borrow.Author.Tests.{not-true, not-false}
 use Rattle.values.proofs.check_setup.Statement.{statement}
 use Rattle.values.proofs.check_setup.Tie as tie
-use Rattle.values.proofs.check_setup.Reads as reads
-use Rattle.values.proofs.check_setup.Lts as lts
-use Rattle.values.proofs.events_in_limits.Reads as events-in-limits-reads
-use Rattle.values.proofs.lawful_meet.Reads as lawful-meet-reads
-use Rattle.values.proofs.values_in_limits.Reads as values-in-limits-reads
 
--- src/lib.rt:207:9
 events-in-limits-requires : tie.Need-events-in-limits-requires
 events-in-limits-requires c κs = search needs
 
--- src/lib.rt:208:9
 returns : tie.Need-returns
 unfolding setup
 returns c = sym (judged-events _ (sym (c .before .events-in-limits .ensures) ∙ not-true _ (c .if1 .taken)))
 
--- src/lib.rt:210:9
 values-in-limits-requires : tie.Need-values-in-limits-requires
 values-in-limits-requires c κs = search needs
 
--- src/lib.rt:211:9
 returns-2 : tie.Need-returns-2
 unfolding setup
 returns-2 c = sym
     (judged-values _ (sym (c .before .before .before .events-in-limits .ensures) ∙ not-false _ (c .before .before .if1 .left)) (sym (c .before .values-in-limits .ensures) ∙ not-true _ (c .if2 .taken)))
 
--- src/lib.rt:213:9
 lawful-meet-requires : tie.Need-lawful-meet-requires
 lawful-meet-requires c κs = sym (c .before .values-in-limits .ensures) ∙ not-false _ (c .if2 .left)
 
--- src/lib.rt:214:9
 returns-3 : tie.Need-returns-3
 unfolding setup
 returns-3 c = sym
     (judged-meet _ (sym (c .before .before .before .before .before .events-in-limits .ensures) ∙ not-false _ (c .before .before .before .before .if1 .left)) (sym (c .before .before .before .values-in-limits .ensures) ∙ not-false _ (c .before .before .if2 .left)) (sym (c .before .lawful-meet .ensures) ∙ not-true _ (c .if3 .taken)))
 
--- src/lib.rt:204:1
 returns-4 : tie.Need-returns-4
 unfolding setup
 returns-4 c = sym

@@ -1,19 +1,16 @@
+-- `values::commutative` meets its contract. The loops' invariants: the law holds at every pair before (a, b).
+-- Assumes nothing.
+use mathlib.Core.Path.{_≡_, sym, _∙_}
+use mathlib.Core.Bool.{true}
+use Prim.Native.Nat.{_≤_, _-_}
 use borrow.Author.Needs.{needs}
-use mathlib.Core.Path.{_≡_, sym, _∙_, ap}
-use mathlib.Core.Bool.{true, false}
-use Prim.Native.Nat.{ℕ, _≤_, _-_}
-use native.Mathlib.Omega.{arith}
-use borrow.Author.Tests.{lt-ltb, le-ltb, eq-eqb, ne-eqb}
-use lib.Dec.{eqb, ltb}
-use lib.ListN.{length, getD}
+use borrow.Author.Tests.{eq-eqb, ne-eqb}
+use lib.Dec.{eqb}
 use Rattle.theory.specs.ValueSets.{meetAt}
 use Rattle.theory.specs.ValueSetClaims.{every, commutative-test}
 use Rattle.theory.proofs.ValueSets.{every-none, every-more, every-not, every-done}
 use Rattle.values.proofs.commutative.Statement.{statement}
 use Rattle.values.proofs.commutative.Tie as tie
-use Rattle.values.proofs.commutative.Reads as reads
-use Rattle.values.proofs.commutative.Lts as lts
-use Rattle.values.proofs.meet_at.Reads as meet-at-reads
 
 abbrev Inv-loop2 : tie.InvT-loop2
 Inv-loop2 meet values a b₀ b = (b ≤ values) × (every b (λ j. eqb (meetAt values meet a j) (meetAt values meet j a)) ≡ true)
@@ -28,23 +25,18 @@ Inv-loop meet values a₀ a =
 abbrev μ-loop : tie.MeasureT-loop
 μ-loop meet values a₀ a = values - a
 
--- src/lib.rt:113:5
 loop-holds : tie.Need-loop-holds Inv-loop2 μ-loop2 Inv-loop μ-loop
 loop-holds c = (search needs, every-none _)
 
--- src/lib.rt:114:9
 loop2-holds : tie.Need-loop2-holds Inv-loop2 μ-loop2 Inv-loop μ-loop
 loop2-holds c = (search needs, every-none _)
 
--- src/lib.rt:115:16
 meet-at-requires : tie.Need-meet-at-requires Inv-loop2 μ-loop2 Inv-loop μ-loop
 meet-at-requires c κs = search needs
 
--- src/lib.rt:115:47
 meet-at-requires-2 : tie.Need-meet-at-requires-2 Inv-loop2 μ-loop2 Inv-loop μ-loop
 meet-at-requires-2 c κs = search needs
 
--- src/lib.rt:116:17
 returns : tie.Need-returns Inv-loop2 μ-loop2 Inv-loop μ-loop
 unfolding commutative-test
 returns c = sym
@@ -52,37 +44,30 @@ returns c = sym
     (every-not _ _ (c .before .before .before .before .loop2 .b) (search needs)
     (ne-eqb _ _ (λ e. c .if1 .taken (c .before .before .meet-at .ensures ∙ e ∙ sym (c .before .meet-at2 .ensures))))))
 
--- src/lib.rt:114:13
 add-b : tie.Need-add-b Inv-loop2 μ-loop2 Inv-loop μ-loop
 add-b c = search needs
 
--- src/lib.rt:114:9
 loop2-less : tie.Need-loop2-less Inv-loop2 μ-loop2 Inv-loop μ-loop
 loop2-less c = search needs
 
--- src/lib.rt:114:9
 loop2-again : tie.Need-loop2-again Inv-loop2 μ-loop2 Inv-loop μ-loop
 loop2-again c = (
   search needs,
   every-more _ _ (c .before .before .before .before .loop2 .inv .1) (eq-eqb _ _ (sym (c .before .before .meet-at .ensures) ∙ c .if1 .left ∙ c .before .meet-at2 .ensures)),
 )
 
--- src/lib.rt:113:9
 add-a : tie.Need-add-a Inv-loop2 μ-loop2 Inv-loop μ-loop
 add-a c = search needs
 
--- src/lib.rt:113:5
 loop-less : tie.Need-loop-less Inv-loop2 μ-loop2 Inv-loop μ-loop
 loop-less c = search needs
 
--- src/lib.rt:113:5
 loop-again : tie.Need-loop-again Inv-loop2 μ-loop2 Inv-loop μ-loop
 loop-again c = (
   search needs,
   every-more _ _ (c .before .before .before .loop .inv .1) (every-done _ _ _ (c .before .loop2 .inv .0) (search needs) (c .before .loop2 .inv .1)),
 )
 
--- src/lib.rt:109:1
 returns-2 : tie.Need-returns-2 Inv-loop2 μ-loop2 Inv-loop μ-loop
 unfolding commutative-test
 returns-2 c = sym (every-done _ _ _ (c .before .loop .inv .0) (search needs) (c .before .loop .inv .1))

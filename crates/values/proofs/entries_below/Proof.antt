@@ -1,19 +1,17 @@
+-- `values::entries_below` meets its contract. The loop's invariant: the test passes at every entry before i.
+-- Assumes nothing.
+use mathlib.Core.Path.{_≡_, sym}
+use mathlib.Core.Bool.{true}
+use Prim.Native.Nat.{_≤_, _-_}
 use borrow.Author.Needs.{needs}
-use mathlib.Core.Path.{_≡_, sym, _∙_, ap}
-use mathlib.Core.Bool.{true, false}
-use Prim.Native.Nat.{ℕ, _≤_, _-_}
-use native.Mathlib.Omega.{arith}
-use borrow.Author.Tests.{lt-ltb, le-ltb, eq-eqb, ne-eqb}
-use lib.Dec.{eqb, ltb}
+use borrow.Author.Tests.{lt-ltb, le-ltb}
+use lib.Dec.{ltb}
 use lib.ListN.{length, getD}
 use Rattle.theory.specs.ValueSetClaims.{every}
 use Rattle.theory.proofs.ValueSets.{every-none, every-more, every-not, every-done}
 use Rattle.values.specs.Setup.{entries-test}
 use Rattle.values.proofs.entries_below.Statement.{statement}
 use Rattle.values.proofs.entries_below.Tie as tie
-use Rattle.values.proofs.entries_below.Reads as reads
-use Rattle.values.proofs.entries_below.Lts as lts
-use Rattle.values.proofs.wide.Reads as wide-reads
 
 abbrev Inv-loop : tie.InvT-loop
 Inv-loop meet values i₀ i-end i = (i-end ≡ length meet) × (i ≤ length meet) × (every i (λ k. ltb (getD meet k 0) values) ≡ true)
@@ -21,37 +19,29 @@ Inv-loop meet values i₀ i-end i = (i-end ≡ length meet) × (i ≤ length mee
 abbrev μ-loop : tie.MeasureT-loop
 μ-loop meet values i₀ i-end i = i-end - i
 
--- src/lib.rt:87:5
 loop-holds : tie.Need-loop-holds Inv-loop μ-loop
 loop-holds c = (search needs, search needs, every-none _)
 
--- src/lib.rt:88:27
 shared-slice-read-wide : tie.Need-shared-slice-read-wide Inv-loop μ-loop
 shared-slice-read-wide c = search needs
 
--- src/lib.rt:88:22
 wide-requires : tie.Need-wide-requires Inv-loop μ-loop
 wide-requires c κs = search needs
 
--- src/lib.rt:89:13
 returns : tie.Need-returns Inv-loop μ-loop
 unfolding entries-test
 returns c = sym
     (every-not _ _ (c .before .before .before .before .loop .i) (search needs) (le-ltb _ _ (rw (c .before .wide .ensures) at (c .if1 .taken))))
 
--- src/lib.rt:87:9
 add-i : tie.Need-add-i Inv-loop μ-loop
 add-i c = search needs
 
--- src/lib.rt:87:5
 loop-less : tie.Need-loop-less Inv-loop μ-loop
 loop-less c = search needs
 
--- src/lib.rt:87:5
 loop-again : tie.Need-loop-again Inv-loop μ-loop
 loop-again c = (search needs, search needs, every-more _ _ (c .before .before .before .before .loop .inv .2) (lt-ltb _ _ (rw (c .before .wide .ensures) at (c .if1 .left))))
 
--- src/lib.rt:84:1
 returns-2 : tie.Need-returns-2 Inv-loop μ-loop
 unfolding entries-test
 returns-2 c = sym (every-done _ _ _ (c .before .loop .inv .1) (search needs) (c .before .loop .inv .2))

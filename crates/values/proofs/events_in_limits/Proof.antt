@@ -1,17 +1,14 @@
-use borrow.Author.Needs.{needs}
-use Rattle.values.specs.Setup.{events-test}
+-- `values::events_in_limits` meets its contract: each answer is the test's.
+-- Assumes nothing.
 use borrow.Author.Tests.{le-leb, lt-leb}
+use Rattle.values.specs.Setup.{events-test}
 use Rattle.values.proofs.events_in_limits.Statement.{statement}
 use Rattle.values.proofs.events_in_limits.Tie as tie
-use Rattle.values.proofs.events_in_limits.Reads as reads
-use Rattle.values.proofs.events_in_limits.Lts as lts
 
--- src/lib.rt:185:9
 returns : tie.Need-returns
 unfolding events-test
 returns c = rw (lt-leb _ _ (c .if1 .taken))
 
--- src/lib.rt:181:1
 returns-2 : tie.Need-returns-2
 unfolding events-test
 returns-2 c = rw (le-leb _ _ (c .if1 .left))

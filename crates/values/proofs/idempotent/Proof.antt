@@ -1,19 +1,16 @@
+-- `values::idempotent` meets its contract. The loop's invariant: the law holds at every value before a.
+-- Assumes nothing.
+use mathlib.Core.Path.{_≡_, sym, _∙_}
+use mathlib.Core.Bool.{true}
+use Prim.Native.Nat.{_≤_, _-_}
 use borrow.Author.Needs.{needs}
-use mathlib.Core.Path.{_≡_, sym, _∙_, ap}
-use mathlib.Core.Bool.{true, false}
-use Prim.Native.Nat.{ℕ, _≤_, _-_}
-use native.Mathlib.Omega.{arith}
-use borrow.Author.Tests.{lt-ltb, le-ltb, eq-eqb, ne-eqb}
-use lib.Dec.{eqb, ltb}
-use lib.ListN.{length, getD}
+use borrow.Author.Tests.{eq-eqb, ne-eqb}
+use lib.Dec.{eqb}
 use Rattle.theory.specs.ValueSets.{meetAt}
 use Rattle.theory.specs.ValueSetClaims.{every, idempotent-test}
 use Rattle.theory.proofs.ValueSets.{every-none, every-more, every-not, every-done}
 use Rattle.values.proofs.idempotent.Statement.{statement}
 use Rattle.values.proofs.idempotent.Tie as tie
-use Rattle.values.proofs.idempotent.Reads as reads
-use Rattle.values.proofs.idempotent.Lts as lts
-use Rattle.values.proofs.meet_at.Reads as meet-at-reads
 
 abbrev Inv-loop : tie.InvT-loop
 Inv-loop meet values a₀ a = (a ≤ values) × (every a (λ k. eqb (meetAt values meet k k) k) ≡ true)
@@ -21,32 +18,25 @@ Inv-loop meet values a₀ a = (a ≤ values) × (every a (λ k. eqb (meetAt valu
 abbrev μ-loop : tie.MeasureT-loop
 μ-loop meet values a₀ a = values - a
 
--- src/lib.rt:100:5
 loop-holds : tie.Need-loop-holds Inv-loop μ-loop
 loop-holds c = (search needs, every-none _)
 
--- src/lib.rt:101:12
 meet-at-requires : tie.Need-meet-at-requires Inv-loop μ-loop
 meet-at-requires c κs = search needs
 
--- src/lib.rt:102:13
 returns : tie.Need-returns Inv-loop μ-loop
 unfolding idempotent-test
 returns c = sym (every-not _ _ (c .before .before .before .loop .a) (search needs) (ne-eqb _ _ (λ e. c .if1 .taken (c .before .meet-at .ensures ∙ e))))
 
--- src/lib.rt:100:9
 add-a : tie.Need-add-a Inv-loop μ-loop
 add-a c = search needs
 
--- src/lib.rt:100:5
 loop-less : tie.Need-loop-less Inv-loop μ-loop
 loop-less c = search needs
 
--- src/lib.rt:100:5
 loop-again : tie.Need-loop-again Inv-loop μ-loop
 loop-again c = (search needs, every-more _ _ (c .before .before .before .loop .inv .1) (eq-eqb _ _ (sym (c .before .meet-at .ensures) ∙ c .if1 .left)))
 
--- src/lib.rt:96:1
 returns-2 : tie.Need-returns-2 Inv-loop μ-loop
 unfolding idempotent-test
 returns-2 c = sym (every-done _ _ _ (c .before .loop .inv .0) (search needs) (c .before .loop .inv .1))

@@ -1,22 +1,18 @@
-use borrow.Author.Needs.{needs}
-use Rattle.values.specs.Setup.{values-test}
+-- `values::values_in_limits` meets its contract: each answer is the test's.
+-- Assumes nothing.
 use borrow.Author.Tests.{le-leb, lt-leb}
+use Rattle.values.specs.Setup.{values-test}
 use Rattle.values.proofs.values_in_limits.Statement.{statement}
 use Rattle.values.proofs.values_in_limits.Tie as tie
-use Rattle.values.proofs.values_in_limits.Reads as reads
-use Rattle.values.proofs.values_in_limits.Lts as lts
 
--- src/lib.rt:195:9
 returns : tie.Need-returns
 unfolding values-test
 returns c = rw (lt-leb _ _ (c .if1 .taken))
 
--- src/lib.rt:198:9
 returns-2 : tie.Need-returns-2
 unfolding values-test
 returns-2 c = rw (le-leb _ _ (c .before .if1 .left), lt-leb _ _ (c .if2 .taken))
 
--- src/lib.rt:191:1
 returns-3 : tie.Need-returns-3
 unfolding values-test
 returns-3 c = rw (le-leb _ _ (c .before .if1 .left), le-leb _ _ (c .if2 .left))
