@@ -3,3 +3,4 @@ pub mod Order
 pub mod Substitution
 pub mod Instantiation
 pub mod Equations
+pub mod Counting
