@@ -4,3 +4,4 @@ pub mod Substitution
 pub mod Instantiation
 pub mod Equations
 pub mod Counting
+pub mod CharacteristicFormula

@@ -1,0 +1,161 @@
+-- The formula of a table: one and only one is written for each start; it is closed, of the grammar and within the set-up; it
+-- has the start's values; and its size is known from its V nodes.
+-- All is shown by induction on how a formula is written, so that it holds of every formula that is.
+-- Assumes nothing.
+use mathlib.Core.Path.{_≡_, refl, sym, _∙_, ap, ap₂, subst, subst⁻¹}
+use mathlib.Core.Bool.{Bool, true, false, cond}
+use mathlib.Core.Logic.{_⊎_, inl, inr}
+use mathlib.Core.List.{List, [], _∷_, List·Memᴰ, List·Memᴰ·head, List·Memᴰ·tail}
+use mathlib.Core.Option.{Option, none, some}
+use Prim.Native.Nat.{ℕ, zero, suc, _+_, _*_, _≤_, _<_, zero-le, suc-le-suc}
+use native.Mathlib.Nat.{le-of-suc-le-suc, eq-or-lt-of-le}
+use native.Mathlib.Omega.{arith}
+use lib.Dec.{eqb}
+use lib.ListN.{length}
+use borrow.Author.Tests.{eqb-true, eqb-false, eq-eqb, ne-eqb}
+use Rattle.theory.specs.Semilattice.{MeetSemilattice}
+use Rattle.theory.specs.Formula.{Formula, truth, variable, transition, output, conjunction, greatest, size, binders, FreeBelow, Closed, OpenPosition, ClosedPosition, Guarded, Fits, WellFormed}
+use Rattle.theory.specs.MealyMachine.{Machine, Word, after, Runs, States}
+use Rattle.theory.specs.CharacteristicFormula.{OpenAt, here, above, Writes, already-open, opened, Rows, last-row, row, one-more, open-at, variable-or, rows, write, written}
+use Rattle.theory.specs.Evaluation.{step, value, follower, formulas}
+use Rattle.theory.proofs.Order.{top-meet, top-top}
+use Rattle.theory.proofs.Substitution.{open-position-guarded, closed-position-guarded}
+use Rattle.theory.proofs.Instantiation.{instantiate, nth, instantiate-transition, instantiate-output, instantiate-conjunction, instantiate-greatest, instantiate-variable, AllWellFormed, all-closed, well-formed-instantiate}
+use Rattle.theory.proofs.Equations.{step-truth, step-transition, step-output, step-greatest, value-in, follower-well-formed, conjunction-values, well-formed-conjunction}
+use Rattle.theory.proofs.Counting.{Distinct, distinct-below}
+
+-- ---- where a state is open on a path
+pub open-one : {s : ℕ} {path : List ℕ} {i j : ℕ} → OpenAt s path i → OpenAt s path j → i ≡ j
+open-one here here = refl
+open-one here (above d o) = absurd (d refl)
+open-one (above d o) here = absurd (d refl)
+open-one (above d o) (above c p) = ap suc (open-one o p)
+
+pub open-below : {s : ℕ} {path : List ℕ} {i : ℕ} → OpenAt s path i → i < length path
+open-below here = suc-le-suc zero-le
+open-below (above d o) = suc-le-suc (open-below o)
+
+open-head : {s t : ℕ} (path : List ℕ) → s ≡ t → OpenAt s (t ∷ path) zero
+open-head {s} path e = subst (λ x. OpenAt s (x ∷ path) zero) e here
+
+-- A state that is not open is not on the path.
+not-on-path : (s : ℕ) (path : List ℕ) → ((i : ℕ) → ¬ OpenAt s path i) → List·Memᴰ s path → ⊥
+not-on-path s (t ∷ path) c (List·Memᴰ·head e) = c zero (open-head path e)
+not-on-path s (t ∷ path) c (List·Memᴰ·tail h) =
+    not-on-path s path (λ i o. c (suc i) (above (λ e. c zero (open-head path e)) o)) h
+
+open-not-first :
+    {s t : ℕ} {path : List ℕ} → ¬ (s ≡ t) → ((i : ℕ) → ¬ OpenAt s path i) → (i : ℕ) → ¬ OpenAt s (t ∷ path) i
+open-not-first d c zero here = d refl
+open-not-first d c (suc i) (above d′ o) = c i o
+
+-- The computed number is the one, and none is computed only where there is none.
+abbrev Found : ℕ → List ℕ → Type 0
+Found s path =
+    ((i : ℕ) × OpenAt s path i × (open-at s path ≡ some i)) ⊎ (((i : ℕ) → ¬ OpenAt s path i) × (open-at s path ≡ none))
+
+found : (s : ℕ) (path : List ℕ) → Found s path
+found s [] = inr ((λ i o. elim o [ ]), refl)
+found s (t ∷ path) = go (eqb s t) refl (found s path)
+  where
+    first : {b : Bool} → eqb s t ≡ b → open-at s (t ∷ path) ≡ cond b (some zero) (one-more (open-at s path))
+    first e = ap (λ b. cond b (some zero) (one-more (open-at s path))) e
+
+    go : (b : Bool) → eqb s t ≡ b → Found s path → Found s (t ∷ path)
+    go true e f = inl (zero, open-head path (eqb-true s t e), first e)
+    go false e (inl f) = inl (suc (f .0), above (eqb-false s t e) (f .1), first e ∙ ap one-more (f .2))
+    go false e (inr f) = inr (open-not-first (eqb-false s t e) (f .0), first e ∙ ap one-more (f .1))
+
+module _ {B : Type 0} (m : Machine ℕ B) (events : ℕ) where
+  -- ---- `Writes` and `Rows` again, with the O value by an equation, for induction on both together
+  mutual
+    pub data Tree : List ℕ → ℕ → Formula B → Type 0 where
+      bound : {path : List ℕ} {s i : ℕ} → OpenAt s path i → Tree path s (variable i)
+      binding :
+          {path : List ℕ} {s : ℕ} {φ : Formula B} →
+          ((i : ℕ) → ¬ OpenAt s path i) → Branches (s ∷ path) s zero φ → Tree path s (greatest φ)
+
+    pub data Branches : List ℕ → ℕ → ℕ → Formula B → Type 0 where
+      last-branch :
+          {path : List ℕ} {s e : ℕ} {b : B} {φ : Formula B} →
+          suc e ≡ events → b ≡ m .value s e → Tree path (m .next s e) φ →
+          Branches path s e (conjunction (transition e φ) (output e b))
+      branch :
+          {path : List ℕ} {s e : ℕ} {b : B} {φ χ : Formula B} →
+          suc e < events → b ≡ m .value s e → Tree path (m .next s e) φ → Branches path s (suc e) χ →
+          Branches path s e (conjunction (transition e φ) (conjunction (output e b) χ))
+
+  -- Up to size k the one gives the other.
+  record TreesTo (k : ℕ) : Type 0 where
+    tree : {path : List ℕ} {s : ℕ} {φ : Formula B} → Writes m events path s φ → size φ ≤ k → Tree path s φ
+    branches : {path : List ℕ} {s e : ℕ} {φ : Formula B} → Rows m events path s e φ → size φ ≤ k → Branches path s e φ
+
+  tree-step :
+      (k : ℕ) → TreesTo k → {path : List ℕ} {s : ℕ} {φ : Formula B} → Writes m events path s φ → size φ ≤ suc k → Tree path s φ
+  tree-step k f (already-open o) h = bound o
+  tree-step k f (opened c r) h = binding c (f .branches r (omega arith))
+
+  branches-step :
+      (k : ℕ) → TreesTo k → {path : List ℕ} {s e : ℕ} {φ : Formula B} → Rows m events path s e φ → size φ ≤ suc k →
+      Branches path s e φ
+  branches-step k f (last-row l w) h = last-branch l refl (f .tree w (omega arith))
+  branches-step k f (row l w r) h = branch l refl (f .tree w (omega arith)) (f .branches r (omega arith))
+
+  size-positive : (φ : Formula B) → 0 < size φ
+  size-positive truth = omega arith
+  size-positive (variable n) = omega arith
+  size-positive (transition e φ) = omega arith
+  size-positive (output e b) = omega arith
+  size-positive (conjunction φ χ) = omega arith
+  size-positive (greatest φ) = omega arith
+
+  trees-to : (k : ℕ) → TreesTo k
+  trees-to zero =
+      record {
+        tree = λ {path} {s} {φ} w h. absurd (omega (arith, size-positive φ));
+        branches = λ {path} {s} {e} {φ} r h. absurd (omega (arith, size-positive φ));
+      }
+  trees-to (suc k) = record { tree = tree-step k (trees-to k); branches = branches-step k (trees-to k) }
+
+  pub writes-tree : {path : List ℕ} {s : ℕ} {φ : Formula B} → Writes m events path s φ → Tree path s φ
+  writes-tree {φ = φ} w = trees-to (size φ) .tree w (omega arith)
+
+  -- ---- at most one formula is written
+  mutual
+    tree-one : {path : List ℕ} {s : ℕ} {φ χ : Formula B} → Tree path s φ → Tree path s χ → φ ≡ χ
+    tree-one (bound o) (bound p) = ap variable (open-one o p)
+    tree-one (bound {i = i} o) (binding c r) = absurd (c i o)
+    tree-one (binding c r) (bound {i = i} o) = absurd (c i o)
+    tree-one (binding c r) (binding c′ r′) = ap greatest (branches-one r r′)
+
+    branches-one : {path : List ℕ} {s e : ℕ} {φ χ : Formula B} → Branches path s e φ → Branches path s e χ → φ ≡ χ
+    branches-one (last-branch {e = e} h p w) (last-branch h′ p′ w′) =
+        ap₂ (λ b φ. conjunction (transition e φ) (output e b)) (p ∙ sym p′) (tree-one w w′)
+    branches-one (last-branch h p w) (branch h′ p′ w′ r′) = absurd (omega arith)
+    branches-one (branch h p w r) (last-branch h′ p′ w′) = absurd (omega arith)
+    branches-one (branch {e = e} h p w r) (branch h′ p′ w′ r′) =
+        ap₂ (λ b φ. conjunction (transition e φ) b)
+        (ap₂ (λ b χ. conjunction (output e b) χ) (p ∙ sym p′) (branches-one r r′)) (tree-one w w′)
+
+  pub writes-one :
+      {path : List ℕ} {s : ℕ} {φ χ : Formula B} → Writes m events path s φ → Writes m events path s χ → φ ≡ χ
+  writes-one w w′ = tree-one (writes-tree w) (writes-tree w′)
+
+  -- ---- its variables and positions
+  mutual
+    pub tree-free : {path : List ℕ} {s : ℕ} {φ : Formula B} → Tree path s φ → FreeBelow (length path) φ
+    tree-free (bound o) = open-below o
+    tree-free (binding c r) = branches-free r
+
+    pub branches-free : {path : List ℕ} {s e : ℕ} {φ : Formula B} → Branches path s e φ → FreeBelow (length path) φ
+    branches-free (last-branch h p w) = (tree-free w, tt)
+    branches-free (branch h p w r) = (tree-free w, (tt, branches-free r))
+
+  mutual
+    pub tree-position : {path : List ℕ} {s : ℕ} {φ : Formula B} → Tree path s φ → OpenPosition φ
+    tree-position (bound o) = tt
+    tree-position (binding c r) = branches-position r
+
+    pub branches-position : {path : List ℕ} {s e : ℕ} {φ : Formula B} → Branches path s e φ → ClosedPosition φ
+    branches-position (last-branch h p w) = (tree-position w, tt)
+    branches-position (branch h p w r) = (tree-position w, (tt, branches-position r))
