@@ -5,10 +5,10 @@
 use mathlib.Core.Path.{_≡_, refl, sym, _∙_, ap, ap₂, subst, subst⁻¹}
 use mathlib.Core.Bool.{Bool, true, false, cond}
 use mathlib.Core.Logic.{_⊎_, inl, inr}
-use mathlib.Core.List.{List, [], _∷_, List·Memᴰ, List·Memᴰ·head, List·Memᴰ·tail}
+use mathlib.Core.List.{List, [], _∷_, List·Memᴰ, List·Memᴰ·head, List·Memᴰ·tail, List·Memᴰ·not-nil}
 use mathlib.Core.Option.{Option, none, some}
 use Prim.Native.Nat.{ℕ, zero, suc, _+_, _*_, _≤_, _<_, zero-le, suc-le-suc}
-use native.Mathlib.Nat.{le-of-suc-le-suc, eq-or-lt-of-le}
+use native.Mathlib.Nat.{le-of-suc-le-suc, eq-or-lt-of-le, mul-suc, mul-add}
 use native.Mathlib.Omega.{arith}
 use lib.Dec.{eqb}
 use lib.ListN.{length}
@@ -159,3 +159,85 @@ module _ {B : Type 0} (m : Machine ℕ B) (events : ℕ) where
     pub branches-position : {path : List ℕ} {s e : ℕ} {φ : Formula B} → Branches path s e φ → ClosedPosition φ
     branches-position (last-branch h p w) = (tree-position w, tt)
     branches-position (branch h p w r) = (tree-position w, (tt, branches-position r))
+
+  -- ---- its size: with r rows to come, each row adds its part, 4 nodes and the part's binders
+  mutual
+    pub tree-size :
+        {path : List ℕ} {s : ℕ} {φ : Formula B} → Tree path s φ → size φ + binders φ ≡ suc (5 * events * binders φ)
+    tree-size (bound o) = omega arith
+    tree-size (binding {φ = φ} c r) =
+        omega (arith, branches-size r events (omega arith), mul-suc (5 * events) (binders φ))
+
+    branches-size :
+        {path : List ℕ} {s e : ℕ} {φ : Formula B} → Branches path s e φ → (r : ℕ) → e + r ≡ events →
+        suc (size φ + binders φ) ≡ 5 * r + 5 * events * binders φ
+    branches-size (last-branch {φ = φ} h p w) r q =
+        omega (arith, tree-size w)
+    branches-size (branch {φ = φ} {χ = χ} h p w b) zero q = absurd (omega arith)
+    branches-size (branch {φ = φ} {χ = χ} h p w b) (suc r) q =
+        omega (arith, tree-size w, branches-size b r (omega arith), mul-add (5 * events) (binders φ) (binders χ))
+
+  module _ (In : B → Type 0) (n : ℕ) (runs : Runs events In (States n) m) where
+    -- ---- its events and values
+    mutual
+      pub tree-fits : {path : List ℕ} {s : ℕ} {φ : Formula B} → Tree path s φ → s < n → Fits events In φ
+      tree-fits (bound o) l = tt
+      tree-fits (binding c r) l = branches-fits r l
+
+      pub branches-fits : {path : List ℕ} {s e : ℕ} {φ : Formula B} → Branches path s e φ → s < n → Fits events In φ
+      branches-fits (last-branch {s = s} {e = e} h p w) l =
+          let u : e < events = omega arith in
+          ((u, tree-fits w (runs .next-in s l e u)), (u, subst⁻¹ In p (runs .value-in s l e u)))
+      branches-fits (branch {s = s} {e = e} h p w r) l =
+          let u : e < events = omega arith in
+          ((u, tree-fits w (runs .next-in s l e u)), ((u, subst⁻¹ In p (runs .value-in s l e u)), branches-fits r l))
+
+    -- ---- a formula is written: the states of the path are different and below n, and so at most n
+    abbrev AllBelow : List ℕ → Type 0
+    AllBelow path = (t : ℕ) → List·Memᴰ t path → t < n
+
+    all-below : {s : ℕ} {path : List ℕ} → s < n → AllBelow path → AllBelow (s ∷ path)
+    all-below l a t (List·Memᴰ·head e) = subst⁻¹ (λ x. x < n) e l
+    all-below l a t (List·Memᴰ·tail i) = a t i
+
+    rows-written :
+        (path : List ℕ) (f : ℕ → Formula B) → ((t : ℕ) → t < n → Writes m events path t (f t)) →
+        (s : ℕ) → s < n → (c e : ℕ) → e + suc c ≡ events → Rows m events path s e (rows m f s e c)
+    rows-written path f h s l zero e q = last-row {e = e} (omega arith) (h (m .next s e) (runs .next-in s l e (omega arith)))
+    rows-written path f h s l (suc c) e q =
+        row {e = e} (omega arith) (h (m .next s e) (runs .next-in s l e (omega arith))) (rows-written path f h s l c (suc e) (omega arith))
+
+    module _ (last : ℕ) (ev : events ≡ suc last) where
+      written-as :
+          (left : ℕ) (path : List ℕ) (s i : ℕ) → open-at s path ≡ some i → variable i ≡ write m last left path s
+      written-as zero path s i e = ap (λ o. variable-or o truth) (sym e)
+      written-as (suc left) path s i e =
+          ap (λ o. variable-or o (greatest (rows m (write m last left (s ∷ path)) s zero last))) (sym e)
+
+      write-writes :
+          (left : ℕ) (path : List ℕ) → Distinct path → AllBelow path → n ≤ left + length path →
+          (s : ℕ) → s < n → Writes m events path s (write m last left path s)
+      write-writes zero path d a k s l = go (found s path)
+        where
+          go : Found s path → Writes m events path s (write m last zero path s)
+          go (inl f) = subst (Writes m events path s) (written-as zero path s (f .0) (f .2)) (already-open (f .1))
+          go (inr f) = absurd (omega (arith, distinct-below n (s ∷ path) (not-on-path s path (f .0), d) (all-below l a)))
+      write-writes (suc left) path d a k s l = go (found s path) (λ c. write-writes left (s ∷ path) c (all-below l a) (omega arith))
+        where
+          go :
+              Found s path → (Distinct (s ∷ path) → (t : ℕ) → t < n → Writes m events (s ∷ path) t (write m last left (s ∷ path) t)) →
+              Writes m events path s (write m last (suc left) path s)
+          go (inl f) ih = subst (Writes m events path s) (written-as (suc left) path s (f .0) (f .2)) (already-open (f .1))
+          go (inr f) ih =
+              subst⁻¹ (λ o. Writes m events path s (variable-or o (greatest (rows m (write m last left (s ∷ path)) s zero last)))) (f .1)
+              (opened (f .0)
+              (rows-written (s ∷ path) (write m last left (s ∷ path)) (ih (not-on-path s path (f .0), d)) s l last zero (omega arith)))
+
+      -- The written formula is written.
+      pub written-writes : (s : ℕ) → s < n → Writes m events [] s (written m n last s)
+      written-writes s l = write-writes n [] tt (λ t i. absurd (List·Memᴰ·not-nil i)) (omega arith) s l
+
+  -- A formula that is written at the root is a V.
+  pub root-position : {s : ℕ} {φ : Formula B} → Tree [] s φ → ClosedPosition φ
+  root-position (bound o) = elim o [ ]
+  root-position (binding c r) = branches-position r
