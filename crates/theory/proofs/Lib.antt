@@ -5,3 +5,4 @@ pub mod Instantiation
 pub mod Equations
 pub mod Counting
 pub mod CharacteristicFormula
+pub mod CharacteristicValues
