@@ -162,3 +162,90 @@ module _ {B : Type 0} (m : Machine ℕ B) (events : ℕ) (In : B → Type 0) (n 
             go (inr u) f =
                 ap₂ meet (other-transition e (closing φ) (omega arith)) (ap₂ meet (other-output e b (omega arith)) (f u))
                 ∙ ap (meet top) (top-meet In meet top laws c c-in) ∙ top-meet In meet top laws c c-in
+
+    -- ---- event sequences
+    abbrev on : List ℕ → ℕ → Formula B → B
+    on w e φ = value meet top e (after (formulas meet top) φ w)
+
+    on-in : (w : List ℕ) (e : ℕ) (φ : Formula B) → Good φ → In (on w e φ)
+    on-in [] e φ g = value-in events In meet top laws e φ g
+    on-in (a ∷ w) e φ g = on-in w e (follower meet top a φ) (follower-well-formed events In meet top a φ g)
+
+    machine-in : (w : List ℕ) → Word events w → (e : ℕ) → e < events → (s : ℕ) → s < n → In (m .value (after m s w) e)
+    machine-in [] v e u s l = runs .value-in s l e u
+    machine-in (a ∷ w) v e u s l = machine-in w (v .1) e u (m .next s a) (runs .next-in s l a (v .0))
+
+    on-truth : (w : List ℕ) (e : ℕ) → on w e truth ≡ top
+    on-truth [] e = ap (λ x. x .0) (step-truth events In meet top e)
+    on-truth (a ∷ w) e = ap (λ x. on w e (x .1)) (step-truth events In meet top a) ∙ on-truth w e
+
+    on-transition : (e a : ℕ) (φ : Formula B) → on [] e (transition a φ) ≡ top
+    on-transition e a φ = ap (λ x. x .0) (step-transition events In meet top e a φ)
+
+    after-transition :
+        (w : List ℕ) (e a x : ℕ) (φ : Formula B) → on (x ∷ w) e (transition a φ) ≡ on w e (cond (eqb a x) φ truth)
+    after-transition w e a x φ = ap (λ y. on w e (y .1)) (step-transition events In meet top x a φ)
+
+    on-output : (e a : ℕ) (b : B) → on [] e (output a b) ≡ cond (eqb a e) b top
+    on-output e a b = ap (λ x. x .0) (step-output events In meet top e a b)
+
+    after-output : (w : List ℕ) (e a x : ℕ) (b : B) → on (x ∷ w) e (output a b) ≡ top
+    after-output w e a x b = ap (λ y. on w e (y .1)) (step-output events In meet top x a b) ∙ on-truth w e
+
+    on-greatest : (w : List ℕ) (e : ℕ) (φ : Formula B) → Good (greatest φ) → on w e (greatest φ) ≡ on w e (unfolded φ)
+    on-greatest [] e φ g = ap (λ x. x .0) (step-greatest events In meet top e φ g)
+    on-greatest (a ∷ w) e φ g = ap (λ x. on w e (x .1)) (step-greatest events In meet top a φ g)
+
+    -- A V has its state's value on the sequence w, then e; so has all that is written.
+    abbrev GreatestOn : List ℕ → ℕ → Type 0
+    GreatestOn w e =
+        (path : List ℕ) (σ : List (Formula B)) (s : ℕ) (φ : Formula B) →
+        Binders path σ → Branches m events (s ∷ path) s zero φ → s < n →
+        on w e (greatest (instantiate 1 σ φ)) ≡ m .value (after m s w) e
+
+    tree-on :
+        (w : List ℕ) (e : ℕ) → GreatestOn w e → (path : List ℕ) (σ : List (Formula B)) → Binders path σ →
+        {s : ℕ} {φ : Formula B} → Tree m events path s φ → s < n → on w e (instantiate zero σ φ) ≡ m .value (after m s w) e
+    tree-on w e f path σ v {s} (bound {i = i} o) l =
+        let b : BinderOf s (nth σ i) = binder-of v o in
+        ap (on w e)
+        (instantiate-variable σ i (all-closed events In σ (binders-good v)) (rw (binders-length v) (open-below o)) ∙ b .is-it)
+        ∙ f (b .path) (b .σ) s (b .φ) (b .above-it) (b .its-rows) (b .its-state)
+    tree-on w e f path σ v {s} (binding {φ = φ} c r) l =
+        ap (on w e) (instantiate-greatest zero σ φ) ∙ f path σ s φ v r l
+
+    greatest-on : (w : List ℕ) → Word events w → (e : ℕ) → e < events → GreatestOn w e
+    greatest-on [] h e u path σ s φ v r l =
+        let g : Good (greatest (instantiate 1 σ φ)) = good-greatest path σ (binders-good v) (binders-length v) r l in
+        on-greatest [] e (instantiate 1 σ φ) g
+        ∙ val-at (on [] e) (on-in [] e) (conjunction-values events In meet top [] e) e u
+        (λ a χ d. on-transition e a χ)
+        (λ a b d. on-output e a b ∙ ap (λ t. cond t b top) (ne-eqb a e d))
+        (s ∷ path) (greatest (instantiate 1 σ φ) ∷ σ) (g, binders-good v) (ap suc (binders-length v))
+        s l (m .value s e) (runs .value-in s l e u)
+        (λ χ w. ap₂ meet (on-transition e e _) (on-output e e (m .value s e) ∙ ap (λ t. cond t (m .value s e) top) (eq-eqb e e refl))
+        ∙ top-meet In meet top laws (m .value s e) (runs .value-in s l e u))
+        r zero-le
+    greatest-on (x ∷ w) h e u path σ s φ v r l =
+        let g : Good (greatest (instantiate 1 σ φ)) = good-greatest path σ (binders-good v) (binders-length v) r l in
+        let l′ : m .next s x < n = runs .next-in s l x (h .0) in
+        let c-in : In (m .value (after m (m .next s x) w) e) = machine-in w (h .1) e u (m .next s x) l′ in
+        on-greatest (x ∷ w) e (instantiate 1 σ φ) g
+        ∙ val-at (on (x ∷ w) e) (on-in (x ∷ w) e) (conjunction-values events In meet top (x ∷ w) e) x (h .0)
+        (λ a χ d. after-transition w e a x χ ∙ ap (λ t. on w e (cond t χ truth)) (ne-eqb a x d) ∙ on-truth w e)
+        (λ a b d. after-output w e a x b)
+        (s ∷ path) (greatest (instantiate 1 σ φ) ∷ σ) (g, binders-good v) (ap suc (binders-length v))
+        s l (m .value (after m (m .next s x) w) e) c-in
+        (λ χ t. ap₂ meet
+        (after-transition w e x x (instantiate zero (greatest (instantiate 1 σ φ) ∷ σ) χ)
+        ∙ ap (λ t. on w e (cond t (instantiate zero (greatest (instantiate 1 σ φ) ∷ σ) χ) truth)) (eq-eqb x x refl)
+        ∙ tree-on w e (greatest-on w (h .1) e u) (s ∷ path) (greatest (instantiate 1 σ φ) ∷ σ) (one-binder v r l) t l′)
+        (after-output w e x x (m .value s x))
+        ∙ laws .neutral (m .value (after m (m .next s x) w) e) c-in)
+        r zero-le
+
+    -- On every event sequence a formula written for a state has the state's value.
+    pub writes-values :
+        {s : ℕ} {φ : Formula B} → Writes m events [] s φ → s < n → (w : List ℕ) → Word events w → (e : ℕ) → e < events →
+        value meet top e (after (formulas meet top) φ w) ≡ m .value (after m s w) e
+    writes-values t l w h e u = tree-on w e (greatest-on w h e u) [] [] no-binder (writes-tree m events t) l
