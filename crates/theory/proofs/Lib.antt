@@ -6,3 +6,4 @@ pub mod Equations
 pub mod Counting
 pub mod CharacteristicFormula
 pub mod CharacteristicValues
+pub mod CharacteristicTable
