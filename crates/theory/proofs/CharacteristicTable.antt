@@ -3,22 +3,22 @@
 -- Assumes nothing.
 use mathlib.Core.Path.{_≡_, refl, sym, _∙_, ap, ap₂, subst, subst⁻¹, fun-ext}
 use mathlib.Core.Bool.{Bool, true, false, _||_, _&&_, cond}
-use mathlib.Core.Logic.{_⊎_, inl, inr}
-use mathlib.Core.List.{List, [], _∷_, _++_, map, List·Memᴰ, List·Memᴰ·head, List·Memᴰ·tail, List·Memᴰ·not-nil, List·Memᴰ·append-cases, Memᴰ·append-left, Memᴰ·append-right, Memᴰ·cast}
+use mathlib.Core.Logic.{_⊎_, inl, inr, ⊎-elim}
+use mathlib.Core.List.{List, [], _∷_, _++_, map, List·Memᴰ, List·Memᴰ·head, List·Memᴰ·tail, List·Memᴰ·not-nil, List·Memᴰ·cases-cons, List·Memᴰ·append-cases, Memᴰ·append-left, Memᴰ·append-right, Memᴰ·cast}
 use Prim.Native.Nat.{ℕ, zero, suc, _+_, _≤_, _<_, zero-le, suc-le-suc}
 use native.Mathlib.Nat.{le-of-suc-le-suc, not-suc-le-zero, eq-or-lt-of-le}
 use native.Mathlib.Omega.{arith}
 use lib.Dec.{eqb}
 use lib.ListN.{length, getD, length-append, length-map, List·getD-map}
 use borrow.Author.Tests.{eq-eqb, ne-eqb}
-use Rattle.theory.specs.Formula.{Formula, truth, variable, transition, output, conjunction, greatest, size, binders, ClosedPosition}
+use Rattle.theory.specs.Formula.{Formula, truth, variable, transition, output, conjunction, greatest, size, binders, OpenPosition, ClosedPosition}
 use Rattle.theory.specs.MealyMachine.{Machine, Word, after}
 use Rattle.theory.specs.Demands.{NodeSet}
 use Rattle.theory.specs.ReachableStates.{state-at, Numbering, IsTableOf, StatesAtMost}
 use Rattle.theory.specs.CharacteristicFormula.{OpenAt, Writes}
 use Rattle.theory.specs.DemandSets.{empty, only, union, binder-set, demands, moved, set-machine, first-set}
 use Rattle.theory.proofs.Counting.{Distinct, distinct-length, member-at, number-of, distinct-by-number}
-use Rattle.theory.proofs.CharacteristicFormula.{Tree, bound, binding, Branches, last-branch, branch, open-below, writes-tree, branches-position}
+use Rattle.theory.proofs.CharacteristicFormula.{Tree, bound, binding, Branches, last-branch, branch, open-below, writes-tree, tree-position, branches-position}
 
 -- ---- sets of nodes
 union-empty : (D : NodeSet) → union D empty ≡ D
@@ -114,6 +114,81 @@ module _ {B : Type 0} where
       ∙ ap₂ _+_ (length-binder-sets ρ (suc i) φ) (length-binder-sets ρ (suc i + size φ) χ)
   length-binder-sets ρ i (greatest φ) = ap suc (length-binder-sets (demands ρ i (greatest φ) ∷ ρ) (suc i) φ)
 
+-- ---- the rows of a V
+module _ {B : Type 0} where
+  -- Among the nodes of φ, D has the demands of φ.
+  abbrev Agrees : NodeSet → List NodeSet → ℕ → Formula B → Type 0
+  Agrees D ρ i φ = (d : ℕ) → i ≤ d → d < i + size φ → D d ≡ demands ρ i φ d
+
+  agrees-right :
+      (D : NodeSet) (ρ : List NodeSet) (i : ℕ) (φ χ : Formula B) → ClosedPosition φ →
+      Agrees D ρ i (conjunction φ χ) → Agrees D ρ (suc i + size φ) χ
+  unfolding union
+  agrees-right D ρ i φ χ c h d l u =
+      h d (omega arith) (omega arith)
+      ∙ ap (λ t. t || demands ρ (suc i + size φ) χ d) (demands-beyond ρ (suc i) φ c d (omega arith))
+
+  -- A row's own G node is in D, and no node of its part is.
+  module _ (D : NodeSet) (ρ : List NodeSet) (i e : ℕ) (φ χ : Formula B) (closed : ClosedPosition χ)
+      (agrees : Agrees D ρ i (conjunction (transition e φ) χ)) where
+    row-first : D (suc i) ≡ true
+    unfolding union
+    row-first =
+        agrees (suc i) (omega arith) (omega arith)
+        ∙ ap (λ t. t || demands ρ (suc i + suc (size φ)) χ (suc i)) (in-only (suc i))
+
+    row-part : Clear D (suc (suc i)) φ
+    unfolding union
+    row-part d l u =
+        agrees d (omega arith) (omega arith)
+        ∙ ap₂ _||_ (not-in-only (suc i) d (omega arith)) (demands-below ρ (suc i + suc (size φ)) χ closed d (omega arith))
+
+    moved-row :
+        (x : ℕ) →
+        moved D x ρ i (conjunction (transition e φ) χ)
+        ≡ union (cond (eqb e x) (demands ρ (suc (suc i)) φ) empty) (moved D x ρ (suc i + suc (size φ)) χ)
+    moved-row x =
+        ap₂ (λ t X. union (union (cond (t && eqb e x) (demands ρ (suc (suc i)) φ) empty) X) (moved D x ρ (suc i + suc (size φ)) χ))
+        row-first (moved-clear D x ρ (suc (suc i)) φ row-part)
+        ∙ ap (λ X. union X (moved D x ρ (suc i + suc (size φ)) χ))
+        (union-empty (cond (eqb e x) (demands ρ (suc (suc i)) φ) empty))
+
+    moved-own : moved D e ρ (suc i + suc (size φ)) χ ≡ empty → moved D e ρ i (conjunction (transition e φ) χ) ≡ demands ρ (suc (suc i)) φ
+    moved-own h =
+        moved-row e
+        ∙ ap₂ (λ t X. union (cond t (demands ρ (suc (suc i)) φ) empty) X) (eq-eqb e e refl) h
+        ∙ union-empty (demands ρ (suc (suc i)) φ)
+
+    moved-other :
+        (x : ℕ) → ¬ (e ≡ x) → moved D x ρ i (conjunction (transition e φ) χ) ≡ moved D x ρ (suc i + suc (size φ)) χ
+    moved-other x d =
+        moved-row x
+        ∙ ap (λ t. union (cond t (demands ρ (suc (suc i)) φ) empty) (moved D x ρ (suc i + suc (size φ)) χ)) (ne-eqb e x d)
+        ∙ empty-union (moved D x ρ (suc i + suc (size φ)) χ)
+
+  -- The same of the rows after it.
+  row-rest :
+      (D : NodeSet) (ρ : List NodeSet) (i e : ℕ) (φ : Formula B) (b : B) (χ : Formula B) → OpenPosition φ →
+      Agrees D ρ i (conjunction (transition e φ) (conjunction (output e b) χ)) →
+      Agrees D ρ (suc (suc i + suc (size φ)) + 1) χ
+  row-rest D ρ i e φ b χ o h =
+      agrees-right D ρ (suc i + suc (size φ)) (output e b) χ tt
+      (agrees-right D ρ i (transition e φ) (conjunction (output e b) χ) o h)
+
+module _ {B : Type 0} (m : Machine ℕ B) (events : ℕ) where
+  -- Rows of later events do not move.
+  moved-later :
+      (D : NodeSet) (x : ℕ) (ρ : List NodeSet) (i : ℕ) {path : List ℕ} {s a : ℕ} {χ : Formula B} →
+      Branches m events path s a χ → Agrees D ρ i χ → x < a → moved D x ρ i χ ≡ empty
+  moved-later D x ρ i (last-branch {e = e} {b = b} {φ = φ} h p w) g l =
+      moved-other D ρ i e φ (output e b) tt g x (omega arith)
+  moved-later D x ρ i (branch {e = e} {b = b} {φ = φ} {χ = χ} h p w r) g l =
+      let c : ClosedPosition χ = branches-position m events r in
+      moved-other D ρ i e φ (conjunction (output e b) χ) (tt, c) g x (omega arith)
+      ∙ ap (union empty)
+      (moved-later D x ρ (suc (suc i + suc (size φ)) + 1) r (row-rest D ρ i e φ b χ (tree-position m events w) g) (omega arith))
+      ∙ empty-union empty
+
 -- ---- the parts of a formula, with the demands of the binders above each
 module _ {B : Type 0} (Φ : Formula B) where
   data Place : ℕ → List NodeSet → Formula B → Type 0 where
@@ -160,3 +235,135 @@ module _ {B : Type 0} (Φ : Formula B) where
       ∙ empty-union (moved D e ρ (suc i + size φ) χ)
   moved-place D e (in-greatest p) h =
       moved-place D e p (record { below = λ d l. h .below d (omega arith); beyond = λ d l. h .beyond d (omega arith) })
+
+  -- ---- the sets that event sequences reach
+  module _ (m : Machine ℕ B) (events : ℕ) (meet : B → B → B) (top : B) where
+    abbrev next-set : NodeSet → ℕ → NodeSet
+    next-set D e = moved D e [] zero Φ
+
+    abbrev reaches : List ℕ → NodeSet
+    reaches w = after (set-machine meet top Φ) (first-set Φ) w
+
+    abbrev Reached : NodeSet → Type 0
+    Reached D = (w : List ℕ) × Word events w × (reaches w ≡ D)
+
+    -- From each set of a V each event leads to such a set.
+    abbrev Closed-on : NodeSet → Type 0
+    Closed-on D = (e : ℕ) → e < events → List·Memᴰ (next-set D e) all-sets
+
+    word-end : (w : List ℕ) (e : ℕ) → Word events w → e < events → Word events (w ++ (e ∷ []))
+    word-end [] e h u = (u, tt)
+    word-end (a ∷ w) e h u = (h .0, word-end w e (h .1) u)
+
+    after-end : (D : NodeSet) (w : List ℕ) (e : ℕ) → after (set-machine meet top Φ) D (w ++ (e ∷ [])) ≡ next-set (after (set-machine meet top Φ) D w) e
+    after-end D [] e = refl
+    after-end D (a ∷ w) e = after-end (next-set D a) w e
+
+    reached-next : {D : NodeSet} (e : ℕ) → e < events → Reached D → Reached (next-set D e)
+    reached-next e u r = (
+      r .0 ++ (e ∷ []),
+      word-end (r .0) e (r .1) u,
+      after-end (first-set Φ) (r .0) e ∙ ap (λ X. next-set X e) (r .2),
+    )
+
+    -- The sets put for the variables of the path are sets of V nodes.
+    abbrev Inherits : List ℕ → List NodeSet → Type 0
+    Inherits path ρ = (k : ℕ) → k < length path → List·Memᴰ (binder-set ρ k) all-sets
+
+    inherits-more :
+        (s : ℕ) (path : List ℕ) (ρ : List NodeSet) (D : NodeSet) →
+        List·Memᴰ D all-sets → Inherits path ρ → Inherits (s ∷ path) (D ∷ ρ)
+    inherits-more s path ρ D h f zero l = h
+    inherits-more s path ρ D h f (suc k) l = f k (le-of-suc-le-suc l)
+
+    tree-set :
+        {path : List ℕ} {s i : ℕ} {ρ : List NodeSet} {φ : Formula B} → Tree m events path s φ → Place i ρ φ → Inherits path ρ →
+        List·Memᴰ (demands ρ i φ) all-sets
+    tree-set (bound {i = k} o) p f = f k (open-below o)
+    tree-set (binding c r) p f = place-sets p (List·Memᴰ·head refl)
+
+    -- From the set of a V, the event of a row leads to the demands of the row's part.
+    to-part :
+        (D : NodeSet) {path : List ℕ} {s e : ℕ} {b : B} {φ χ : Formula B} (i : ℕ) (ρ : List NodeSet) →
+        suc e < events → b ≡ m .value s e → Tree m events path (m .next s e) φ → Branches m events path s (suc e) χ →
+        Agrees D ρ i (conjunction (transition e φ) (conjunction (output e b) χ)) →
+        moved D e ρ i (conjunction (transition e φ) (conjunction (output e b) χ)) ≡ demands ρ (suc (suc i)) φ
+    to-part D {e = e} {b = b} {φ = φ} {χ = χ} i ρ h p w r g =
+        moved-own D ρ i e φ (conjunction (output e b) χ) (tt, branches-position m events r) g
+        (ap (union empty)
+        (moved-later m events D e ρ (suc (suc i + suc (size φ)) + 1) r (row-rest D ρ i e φ b χ (tree-position m events w) g) (omega arith))
+        ∙ empty-union empty)
+
+    -- The event of a later row leads where the later rows lead.
+    to-rest :
+        (D : NodeSet) (x : ℕ) {path : List ℕ} {s e : ℕ} (b : B) (φ : Formula B) {χ : Formula B} (i : ℕ) (ρ : List NodeSet) →
+        e < x → Branches m events path s (suc e) χ →
+        Agrees D ρ i (conjunction (transition e φ) (conjunction (output e b) χ)) →
+        moved D x ρ i (conjunction (transition e φ) (conjunction (output e b) χ))
+        ≡ moved D x ρ (suc (suc i + suc (size φ)) + 1) χ
+    to-rest D x {e = e} b φ {χ = χ} i ρ h r g =
+        moved-other D ρ i e φ (conjunction (output e b) χ) (tt, branches-position m events r) g x (omega arith)
+        ∙ empty-union (moved D x ρ (suc (suc i + suc (size φ)) + 1) χ)
+
+    rows-next :
+        (D : NodeSet) {path : List ℕ} {s a i : ℕ} {ρ : List NodeSet} {χ : Formula B} →
+        Branches m events path s a χ → Place i ρ χ → Inherits path ρ → Agrees D ρ i χ →
+        (x : ℕ) → a ≤ x → x < events → List·Memᴰ (moved D x ρ i χ) all-sets
+    rows-next D {i = i} {ρ = ρ} (last-branch {e = e} {b = b} {φ = φ} h p w) q f g x l u =
+        subst (λ y. List·Memᴰ (moved D y ρ i (conjunction (transition e φ) (output e b))) all-sets) (omega arith)
+        (Memᴰ·cast (moved-own D ρ i e φ (output e b) tt g refl) (tree-set w (in-transition (in-left q)) f))
+    rows-next D {i = i} {ρ = ρ} (branch {s = s} {e = e} {b = b} {φ = φ} {χ = χ} h p w r) q f g x l u =
+        go (eq-or-lt-of-le l)
+        (λ v. rows-next D r (in-right (in-right q)) f (row-rest D ρ i e φ b χ (tree-position m events w) g) x v u)
+      where
+        go :
+            (e ≡ x) ⊎ (e < x) → (e < x → List·Memᴰ (moved D x ρ (suc (suc i + suc (size φ)) + 1) χ) all-sets) →
+            List·Memᴰ (moved D x ρ i (conjunction (transition e φ) (conjunction (output e b) χ))) all-sets
+        go (inl v) k =
+            subst (λ y. List·Memᴰ (moved D y ρ i (conjunction (transition e φ) (conjunction (output e b) χ))) all-sets) v
+            (Memᴰ·cast (to-part D i ρ h p w r g) (tree-set w (in-transition (in-left q)) f))
+        go (inr v) k = Memᴰ·cast (to-rest D x b φ i ρ v r g) (k v)
+
+    -- Each V's set is reached, and each event leads from it to another V's set.
+    mutual
+      visit-tree :
+          {path : List ℕ} {s i : ℕ} {ρ : List NodeSet} {φ : Formula B} →
+          Tree m events path s φ → Place i ρ φ → Inherits path ρ → Reached (demands ρ i φ) →
+          {D : NodeSet} → List·Memᴰ D (binder-sets ρ i φ) → Reached D × Closed-on D
+      visit-tree (bound o) q f v h = absurd (List·Memᴰ·not-nil h)
+      visit-tree {path} {s} {i} {ρ} (binding {φ = φ} c r) q f v {D} h =
+          let k : ClosedPosition φ = branches-position m events r in
+          let g : Agrees (demands ρ i (greatest φ)) (demands ρ i (greatest φ) ∷ ρ) (suc i) φ =
+          λ d l u. ap (λ X. X d) (demands-alone (empty ∷ ρ) (demands ρ i (greatest φ) ∷ ρ) (suc i) φ k) in
+          let f′ : Inherits (s ∷ path) (demands ρ i (greatest φ) ∷ ρ) =
+          inherits-more s path ρ (demands ρ i (greatest φ)) (place-sets q (List·Memᴰ·head refl)) f in
+          let t : (x : ℕ) → next-set (demands ρ i (greatest φ)) x
+          ≡ moved (demands ρ i (greatest φ)) x (demands ρ i (greatest φ) ∷ ρ) (suc i) φ =
+          λ x. moved-place (demands ρ i (greatest φ)) x (in-greatest q)
+          (record { below = demands-below (empty ∷ ρ) (suc i) φ k; beyond = demands-beyond (empty ∷ ρ) (suc i) φ k }) in
+          ⊎-elim
+          (λ e. (
+            (v .0, v .1, v .2 ∙ sym e),
+            (λ x u. Memᴰ·cast (ap (λ X. next-set X x) e ∙ t x) (rows-next (demands ρ i (greatest φ)) r (in-greatest q) f′ g x zero-le u)),
+          ))
+          (λ j. visit-rows (demands ρ i (greatest φ)) r (in-greatest q) f′ g v (λ x l u. t x) j)
+          (List·Memᴰ·cases-cons h)
+
+      visit-rows :
+          (E : NodeSet) {path : List ℕ} {s a i : ℕ} {ρ : List NodeSet} {χ : Formula B} →
+          Branches m events path s a χ → Place i ρ χ → Inherits path ρ → Agrees E ρ i χ → Reached E →
+          ((x : ℕ) → a ≤ x → x < events → next-set E x ≡ moved E x ρ i χ) →
+          {D : NodeSet} → List·Memᴰ D (binder-sets ρ i χ) → Reached D × Closed-on D
+      visit-rows E {i = i} {ρ = ρ} (last-branch {e = e} {b = b} {φ = φ} h p w) q f g v t j =
+          let u : e < events = omega arith in
+          visit-tree w (in-transition (in-left q)) f
+          (subst Reached (t e (omega arith) u ∙ moved-own E ρ i e φ (output e b) tt g refl) (reached-next e u v))
+          (⊎-elim (λ k. k) (λ k. absurd (List·Memᴰ·not-nil k)) (List·Memᴰ·append-cases (binder-sets ρ (suc (suc i)) φ) j))
+      visit-rows E {i = i} {ρ = ρ} (branch {e = e} {b = b} {φ = φ} {χ = χ} h p w r) q f g v t j =
+          let u : e < events = omega arith in
+          ⊎-elim
+          (λ k. visit-tree w (in-transition (in-left q)) f
+          (subst Reached (t e (omega arith) u ∙ to-part E i ρ h p w r g) (reached-next e u v)) k)
+          (λ k. visit-rows E r (in-right (in-right q)) f (row-rest E ρ i e φ b χ (tree-position m events w) g) v
+          (λ x l k. t x (omega arith) k ∙ to-rest E x b φ i ρ l r g) k)
+          (List·Memᴰ·append-cases (binder-sets ρ (suc (suc i)) φ) j)
