@@ -8,6 +8,7 @@ use mathlib.Core.List.{List, [], _∷_, _++_, map, List·Memᴰ, List·Memᴰ·h
 use Prim.Native.Nat.{ℕ, zero, suc, _+_, _≤_, _<_, zero-le, suc-le-suc}
 use native.Mathlib.Nat.{le-of-suc-le-suc, not-suc-le-zero, eq-or-lt-of-le}
 use native.Mathlib.Omega.{arith}
+use native.Mathlib.Decide.{decLt}
 use lib.Dec.{eqb}
 use lib.ListN.{length, getD, length-append, length-map, List·getD-map}
 use borrow.Author.Tests.{eq-eqb, ne-eqb}
@@ -17,7 +18,7 @@ use Rattle.theory.specs.Demands.{NodeSet}
 use Rattle.theory.specs.ReachableStates.{state-at, Numbering, IsTableOf, StatesAtMost}
 use Rattle.theory.specs.CharacteristicFormula.{OpenAt, Writes}
 use Rattle.theory.specs.DemandSets.{empty, only, union, binder-set, demands, moved, set-machine, first-set}
-use Rattle.theory.proofs.Counting.{Distinct, distinct-length, member-at, number-of, distinct-by-number}
+use Rattle.theory.proofs.Counting.{Distinct, distinct-append, distinct-length, member-at, number-of, distinct-by-number}
 use Rattle.theory.proofs.CharacteristicFormula.{Tree, bound, binding, Branches, last-branch, branch, open-below, writes-tree, tree-position, branches-position}
 
 -- ---- sets of nodes
@@ -188,6 +189,111 @@ module _ {B : Type 0} (m : Machine ℕ B) (events : ℕ) where
       ∙ ap (union empty)
       (moved-later D x ρ (suc (suc i + suc (size φ)) + 1) r (row-rest D ρ i e φ b χ (tree-position m events w) g) (omega arith))
       ∙ empty-union empty
+
+  -- ---- the sets of two V nodes differ: the first node of a V's set is its first G, two after the V
+  rows-first : (ρ : List NodeSet) (i : ℕ) {path : List ℕ} {s a : ℕ} {χ : Formula B} → Branches m events path s a χ → demands ρ i χ (suc i) ≡ true
+  unfolding union
+  rows-first ρ i (last-branch {e = e} {b = b} {φ = φ} h p w) =
+      ap (λ t. t || demands ρ (suc i + suc (size φ)) (output e b) (suc i)) (in-only (suc i))
+  rows-first ρ i (branch {e = e} {b = b} {φ = φ} {χ = χ} h p w r) =
+      ap (λ t. t || demands ρ (suc i + suc (size φ)) (conjunction (output e b) χ) (suc i)) (in-only (suc i))
+
+  rows-low :
+      (ρ : List NodeSet) (i : ℕ) {path : List ℕ} {s a : ℕ} {χ : Formula B} → Branches m events path s a χ →
+      (d : ℕ) → d < suc i → demands ρ i χ d ≡ false
+  unfolding union
+  rows-low ρ i (last-branch {e = e} {b = b} {φ = φ} h p w) d l =
+      ap₂ _||_ (not-in-only (suc i) d (omega arith)) (demands-below ρ (suc i + suc (size φ)) (output e b) tt d (omega arith))
+  rows-low ρ i (branch {e = e} {b = b} {φ = φ} {χ = χ} h p w r) d l =
+      ap₂ _||_ (not-in-only (suc i) d (omega arith))
+      (demands-below ρ (suc i + suc (size φ)) (conjunction (output e b) χ) (tt, branches-position m events r) d (omega arith))
+
+  -- D has a node, and none but those from i + 2 to i + k.
+  record Among (i k : ℕ) (D : NodeSet) : Type 0 where
+    low : (d : ℕ) → d < suc (suc i) → D d ≡ false
+    high : (d : ℕ) → i + k ≤ d → D d ≡ false
+    node : ℕ
+    has : D node ≡ true
+
+  among-more : {i k : ℕ} {D : NodeSet} (j l : ℕ) → Among i k D → j ≤ i → i + k ≤ j + l → Among j l D
+  among-more j l a p q =
+      record {
+        low = λ d u. a .low d (omega arith);
+        high = λ d u. a .high d (omega arith);
+        node = a .node;
+        has = a .has;
+      }
+
+  among-cast : {i k : ℕ} {C D : NodeSet} → C ≡ D → Among i k D → Among i k C
+  among-cast {i} {k} e a = subst⁻¹ (Among i k) e a
+
+  true-not-false : {b : Bool} → b ≡ true → b ≡ false → ⊥
+  true-not-false p q = let z : _≡_ {A = Bool} true false = cc in absurd-bool z
+    where
+      absurd-bool : true ≡ false → ⊥
+      absurd-bool e = subst (λ b. cond b (Unit {0}) ⊥) e tt
+
+  mutual
+    tree-among :
+        {path : List ℕ} {s : ℕ} {φ : Formula B} → Tree m events path s φ → (ρ : List NodeSet) (i : ℕ) →
+        {D : NodeSet} → List·Memᴰ D (binder-sets ρ i φ) → Among i (size φ) D
+    tree-among (bound o) ρ i h = absurd (List·Memᴰ·not-nil h)
+    tree-among (binding {φ = φ} c r) ρ i h =
+        ⊎-elim
+        (λ e. among-cast e
+        (record {
+          low = rows-low (empty ∷ ρ) (suc i) r;
+          high = λ d u. demands-beyond (empty ∷ ρ) (suc i) φ (branches-position m events r) d (omega arith);
+          node = suc (suc i);
+          has = rows-first (empty ∷ ρ) (suc i) r;
+        }))
+        (λ j. among-more i (suc (size φ)) (rows-among r (demands ρ i (greatest φ) ∷ ρ) (suc i) j) (omega arith) (omega arith))
+        (List·Memᴰ·cases-cons h)
+
+    rows-among :
+        {path : List ℕ} {s a : ℕ} {χ : Formula B} → Branches m events path s a χ → (ρ : List NodeSet) (i : ℕ) →
+        {D : NodeSet} → List·Memᴰ D (binder-sets ρ i χ) → Among i (size χ) D
+    rows-among (last-branch {e = e} {b = b} {φ = φ} h p w) ρ i j =
+        ⊎-elim
+        (λ k. among-more i (size (conjunction (transition e φ) (output e b))) (tree-among w ρ (suc (suc i)) k) (omega arith) (omega arith))
+        (λ k. absurd (List·Memᴰ·not-nil k)) (List·Memᴰ·append-cases (binder-sets ρ (suc (suc i)) φ) j)
+    rows-among (branch {e = e} {b = b} {φ = φ} {χ = χ} h p w r) ρ i j =
+        ⊎-elim
+        (λ k. among-more i (size (conjunction (transition e φ) (conjunction (output e b) χ))) (tree-among w ρ (suc (suc i)) k) (omega arith) (omega arith))
+        (λ k. among-more i (size (conjunction (transition e φ) (conjunction (output e b) χ))) (rows-among r ρ (suc (suc i + suc (size φ)) + 1) k) (omega arith) (omega arith))
+        (List·Memᴰ·append-cases (binder-sets ρ (suc (suc i)) φ) j)
+
+  -- The sets of a row's part and of the later rows have no node in common.
+  apart : (φ : Formula B) (i : ℕ) {k : ℕ} {D : NodeSet} → (a : Among (suc (suc i)) (size φ) D) → Among (suc (suc i + suc (size φ)) + 1) k D → D (a .node) ≡ false
+  apart φ i {k} {D} a b = go (decLt (a .node) (suc (suc i) + size φ))
+    where
+      go : Dec (a .node < suc (suc i) + size φ) → D (a .node) ≡ false
+      go (yes l) = b .low (a .node) (omega arith)
+      go (no l) = a .high (a .node) (omega arith)
+
+  mutual
+    pub tree-distinct :
+        {path : List ℕ} {s : ℕ} {φ : Formula B} → Tree m events path s φ → (ρ : List NodeSet) (i : ℕ) →
+        Distinct (binder-sets ρ i φ)
+    tree-distinct (bound o) ρ i = tt
+    tree-distinct (binding {φ = φ} c r) ρ i = (
+      (λ j. true-not-false (rows-first (empty ∷ ρ) (suc i) r)
+          (rows-among r (demands ρ i (greatest φ) ∷ ρ) (suc i) j .low (suc (suc i)) (omega arith))),
+      rows-distinct r (demands ρ i (greatest φ) ∷ ρ) (suc i),
+    )
+
+    rows-distinct :
+        {path : List ℕ} {s a : ℕ} {χ : Formula B} → Branches m events path s a χ → (ρ : List NodeSet) (i : ℕ) →
+        Distinct (binder-sets ρ i χ)
+    rows-distinct (last-branch {φ = φ} h p w) ρ i =
+        distinct-append (binder-sets ρ (suc (suc i)) φ) [] (tree-distinct w ρ (suc (suc i))) tt (λ z j k. List·Memᴰ·not-nil k)
+    rows-distinct (branch {φ = φ} {χ = χ} h p w r) ρ i =
+        distinct-append (binder-sets ρ (suc (suc i)) φ) (binder-sets ρ (suc (suc i + suc (size φ)) + 1) χ)
+        (tree-distinct w ρ (suc (suc i))) (rows-distinct r ρ (suc (suc i + suc (size φ)) + 1))
+        (λ z j k.
+        let a = tree-among w ρ (suc (suc i)) j in
+        let b = rows-among r ρ (suc (suc i + suc (size φ)) + 1) k in
+        true-not-false (a .has) (apart φ i a b))
 
 -- ---- the parts of a formula, with the demands of the binders above each
 module _ {B : Type 0} (Φ : Formula B) where

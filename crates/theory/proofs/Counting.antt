@@ -3,11 +3,11 @@
 -- Assumes nothing.
 use mathlib.Core.Path.{_≡_, refl, sym, _∙_, ap, subst}
 use mathlib.Core.Logic.{⊎-elim}
-use mathlib.Core.List.{List, [], _∷_, _++_, List·Memᴰ, List·Memᴰ·head, List·Memᴰ·tail, List·Memᴰ·not-nil, List·Memᴰ·cases-cons, Memᴰ·append-left, Memᴰ·append-right}
+use mathlib.Core.List.{List, [], _∷_, _++_, List·Memᴰ, List·Memᴰ·head, List·Memᴰ·tail, List·Memᴰ·append-cases}
 use Prim.Native.Nat.{ℕ, zero, suc, _+_, _≤_, _<_, zero-le, suc-le-suc}
 use native.Mathlib.Nat.{le-of-suc-le-suc, not-suc-le-zero, eq-or-lt-of-le, suc-inj}
 use native.Mathlib.Omega.{arith}
-use lib.ListN.{length, getD, length-append}
+use lib.ListN.{length, getD}
 
 module _ {A : Type 0} where
   -- No element stands twice.
@@ -43,6 +43,14 @@ module _ {A : Type 0} where
       distinct-length xs (without ys i) (d .1)
       (λ z j. stays ys i (λ e. d .0 (subst (λ y. List·Memᴰ y xs) e j)) (h z (List·Memᴰ·tail j))) in
       omega (arith, length-without ys i)
+
+  pub distinct-append :
+      (xs ys : List A) → Distinct xs → Distinct ys → ((z : A) → List·Memᴰ z xs → List·Memᴰ z ys → ⊥) → Distinct (xs ++ ys)
+  distinct-append [] ys d c h = c
+  distinct-append (x ∷ xs) ys d c h = (
+    (λ i. ⊎-elim (d .0) (h x (List·Memᴰ·head refl)) (List·Memᴰ·append-cases xs i)),
+    distinct-append xs ys (d .1) c (λ z i. h z (List·Memᴰ·tail i)),
+  )
 
   -- Elements by their number.
   pub member-at : (xs : List A) (d : A) (l : ℕ) → l < length xs → List·Memᴰ (getD xs l d) xs
