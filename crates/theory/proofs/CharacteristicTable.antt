@@ -473,3 +473,76 @@ module _ {B : Type 0} (Φ : Formula B) where
           (λ k. visit-rows E r (in-right (in-right q)) f (row-rest E ρ i e φ b χ (tree-position m events w) g) v
           (λ x l k. t x (omega arith) k ∙ to-rest E x b φ i ρ l r g) k)
           (List·Memᴰ·append-cases (binder-sets ρ (suc (suc i)) φ) j)
+
+    -- ---- the sets that are reached are those of the V nodes, for a formula that is written at the root
+    module _ {s : ℕ} (tree : Tree m events [] s Φ) where
+      none-inherited : Inherits [] []
+      none-inherited k l = absurd (not-suc-le-zero l)
+
+      set-reached : {D : NodeSet} → List·Memᴰ D all-sets → Reached D
+      set-reached h = visit-tree tree root none-inherited ([], tt, refl) h .0
+
+      after-in :
+          (w : List ℕ) → Word events w → (D : NodeSet) → List·Memᴰ D all-sets →
+          List·Memᴰ (after (set-machine meet top Φ) D w) all-sets
+      after-in [] v D h = h
+      after-in (e ∷ w) v D h =
+          after-in w (v .1) (next-set D e) (visit-tree tree root none-inherited ([], tt, refl) h .1 e (v .0))
+
+      reached-in : (w : List ℕ) → Word events w → List·Memᴰ (reaches w) all-sets
+      reached-in w v = after-in w v (first-set Φ) (tree-set tree root none-inherited)
+
+      -- The states that a list of sequences reaches.
+      abbrev states-of : List (List ℕ) → List NodeSet
+      states-of W = map reaches W
+
+      state-of : (W : List (List ℕ)) (l : ℕ) → getD (states-of W) l (first-set Φ) ≡ reaches (getD W l [])
+      state-of W l = List·getD-map reaches W l []
+
+      -- Sequences to different states are at most as many as the V nodes.
+      pub states-at-most :
+          (W : List (List ℕ)) → ((l : ℕ) → l < length W → Word events (getD W l [])) →
+          ((j l : ℕ) → j < l → l < length W → ¬ (reaches (getD W j []) ≡ reaches (getD W l []))) → length W ≤ binders Φ
+      states-at-most W words different =
+          omega (
+            arith,
+            length-map W reaches,
+            length-binder-sets [] zero Φ,
+            distinct-length (states-of W) all-sets
+                (distinct-by-number (states-of W) (first-set Φ)
+                (λ j l u v e. different j l u (omega (arith, length-map W reaches)) (sym (state-of W j) ∙ e ∙ state-of W l)))
+                (λ D h. within D (number-of (states-of W) (first-set Φ) h)),
+          )
+        where
+          within :
+              (D : NodeSet) → (l : ℕ) × (l < length (states-of W)) × (D ≡ getD (states-of W) l (first-set Φ)) →
+              List·Memᴰ D all-sets
+          within D r =
+              Memᴰ·cast (r .2 ∙ state-of W (r .0))
+              (reached-in (getD W (r .0) []) (words (r .0) (omega (arith, length-map W reaches, r .1))))
+
+      -- The states of the formula's table are as many as its V nodes.
+      pub states-count :
+          (W : List (List ℕ)) → Numbering events (set-machine meet top Φ) (first-set Φ) W → length W ≡ binders Φ
+      states-count W v =
+          omega (
+            arith,
+            length-map W reaches,
+            length-binder-sets [] zero Φ,
+            states-at-most W (v .words) (v .different),
+            distinct-length all-sets (states-of W) (tree-distinct m events tree [] zero) (λ D h. numbered D (set-reached h)),
+          )
+        where
+          numbered : (D : NodeSet) → Reached D → List·Memᴰ D (states-of W)
+          numbered D r =
+              let c = v .complete (r .0) (r .1) in
+              Memᴰ·cast (sym (r .2) ∙ sym (c .2) ∙ sym (state-of W (c .0)))
+              (member-at (states-of W) (first-set Φ) (c .0) (omega (arith, length-map W reaches, c .1)))
+
+-- The table of a formula that is written for a state has one state for each V node.
+module _ {B : Type 0} (m : Machine ℕ B) (events : ℕ) (meet : B → B → B) (top : B) where
+  pub table-count :
+      {s : ℕ} {φ : Formula B} → Writes m events [] s φ → (k : ℕ) (t : Machine ℕ B) →
+      IsTableOf meet top events φ k t → k ≡ binders φ
+  table-count {φ = φ} w k t h =
+      sym (h .count) ∙ states-count φ m events meet top (writes-tree m events w) (h .sequences) (h .numbering)
