@@ -7,3 +7,4 @@ pub mod Counting
 pub mod CharacteristicFormula
 pub mod CharacteristicValues
 pub mod CharacteristicTable
+pub mod CharacteristicClaims
