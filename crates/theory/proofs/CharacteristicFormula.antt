@@ -6,22 +6,19 @@ use mathlib.Core.Path.{_≡_, refl, sym, _∙_, ap, ap₂, subst, subst⁻¹}
 use mathlib.Core.Bool.{Bool, true, false, cond}
 use mathlib.Core.Logic.{_⊎_, inl, inr}
 use mathlib.Core.List.{List, [], _∷_, List·Memᴰ, List·Memᴰ·head, List·Memᴰ·tail, List·Memᴰ·not-nil}
-use mathlib.Core.Option.{Option, none, some}
+use mathlib.Core.Option.{none, some}
 use Prim.Native.Nat.{ℕ, zero, suc, _+_, _*_, _≤_, _<_, zero-le, suc-le-suc}
-use native.Mathlib.Nat.{le-of-suc-le-suc, eq-or-lt-of-le, mul-suc, mul-add}
+use native.Mathlib.Nat.{mul-suc, mul-add, mul-assoc, suc-mul}
 use native.Mathlib.Omega.{arith}
 use lib.Dec.{eqb}
 use lib.ListN.{length}
-use borrow.Author.Tests.{eqb-true, eqb-false, eq-eqb, ne-eqb}
-use Rattle.theory.specs.Semilattice.{MeetSemilattice}
-use Rattle.theory.specs.Formula.{Formula, truth, variable, transition, output, conjunction, greatest, size, binders, FreeBelow, Closed, OpenPosition, ClosedPosition, Guarded, Fits, WellFormed}
-use Rattle.theory.specs.MealyMachine.{Machine, Word, after, Runs, States}
+use borrow.Author.Tests.{eqb-true, eqb-false}
+use Rattle.theory.specs.Formula.{Formula, truth, variable, transition, output, conjunction, greatest, size, binders, FreeBelow, OpenPosition, ClosedPosition, Fits, WellFormed, Accepted}
+use Rattle.theory.specs.MealyMachine.{Machine, Runs, States}
 use Rattle.theory.specs.CharacteristicFormula.{OpenAt, here, above, Writes, already-open, opened, Rows, last-row, row, one-more, open-at, variable-or, rows, write, written}
-use Rattle.theory.specs.Evaluation.{step, value, follower, formulas}
-use Rattle.theory.proofs.Order.{top-meet, top-top}
-use Rattle.theory.proofs.Substitution.{open-position-guarded, closed-position-guarded}
-use Rattle.theory.proofs.Instantiation.{instantiate, nth, instantiate-transition, instantiate-output, instantiate-conjunction, instantiate-greatest, instantiate-variable, AllWellFormed, all-closed, well-formed-instantiate}
-use Rattle.theory.proofs.Equations.{step-truth, step-transition, step-output, step-greatest, value-in, follower-well-formed, conjunction-values, well-formed-conjunction}
+use Rattle.theory.specs.Evaluation.{value}
+use Rattle.theory.proofs.Substitution.{accepted-well-formed}
+use Rattle.theory.proofs.Equations.{value-in}
 use Rattle.theory.proofs.Counting.{Distinct, distinct-below}
 
 -- ---- where a state is open on a path
@@ -241,3 +238,38 @@ module _ {B : Type 0} (m : Machine ℕ B) (events : ℕ) where
   pub root-position : {s : ℕ} {φ : Formula B} → Tree [] s φ → ClosedPosition φ
   root-position (bound o) = elim o [ ]
   root-position (binding c r) = branches-position r
+
+  -- ---- how many V nodes fit
+  pub writes-size :
+      {path : List ℕ} {s : ℕ} {φ : Formula B} → Writes m events path s φ →
+      size φ + binders φ ≡ suc (5 * (events * binders φ))
+  writes-size {φ = φ} w = omega (arith, tree-size (writes-tree w), mul-assoc 5 events (binders φ))
+
+  pub binders-size :
+      (last : ℕ) → events ≡ suc last → {path : List ℕ} {s : ℕ} {φ : Formula B} → Writes m events path s φ →
+      4 * (events * binders φ) < size φ
+  binders-size last ev {φ = φ} w =
+      omega (arith, writes-size w, ap (λ x. x * binders φ) ev, suc-mul last (binders φ))
+
+  -- A written formula of at most 256 nodes has at most 63 V nodes.
+  pub few-binders :
+      (last : ℕ) → events ≡ suc last → {path : List ℕ} {s : ℕ} {φ : Formula B} → Writes m events path s φ →
+      size φ ≤ 256 → binders φ ≤ 63
+  few-binders last ev {φ = φ} w h =
+      omega (arith, binders-size last ev w, ap (λ x. x * binders φ) ev, suc-mul last (binders φ))
+
+-- Each formula written for a state of a table is accepted, where it is not over the limit of nodes.
+module _ {B : Type 0} (m : Machine ℕ B) (events : ℕ) (In : B → Type 0) (n : ℕ) (runs : Runs events In (States n) m) where
+  pub writes-accepted :
+      (nodes : ℕ) {s : ℕ} {φ : Formula B} → Writes m events [] s φ → s < n → size φ ≤ nodes → Accepted nodes events In φ
+  writes-accepted nodes w l h =
+      let t = writes-tree m events w in
+      record {
+        within = h;
+        closed = tree-free m events t;
+        position = root-position m events t;
+        fits = tree-fits m events In n runs t l;
+      }
+
+  pub writes-well-formed : {s : ℕ} {φ : Formula B} → Writes m events [] s φ → s < n → WellFormed events In φ
+  writes-well-formed {φ = φ} w l = accepted-well-formed (size φ) events In φ (writes-accepted (size φ) w l (omega arith))

@@ -5,7 +5,7 @@ use mathlib.Core.Path.{_≡_, refl, sym, _∙_, ap, ap₂, subst, subst⁻¹, fu
 use mathlib.Core.Bool.{Bool, true, false, _||_, _&&_, cond}
 use mathlib.Core.Logic.{_⊎_, inl, inr, ⊎-elim}
 use mathlib.Core.List.{List, [], _∷_, _++_, map, List·Memᴰ, List·Memᴰ·head, List·Memᴰ·tail, List·Memᴰ·not-nil, List·Memᴰ·cases-cons, List·Memᴰ·append-cases, Memᴰ·append-left, Memᴰ·append-right, Memᴰ·cast}
-use Prim.Native.Nat.{ℕ, zero, suc, _+_, _≤_, _<_, zero-le, suc-le-suc}
+use Prim.Native.Nat.{ℕ, zero, suc, _+_, _≤_, _<_, zero-le}
 use native.Mathlib.Nat.{le-of-suc-le-suc, not-suc-le-zero, eq-or-lt-of-le}
 use native.Mathlib.Omega.{arith}
 use native.Mathlib.Decide.{decLt}
@@ -15,8 +15,8 @@ use borrow.Author.Tests.{eq-eqb, ne-eqb}
 use Rattle.theory.specs.Formula.{Formula, truth, variable, transition, output, conjunction, greatest, size, binders, OpenPosition, ClosedPosition}
 use Rattle.theory.specs.MealyMachine.{Machine, Word, after}
 use Rattle.theory.specs.Demands.{NodeSet}
-use Rattle.theory.specs.ReachableStates.{state-at, Numbering, IsTableOf, StatesAtMost}
-use Rattle.theory.specs.CharacteristicFormula.{OpenAt, Writes}
+use Rattle.theory.specs.ReachableStates.{Numbering, IsTableOf}
+use Rattle.theory.specs.CharacteristicFormula.{Writes}
 use Rattle.theory.specs.DemandSets.{empty, only, union, binder-set, demands, moved, set-machine, first-set}
 use Rattle.theory.proofs.Counting.{Distinct, distinct-append, distinct-length, member-at, number-of, distinct-by-number}
 use Rattle.theory.proofs.CharacteristicFormula.{Tree, bound, binding, Branches, last-branch, branch, open-below, writes-tree, tree-position, branches-position}

@@ -1,7 +1,7 @@
 -- The formula written for a state has the state's values on every event sequence.
 -- Assumes nothing.
-use mathlib.Core.Path.{_≡_, refl, sym, _∙_, ap, ap₂, subst, subst⁻¹}
-use mathlib.Core.Bool.{Bool, true, false, cond}
+use mathlib.Core.Path.{_≡_, refl, _∙_, ap, ap₂, subst, subst⁻¹}
+use mathlib.Core.Bool.{cond}
 use mathlib.Core.Logic.{_⊎_, inl, inr}
 use mathlib.Core.List.{List, [], _∷_}
 use Prim.Native.Nat.{ℕ, zero, suc, _≤_, _<_, zero-le}
@@ -11,14 +11,14 @@ use lib.Dec.{eqb}
 use lib.ListN.{length}
 use borrow.Author.Tests.{eq-eqb, ne-eqb}
 use Rattle.theory.specs.Semilattice.{MeetSemilattice}
-use Rattle.theory.specs.Formula.{Formula, truth, variable, transition, output, conjunction, greatest, unfolded, WellFormed}
+use Rattle.theory.specs.Formula.{Formula, truth, transition, output, conjunction, greatest, unfolded, WellFormed}
 use Rattle.theory.specs.MealyMachine.{Machine, Word, after, Runs, States}
 use Rattle.theory.specs.CharacteristicFormula.{OpenAt, here, above, Writes}
-use Rattle.theory.specs.Evaluation.{step, value, follower, formulas}
+use Rattle.theory.specs.Evaluation.{value, follower, formulas}
 use Rattle.theory.proofs.Order.{top-meet, top-top}
 use Rattle.theory.proofs.Substitution.{open-position-guarded, closed-position-guarded}
 use Rattle.theory.proofs.Instantiation.{instantiate, nth, instantiate-transition, instantiate-output, instantiate-conjunction, instantiate-greatest, instantiate-variable, AllWellFormed, all-closed, well-formed-instantiate}
-use Rattle.theory.proofs.Equations.{step-truth, step-transition, step-output, step-greatest, value-in, follower-well-formed, conjunction-values, well-formed-conjunction, well-formed-truth}
+use Rattle.theory.proofs.Equations.{step-truth, step-transition, step-output, step-greatest, value-in, follower-well-formed, conjunction-values, well-formed-conjunction}
 use Rattle.theory.proofs.CharacteristicFormula.{Tree, bound, binding, Branches, last-branch, branch, open-below, writes-tree, tree-free, tree-position, tree-fits, branches-free, branches-position, branches-fits}
 
 module _ {B : Type 0} (m : Machine ℕ B) (events : ℕ) (In : B → Type 0) (n : ℕ) (runs : Runs events In (States n) m) where
