@@ -6,5 +6,6 @@ pub mod Equations
 pub mod Counting
 pub mod CharacteristicFormula
 pub mod CharacteristicValues
+pub mod CharacteristicSets
 pub mod CharacteristicTable
 pub mod CharacteristicClaims
