@@ -1,5 +1,6 @@
 -- The claim on the formula of a table, from two facts that are proved elsewhere: the computed value is the printed one, and
 -- exploration finds sequences to different states, all of them where they are within the limit.
+-- Assumes nothing but these two, which are arguments.
 use mathlib.Core.Path.{_≡_, sym}
 use mathlib.Core.List.{List, []}
 use Prim.Native.Nat.{ℕ, _≤_, _<_}
@@ -17,7 +18,7 @@ use Rattle.theory.proofs.CharacteristicValues.{writes-values}
 use Rattle.theory.proofs.CharacteristicTable.{states-at-most, table-count}
 
 -- What exploration of a machine finds: sequences to different states, and a numbering of all where they are at most `limit`.
-pub record Found {S B : Type 0} (events : ℕ) (m : Machine S B) (start : S) (limit : ℕ) : Type 0 where
+pub record Explored {S B : Type 0} (events : ℕ) (m : Machine S B) (start : S) (limit : ℕ) : Type 0 where
   pub sequences : List (List ℕ)
   pub words : (l : ℕ) → l < length sequences → Word events (getD sequences l [])
   pub different :
@@ -26,16 +27,16 @@ pub record Found {S B : Type 0} (events : ℕ) (m : Machine S B) (start : S) (li
 
 module _ {B : Type 0} (In : B → Type 0) (meet : B → B → B) (top : B) (laws : MeetSemilattice In meet top) (events : ℕ)
     (answers : AnswersClaim In meet top events)
-    (found :
+    (explored :
     (φ : Formula B) → WellFormed events In φ → (limit : ℕ) →
-    Found events (set-machine meet top φ) (first-set φ) limit) where
+    Explored events (set-machine meet top φ) (first-set φ) limit) where
   pub characteristic-claim : CharacteristicClaim In meet top laws events
   characteristic-claim n last m ev runs s l =
       let w : Writes m events [] s (written m n last s) = written-writes m events In n runs last ev s l in
       let a : Accepted (size (written m n last s)) events In (written m n last s) =
       writes-accepted m events In n runs (size (written m n last s)) w l (omega arith) in
       let g : WellFormed events In (written m n last s) = writes-well-formed m events In n runs w l in
-      let f = found (written m n last s) g (binders (written m n last s)) in
+      let f = explored (written m n last s) g (binders (written m n last s)) in
       let k : length (f .sequences) ≤ binders (written m n last s) =
       states-at-most (written m n last s) m events meet top (writes-tree m events w) (f .sequences) (f .words) (f .different) in (
         w,

@@ -1,6 +1,5 @@
--- The formula of a table: one and only one is written for each start; it is closed, of the grammar and within the set-up; it
--- has the start's values; and its size is known from its V nodes.
--- All is shown by induction on how a formula is written, so that it holds of every formula that is.
+-- The formula of a table: one and only one is written for each start; its size is known from its V nodes; and it is closed, of
+-- the grammar and within the set-up. All is shown by induction on how a formula is written.
 -- Assumes nothing.
 use mathlib.Core.Path.{_≡_, refl, sym, _∙_, ap, ap₂, subst, subst⁻¹}
 use mathlib.Core.Bool.{Bool, true, false, cond}
@@ -16,9 +15,7 @@ use borrow.Author.Tests.{eqb-true, eqb-false}
 use Rattle.theory.specs.Formula.{Formula, truth, variable, transition, output, conjunction, greatest, size, binders, FreeBelow, OpenPosition, ClosedPosition, Fits, WellFormed, Accepted}
 use Rattle.theory.specs.MealyMachine.{Machine, Runs, States}
 use Rattle.theory.specs.CharacteristicFormula.{OpenAt, here, above, Writes, already-open, opened, Rows, last-row, row, one-more, open-at, variable-or, rows, write, written}
-use Rattle.theory.specs.Evaluation.{value}
 use Rattle.theory.proofs.Substitution.{accepted-well-formed}
-use Rattle.theory.proofs.Equations.{value-in}
 use Rattle.theory.proofs.Counting.{Distinct, distinct-below}
 
 -- ---- where a state is open on a path
@@ -88,7 +85,8 @@ module _ {B : Type 0} (m : Machine ℕ B) (events : ℕ) where
     branches : {path : List ℕ} {s e : ℕ} {φ : Formula B} → Rows m events path s e φ → size φ ≤ k → Branches path s e φ
 
   tree-step :
-      (k : ℕ) → TreesTo k → {path : List ℕ} {s : ℕ} {φ : Formula B} → Writes m events path s φ → size φ ≤ suc k → Tree path s φ
+      (k : ℕ) → TreesTo k → {path : List ℕ} {s : ℕ} {φ : Formula B} → Writes m events path s φ → size φ ≤ suc k →
+      Tree path s φ
   tree-step k f (already-open o) h = bound o
   tree-step k f (opened c r) h = binding c (f .branches r (omega arith))
 
@@ -202,7 +200,8 @@ module _ {B : Type 0} (m : Machine ℕ B) (events : ℕ) where
         (s : ℕ) → s < n → (c e : ℕ) → e + suc c ≡ events → Rows m events path s e (rows m f s e c)
     rows-written path f h s l zero e q = last-row {e = e} (omega arith) (h (m .next s e) (runs .next-in s l e (omega arith)))
     rows-written path f h s l (suc c) e q =
-        row {e = e} (omega arith) (h (m .next s e) (runs .next-in s l e (omega arith))) (rows-written path f h s l c (suc e) (omega arith))
+        row {e = e} (omega arith) (h (m .next s e) (runs .next-in s l e (omega arith)))
+        (rows-written path f h s l c (suc e) (omega arith))
 
     module _ (last : ℕ) (ev : events ≡ suc last) where
       written-as :
@@ -219,16 +218,21 @@ module _ {B : Type 0} (m : Machine ℕ B) (events : ℕ) where
           go : Found s path → Writes m events path s (write m last zero path s)
           go (inl f) = subst (Writes m events path s) (written-as zero path s (f .0) (f .2)) (already-open (f .1))
           go (inr f) = absurd (omega (arith, distinct-below n (s ∷ path) (not-on-path s path (f .0), d) (all-below l a)))
-      write-writes (suc left) path d a k s l = go (found s path) (λ c. write-writes left (s ∷ path) c (all-below l a) (omega arith))
+      write-writes (suc left) path d a k s l =
+          go (found s path) (λ c. write-writes left (s ∷ path) c (all-below l a) (omega arith))
         where
           go :
-              Found s path → (Distinct (s ∷ path) → (t : ℕ) → t < n → Writes m events (s ∷ path) t (write m last left (s ∷ path) t)) →
+              Found s path →
+              (Distinct (s ∷ path) → (t : ℕ) → t < n → Writes m events (s ∷ path) t (write m last left (s ∷ path) t)) →
               Writes m events path s (write m last (suc left) path s)
           go (inl f) ih = subst (Writes m events path s) (written-as (suc left) path s (f .0) (f .2)) (already-open (f .1))
           go (inr f) ih =
-              subst⁻¹ (λ o. Writes m events path s (variable-or o (greatest (rows m (write m last left (s ∷ path)) s zero last)))) (f .1)
+              subst⁻¹
+              (λ o. Writes m events path s (variable-or o (greatest (rows m (write m last left (s ∷ path)) s zero last))))
+              (f .1)
               (opened (f .0)
-              (rows-written (s ∷ path) (write m last left (s ∷ path)) (ih (not-on-path s path (f .0), d)) s l last zero (omega arith)))
+              (rows-written (s ∷ path) (write m last left (s ∷ path)) (ih (not-on-path s path (f .0), d))
+              s l last zero (omega arith)))
 
       -- The written formula is written.
       pub written-writes : (s : ℕ) → s < n → Writes m events [] s (written m n last s)

@@ -119,8 +119,8 @@ module _ {B : Type 0} where
       ∙ ap₂ _+_ (length-binder-sets ρ (suc i) φ) (length-binder-sets ρ (suc i + size φ) χ)
   length-binder-sets ρ i (greatest φ) = ap suc (length-binder-sets (demands ρ i (greatest φ) ∷ ρ) (suc i) φ)
 
--- ---- the rows of a V. Below node i, a row has its part at `part-node i`, and what follows it there stands at `tail-node i φ`:
--- its O alone, or A of its O and the later rows, which stand at `rest-node i φ`.
+-- ---- the rows of a V. The row at node i has its part φ at `part-node i`. At `tail-node i φ` stands its O alone, or A of its O
+-- and the later rows, which then stand at `rest-node i φ`.
 abbrev pub part-node : ℕ → ℕ
 part-node i = suc (suc i)
 
@@ -155,7 +155,7 @@ module _ {B : Type 0} where
   unfolding union
   row-demands ρ i e φ χ = ap (λ t. t || demands ρ (tail-node i φ) χ (suc i)) (in-only (suc i))
 
-  -- D has a row's G and no node of its part: on the row's event it leads to the part's demands, on others where the tail leads.
+  -- D has a row's G and no node of its part: the row's event leads to the part's demands, others lead where the tail leads.
   module _ (D : NodeSet) (ρ : List NodeSet) (i e : ℕ) (φ χ : Formula B) (closed : ClosedPosition χ)
       (agrees : Agrees D ρ i (conjunction (transition e φ) χ)) where
     part-clear : Clear D (part-node i) φ

@@ -1,5 +1,5 @@
--- The table of a written formula has one state for each V node: each V's demands are reached along the G nodes on the way to it,
--- and nothing else is reached.
+-- The table of a written formula has one state for each V node: each V's demands are reached, along the G nodes on the way to
+-- it, and nothing else is.
 -- Assumes nothing.
 use mathlib.Core.Path.{_≡_, refl, sym, _∙_, ap, subst}
 use mathlib.Core.Bool.{false, _&&_, cond}
@@ -118,8 +118,8 @@ module _ {B : Type 0} (Φ : Formula B) where
     inherits-more s path ρ D h f (suc k) l = f k (le-of-suc-le-suc l)
 
     tree-set :
-        {path : List ℕ} {s i : ℕ} {ρ : List NodeSet} {φ : Formula B} → Tree m events path s φ → Place i ρ φ → Inherits path ρ →
-        List·Memᴰ (demands ρ i φ) all-sets
+        {path : List ℕ} {s i : ℕ} {ρ : List NodeSet} {φ : Formula B} →
+        Tree m events path s φ → Place i ρ φ → Inherits path ρ → List·Memᴰ (demands ρ i φ) all-sets
     tree-set (bound {i = k} o) p f = f k (open-below o)
     tree-set (binding c r) p f = place-sets p (List·Memᴰ·head refl)
 
@@ -167,7 +167,8 @@ module _ {B : Type 0} (Φ : Formula B) where
       visit-tree (bound o) q f v h = absurd (List·Memᴰ·not-nil h)
       visit-tree {path} {s} {i} {ρ} (binding {φ = φ} c r) q f v h =
           let k : ClosedPosition φ = branches-position m events r in
-          let g : Inherits (s ∷ path) (own q k ∷ ρ) = inherits-more s path ρ (own q k) (place-sets q (List·Memᴰ·head refl)) f in
+          let g : Inherits (s ∷ path) (own q k ∷ ρ) =
+          inherits-more s path ρ (own q k) (place-sets q (List·Memᴰ·head refl)) f in
           ⊎-elim
           (λ e. (
             (v .0, v .1, v .2 ∙ sym e),

@@ -37,7 +37,9 @@ module _ {B : Type 0} (m : Machine ℕ B) (events : ℕ) (In : B → Type 0) (n 
         well-formed-instantiate events In σ φ good (rw same (branches-free m events r))
         (closed-position-guarded φ (branches-position m events r)) (branches-fits m events In n runs r l)
 
-    good-transition : {s e : ℕ} {φ : Formula B} → e < events → s < n → Tree m events path (m .next s e) φ → Good (transition e (instantiate zero σ φ))
+    good-transition :
+        {s e : ℕ} {φ : Formula B} → e < events → s < n → Tree m events path (m .next s e) φ →
+        Good (transition e (instantiate zero σ φ))
     good-transition {s} {e} u l w =
         let g = good-tree w (runs .next-in s l e u) in
         record { closed = g .closed; guarded = g .guarded; fits = (u, g .fits) }
@@ -137,7 +139,9 @@ module _ {B : Type 0} (m : Machine ℕ B) (events : ℕ) (In : B → Type 0) (n 
 
       -- The row of x alone counts.
       module _ (s : ℕ) (l : s < n) (c : B) (c-in : In c)
-          (at-x : (φ : Formula B) → Tree m events path (m .next s x) φ → meet (val (transition x (closing φ))) (val (output x (m .value s x))) ≡ c) where
+          (at-x :
+          (φ : Formula B) → Tree m events path (m .next s x) φ →
+          meet (val (transition x (closing φ))) (val (output x (m .value s x))) ≡ c) where
         val-at-row :
             (e : ℕ) (b : B) (φ : Formula B) → e ≡ x → b ≡ m .value s e → Tree m events path (m .next s e) φ →
             meet (val (transition e (closing φ))) (val (output e b)) ≡ c
@@ -149,15 +153,19 @@ module _ {B : Type 0} (m : Machine ℕ B) (events : ℕ) (In : B → Type 0) (n 
         val-at : {a : ℕ} {χ : Formula B} → Branches m events path s a χ → a ≤ x → val (closing χ) ≡ c
         val-at (last-branch {e = e} {b = b} {φ = φ} h p w) k =
             val-last (omega arith) l p w ∙ val-at-row e b φ (omega arith) p w
-        val-at (branch {e = e} {b = b} {φ = φ} {χ = χ} h p w r) k = val-row (omega arith) l p w r ∙ go (eq-or-lt-of-le k) (λ u. val-at r u)
+        val-at (branch {e = e} {b = b} {φ = φ} {χ = χ} h p w r) k =
+            val-row (omega arith) l p w r ∙ go (eq-or-lt-of-le k) (λ u. val-at r u)
           where
             out : Good (output e b)
             out = good-output (omega arith) l p
 
-            go : (e ≡ x) ⊎ (e < x) → (e < x → val (closing χ) ≡ c) → meet (val (transition e (closing φ))) (meet (val (output e b)) (val (closing χ))) ≡ c
+            go :
+                (e ≡ x) ⊎ (e < x) → (e < x → val (closing χ) ≡ c) →
+                meet (val (transition e (closing φ))) (meet (val (output e b)) (val (closing χ))) ≡ c
             go (inl q) f =
                 ap (meet (val (transition e (closing φ))))
-                (ap (meet (val (output e b))) (val-other r l (omega arith)) ∙ laws .neutral (val (output e b)) (val-in (output e b) out))
+                (ap (meet (val (output e b))) (val-other r l (omega arith))
+                ∙ laws .neutral (val (output e b)) (val-in (output e b) out))
                 ∙ val-at-row e b φ q p w
             go (inr u) f =
                 ap₂ meet (other-transition e (closing φ) (omega arith)) (ap₂ meet (other-output e b (omega arith)) (f u))
@@ -223,7 +231,8 @@ module _ {B : Type 0} (m : Machine ℕ B) (events : ℕ) (In : B → Type 0) (n 
         (λ a b d. on-output e a b ∙ ap (λ t. cond t b top) (ne-eqb a e d))
         (s ∷ path) (greatest (instantiate 1 σ φ) ∷ σ) (g, binders-good v) (ap suc (binders-length v))
         s l (m .value s e) (runs .value-in s l e u)
-        (λ χ w. ap₂ meet (on-transition e e _) (on-output e e (m .value s e) ∙ ap (λ t. cond t (m .value s e) top) (eq-eqb e e refl))
+        (λ χ t. ap₂ meet (on-transition e e _)
+        (on-output e e (m .value s e) ∙ ap (λ y. cond y (m .value s e) top) (eq-eqb e e refl))
         ∙ top-meet In meet top laws (m .value s e) (runs .value-in s l e u))
         r zero-le
     greatest-on (x ∷ w) h e u path σ s φ v r l =
