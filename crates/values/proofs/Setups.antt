@@ -15,7 +15,7 @@ use lib.ListN.{length, getD}
 use Rattle.refusal.specs.declared.Refusal.{Refusal}
 use Rattle.refusal.specs.declared.Refusal.the-variants.{Plain}
 use Rattle.refusal.specs.declared.Judgement.the-variants.{Accepted, Refused}
-use Rattle.refusal.specs.Refusal.{plain, First, plain-unless, or-else, number, order, part-of, HasNumbers, InOrder, judgement}
+use Rattle.refusal.specs.Refusal.{plain, First, plain-unless, or-else, has-place, order, part-of, HasNumbers, InOrder, judgement}
 use Rattle.refusal.specs.RefusalClaims.{AllFunctional}
 use Rattle.refusal.proofs.Refusals.{plain-first, plain-functional, plain-number, first-append, first-unique, or-else-none, plain-none}
 use Rattle.theory.specs.Semilattice.{MeetSemilattice}
@@ -198,8 +198,8 @@ module _ (s : Setup) where
   setup-functional = (plain-functional 1 _, (plain-functional 2 _, (plain-functional 3 _, tt)))
 
   setup-order : InOrder (1 ∷ 2 ∷ 3 ∷ []) (setup-conditions s)
-  unfolding setup-conditions HasNumbers part-of order
-  setup-order = record { numbered = (plain-number 1 _, (plain-number 2 _, (plain-number 3 _, tt))); ordered = refl }
+  unfolding setup-conditions HasNumbers has-place part-of order
+  setup-order = record { numbered = (plain-number 1 _ refl, (plain-number 2 _ refl, (plain-number 3 _ refl, tt))); ordered = refl }
 
   -- A set-up that passes the tests is a meet-semilattice within the limits.
   tests-well-formed :
