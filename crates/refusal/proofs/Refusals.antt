@@ -1,17 +1,17 @@
 -- There is one first refusal and one lowest place; the computing twins yield them.
 -- Assumes nothing.
 use mathlib.Core.Path.{_≡_, refl, sym, _∙_, ap, subst}
-use mathlib.Core.Logic.{_⊎_, inl, inr}
+use mathlib.Core.Logic.{inl, inr}
 use mathlib.Core.Bool.{Bool, true, false, true≢false}
 use mathlib.Core.Option.{Option, none, some, Option·some-ne-none}
-use mathlib.Core.List.{List, [], _∷_, _++_}
+use mathlib.Core.List.{[], _∷_}
 use Prim.Native.Nat.{ℕ, _<_}
 use native.Mathlib.Omega.{arith}
 use Rattle.refusal.specs.declared.Refusal.{Refusal}
 use Rattle.refusal.specs.declared.Refusal.the-variants.{Plain, At}
 use Rattle.refusal.specs.declared.Judgement.the-variants.{Accepted}
 use Rattle.refusal.specs.declared.Counted.the-variants.{Count}
-use Rattle.refusal.specs.Refusal.{number, place, has-place, HasNumber, Condition, plain, Lowest, at-lowest, First, or-else, plain-unless, at-found, judgement, counted}
+use Rattle.refusal.specs.Refusal.{number, place, has-place, HasNumber, plain, Lowest, at-lowest, First, or-else, plain-unless, at-found, judgement, counted}
 use Rattle.refusal.specs.RefusalClaims.{Functional, AllFunctional, LowestUniqueClaim, FirstUniqueClaim, FirstAppendClaim, NoneMet, AcceptedClaim}
 
 -- Conditions without a place: at most one refusal, of their number.
