@@ -1,4 +1,0 @@
--- In reading order.
-pub mod NodeBytes
-pub mod RuleConditions
-pub mod NodeReading

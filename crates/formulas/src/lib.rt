@@ -1,1 +1,0 @@
-// Formulas in bytes (document 01, "Rules"): refusals 5 to 9.
