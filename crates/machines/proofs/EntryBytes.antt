@@ -28,14 +28,14 @@ module _ {B : Type 0} (encode : B → ℕ → List ℕ) (events : ℕ) (m k : Ma
   rows-same zero l agree = refl
   rows-same (suc n) l agree =
       let row =
-          row-same events l zero
-          (λ f h g. agree .values-agree l f (omega arith) (omega arith)) (λ f h g. agree .nexts-agree l f (omega arith) (omega arith)) in
+      row-same events l zero
+      (λ f h g. agree .values-agree l f (omega arith) (omega arith)) (λ f h g. agree .nexts-agree l f (omega arith) (omega arith)) in
       let rest =
-          rows-same n (suc l)
-          record {
-            values-agree = λ i e h g. agree .values-agree i e (omega arith) g;
-            nexts-agree = λ i e h g. agree .nexts-agree i e (omega arith) g
-          } in
+      rows-same n (suc l)
+      record {
+        values-agree = λ i e h g. agree .values-agree i e (omega arith) g;
+        nexts-agree = λ i e h g. agree .nexts-agree i e (omega arith) g;
+      } in
       cc (row, rest)
 
 pub same-bytes : SameBytesClaim
@@ -43,7 +43,7 @@ same-bytes B encode events n m k agree =
     rows-same encode events m k n zero
     record {
       values-agree = λ l e h g. agree .values-agree l e (omega arith) g;
-      nexts-agree = λ l e h g. agree .nexts-agree l e (omega arith) g
+      nexts-agree = λ l e h g. agree .nexts-agree l e (omega arith) g;
     }
 
 -- Entries read by number.
@@ -101,7 +101,7 @@ table-flat encode events n m =
     (entries events (λ i. m .value (i / events) (i % events)) (λ i. m .next (i / events) (i % events)))
     record {
       values-agree = λ l e h g. cc (index-state events l e g, index-event events l e g);
-      nexts-agree = λ l e h g. cc (index-state events l e g, index-event events l e g)
+      nexts-agree = λ l e h g. cc (index-state events l e g, index-event events l e g);
     }
     ∙ table-entries encode (λ i. m .value (i / events) (i % events)) (λ i. m .next (i / events) (i % events)) events n
 
@@ -120,8 +120,12 @@ module _ {B : Type 0} (encode : B → ℕ → List ℕ) (width : ℕ) (sized : (
       → entries-bytes encode value-at next-at (i + 1 + d) 0
       ≡ entries-bytes encode value-at next-at i 0 ++ (encode (value-at i) (next-at i) ++ entries-bytes encode value-at next-at d (i + 1))
   entries-split i d =
-      cc (entries-append encode value-at next-at (i + 1) d 0, entries-snoc encode value-at next-at i, zero-add (i + 1),
-      append-assoc (entries-bytes encode value-at next-at i 0) (encode (value-at i) (next-at i)) (entries-bytes encode value-at next-at d (i + 1)))
+      cc (
+        entries-append encode value-at next-at (i + 1) d 0,
+        entries-snoc encode value-at next-at i,
+        zero-add (i + 1),
+        append-assoc (entries-bytes encode value-at next-at i 0) (encode (value-at i) (next-at i)) (entries-bytes encode value-at next-at d (i + 1)),
+      )
 
   -- Byte j of entry i.
   pub entries-at : (c i j : ℕ) → i < c → j < width

@@ -78,7 +78,7 @@ module _ {B : Type 0} (width limit events : ℕ) (In : B → Type 0) (states sta
         entry-count = eqb-true (length bytes) (states * events * width) (and-left (eqb (length bytes) (states * events * width)) _ rest3);
         start-in = ltb-true start states (and-left (ltb start states) _ rest2);
         values-in = λ l e hl he. sound (l * events + e) (each (l * events + e) (index-below events states l e hl he)) .0;
-        nexts-in = λ l e hl he. sound (l * events + e) (each (l * events + e) (index-below events states l e hl he)) .1
+        nexts-in = λ l e hl he. sound (l * events + e) (each (l * events + e) (index-below events states l e hl he)) .1;
       }
 
   pub in-order-tested :
@@ -143,7 +143,7 @@ table-accepted limit events values states start m runs few start-in =
       entry-count = table-length _ two-bytes 2 two-bytes-length events m states;
       start-in = start-in;
       values-in = λ l e hl he. rw (back .values-agree l e hl he) (runs .value-in l hl e he);
-      nexts-in = λ l e hl he. rw (back .nexts-agree l e hl he) (runs .next-in l hl e he)
+      nexts-in = λ l e hl he. rw (back .nexts-agree l e hl he) (runs .next-in l hl e he);
     }
 
 pub accepted-table : AcceptedTableClaim
@@ -152,10 +152,10 @@ accepted-table limit events values states start bytes accepted =
     record {
       runs = record {
         value-in = λ l hl e he. ok .values-in l e hl he;
-        next-in = λ l hl e he. ok .nexts-in l e hl he
+        next-in = λ l hl e he. ok .nexts-in l e hl he;
       };
       start-in = ok .start-in;
-      bytes-of = write-back events states bytes (ok .entry-count)
+      bytes-of = write-back events states bytes (ok .entry-count);
     }
 
 pub table-refusal-first : TableRefusalClaim

@@ -22,7 +22,7 @@ pub table-at :
 table-at encode width sized events n m l e j hl he hj =
     ap (λ bytes. getD bytes ((l * events + e) * width + j) 0) (table-flat encode events n m)
     ∙ entries-at encode width sized (λ i. m .value (i / events) (i % events)) (λ i. m .next (i / events) (i % events))
-      (n * events) (l * events + e) j (index-below events n l e hl he) hj
+    (n * events) (l * events + e) j (index-below events n l e hl he) hj
     ∙ cc (index-state events l e he, index-event events l e he)
 
 pub two-bytes-length : (b t : ℕ) → length (two-bytes b t) ≡ 2
@@ -40,7 +40,7 @@ pub read-back : ReadBackClaim
 read-back events n m =
     record {
       values-agree = λ l e hl he. cc (at l e 0 hl he (omega arith), add-zero ((l * events + e) * 2));
-      nexts-agree = λ l e hl he. at l e 1 hl he (omega arith)
+      nexts-agree = λ l e hl he. at l e 1 hl he (omega arith);
     }
   where
     at : (l e j : ℕ) → l < n → e < events → j < 2
@@ -51,4 +51,4 @@ pub write-back : WriteBackClaim
 write-back events n bytes long =
     table-entries two-bytes (λ i. getD bytes (i * 2) 0) (λ i. getD bytes (i * 2 + 1) 0) events n
     ∙ entries-of two-bytes 2 two-bytes-length (λ i. getD bytes (i * 2) 0) (λ i. getD bytes (i * 2 + 1) 0) bytes (n * events) long
-      (λ i h. two-at bytes i (omega (arith, mul-le-mul-right 2 h)))
+    (λ i h. two-at bytes i (omega (arith, mul-le-mul-right 2 h)))
