@@ -9,13 +9,12 @@ use native.Mathlib.Omega.{arith}
 use borrow.Author.Tests.{ltb-true, leb-true, eqb-true, lt-ltb, le-leb, eq-eqb}
 use lib.ListN.{length, getD}
 use lib.Dec.{leb, ltb, eqb}
-use Rattle.theory.specs.MealyMachine.{Machine, Runs, States}
 use Rattle.theory.specs.ValueSets.{Below}
 use Rattle.refusal.specs.Refusal.{First, plain-unless}
 use Rattle.refusal.proofs.Refusals.{plain-first, plain-none}
 use Rattle.machines.specs.TableBytes.{table-bytes, two-bytes, entries, machine-of, TableInOrder, table-condition}
 use Rattle.machines.specs.TableRefusal.{table-test, entry-test, table-refusal}
-use Rattle.machines.specs.Claims.{AcceptedTable, TableRefusalClaim, AcceptedTableClaim, TableAcceptedClaim}
+use Rattle.machines.specs.Claims.{TableRefusalClaim, AcceptedTableClaim, TableAcceptedClaim}
 use Rattle.machines.proofs.AllBelow.{and-both, and-left, and-right, all-below-each, all-below-all}
 use Rattle.machines.proofs.EntryIndex.{index-below, every-entry}
 use Rattle.machines.proofs.EntryBytes.{table-length}

@@ -68,16 +68,14 @@ fn entry_in_order(values: usize, states: usize, bytes: &[u8], i: usize) -> bool
     next_at(bytes, i) < states
 }
 
-// Whether the first `count` entries are in order.
-fn entries_in_order(values: usize, states: usize, bytes: &[u8], count: usize) -> bool
-    ensures { λ r. ⌜ r ≡ all-below count (entry-test values states (now (bytes .entry))) ⌝ }
+// Whether the first `entries` entries are in order.
+fn entries_in_order(values: usize, states: usize, bytes: &[u8], entries: usize) -> bool
+    ensures { λ r. ⌜ r ≡ all-below entries (entry-test values states (now (bytes .entry))) ⌝ }
 {
-    let mut i: usize = 0;
-    while i < count {
+    for i in 0..entries {
         if !entry_in_order(values, states, bytes, i) {
             return false;
         }
-        i += 1;
     }
     true
 }
@@ -141,11 +139,11 @@ pub fn store_entries(values: &[u32], nexts: &[u8], count: usize, to: &mut [u8]) 
     if to.len() / 2 < count {
         return false;
     }
-    let mut i: usize = 0;
-    while i < count {
-        to[i * 2] = (values[i] % 256) as u8;
-        to[i * 2 + 1] = nexts[i];
-        i += 1;
+    for i in 0..count {
+        let value = (values[i] % 256) as u8;
+        let next = nexts[i];
+        to[i * 2] = value;
+        to[i * 2 + 1] = next;
     }
     true
 }
