@@ -5,3 +5,5 @@ pub mod Padding
 -- 7's walk, and 6's search.
 pub mod Ends
 pub mod Search
+-- One step of a walk for 8 or 9.
+pub mod Walking

@@ -10,8 +10,8 @@ ghost use Rattle.formulas.specs.RuleReading.{kind-of, fields-fit, awaite
 ghost use Rattle.formulas.specs.RuleRefusal.{count-fits, misfit-place, nodes-refusal, rule-refusal};
 ghost use Rattle.formulas.specs.NodeWalks.{found, KindsWalked, FirstsWalked, field};
 ghost use Rattle.formulas.specs.NodeArrays.{decoded};
-
-use refusal::{Judgement, Refusal};
+use refusal::Judgement;
+use refusal::Refusal;
 
 // At most so many nodes.
 pub const NODE_LIMIT: usize = 256;
@@ -69,7 +69,11 @@ fn node_count(n: usize) -> usize
     ensures { λ r. ⌜ r ≡ min 256 (n / 3) ⌝ }
 {
     let count = n / NODE_WIDTH;
-    if count < NODE_LIMIT { count } else { NODE_LIMIT }
+    if count < NODE_LIMIT {
+        count
+    } else {
+        NODE_LIMIT
+    }
 }
 
 // The fields of the first 256 nodes; those beyond the node count are 0.
@@ -121,7 +125,14 @@ fn value_fits(value: u32, values: usize) -> bool
 }
 
 // 6: the lowest node whose fields do not fit.
-fn lowest_misfit(events: usize, limit: usize, kinds: &[u8; 256], firsts: &[u8; 256], values: &[u32; 256], count: usize) -> Found
+fn lowest_misfit(
+    events: usize,
+    limit: usize,
+    kinds: &[u8; 256],
+    firsts: &[u8; 256],
+    values: &[u32; 256],
+    count: usize,
+) -> Found
     requires { ⌜ (count ≤ 256) × (length (now kinds) ≡ 256) × (length (now firsts) ≡ 256) × (length (now values) ≡ 256) ⌝ }
     ensures { λ r. ⌜ r ≡ found (misfit-place (field (now (kinds .entry))) (field (now (firsts .entry))) (field (now (values .entry))) (λ v. ltb v limit) events count) ⌝ }
 {
@@ -174,7 +185,13 @@ fn misplaced_end(kinds: &[u8; 256], count: usize) -> Found
 }
 
 // 8: looks for a variable without binder, below so many binders.
-fn bound_position(kinds: &[u8; 256], firsts: &[u8; 256], at: usize, left: usize, depth: usize) -> Step
+fn bound_position(
+    kinds: &[u8; 256],
+    firsts: &[u8; 256],
+    at: usize,
+    left: usize,
+    depth: usize,
+) -> Step
     requires { ⌜ (at + left ≤ 256) × (depth ≤ at) × (length (now kinds) ≡ 256) × (length (now firsts) ≡ 256) ⌝ }
     ensures { λ r. ⌜ FirstsWalked (field (now (kinds .entry))) (field (now (firsts .entry))) (lowest-unbound depth) at left r ⌝ }
 {

@@ -13,7 +13,7 @@ use Rattle.formulas.proofs.count_fits.Lts as lts
 -- src/lib.rt:61:13
 returns : tie.Need-returns
 unfolding count-fits
-returns c = 
+returns c =
     let n = c .before .before .args .n in
     sym
     (ap (λ b. b && (ltb 0 (n / 3) && leb (n / 3) 256)) (eq-eqb (n % 3) 0 (c .before .if1 .taken))
@@ -22,7 +22,7 @@ returns c =
 -- src/lib.rt:55:1
 returns-2 : tie.Need-returns-2
 unfolding count-fits
-returns-2 c = 
+returns-2 c =
     let n = c .before .before .args .n in
     sym
     (ap (λ b. b && (ltb 0 (n / 3) && leb (n / 3) 256)) (eq-eqb (n % 3) 0 (c .before .if1 .taken))
@@ -31,7 +31,7 @@ returns-2 c =
 -- src/lib.rt:55:1
 returns-3 : tie.Need-returns-3
 unfolding count-fits
-returns-3 c = 
+returns-3 c =
     let n = c .before .args .n in
     sym (ap (λ b. b && (ltb 0 (n / 3) && leb (n / 3) 256)) (ne-eqb (n % 3) 0 (c .if1 .left)))
 

@@ -37,7 +37,7 @@ same a b c d = cc
 
 -- src/lib.rt:78:5
 loop-holds : tie.Need-loop-holds Inv-loop μ-loop
-loop-holds c = 
+loop-holds c =
     let b = c .before .before .args .bytes .now in
     (omega arith, sym (padded-none (kind-at b) 256 0), sym (padded-none (first-at b) 256 0), sym (padded-none (second-at b) 256 0))
 
@@ -103,19 +103,20 @@ loop-less c = search needs
 
 -- src/lib.rt:78:5
 loop-again : tie.Need-loop-again Inv-loop μ-loop
-loop-again c = 
+loop-again c =
     let b = c .before .before .before .before .before .before .before .before .args .bytes .now in
     let i = c .before .before .before .before .before .loop .i in
-    let v = c .before .before .before .before .before .loop .inv in
-    (omega arith,
-    ap (λ l. set l i (kind-at b i)) (v .1) ∙ padded-more (kind-at b) 256 i (omega (arith, c .before .before .before .before .before .before .node-count .ensures)),
-    ap (λ l. set l i (first-at b i)) (v .2) ∙ padded-more (first-at b) 256 i (omega (arith, c .before .before .before .before .before .before .node-count .ensures)),
-    ap₂ (λ l x. set l i x) (v .3) (c .value .ensures) ∙ padded-more (second-at b) 256 i (omega (arith, c .before .before .before .before .before .before .node-count .ensures)))
+    let v = c .before .before .before .before .before .loop .inv in (
+      omega arith,
+      ap (λ l. set l i (kind-at b i)) (v .1) ∙ padded-more (kind-at b) 256 i (omega (arith, c .before .before .before .before .before .before .node-count .ensures)),
+      ap (λ l. set l i (first-at b i)) (v .2) ∙ padded-more (first-at b) 256 i (omega (arith, c .before .before .before .before .before .before .node-count .ensures)),
+      ap₂ (λ l x. set l i x) (v .3) (c .value .ensures) ∙ padded-more (second-at b) 256 i (omega (arith, c .before .before .before .before .before .before .node-count .ensures)),
+    )
 
 -- src/lib.rt:70:1
 returns : tie.Need-returns Inv-loop μ-loop
 unfolding decoded decoded-count
-returns c = 
+returns c =
     let b = c .before .before .before .before .args .bytes .now in
     let v = c .before .loop .inv in
     let e : c .before .loop .i ≡ decoded-count b = omega (arith, c .before .before .node-count .ensures) in

@@ -31,7 +31,7 @@ abbrev μ-loop : tie.MeasureT-loop
 
 -- src/lib.rt:123:5
 loop-holds : tie.Need-loop-holds Inv-loop μ-loop
-loop-holds c = 
+loop-holds c =
     let a = c .args in
     let e : a .count - 0 ≡ a .count = omega arith in
     (omega arith, ap (λ n. lowest-from (misfit (a .events) (a .limit) (a .kinds .now) (a .firsts .now) (a .values .now)) n 0) e)
@@ -63,7 +63,7 @@ fields-fit-requires c κs = search needs
 -- src/lib.rt:126:13
 returns : tie.Need-returns Inv-loop μ-loop
 unfolding found misfit-place
-returns c = 
+returns c =
     let a = c .before .before .before .before .before .before .before .before .args in
     let i = c .before .before .before .before .before .before .before .loop .i in
     let m = misfit (a .events) (a .limit) (a .kinds .now) (a .firsts .now) (a .values .now) in
@@ -81,7 +81,7 @@ loop-less c = search needs
 
 -- src/lib.rt:123:5
 loop-again : tie.Need-loop-again Inv-loop μ-loop
-loop-again c = 
+loop-again c =
     let a = c .before .before .before .before .before .before .before .before .args in
     let i = c .before .before .before .before .before .before .before .loop .i in
     let m = misfit (a .events) (a .limit) (a .kinds .now) (a .firsts .now) (a .values .now) in
@@ -92,7 +92,7 @@ loop-again c =
 -- src/lib.rt:118:1
 returns-2 : tie.Need-returns-2 Inv-loop μ-loop
 unfolding found misfit-place
-returns-2 c = 
+returns-2 c =
     let a = c .before .before .args in
     let i = c .before .loop .i in
     let m = misfit (a .events) (a .limit) (a .kinds .now) (a .firsts .now) (a .values .now) in

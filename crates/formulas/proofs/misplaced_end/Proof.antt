@@ -22,14 +22,14 @@ abbrev μ-loop : tie.MeasureT-loop
 
 -- src/lib.rt:163:5
 loop-holds : tie.Need-loop-holds Inv-loop μ-loop
-loop-holds c = 
+loop-holds c =
     let e : c .args .count - 0 ≡ c .args .count = omega arith in
     (omega arith, omega arith, ap (λ n. end-fault (field (c .args .kinds .now)) 1 n 0) e)
 
 -- src/lib.rt:165:13
 returns : tie.Need-returns Inv-loop μ-loop
 unfolding found
-returns c = 
+returns c =
     let k = field (c .before .before .before .args .kinds .now) in
     let l = c .before .before .loop in
     sym (ap found (sym (l .inv .2) ∙ end-over k (l .parts) (c .before .before .before .args .count - l .i) (l .i) (c .if1 .taken) (omega arith)))
@@ -56,19 +56,20 @@ loop-less c = search needs
 
 -- src/lib.rt:163:5
 loop-again : tie.Need-loop-again Inv-loop μ-loop
-loop-again c = 
+loop-again c =
     let k = field (c .before .before .before .before .before .args .kinds .now) in
     let n = c .before .before .before .before .before .args .count in
     let l = c .before .before .before .before .loop in
-    let positive : 1 ≤ l .parts = omega (arith, c .before .before .if1 .left) in
-    (omega arith,
-    omega (arith, c .awaited .ensures, awaited-few (kind-of (k (l .i))) (l .parts - 1)),
-    ap (λ p. end-fault k p (n - (l .i + 1)) (l .i + 1)) (c .awaited .ensures) ∙ sym (end-step k (l .parts) n (l .i) positive (omega arith)) ∙ l .inv .2)
+    let positive : 1 ≤ l .parts = omega (arith, c .before .before .if1 .left) in (
+      omega arith,
+      omega (arith, c .awaited .ensures, awaited-few (kind-of (k (l .i))) (l .parts - 1)),
+      ap (λ p. end-fault k p (n - (l .i + 1)) (l .i + 1)) (c .awaited .ensures) ∙ sym (end-step k (l .parts) n (l .i) positive (omega arith)) ∙ l .inv .2,
+    )
 
 -- src/lib.rt:171:9
 returns-2 : tie.Need-returns-2 Inv-loop μ-loop
 unfolding found
-returns-2 c = 
+returns-2 c =
     let k = field (c .before .before .before .args .kinds .now) in
     let n = c .before .before .before .args .count in
     let l = c .before .before .loop in
@@ -78,7 +79,7 @@ returns-2 c =
 -- src/lib.rt:157:1
 returns-3 : tie.Need-returns-3 Inv-loop μ-loop
 unfolding found
-returns-3 c = 
+returns-3 c =
     let k = field (c .before .before .before .args .kinds .now) in
     let n = c .before .before .before .args .count in
     let l = c .before .before .loop in
