@@ -7,3 +7,11 @@ pub mod Ends
 pub mod Search
 -- One step of a walk for 8 or 9.
 pub mod Walking
+-- Formulas in prefix order.
+pub mod Prefix
+-- Formulas and accessors.
+pub mod Reading
+-- The answers of 6 to 9.
+pub mod Answers
+-- Decoded fields and bytes.
+pub mod Decoding
