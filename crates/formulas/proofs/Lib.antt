@@ -15,3 +15,9 @@ pub mod Reading
 pub mod Answers
 -- Decoded fields and bytes.
 pub mod Decoding
+-- Nodes in bytes.
+pub mod Encoding
+-- The lowest variable at fault.
+pub mod Variables
+-- 5 to 9, however nodes lie in bytes.
+pub mod Conditions
