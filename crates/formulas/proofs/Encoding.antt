@@ -115,9 +115,9 @@ module _ {B : Type 0} where
 
       -- Nodes read through accessors are those whose bytes these are.
       module _
-        (kind first : ℕ → ℕ) (value : ℕ → B) (kinds : (i : ℕ) → kind i ≡ getD bytes (i * width) 0)
-        (firsts : (i : ℕ) → first i ≡ getD bytes (i * width + 1) 0)
-        (values : (i e : ℕ) (b : B) → take width (drop (i * width) bytes) ≡ encode (output-node e b) → value i ≡ b) where
+          (kind first : ℕ → ℕ) (value : ℕ → B) (kinds : (i : ℕ) → kind i ≡ getD bytes (i * width) 0)
+          (firsts : (i : ℕ) → first i ≡ getD bytes (i * width + 1) 0)
+          (values : (i e : ℕ) (b : B) → take width (drop (i * width) bytes) ≡ encode (output-node e b) → value i ≡ b) where
         byte-of : (i k : ℕ) (n : Node B) (ns : List (Node B)) → drop (i * width) bytes ≡ encode-all encode (n ∷ ns) → k < width → getD bytes (i * width + k) 0 ≡ getD (encode n) k 0
         byte-of i k n ns e h =
             sym (getD-drop (i * width) bytes k 0)
