@@ -2,19 +2,19 @@
 -- first refusal that is met.
 -- Assumes nothing.
 use mathlib.Core.Path.{_≡_, refl, sym, _∙_, ap, ap₂, subst}
-use mathlib.Core.Logic.{_⊎_, inl, inr, _↔_}
+use mathlib.Core.Logic.{_⊎_, inl, inr}
 use mathlib.Core.Bool.{Bool, true, false, not, _&&_}
 use mathlib.Core.Option.{Option, none, some, Option·some-ne-none}
 use mathlib.Core.List.{List, [], _∷_, _++_, append-assoc, append-nil}
 use Prim.Native.Nat.{ℕ, zero, suc, _+_, _*_, _/_, _%_, _≤_, _<_}
 use native.Mathlib.Nat.{div-add-mod', add-zero, zero-mul, mul-div-cancel, mul-mod-left}
 use native.Mathlib.Omega.{arith}
-use lib.Dec.{eqb, ltb, leb}
+use lib.Dec.{leb}
 use lib.ListN.{length, take, drop}
 use borrow.Author.Tests.{eq-eqb, lt-ltb, le-leb, not-true, not-false}
-use Rattle.theory.specs.Formula.{Formula, truth, variable, transition, output, conjunction, greatest, size, Closed, ClosedPosition, Fits, Accepted}
-use Rattle.theory.specs.PrefixCode.{Node, truth-node, variable-node, transition-node, output-node, conjunction-node, greatest-node, nodes}
-use Rattle.refusal.specs.Refusal.{Condition, plain, Lowest, at-lowest, First, or-else, plain-unless, at-found}
+use Rattle.theory.specs.Formula.{Formula, truth, variable, transition, output, conjunction, greatest, size, Fits, Accepted}
+use Rattle.theory.specs.PrefixCode.{Node, nodes}
+use Rattle.refusal.specs.Refusal.{Condition, plain, at-lowest, First, or-else, plain-unless, at-found}
 use Rattle.refusal.specs.RefusalClaims.{Functional, AllFunctional, NoneMet}
 use Rattle.refusal.specs.declared.Refusal.{Refusal}
 use Rattle.refusal.specs.declared.Refusal.the-variants.{Plain, At}
@@ -25,9 +25,9 @@ use Rattle.formulas.specs.RuleReading.{lowest-from, kind-of, end-fault, 
 use Rattle.formulas.specs.RuleRefusal.{count-fits, variables-refusal}
 use Rattle.formulas.proofs.Search.{FoundFrom, lowest-clear, lowest-found}
 use Rattle.formulas.proofs.Walking.{size-positive}
-use Rattle.formulas.proofs.Prefix.{length-nodes, all-nodes, Outcome, whole, over, short, outcome, length-from, no-fault}
+use Rattle.formulas.proofs.Prefix.{length-nodes, Outcome, whole, over, short, outcome, length-from, no-fault}
 use Rattle.formulas.proofs.Decoding.{CountFits, count-facts}
-use Rattle.formulas.proofs.Encoding.{All, all-append, all-left, all-right, encode-append, encode-unique, formula-unique, formula-length, every-node, bytes-from}
+use Rattle.formulas.proofs.Encoding.{All, all-append, all-left, all-right, encode-append, formula-unique, formula-length, every-node, bytes-from}
 use Rattle.formulas.proofs.Variables.{Answered, unbound-answered, closed-answered, unbound-fault, fault-unbound, closed-fault, fault-closed, free-below, below-free, may-stand, stand-may}
 
 -- One condition more in front, answered before the others.

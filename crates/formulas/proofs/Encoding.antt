@@ -6,7 +6,7 @@ use Prim.Native.Nat.{ℕ, zero, suc, _+_, _*_, _≤_, _<_}
 use native.Mathlib.Nat.{suc-mul, zero-mul, add-zero}
 use native.Mathlib.Omega.{arith}
 use lib.ListN.{length, getD, take, drop, length-append, List·getD-append, take-append-drop}
-use lib.Seq.{take-at, drop-at, drop-drop, drop-append-add, drop-length, take-all, getD-drop}
+use lib.Seq.{take-at, drop-at, drop-drop, drop-length, getD-drop}
 use Rattle.theory.specs.Formula.{Formula, size}
 use Rattle.theory.specs.PrefixCode.{Node, truth-node, variable-node, transition-node, output-node, conjunction-node, greatest-node, nodes}
 use Rattle.formulas.specs.NodeBytes.{kind-number, first-field, NodeCode, encode-all, encode-formula}

@@ -25,3 +25,5 @@ pub mod Conditions
 pub mod ThreeBytes
 -- The claims.
 pub mod RuleClaims
+-- Cases, computed.
+pub mod RuleCases

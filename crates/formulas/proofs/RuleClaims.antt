@@ -1,31 +1,34 @@
 -- The claims on rules in bytes.
 -- Assumes nothing.
-use mathlib.Core.Path.{_≡_, refl, sym, _∙_, ap, ap₂, subst}
-use mathlib.Core.Logic.{_⊎_, inl, inr, _↔_}
+use mathlib.Core.Path.{_≡_, refl, sym, _∙_, ap, subst}
+use mathlib.Core.Logic.{_⊎_, inl, inr}
 use mathlib.Core.Bool.{Bool, true, false}
-use mathlib.Core.Option.{Option, none, some}
-use mathlib.Core.List.{List, [], _∷_, _++_, append-nil}
-use Prim.Native.Nat.{ℕ, zero, suc, _+_, _*_, _/_, _≤_, _<_}
-use native.Mathlib.Nat.{add-zero, zero-mul, mul-div-cancel}
+use mathlib.Core.Option.{none}
+use mathlib.Core.List.{List, [], _++_, append-nil}
+use Prim.Native.Nat.{ℕ, zero, suc, _+_, _*_, _/_, _≤_, _<_, min}
+use native.Mathlib.Nat.{min-le-left, min-eq-right, mul-div-cancel}
 use native.Mathlib.Omega.{arith}
 use lib.Dec.{ltb}
 use lib.ListN.{length, drop}
 use Rattle.theory.specs.Formula.{Formula, size, Accepted}
 use Rattle.theory.specs.PrefixCode.{Node, nodes}
 use Rattle.theory.specs.ValueSets.{Below}
-use Rattle.refusal.specs.Refusal.{number, Condition, at-lowest, First, Numbered, part-of, order, InOrder}
+use Rattle.refusal.specs.Refusal.{number, Numbered, part-of, order}
 use Rattle.refusal.specs.declared.Refusal.{Refusal}
-use Rattle.refusal.specs.declared.Refusal.the-variants.{At}
 use Rattle.refusal.proofs.Refusals.{plain-number, at-lowest-number, first-unique, accepted-exactly}
-use Rattle.formulas.specs.NodeBytes.{NodeCode, encode-all, encode-formula, three-bytes}
-use Rattle.formulas.specs.RuleConditions.{Unbound, InClosedPosition, NodeFits, node-at, CountAtFault, NodeAtFault, RunOut, LeftOver, OfFormula, rule-conditions}
+use Rattle.formulas.specs.NodeBytes.{encode-all, encode-formula, three-bytes}
+use Rattle.formulas.specs.RuleConditions.{Unbound, InClosedPosition, NodeFits, node-at, CountAtFault, NodeAtFault, RunOut, LeftOver, rule-conditions}
 use Rattle.formulas.specs.NodeReading.{Reads}
 use Rattle.formulas.specs.RuleReading.{kind-of, fields-fit, node-of, nodes-from, formulas, first-formula, formula-read}
 use Rattle.formulas.specs.RuleRefusal.{structure-refusal, misfit-place, nodes-refusal, kind-at, first-at, second-at, rule-refusal, formula-of}
-use Rattle.formulas.specs.Claims.{FunctionalClaim, InOrderClaim, Refuses, RuleRefusalClaim, OnlyRefusalClaim, AcceptedFormula, AcceptedClaim, FormulaOfClaim, ReadsClaim, ReadsBackClaim, ReadsUniqueClaim}
+use Rattle.formulas.specs.NodeWalks.{field}
+use Rattle.formulas.specs.NodeArrays.{padded, decoded-count, decoded}
+use Rattle.formulas.specs.Claims.{FunctionalClaim, InOrderClaim, Refuses, RuleRefusalClaim, OnlyRefusalClaim, AcceptedClaim, FormulaOfClaim, AcceptedFormulaClaim, DecodedClaim, ReadsClaim, ReadsBackClaim, ReadsUniqueClaim}
+use Rattle.formulas.proofs.Padding.{padded-field}
+use Rattle.formulas.proofs.Answers.{from-same}
 use Rattle.formulas.proofs.Prefix.{length-nodes, first-is}
 use Rattle.formulas.proofs.Reading.{reads-nodes, reads-unique, whole-read}
-use Rattle.formulas.proofs.Encoding.{encode-length, formula-length, read-back, known-back, bytes-from}
+use Rattle.formulas.proofs.Encoding.{formula-length, read-back, known-back, bytes-from}
 use Rattle.formulas.proofs.Conditions.{conditions-functional, none-met, first-refusal, accepted-formula}
 use Rattle.formulas.proofs.ThreeBytes.{three-bytes-code, fields-sound, fields-full, node-bytes, value-byte}
 
@@ -149,6 +152,41 @@ formula-of-only bytes φ e = formula-is bytes φ e
 pub reads : ReadsClaim
 reads bytes φ e = (reads-there bytes φ e, ap length e ∙ formula-length 3 three-bytes three-bytes-code φ)
 
+-- The decoded fields are the bytes' fields, on the nodes.
+pub decoded-reads : DecodedClaim
+unfolding decoded decoded-count
+decoded-reads bytes φ e h =
+    let c : min 256 (length bytes / 3) ≡ length bytes / 3 = min-eq-right (subst (λ n. n ≤ 256) (sym (count-is bytes φ e)) h) in
+    let n : min 256 (length bytes / 3) ≡ size φ = c ∙ count-is bytes φ e in
+    let same : (f : ℕ → ℕ) (j : ℕ) → j < size φ → field (padded f (min 256 (length bytes / 3)) 256 0) j ≡ f j
+    = λ f j l. padded-field f (min 256 (length bytes / 3)) 256 j (subst (λ x. j < x) (sym n) l) (min-le-left 256 (length bytes / 3)) in
+    record {
+      counted = n;
+      reads =
+          whole-read
+          (field (padded (kind-at bytes) (min 256 (length bytes / 3)) 256 0))
+          (field (padded (first-at bytes) (min 256 (length bytes / 3)) 256 0))
+          (field (padded (second-at bytes) (min 256 (length bytes / 3)) 256 0))
+          φ
+          (size φ)
+          (λ j l. subst (λ x. x < 6) (sym (same (kind-at bytes) j l)) (known bytes φ e j l))
+          (from-same
+          (field (padded (kind-at bytes) (min 256 (length bytes / 3)) 256 0))
+          (kind-at bytes)
+          (field (padded (first-at bytes) (min 256 (length bytes / 3)) 256 0))
+          (first-at bytes)
+          (field (padded (second-at bytes) (min 256 (length bytes / 3)) 256 0))
+          (second-at bytes)
+          (size φ)
+          0
+          (λ j l u. same (kind-at bytes) j (omega (arith, u)))
+          (λ j l u. same (first-at bytes) j (omega (arith, u)))
+          (λ j l u. same (second-at bytes) j (omega (arith, u)))
+          ∙ ap (λ m. nodes-from (kind-at bytes) (first-at bytes) (second-at bytes) m 0) (sym (count-is bytes φ e))
+          ∙ read-count bytes φ e)
+          .0;
+    }
+
 pub reads-back : ReadsBackClaim
 unfolding nodes-from
 reads-back events values bytes φ d l h =
@@ -169,10 +207,13 @@ reads-back events values bytes φ d l h =
 pub reads-one : ReadsUniqueClaim
 reads-one B kind first value φ χ i d e = reads-unique kind first value φ χ i d e
 
+pub accepted-formula-of : AcceptedFormulaClaim
+accepted-formula-of events values bytes e = let w = formula-accepted events values bytes e in record { written = w .0; accepted = w .1 }
+
 -- Accepted bytes are the prefix code of exactly one closed formula of the grammar.
 pub accepted-claim : AcceptedClaim
 accepted-claim events values bytes = (
-  (λ e. let w = formula-accepted events values bytes e in (formula-of bytes, record { written = w .0; accepted = w .1 })),
+  (λ e. (formula-of bytes, accepted-formula-of events values bytes e)),
   λ w.
       accepted-exactly (rule-conditions 3 three-bytes 256 events (Below values) bytes) (rule-refusal events values bytes) (rule-refusal-first events values bytes) .1
       (none-met 3 three-bytes three-bytes-code 256 events (Below values) bytes (w .0) (w .1 .written) (w .1 .accepted)),

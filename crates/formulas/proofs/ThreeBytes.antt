@@ -1,18 +1,18 @@
 -- Nodes of three bytes: equal bytes are of equal nodes, and the test of the fields decides which nodes are in order.
 -- Assumes nothing.
-use mathlib.Core.Path.{_≡_, refl, sym, _∙_, ap, ap₂, subst}
+use mathlib.Core.Path.{_≡_, refl, sym, _∙_, ap, ap₂}
 use mathlib.Core.Bool.{Bool, true, false, _&&_}
 use mathlib.Core.List.{List, [], _∷_}
-use Prim.Native.Nat.{ℕ, zero, suc, _+_, _*_, _-_, _/_, _%_, _≤_, _<_}
+use Prim.Native.Nat.{ℕ, zero, suc, _*_, _-_, _/_, _≤_, _<_}
 use native.Mathlib.Nat.{add-zero, div-add-mod'}
 use native.Mathlib.Omega.{arith}
 use lib.Dec.{eqb, ltb}
 use lib.ListN.{length, getD, take, drop, length-drop}
 use lib.Seq.{getD-drop, getD-take}
-use borrow.Author.Tests.{eqb-true, ltb-true, eq-eqb, lt-ltb}
+use borrow.Author.Tests.{eqb-true, ltb-true, lt-ltb}
 use Rattle.theory.specs.PrefixCode.{Node, truth-node, variable-node, transition-node, output-node, conjunction-node, greatest-node}
 use Rattle.theory.specs.ValueSets.{Below}
-use Rattle.formulas.specs.NodeBytes.{kind-number, first-field, NodeCode, three-bytes}
+use Rattle.formulas.specs.NodeBytes.{kind-number, first-field, three-bytes}
 use Rattle.formulas.specs.RuleConditions.{NodeFits}
 use Rattle.formulas.specs.RuleReading.{kind-of, fields-fit, node-of}
 use Rattle.formulas.specs.RuleRefusal.{kind-at, first-at, second-at}
