@@ -1,0 +1,4 @@
+-- In reading order.
+pub mod NodeBytes
+pub mod RuleConditions
+pub mod NodeReading

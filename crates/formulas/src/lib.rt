@@ -1,0 +1,1 @@
+// Formulas in bytes (document 01, "Rules"): refusals 5 to 9.
