@@ -46,6 +46,17 @@ same-bytes B encode events n m k agree =
       nexts-agree = λ l e h g. agree .nexts-agree l e (omega arith) g;
     }
 
+-- Entries with the same bytes, by two encodings.
+pub entries-same : {B C : Type 0} (encode : B → ℕ → List ℕ) (code : C → ℕ → List ℕ)
+    (v : ℕ → B) (w : ℕ → C) (t u : ℕ → ℕ) (c i : ℕ)
+    → ((k : ℕ) → i ≤ k → k < i + c → encode (v k) (t k) ≡ code (w k) (u k))
+    → entries-bytes encode v t c i ≡ entries-bytes code w u c i
+unfolding entries-bytes
+entries-same encode code v w t u zero i same = refl
+entries-same encode code v w t u (suc c) i same =
+    let rest = entries-same encode code v w t u c (suc i) (λ k h g. same k (omega arith) (omega arith)) in
+    cc (same i (omega arith) (omega arith), rest)
+
 -- Entries read by number.
 module _ {B : Type 0} (encode : B → ℕ → List ℕ) (value-at : ℕ → B) (next-at : ℕ → ℕ) where
   pub entries-append : (a b i : ℕ)
