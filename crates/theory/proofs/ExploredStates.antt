@@ -77,26 +77,35 @@ module _ {S B : Type 0} (same : S → S → Bool) (same-iff : (x y : S) → T (s
         go (yes h) = inv .1 .words l h
         go (no h) = rw (List·getD-eq-default P [] {n = l} (omega arith)) tt
 
+    in-order-below : (l : ℕ) → l < length (in-order P) → l < length P
+    in-order-below l h = rw length-map at h
+
+    -- Whatever the limit: words of the events, to different states.
+    pub explored-word : (l : ℕ) → Word events (reverse (at P l))
+    explored-word l = word-reverse events (at P l) (reached-word l)
+
+    pub explored-words : (l : ℕ) → l < length (in-order P) → Word events (getD (in-order P) l [])
+    explored-words l h = rw entry-in-order (explored-word l)
+
+    pub explored-different :
+        (j l : ℕ) → j < l → l < length (in-order P) →
+        ¬ (state-at events m start (in-order P) j ≡ state-at events m start (in-order P) l)
+    explored-different j l u h e =
+        inv .1 .different j l u (in-order-below l h) (sym (state-in-order P j) ∙ e ∙ state-in-order P l)
+
     module _ (few : length P ≤ limit) where
       pub explored-numbering : Numbering events m start (in-order P)
       explored-numbering =
           record {
-            words = λ l h. rw entry-in-order (word l);
-            rising = λ j l u h. rw (entry-in-order P j, entry-in-order P l) (before j l u (below l h));
-            different = λ j l u h e.
-                inv .1 .different j l u (below l h) (sym (state-in-order P j) ∙ e ∙ state-in-order P l);
+            words = explored-words;
+            rising = λ j l u h. rw (entry-in-order P j, entry-in-order P l) (before j l u (in-order-below l h));
+            different = explored-different;
             complete = λ w v. complete w v;
           }
         where
-          below : (l : ℕ) → l < length (in-order P) → l < length P
-          below l h = rw length-map at h
-
-          word : (l : ℕ) → Word events (reverse (at P l))
-          word l = word-reverse events (at P l) (reached-word l)
-
           before : (j l : ℕ) → j < l → l < length P → Before (reverse (at P j)) (reverse (at P l))
           before j l u h =
-              number-before events (reverse (at P j)) (reverse (at P l)) (word j) (word l)
+              number-before events (reverse (at P j)) (reverse (at P l)) (explored-word j) (explored-word l)
               (rw (reverse-reverse (at P j), reverse-reverse (at P l)) (inv .1 .rising j l u h))
 
           complete :
@@ -110,7 +119,7 @@ module _ {S B : Type 0} (same : S → S → Bool) (same-iff : (x y : S) → T (s
                 rw length-map (r .1),
                 state-in-order P (r .0) ∙ r .2 ∙ reached-reverse m start w,
                 rw (entry-in-order P (r .0))
-                    (no-later-iff-number events (reverse u) w (word (r .0)) v .1 (rw (reverse-reverse u) (r .3))),
+                    (no-later-iff-number events (reverse u) w (explored-word (r .0)) v .1 (rw (reverse-reverse u) (r .3))),
               )
 
       -- The table computed from the sequences is the machine's.

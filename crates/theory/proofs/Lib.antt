@@ -30,3 +30,10 @@ pub mod FirstBad
 pub mod Conformance
 pub mod ConformanceClaims
 pub mod Trial
+pub mod DistinctLists
+pub mod CharacteristicFormula
+pub mod CharacteristicValues
+pub mod CharacteristicSets
+pub mod CharacteristicTable
+pub mod CharacteristicClaims
+pub mod Claims
