@@ -1,21 +1,19 @@
 -- Outputs put over the front of a buffer, the steps of a store, and flat arrays that are stored as a machine's table.
 -- Assumes nothing.
 use mathlib.Core.Path.{_≡_, refl, sym, _∙_, ap}
-use mathlib.Core.Bool.{Bool, true, false, cond}
-use mathlib.Core.List.{List, [], _∷_, _++_, append-assoc}
+use mathlib.Core.Bool.{true, false, cond}
+use mathlib.Core.List.{List, [], _∷_, _++_, append-assoc, append-nil}
 use Prim.Native.Nat.{ℕ, suc, _+_, _*_, _/_, _%_, _≤_, _<_}
 use native.Mathlib.Nat.{mod-eq-of-lt}
 use native.Mathlib.Numerals.{add-one}
 use native.Mathlib.Omega.{arith}
 use borrow.Author.Tests.{le-leb, lt-leb}
-use lib.ListN.{length, getD, drop, set, length-append, length-drop}
+use lib.ListN.{length, getD, drop, set, length-append}
 use lib.Dec.{leb}
-use lib.Seq.{drop-cons, append-snoc, set-append-seam}
-use Rattle.theory.specs.MealyMachine.{Machine}
-use Rattle.machines.specs.TableBytes.{table-bytes, two-bytes, entries}
+use lib.Seq.{drop-cons, set-append-seam, sets}
+use Rattle.machines.specs.TableBytes.{two-bytes}
 use Rattle.machines.specs.StoredEntries.{entries-bytes, put, low-bytes, stored, storable, after-store}
 use Rattle.machines.specs.Claims.{StoredTableClaim}
-use Rattle.machines.proofs.AllBelow.{and-both}
 use Rattle.machines.proofs.EntryBytes.{entries-same, entries-snoc, entries-length, table-flat}
 
 -- One byte more of an output.
@@ -29,50 +27,56 @@ put-snoc output old b room =
     let long : length (output ++ (b ∷ [])) ≡ suc (length output) = length-append output (b ∷ []) ∙ add-one (length output) in
     cc (rest, stored, joined, long)
 
-pub put-length : (output old : List ℕ) → length output ≤ length old → length (put output old) ≡ length old
-unfolding put
-put-length output old room =
-    length-append output (drop (length output) old) ∙ omega (arith, length-drop (length output) old)
+-- More bytes of an output, stored one after the other.
+pub put-append : (output more old : List ℕ) → length output + length more ≤ length old
+    → sets (put output old) (length output) more ≡ put (output ++ more) old
+put-append output [] old room = ap (λ l. put l old) (sym (append-nil output))
+put-append output (b ∷ more) old room =
+    let longer : length (output ++ (b ∷ [])) ≡ suc (length output) = length-append output (b ∷ []) ∙ add-one (length output) in
+    let rest = put-append (output ++ (b ∷ [])) more old (omega arith) in
+    cc (put-snoc output old b (omega arith), longer, rest, append-assoc output (b ∷ []) more)
 
+-- One entry more, for entries of one width.
+pub put-entry : {B : Type 0} (encode : B → ℕ → List ℕ) (width : ℕ) → ((b : B) (t : ℕ) → length (encode b t) ≡ width)
+    → (value-at : ℕ → B) (next-at : ℕ → ℕ) (old : List ℕ) (i : ℕ) → (i + 1) * width ≤ length old
+    → sets (put (entries-bytes encode value-at next-at i 0) old) (i * width) (encode (value-at i) (next-at i))
+    ≡ put (entries-bytes encode value-at next-at (i + 1) 0) old
+put-entry encode width sized value-at next-at old i room =
+    let long = entries-length encode width sized value-at next-at i 0 in
+    let more = put-append (entries-bytes encode value-at next-at i 0) (encode (value-at i) (next-at i)) old
+    (omega (arith, long, sized (value-at i) (next-at i))) in
+    cc (long, more, entries-snoc encode value-at next-at i)
+
+-- The steps of a loop that stores entries of flat arrays.
 module _ (values nexts : List ℕ) where
-  pub stored-length : (count : ℕ) → length (stored values nexts count) ≡ count * 2
-  unfolding stored
-  stored-length count =
-      entries-length low-bytes 2 (λ v t. refl) (λ i. getD values i 0) (λ i. getD nexts i 0) count 0
-
   pub store-none : (old : List ℕ) → old ≡ put (stored values nexts 0) old
   unfolding stored entries-bytes put
   store-none old = refl
 
-  stored-snoc : (i : ℕ) → stored values nexts (i + 1) ≡ stored values nexts i ++ low-bytes (getD values i 0) (getD nexts i 0)
-  unfolding stored
-  stored-snoc i = entries-snoc low-bytes (λ k. getD values k 0) (λ k. getD nexts k 0) i
-
-  -- One entry more.
   pub store-more : (old : List ℕ) (i : ℕ) → i * 2 + 1 < length old
       → set (set (put (stored values nexts i) old) (i * 2) (getD values i 0 % 256)) (i * 2 + 1) (getD nexts i 0)
       ≡ put (stored values nexts (i + 1)) old
+  unfolding stored
   store-more old i room =
-      let v = getD values i 0 % 256 in
-      let t = getD nexts i 0 in
-      let before = stored values nexts i in
-      let long : length before ≡ i * 2 = stored-length i in
-      let longer : length (before ++ (v ∷ [])) ≡ i * 2 + 1 = length-append before (v ∷ []) ∙ omega arith in
-      let one = put-snoc before old v (omega arith) in
-      let two = put-snoc (before ++ (v ∷ [])) old t (omega arith) in
-      cc (one, two, long, longer, stored-snoc i, append-assoc before (v ∷ []) (t ∷ []))
+      rw (add-one (i * 2)) (put-entry low-bytes 2 (λ v t. refl) (λ k. getD values k 0) (λ k. getD nexts k 0) old i (omega arith))
 
 -- What a store answers and leaves.
 module _ (values nexts : List ℕ) (count : ℕ) (old : List ℕ) where
+  pub after-none : storable values nexts count old ≡ false → after-store values nexts count old ≡ old
+  unfolding after-store
+  after-none short = ap (λ b. cond b (put (stored values nexts count) old) old) short
+
+  pub after-all : storable values nexts count old ≡ true → after-store values nexts count old ≡ put (stored values nexts count) old
+  unfolding after-store
+  after-all fits = ap (λ b. cond b (put (stored values nexts count) old) old) fits
+
   pub not-stored : storable values nexts count old ≡ false
       → (false ≡ storable values nexts count old) × (old ≡ after-store values nexts count old)
-  unfolding after-store
-  not-stored short = (sym short, ap (λ b. cond b (put (stored values nexts count) old) old) (sym short))
+  not-stored short = (sym short, sym (after-none short))
 
   pub all-stored : storable values nexts count old ≡ true → (now : List ℕ) → now ≡ put (stored values nexts count) old
       → (true ≡ storable values nexts count old) × (now ≡ after-store values nexts count old)
-  unfolding after-store
-  all-stored fits now e = (sym fits, e ∙ ap (λ b. cond b (put (stored values nexts count) old) old) (sym fits))
+  all-stored fits now e = (sym fits, e ∙ sym (after-all fits))
 
   pub few-values : length values < count → storable values nexts count old ≡ false
   unfolding storable
@@ -82,13 +86,16 @@ module _ (values nexts : List ℕ) (count : ℕ) (old : List ℕ) where
   unfolding storable
   few-nexts hv h = rw (le-leb count (length values) hv, lt-leb count (length nexts) h)
 
-  pub short-buffer : count ≤ length values → count ≤ length nexts → length old < count * 2 → storable values nexts count old ≡ false
+  -- Where the arrays are long enough, the room decides.
+  pub storable-room : count ≤ length values → count ≤ length nexts → storable values nexts count old ≡ leb (count * 2) (length old)
   unfolding storable
-  short-buffer hv hn h = rw (le-leb count (length values) hv, le-leb count (length nexts) hn, lt-leb (count * 2) (length old) h)
+  storable-room hv hn = rw (le-leb count (length values) hv, le-leb count (length nexts) hn)
+
+  pub short-buffer : count ≤ length values → count ≤ length nexts → length old < count * 2 → storable values nexts count old ≡ false
+  short-buffer hv hn h = storable-room hv hn ∙ lt-leb (count * 2) (length old) h
 
   pub enough : count ≤ length values → count ≤ length nexts → count * 2 ≤ length old → storable values nexts count old ≡ true
-  unfolding storable
-  enough hv hn h = rw (le-leb count (length values) hv, le-leb count (length nexts) hn, le-leb (count * 2) (length old) h)
+  enough hv hn h = storable-room hv hn ∙ le-leb (count * 2) (length old) h
 
 pub stored-table : StoredTableClaim
 unfolding stored

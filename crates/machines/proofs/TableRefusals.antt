@@ -9,13 +9,12 @@ use native.Mathlib.Omega.{arith}
 use borrow.Author.Tests.{ltb-true, leb-true, eqb-true, lt-ltb, le-leb, eq-eqb}
 use lib.ListN.{length, getD}
 use lib.Dec.{leb, ltb, eqb}
-use Rattle.theory.specs.MealyMachine.{Machine, Runs, States}
 use Rattle.theory.specs.ValueSets.{Below}
 use Rattle.refusal.specs.Refusal.{First, plain-unless}
 use Rattle.refusal.proofs.Refusals.{plain-first, plain-none}
 use Rattle.machines.specs.TableBytes.{table-bytes, two-bytes, entries, machine-of, TableInOrder, table-condition}
 use Rattle.machines.specs.TableRefusal.{table-test, entry-test, table-refusal}
-use Rattle.machines.specs.Claims.{AcceptedTable, TableRefusalClaim, AcceptedTableClaim, TableAcceptedClaim}
+use Rattle.machines.specs.Claims.{TableRefusalClaim, AcceptedTableClaim, TableAcceptedClaim}
 use Rattle.machines.proofs.AllBelow.{and-both, and-left, and-right, all-below-each, all-below-all}
 use Rattle.machines.proofs.EntryIndex.{index-below, every-entry}
 use Rattle.machines.proofs.EntryBytes.{table-length}
@@ -70,7 +69,8 @@ module _ (values states : ℕ) (bytes : List ℕ) (i : ℕ) where
   entry-sound : entry-test values states bytes i ≡ true → (getD bytes (i * 2) 0 < values) × (getD bytes (i * 2 + 1) 0 < states)
   unfolding entry-test
   entry-sound holds =
-      (ltb-true (getD bytes (i * 2) 0) values (and-left (ltb (getD bytes (i * 2) 0) values) _ holds), ltb-true (getD bytes (i * 2 + 1) 0) states (and-right (ltb (getD bytes (i * 2) 0) values) _ holds))
+      let value-test = ltb (getD bytes (i * 2) 0) values in
+      (ltb-true _ values (and-left value-test _ holds), ltb-true _ states (and-right value-test _ holds))
 
   entry-complete : getD bytes (i * 2) 0 < values → getD bytes (i * 2 + 1) 0 < states → entry-test values states bytes i ≡ true
   unfolding entry-test

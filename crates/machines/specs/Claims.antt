@@ -2,7 +2,7 @@
 -- other.
 -- Assumes nothing.
 use mathlib.Core.Path.{_≡_}
-use mathlib.Core.Option.{Option, none}
+use mathlib.Core.Option.{none}
 use mathlib.Core.List.{List, [], _∷_}
 use Prim.Native.Nat.{ℕ, _*_, _/_, _%_, _≤_, _<_}
 use lib.ListN.{length, getD}
@@ -17,7 +17,8 @@ use Rattle.machines.specs.StoredEntries.{stored}
 abbrev pub TableRefusalClaim : Type 0
 TableRefusalClaim =
     (limit events values states start : ℕ) (bytes : List ℕ)
-    → First (table-condition 2 limit events (Below values) states start bytes (machine-of events bytes) ∷ []) (table-refusal limit events values states start bytes)
+    → First (table-condition 2 limit events (Below values) states start bytes (machine-of events bytes) ∷ [])
+    (table-refusal limit events values states start bytes)
 
 -- An accepted table is a machine with a start among its states, and its bytes are that machine's.
 pub record AcceptedTable (events values states start : ℕ) (bytes : List ℕ) : Type 0 where

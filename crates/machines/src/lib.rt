@@ -5,7 +5,7 @@ use refusal::Refusal;
 use refusal::TABLE_LIMITS;
 ghost use mathlib.Core.Path.{_≡_};
 ghost use Prim.Native.Nat.{_+_, _*_};
-ghost use lib.ListN.{length, getD};
+ghost use lib.ListN.{getD};
 ghost use lib.Dec.{eqb};
 ghost use Rattle.refusal.specs.Refusal.{judgement};
 ghost use Rattle.machines.specs.TableRefusal.{all-below, entry-test, table-test, table-refusal};
@@ -68,16 +68,14 @@ fn entry_in_order(values: usize, states: usize, bytes: &[u8], i: usize) -> bool
     next_at(bytes, i) < states
 }
 
-// Whether the first `count` entries are in order.
-fn entries_in_order(values: usize, states: usize, bytes: &[u8], count: usize) -> bool
-    ensures { λ r. ⌜ r ≡ all-below count (entry-test values states (now (bytes .entry))) ⌝ }
+// Whether the first `entries` entries are in order.
+fn entries_in_order(values: usize, states: usize, bytes: &[u8], entries: usize) -> bool
+    ensures { λ r. ⌜ r ≡ all-below entries (entry-test values states (now (bytes .entry))) ⌝ }
 {
-    let mut i: usize = 0;
-    while i < count {
+    for i in 0..entries {
         if !entry_in_order(values, states, bytes, i) {
             return false;
         }
-        i += 1;
     }
     true
 }
@@ -129,8 +127,8 @@ pub fn check_table(
 // Stores the first `count` entries of flat arrays: each value's low byte and the next state. Nothing is stored, and the answer
 // is false, where an array or the buffer is too short.
 pub fn store_entries(values: &[u32], nexts: &[u8], count: usize, to: &mut [u8]) -> bool
-    ensures stores { λ r. ⌜ r ≡ storable (now (values .entry)) (now (nexts .entry)) count (now (to .entry)) ⌝ }
-    ensures contents { λ r. ⌜ now (to .exit) ≡ after-store (now (values .entry)) (now (nexts .entry)) count (now (to .entry)) ⌝ }
+    ensures answer { λ r. ⌜ r ≡ storable (now (values .entry)) (now (nexts .entry)) count (now (to .entry)) ⌝ }
+    ensures contents { λ _. ⌜ now (to .exit) ≡ after-store (now (values .entry)) (now (nexts .entry)) count (now (to .entry)) ⌝ }
 {
     if values.len() < count {
         return false;
@@ -141,11 +139,11 @@ pub fn store_entries(values: &[u32], nexts: &[u8], count: usize, to: &mut [u8]) 
     if to.len() / 2 < count {
         return false;
     }
-    let mut i: usize = 0;
-    while i < count {
-        to[i * 2] = (values[i] % 256) as u8;
-        to[i * 2 + 1] = nexts[i];
-        i += 1;
+    for i in 0..count {
+        let value = (values[i] % 256) as u8;
+        let next = nexts[i];
+        to[i * 2] = value;
+        to[i * 2 + 1] = next;
     }
     true
 }

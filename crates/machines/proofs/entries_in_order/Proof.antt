@@ -12,10 +12,10 @@ use Rattle.machines.proofs.entries_in_order.Statement.{statement}
 use Rattle.machines.proofs.entries_in_order.Tie as tie
 
 abbrev Inv-loop : tie.InvT-loop
-Inv-loop values states bytes count i₀ i = (i ≤ count) × (all-below i (entry-test values states bytes) ≡ true)
+Inv-loop values states bytes entries i₀ i = (i ≤ entries) × (all-below i (entry-test values states bytes) ≡ true)
 
 abbrev μ-loop : tie.MeasureT-loop
-μ-loop values states bytes count i₀ i = count - i
+μ-loop values states bytes entries i₀ i = entries - i
 
 loop-holds : tie.Need-loop-holds Inv-loop μ-loop
 loop-holds c = (search needs, all-below-start _)
@@ -24,7 +24,9 @@ entry-in-order-requires : tie.Need-entry-in-order-requires Inv-loop μ-loop
 entry-in-order-requires c κs = search needs
 
 returns : tie.Need-returns Inv-loop μ-loop
-returns c = sym (all-below-none _ (c .before .before .before .loop .i) _ (search needs) (sym (c .before .entry-in-order .ensures) ∙ not-true _ (c .if1 .taken)))
+returns c =
+    let fails = sym (c .before .entry-in-order .ensures) ∙ not-true _ (c .if1 .taken) in
+    sym (all-below-none _ (c .before .before .before .loop .i) _ (search needs) fails)
 
 add-i : tie.Need-add-i Inv-loop μ-loop
 add-i c = search needs
@@ -33,10 +35,14 @@ loop-less : tie.Need-loop-less Inv-loop μ-loop
 loop-less c = search needs
 
 loop-again : tie.Need-loop-again Inv-loop μ-loop
-loop-again c = (search needs, all-below-more _ _ (c .before .before .before .loop .inv .1) (sym (c .before .entry-in-order .ensures) ∙ not-false _ (c .if1 .left)))
+loop-again c =
+    let holds = sym (c .before .entry-in-order .ensures) ∙ not-false _ (c .if1 .left) in
+    (search needs, all-below-more _ _ (c .before .before .before .loop .inv .1) holds)
 
 returns-2 : tie.Need-returns-2 Inv-loop μ-loop
-returns-2 c = let e : c .before .loop .i ≡ c .before .before .before .args .count = omega arith in sym (rw e at (c .before .loop .inv .1))
+returns-2 c =
+    let e : c .before .loop .i ≡ c .before .before .before .args .entries = omega arith in
+    sym (rw e at (c .before .loop .inv .1))
 
 pub entries-in-order-spec : {M : Type 1} → statement M
 entries-in-order-spec =

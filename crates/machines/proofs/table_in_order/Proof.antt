@@ -27,7 +27,9 @@ is-table-length-requires : tie.Need-is-table-length-requires
 is-table-length-requires c κs = search needs
 
 returns-4 : tie.Need-returns-4
-returns-4 c = sym (wrong-length 2 _ _ _ _ _ _ (search needs) (search needs) (search needs) (sym (c .before .is-table-length .ensures) ∙ not-true _ (c .if4 .taken)))
+returns-4 c =
+    let wrong = sym (c .before .is-table-length .ensures) ∙ not-true _ (c .if4 .taken) in
+    sym (wrong-length 2 _ _ _ _ _ _ (search needs) (search needs) (search needs) wrong)
 
 entries-in-order-requires : tie.Need-entries-in-order-requires
 entries-in-order-requires c κs = search needs
@@ -39,7 +41,8 @@ returns-5 c =
     let right : eqb (length bytes) (a .states * a .events * 2) ≡ true =
     sym (c .before .before .is-table-length .ensures) ∙ not-false _ (c .before .if4 .left) in
     c .entries-in-order .ensures
-    ∙ ap (λ n. all-below n (entry-test (a .values) (a .states) bytes)) (quotient-of-product (length bytes) (a .states * a .events) 2 (omega arith) right)
+    ∙ ap (λ n. all-below n (entry-test (a .values) (a .states) bytes))
+    (quotient-of-product (length bytes) (a .states * a .events) 2 (omega arith) right)
     ∙ sym (entries-decide 2 _ _ _ _ _ _ (search needs) (search needs) (search needs) right)
 
 pub table-in-order-spec : {M : Type 1} → statement M
