@@ -7,8 +7,6 @@ use native.Mathlib.Numerals.{add-one}
 use native.Mathlib.Omega.{arith}
 use lib.ListN.{length, take, set, length-set, length-append}
 use lib.Seq.{take-suc-set, take-set-le}
-use Rattle.theory.specs.PrefixCode.{Node}
-use Rattle.formulas.specs.NodeBytes.{encode-all, three-bytes}
 use Rattle.characteristic.specs.NodeOutput.{Appends, HasRoom}
 
 -- Nothing fits any more.
@@ -68,11 +66,3 @@ said-as {limit} {at} {before = before} e d x =
       contents = λ h. x .contents h ∙ ap (λ l. take (at * 3) before ++ l) d;
       same-length = x .same-length;
     }
-
--- The bytes of nodes one after the other.
-pub encode-append :
-    (ms ns : List (Node ℕ)) → encode-all three-bytes (ms ++ ns) ≡ encode-all three-bytes ms ++ encode-all three-bytes ns
-encode-append [] ns = refl
-encode-append (m ∷ ms) ns =
-    ap (λ l. three-bytes m ++ l) (encode-append ms ns)
-    ∙ sym (append-assoc (three-bytes m) (encode-all three-bytes ms) (encode-all three-bytes ns))

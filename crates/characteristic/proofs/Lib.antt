@@ -8,3 +8,7 @@ pub mod Walks
 pub mod Outputs
 -- The answer of a call and the buffer afterwards.
 pub mod Answers
+-- The proofs of the claims.
+pub mod Claims
+-- The cases of document 01.
+pub mod WrittenCases

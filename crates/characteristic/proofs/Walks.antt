@@ -12,8 +12,10 @@ use Rattle.theory.specs.CharacteristicFormula.{OpenAt, Writes, already-open, op
 use Rattle.theory.proofs.CharacteristicFormula.{open-one}
 use Rattle.theory.proofs.PrefixCode.{size-positive}
 use Rattle.formulas.specs.NodeBytes.{encode-formula, encode-all, three-bytes}
+use Rattle.formulas.proofs.Encoding.{encode-append}
+use Rattle.formulas.proofs.ThreeBytes.{three-bytes-code}
 use Rattle.characteristic.specs.NodeOutput.{Appends, HasRoom, Looked, open-path, Ready, Walked}
-use Rattle.characteristic.proofs.Appended.{nothing-fits, both, said-as, encode-append}
+use Rattle.characteristic.proofs.Appended.{nothing-fits, both, said-as}
 use Rattle.characteristic.proofs.OpenPath.{path-kept, path-opened, path-below}
 
 module _ (m : Machine ℕ ℕ) (events limit : ℕ) where
@@ -49,7 +51,7 @@ module _ (m : Machine ℕ ℕ) (events limit : ℕ) {at : ℕ} {path before : Li
         → RowsFrom m events limit at path s e before after r
     last-event l z _ (last-row {φ = φ} h w) =
         said-as (omega arith)
-        (ap (λ b. 4 ∷ 0 ∷ 0 ∷ 2 ∷ e ∷ 0 ∷ b) (sym (encode-append (nodes φ) (output-node e (m .value s e) ∷ []))))
+        (ap (λ b. 4 ∷ 0 ∷ 0 ∷ 2 ∷ e ∷ 0 ∷ b) (sym (encode-append 3 three-bytes three-bytes-code (nodes φ) (output-node e (m .value s e) ∷ []))))
         (both x (both (y φ w) z))
     last-event l z _ (row h w rows) = absurd (omega arith)
 
@@ -61,7 +63,7 @@ module _ (m : Machine ℕ ℕ) (events limit : ℕ) {at : ℕ} {path before : Li
     another-event l z more _ (row {φ = φ} {χ = χ} h w rows) =
         said-as (omega arith)
         (ap (λ b. 4 ∷ 0 ∷ 0 ∷ 2 ∷ e ∷ 0 ∷ b)
-        (sym (encode-append (nodes φ) (conjunction-node ∷ output-node e (m .value s e) ∷ nodes χ))))
+        (sym (encode-append 3 three-bytes three-bytes-code (nodes φ) (conjunction-node ∷ output-node e (m .value s e) ∷ nodes χ))))
         (both x (both (y φ w) (both z (more χ rows))))
 
 -- ---- what the walk yields
