@@ -22,12 +22,13 @@ use Rattle.refusal.specs.declared.Counted.the-variants.{Count, Refused}
 use Rattle.refusal.specs.Refusal.{counted, or-else, plain-unless}
 use Rattle.values.specs.Setup.{Setup, setup, setup-refusal}
 use Rattle.values.proofs.Setups.{setup-accepted, four-value-setup}
+use Rattle.formulas.specs.NodeBytes.{encode-formula, three-bytes}
 use Rattle.machines.specs.TableBytes.{machine-of, table-bytes, two-bytes}
 use Rattle.machines.specs.TableRefusal.{all-below, table-test, entry-test, table-refusal}
 use Rattle.machines.specs.Claims.{Agree}
 use Rattle.machines.proofs.TableRoundTrip.{read-back}
 use Rattle.characteristic.specs.RuleOfTable.{rule-of, write-refusal, write-answer}
-use Rattle.characteristic.specs.WrittenCases.{four-values, case-11-rows, Case11Claim, chain-rows, ChainClaim}
+use Rattle.characteristic.specs.WrittenCases.{four-values, case-11-rows, case-11-rule, Case11Claim, chain-rows, ChainClaim}
 use Rattle.characteristic.proofs.Outputs.{over-limit, fits-room}
 use Rattle.characteristic.proofs.Answers.{output-last, is-rule, runs, start-within}
 
@@ -75,6 +76,10 @@ rule-size : size case-rule ≡ 19
 unfolding case-11-rows four-values setup rule-of
 rule-size = refl
 
+rule-bytes : encode-formula three-bytes case-rule ≡ case-11-rule
+unfolding case-11-rows case-11-rule four-values setup rule-of
+rule-bytes = refl
+
 rule-states : state-count 19 (meetAt 4 four-value-meet) 3 case-rule 2 64 ≡ 2
 unfolding case-11-rows four-values setup rule-of meetAt four-value-meet empty only union
 rule-states = refl
@@ -112,6 +117,7 @@ pub case-11 : Case11Claim
 unfolding four-values setup
 case-11 =
     record {
+      in-bytes = rule-bytes;
       nodes = λ old room. answer-fits (four-values 2) 2 0 case-11-rows old two-events rows-passed 19 rule-size (lit≤ tt) room;
       same-table =
           let claim =

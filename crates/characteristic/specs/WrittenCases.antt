@@ -9,6 +9,7 @@ use Rattle.theory.specs.ReachableStates.{IsTableOf}
 use Rattle.refusal.specs.declared.Refusal.the-variants.{Plain}
 use Rattle.refusal.specs.declared.Counted.the-variants.{Count, Refused}
 use Rattle.values.specs.Setup.{Setup, setup}
+use Rattle.formulas.specs.NodeBytes.{encode-formula, three-bytes}
 use Rattle.machines.specs.TableBytes.{machine-of}
 use Rattle.characteristic.specs.RuleOfTable.{rule-of, write-answer}
 
@@ -19,8 +20,16 @@ four-values events = setup events 4 3 four-value-meet
 unfoldable pub case-11-rows : List ℕ
 case-11-rows = 1 ∷ 0 ∷ 2 ∷ 1 ∷ 2 ∷ 1 ∷ 1 ∷ 1 ∷ []
 
--- Its rule has 19 nodes, and that rule's table is these rows.
+-- Its rule, V A G0 X0 A O0.1 A G1 (V A G0 X0 A O0.2 A G1 X0 O1.1) O1.2, in bytes.
+unfoldable pub case-11-rule : List ℕ
+case-11-rule =
+    5 ∷ 0 ∷ 0 ∷ 4 ∷ 0 ∷ 0 ∷ 2 ∷ 0 ∷ 0 ∷ 1 ∷ 0 ∷ 0 ∷ 4 ∷ 0 ∷ 0 ∷ 3 ∷ 0 ∷ 1 ∷ 4 ∷ 0 ∷ 0 ∷ 2 ∷ 1 ∷ 0
+    ∷ 5 ∷ 0 ∷ 0 ∷ 4 ∷ 0 ∷ 0 ∷ 2 ∷ 0 ∷ 0 ∷ 1 ∷ 0 ∷ 0 ∷ 4 ∷ 0 ∷ 0 ∷ 3 ∷ 0 ∷ 2 ∷ 4 ∷ 0 ∷ 0 ∷ 2 ∷ 1 ∷ 0 ∷ 1 ∷ 0 ∷ 0 ∷ 3 ∷ 1 ∷ 1
+    ∷ 3 ∷ 1 ∷ 2 ∷ []
+
+-- It has 19 nodes, and its table is these rows.
 pub record Case11Claim : Type 0 where
+  pub in-bytes : encode-formula three-bytes (rule-of (four-values 2) 2 0 case-11-rows) ≡ case-11-rule
   pub nodes : (old : List ℕ) → 57 ≤ length old → write-answer 64 256 (four-values 2) 2 0 case-11-rows old ≡ Count 19
   pub same-table :
       IsTableOf (meetAt 4 four-value-meet) 3 2 (rule-of (four-values 2) 2 0 case-11-rows) 2 (machine-of 2 case-11-rows)

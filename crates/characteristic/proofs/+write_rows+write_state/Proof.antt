@@ -1,12 +1,15 @@
-use native.Mathlib.Omega.{arith}
+-- The proof of the cycle of calls {write_rows, write_state}. The measure is how many nodes are left up to one more than the limit.
+-- Each return is one step of the walk (`Walks`); each call of the other has fewer nodes left.
+-- Assumes nothing.
 use mathlib.Core.Path.{_∙_}
-use lib.ListN.{length-set}
-use Rattle.machines.specs.TableBytes.{machine-of}
-use Rattle.characteristic.proofs.Walks.{walk-full, walk-open, walk-new, walk-last, walk-more, ready-rows, ready-more, fewer-left}
-use borrow.Author.Needs.{needs}
 use Prim.Native.Nat.{ℕ, _+_, _-_, _<_}
+use native.Mathlib.Omega.{arith}
+use lib.ListN.{length-set}
+use borrow.Author.Needs.{needs}
 use borrow.Fn.Kinds.{In}
 use borrow.Fn.PlainCycle.{Measures, is, falls, and}
+use Rattle.machines.specs.TableBytes.{machine-of}
+use Rattle.characteristic.proofs.Walks.{walk-full, walk-open, walk-new, walk-last, walk-more, ready-rows, ready-more, fewer-left}
 use Rattle.characteristic.proofs.write_rows.Reads as write-rows
 use Rattle.characteristic.proofs.write_rows.Kinds as write-rows-kinds
 use Rattle.characteristic.proofs.+write_rows+write_state.Lts-write_rows as write-rows-lts
@@ -44,519 +47,9 @@ abbrev write-state-below : ℕ → In 3 write-state-kinds.ps
 write-state-below t =
     and 3 write-state-kinds.ps (falls 3 write-state-kinds.ps _<_ μ-write-state t) write-state.Pre
 
--- src/lib.rt:134:16
-write-rows-add-result : (t : ℕ) → write-rows-lts.Need-add-result (
-  put-transition-reads.Asked,
-  put-transition-reads.Learnt,
-  next-state-reads.Asked,
-  next-state-reads.Learnt,
-  write-state-below t,
-  write-state.Post,
-  value-of-reads.Asked,
-  value-of-reads.Learnt,
-  put-node-reads.Asked,
-  put-node-reads.Learnt,
-  put-output-reads.Asked,
-  put-output-reads.Learnt,
-  write-rows-below t,
-  write-rows.Post,
-) (write-rows-at t) write-rows.Post
-write-rows-add-result t c = search needs
-
--- src/lib.rt:134:9
-write-rows-returns : (t : ℕ) → write-rows-lts.Need-returns (
-  put-transition-reads.Asked,
-  put-transition-reads.Learnt,
-  next-state-reads.Asked,
-  next-state-reads.Learnt,
-  write-state-below t,
-  write-state.Post,
-  value-of-reads.Asked,
-  value-of-reads.Learnt,
-  put-node-reads.Asked,
-  put-node-reads.Learnt,
-  put-output-reads.Asked,
-  put-output-reads.Learnt,
-  write-rows-below t,
-  write-rows.Post,
-) (write-rows-at t) write-rows.Post
-write-rows-returns t c = let a = c .before .before .before .before .args in walk-full _ _ _ _ (c .if1 .taken) (c .before .before .before .before .pre .1 .0 .has-room .at-within)
-
--- src/lib.rt:136:9
-write-rows-put-transition-requires : (t : ℕ) → write-rows-lts.Need-put-transition-requires (
-  put-transition-reads.Asked,
-  put-transition-reads.Learnt,
-  next-state-reads.Asked,
-  next-state-reads.Learnt,
-  write-state-below t,
-  write-state.Post,
-  value-of-reads.Asked,
-  value-of-reads.Learnt,
-  put-node-reads.Asked,
-  put-node-reads.Learnt,
-  put-output-reads.Asked,
-  put-output-reads.Learnt,
-  write-rows-below t,
-  write-rows.Post,
-) (write-rows-at t) write-rows.Post
-write-rows-put-transition-requires t c κs = search needs
-
--- src/lib.rt:137:9
-write-rows-next-state-requires : (t : ℕ) → write-rows-lts.Need-next-state-requires (
-  put-transition-reads.Asked,
-  put-transition-reads.Learnt,
-  next-state-reads.Asked,
-  next-state-reads.Learnt,
-  write-state-below t,
-  write-state.Post,
-  value-of-reads.Asked,
-  value-of-reads.Learnt,
-  put-node-reads.Asked,
-  put-node-reads.Learnt,
-  put-output-reads.Asked,
-  put-output-reads.Learnt,
-  write-rows-below t,
-  write-rows.Post,
-) (write-rows-at t) write-rows.Post
-write-rows-next-state-requires t c κs = search needs
-
--- src/lib.rt:138:9
-write-rows-write-state-requires : (t : ℕ) → write-rows-lts.Need-write-state-requires (
-  put-transition-reads.Asked,
-  put-transition-reads.Learnt,
-  next-state-reads.Asked,
-  next-state-reads.Learnt,
-  write-state-below t,
-  write-state.Post,
-  value-of-reads.Asked,
-  value-of-reads.Learnt,
-  put-node-reads.Asked,
-  put-node-reads.Learnt,
-  put-output-reads.Asked,
-  put-output-reads.Learnt,
-  write-rows-below t,
-  write-rows.Post,
-) (write-rows-at t) write-rows.Post
-write-rows-write-state-requires t c κs = search needs
-
--- src/lib.rt:139:9
-write-rows-value-of-requires : (t : ℕ) → write-rows-lts.Need-value-of-requires (
-  put-transition-reads.Asked,
-  put-transition-reads.Learnt,
-  next-state-reads.Asked,
-  next-state-reads.Learnt,
-  write-state-below t,
-  write-state.Post,
-  value-of-reads.Asked,
-  value-of-reads.Learnt,
-  put-node-reads.Asked,
-  put-node-reads.Learnt,
-  put-output-reads.Asked,
-  put-output-reads.Learnt,
-  write-rows-below t,
-  write-rows.Post,
-) (write-rows-at t) write-rows.Post
-write-rows-value-of-requires t c κs = search needs
-
--- src/lib.rt:140:8
-write-rows-add-if2 : (t : ℕ) → write-rows-lts.Need-add-if2 (
-  put-transition-reads.Asked,
-  put-transition-reads.Learnt,
-  next-state-reads.Asked,
-  next-state-reads.Learnt,
-  write-state-below t,
-  write-state.Post,
-  value-of-reads.Asked,
-  value-of-reads.Learnt,
-  put-node-reads.Asked,
-  put-node-reads.Learnt,
-  put-output-reads.Asked,
-  put-output-reads.Learnt,
-  write-rows-below t,
-  write-rows.Post,
-) (write-rows-at t) write-rows.Post
-write-rows-add-if2 t c = search needs
-
--- src/lib.rt:141:9
-write-rows-put-node-requires : (t : ℕ) → write-rows-lts.Need-put-node-requires (
-  put-transition-reads.Asked,
-  put-transition-reads.Learnt,
-  next-state-reads.Asked,
-  next-state-reads.Learnt,
-  write-state-below t,
-  write-state.Post,
-  value-of-reads.Asked,
-  value-of-reads.Learnt,
-  put-node-reads.Asked,
-  put-node-reads.Learnt,
-  put-output-reads.Asked,
-  put-output-reads.Learnt,
-  write-rows-below t,
-  write-rows.Post,
-) (write-rows-at t) write-rows.Post
-write-rows-put-node-requires t c κs = search needs
-
--- src/lib.rt:141:9
-write-rows-same-length : (t : ℕ) → write-rows-lts.Need-same-length (
-  put-transition-reads.Asked,
-  put-transition-reads.Learnt,
-  next-state-reads.Asked,
-  next-state-reads.Learnt,
-  write-state-below t,
-  write-state.Post,
-  value-of-reads.Asked,
-  value-of-reads.Learnt,
-  put-node-reads.Asked,
-  put-node-reads.Learnt,
-  put-output-reads.Asked,
-  put-output-reads.Learnt,
-  write-rows-below t,
-  write-rows.Post,
-) (write-rows-at t) write-rows.Post
-write-rows-same-length t c = search needs
-
--- src/lib.rt:141:9
-write-rows-same-length-2 : (t : ℕ) → write-rows-lts.Need-same-length-2 (
-  put-transition-reads.Asked,
-  put-transition-reads.Learnt,
-  next-state-reads.Asked,
-  next-state-reads.Learnt,
-  write-state-below t,
-  write-state.Post,
-  value-of-reads.Asked,
-  value-of-reads.Learnt,
-  put-node-reads.Asked,
-  put-node-reads.Learnt,
-  put-output-reads.Asked,
-  put-output-reads.Learnt,
-  write-rows-below t,
-  write-rows.Post,
-) (write-rows-at t) write-rows.Post
-write-rows-same-length-2 t c = search needs
-
--- src/lib.rt:141:9
-write-rows-returns-2 : (t : ℕ) → write-rows-lts.Need-returns-2 (
-  put-transition-reads.Asked,
-  put-transition-reads.Learnt,
-  next-state-reads.Asked,
-  next-state-reads.Learnt,
-  write-state-below t,
-  write-state.Post,
-  value-of-reads.Asked,
-  value-of-reads.Learnt,
-  put-node-reads.Asked,
-  put-node-reads.Learnt,
-  put-output-reads.Asked,
-  put-output-reads.Learnt,
-  write-rows-below t,
-  write-rows.Post,
-) (write-rows-at t) write-rows.Post
-write-rows-returns-2 t c =
-    let a = c .before .before .before .before .before .before .before .before .before .before .before .before .before .before .before .before .before .before .before .before .before .before .args in
-    walk-last (machine-of (a .events) (a .table .now)) (a .events) (c .before .before .before .before .before .before .before .before .before .before .before .before .before .before .before .before .before .before .before .before .before .before .pre .1 .0 .has-room .at-within) (c .before .before .before .before .before .before .before .before .before .before .before .before .before .before .before .before .put-transition .ensures)
-    (c .before .before .before .before .before .before .before .before .before .before .before .before .before .next-state .ensures .0) (c .before .before .before .before .before .before .before .before .before .before .write-state .ensures) (c .before .before .before .before .before .value-of .ensures .0) (c .before .before .before .before .if2 .taken) (c .before .before .put-node .ensures)
-
--- src/lib.rt:143:9
-write-rows-put-output-requires : (t : ℕ) → write-rows-lts.Need-put-output-requires (
-  put-transition-reads.Asked,
-  put-transition-reads.Learnt,
-  next-state-reads.Asked,
-  next-state-reads.Learnt,
-  write-state-below t,
-  write-state.Post,
-  value-of-reads.Asked,
-  value-of-reads.Learnt,
-  put-node-reads.Asked,
-  put-node-reads.Learnt,
-  put-output-reads.Asked,
-  put-output-reads.Learnt,
-  write-rows-below t,
-  write-rows.Post,
-) (write-rows-at t) write-rows.Post
-write-rows-put-output-requires t c κs = search needs
-
--- src/lib.rt:144:58
-write-rows-add-write-rows : (t : ℕ) → write-rows-lts.Need-add-write-rows (
-  put-transition-reads.Asked,
-  put-transition-reads.Learnt,
-  next-state-reads.Asked,
-  next-state-reads.Learnt,
-  write-state-below t,
-  write-state.Post,
-  value-of-reads.Asked,
-  value-of-reads.Learnt,
-  put-node-reads.Asked,
-  put-node-reads.Learnt,
-  put-output-reads.Asked,
-  put-output-reads.Learnt,
-  write-rows-below t,
-  write-rows.Post,
-) (write-rows-at t) write-rows.Post
-write-rows-add-write-rows t c = search needs
-
--- src/lib.rt:144:5
-write-rows-write-rows-requires : (t : ℕ) → write-rows-lts.Need-write-rows-requires (
-  put-transition-reads.Asked,
-  put-transition-reads.Learnt,
-  next-state-reads.Asked,
-  next-state-reads.Learnt,
-  write-state-below t,
-  write-state.Post,
-  value-of-reads.Asked,
-  value-of-reads.Learnt,
-  put-node-reads.Asked,
-  put-node-reads.Learnt,
-  put-output-reads.Asked,
-  put-output-reads.Learnt,
-  write-rows-below t,
-  write-rows.Post,
-) (write-rows-at t) write-rows.Post
-write-rows-write-rows-requires t c κs =
-    let h = c .before .before .before .before .before .before .before .before .before .before .before .before .before .before .before .before .before .before .before .before .before .before .before .before .pre .1 .0 in
-    let x = c .before .before .before .before .before .before .before .before .before .before .before .before .before .before .before .before .before .before .put-transition .ensures in
-    let y = c .before .before .before .before .before .before .before .before .before .before .before .before .write-state .ensures in
-    let z = c .before .before .before .before .put-output .ensures in (
-      omega (arith, c .before .before .before .before .before .before .before .before .before .before .before .before .before .before .before .before .before .before .before .before .before .before .before .before .pre .0, fewer-left h (c .before .before .before .before .before .before .before .before .before .before .before .before .before .before .before .before .before .before .before .before .if1 .left) x y z),
-      (ready-more h (c .before .before .before .before .before .before .before .before .before .before .before .before .before .before .before .before .before .before .before .before .if1 .left) x y z, omega (arith, c .before .before .before .before .before .before .before .before .before .before .before .before .before .before .before .before .before .before .before .before .before .before .before .before .pre .1 .1, c .before .before .before .before .before .before .if2 .left)),
-    )
-
--- src/lib.rt:119:1
-write-rows-same-length-3 : (t : ℕ) → write-rows-lts.Need-same-length-3 (
-  put-transition-reads.Asked,
-  put-transition-reads.Learnt,
-  next-state-reads.Asked,
-  next-state-reads.Learnt,
-  write-state-below t,
-  write-state.Post,
-  value-of-reads.Asked,
-  value-of-reads.Learnt,
-  put-node-reads.Asked,
-  put-node-reads.Learnt,
-  put-output-reads.Asked,
-  put-output-reads.Learnt,
-  write-rows-below t,
-  write-rows.Post,
-) (write-rows-at t) write-rows.Post
-write-rows-same-length-3 t c = search needs
-
--- src/lib.rt:119:1
-write-rows-same-length-4 : (t : ℕ) → write-rows-lts.Need-same-length-4 (
-  put-transition-reads.Asked,
-  put-transition-reads.Learnt,
-  next-state-reads.Asked,
-  next-state-reads.Learnt,
-  write-state-below t,
-  write-state.Post,
-  value-of-reads.Asked,
-  value-of-reads.Learnt,
-  put-node-reads.Asked,
-  put-node-reads.Learnt,
-  put-output-reads.Asked,
-  put-output-reads.Learnt,
-  write-rows-below t,
-  write-rows.Post,
-) (write-rows-at t) write-rows.Post
-write-rows-same-length-4 t c = search needs
-
--- src/lib.rt:119:1
-write-rows-returns-3 : (t : ℕ) → write-rows-lts.Need-returns-3 (
-  put-transition-reads.Asked,
-  put-transition-reads.Learnt,
-  next-state-reads.Asked,
-  next-state-reads.Learnt,
-  write-state-below t,
-  write-state.Post,
-  value-of-reads.Asked,
-  value-of-reads.Learnt,
-  put-node-reads.Asked,
-  put-node-reads.Learnt,
-  put-output-reads.Asked,
-  put-output-reads.Learnt,
-  write-rows-below t,
-  write-rows.Post,
-) (write-rows-at t) write-rows.Post
-write-rows-returns-3 t c =
-    let a = c .before .before .before .before .before .before .before .before .before .before .before .before .before .before .before .before .before .before .before .before .before .before .before .before .before .before .before .before .before .args in
-    walk-more (machine-of (a .events) (a .table .now)) (a .events) (c .before .before .before .before .before .before .before .before .before .before .before .before .before .before .before .before .before .before .before .before .before .before .before .before .before .before .before .before .before .pre .1 .0 .has-room .at-within) (c .before .before .before .before .before .before .before .before .before .before .before .before .before .before .before .before .before .before .before .before .before .before .before .put-transition .ensures)
-    (c .before .before .before .before .before .before .before .before .before .before .before .before .before .before .before .before .before .before .before .before .next-state .ensures .0) (c .before .before .before .before .before .before .before .before .before .before .before .before .before .before .before .before .before .write-state .ensures) (c .before .before .before .before .before .before .before .before .before .before .before .before .value-of .ensures .0) (c .before .before .before .before .before .before .before .before .before .before .before .if2 .left) (c .before .before .before .before .before .before .before .before .before .put-output .ensures)
-    (c .before .before .before .before .write-rows .ensures)
-
--- src/lib.rt:107:16
-write-state-add-result : (t : ℕ) → write-state-lts.Need-add-result (
-  open-place-reads.Asked,
-  open-place-reads.Learnt,
-  put-node-reads.Asked,
-  put-node-reads.Learnt,
-  write-rows-below t,
-  write-rows.Post,
-) (write-state-at t) write-state.Post
-write-state-add-result t c = search needs
-
--- src/lib.rt:107:9
-write-state-returns : (t : ℕ) → write-state-lts.Need-returns (
-  open-place-reads.Asked,
-  open-place-reads.Learnt,
-  put-node-reads.Asked,
-  put-node-reads.Learnt,
-  write-rows-below t,
-  write-rows.Post,
-) (write-state-at t) write-state.Post
-write-state-returns t c = walk-full _ _ _ _ (c .if1 .taken) (c .before .before .before .before .pre .1 .0 .has-room .at-within)
-
--- src/lib.rt:109:9
-write-state-open-place-requires : (t : ℕ) → write-state-lts.Need-open-place-requires (
-  open-place-reads.Asked,
-  open-place-reads.Learnt,
-  put-node-reads.Asked,
-  put-node-reads.Learnt,
-  write-rows-below t,
-  write-rows.Post,
-) (write-state-at t) write-state.Post
-write-state-open-place-requires t c κs = search needs
-
--- src/lib.rt:111:9
-write-state-put-node-requires : (t : ℕ) → write-state-lts.Need-put-node-requires (
-  open-place-reads.Asked,
-  open-place-reads.Learnt,
-  put-node-reads.Asked,
-  put-node-reads.Learnt,
-  write-rows-below t,
-  write-rows.Post,
-) (write-state-at t) write-state.Post
-write-state-put-node-requires t c κs = search needs
-
--- src/lib.rt:111:9
-write-state-same-length : (t : ℕ) → write-state-lts.Need-same-length (
-  open-place-reads.Asked,
-  open-place-reads.Learnt,
-  put-node-reads.Asked,
-  put-node-reads.Learnt,
-  write-rows-below t,
-  write-rows.Post,
-) (write-state-at t) write-state.Post
-write-state-same-length t c = search needs
-
--- src/lib.rt:111:9
-write-state-same-length-2 : (t : ℕ) → write-state-lts.Need-same-length-2 (
-  open-place-reads.Asked,
-  open-place-reads.Learnt,
-  put-node-reads.Asked,
-  put-node-reads.Learnt,
-  write-rows-below t,
-  write-rows.Post,
-) (write-state-at t) write-state.Post
-write-state-same-length-2 t c = search needs
-
--- src/lib.rt:111:9
-write-state-returns-2 : (t : ℕ) → write-state-lts.Need-returns-2 (
-  open-place-reads.Asked,
-  open-place-reads.Learnt,
-  put-node-reads.Asked,
-  put-node-reads.Learnt,
-  write-rows-below t,
-  write-rows.Post,
-) (write-state-at t) write-state.Post
-write-state-returns-2 t c =
-    let a = c .before .before .before .before .before .before .before .before .before .before .before .args in
-    walk-open (machine-of (a .events) (a .table .now)) (a .events) (a .path .now) (c .before .before .before .before .before .before .before .before .before .before .before .pre .1 .0 .has-room .at-within) (c .before .before .before .before .before .open-place .ensures) (c .before .before .before .before .if2 .taken) (c .before .before .put-node .ensures)
-
--- src/lib.rt:113:9
-write-state-put-node-requires-2 : (t : ℕ) → write-state-lts.Need-put-node-requires-2 (
-  open-place-reads.Asked,
-  open-place-reads.Learnt,
-  put-node-reads.Asked,
-  put-node-reads.Learnt,
-  write-rows-below t,
-  write-rows.Post,
-) (write-state-at t) write-state.Post
-write-state-put-node-requires-2 t c κs = search needs
-
--- src/lib.rt:114:5
-write-state-mul-path : (t : ℕ) → write-state-lts.Need-mul-path (
-  open-place-reads.Asked,
-  open-place-reads.Learnt,
-  put-node-reads.Asked,
-  put-node-reads.Learnt,
-  write-rows-below t,
-  write-rows.Post,
-) (write-state-at t) write-state.Post
-write-state-mul-path t c = search needs
-
--- src/lib.rt:114:5
-write-state-slice-write-path : (t : ℕ) → write-state-lts.Need-slice-write-path (
-  open-place-reads.Asked,
-  open-place-reads.Learnt,
-  put-node-reads.Asked,
-  put-node-reads.Learnt,
-  write-rows-below t,
-  write-rows.Post,
-) (write-state-at t) write-state.Post
-write-state-slice-write-path t c = search needs
-
--- src/lib.rt:115:44
-write-state-add-write-rows : (t : ℕ) → write-state-lts.Need-add-write-rows (
-  open-place-reads.Asked,
-  open-place-reads.Learnt,
-  put-node-reads.Asked,
-  put-node-reads.Learnt,
-  write-rows-below t,
-  write-rows.Post,
-) (write-state-at t) write-state.Post
-write-state-add-write-rows t c = search needs
-
--- src/lib.rt:115:5
-write-state-write-rows-requires : (t : ℕ) → write-state-lts.Need-write-rows-requires (
-  open-place-reads.Asked,
-  open-place-reads.Learnt,
-  put-node-reads.Asked,
-  put-node-reads.Learnt,
-  write-rows-below t,
-  write-rows.Post,
-) (write-state-at t) write-state.Post
-write-state-write-rows-requires t c κs =
-    let x = c .before .before .before .before .put-node2 .ensures in (
-      omega (arith, c .before .before .before .before .before .before .before .before .before .before .before .before .before .pre .0, c .before .before .before .before .before .before .before .before .before .if1 .left, x .position),
-      (ready-rows (c .before .before .before .before .before .before .before .before .before .before .before .before .before .pre .1 .0) (c .before .before .before .before .before .before .before .before .before .if1 .left) x, c .before .before .before .before .before .before .before .before .before .before .before .before .before .pre .1 .1),
-    )
-
--- src/lib.rt:93:1
-write-state-same-length-3 : (t : ℕ) → write-state-lts.Need-same-length-3 (
-  open-place-reads.Asked,
-  open-place-reads.Learnt,
-  put-node-reads.Asked,
-  put-node-reads.Learnt,
-  write-rows-below t,
-  write-rows.Post,
-) (write-state-at t) write-state.Post
-write-state-same-length-3 t c = c .before .before .before .before .write-rows .kept .1 .1 .1 .0 ∙ simp length-set
-
--- src/lib.rt:93:1
-write-state-same-length-4 : (t : ℕ) → write-state-lts.Need-same-length-4 (
-  open-place-reads.Asked,
-  open-place-reads.Learnt,
-  put-node-reads.Asked,
-  put-node-reads.Learnt,
-  write-rows-below t,
-  write-rows.Post,
-) (write-state-at t) write-state.Post
-write-state-same-length-4 t c = search needs
-
--- src/lib.rt:93:1
-write-state-returns-3 : (t : ℕ) → write-state-lts.Need-returns-3 (
-  open-place-reads.Asked,
-  open-place-reads.Learnt,
-  put-node-reads.Asked,
-  put-node-reads.Learnt,
-  write-rows-below t,
-  write-rows.Post,
-) (write-state-at t) write-state.Post
-write-state-returns-3 t c =
-    let a = c .before .before .before .before .before .before .before .before .before .before .before .before .before .before .before .before .before .before .args in
-    walk-new (machine-of (a .events) (a .table .now)) (a .events) (a .path .now) (c .before .before .before .before .before .before .before .before .before .before .before .before .before .before .before .before .before .before .pre .1 .0 .has-room .at-within) (omega (arith, c .before .before .before .before .before .before .before .before .before .before .before .before .before .before .before .before .before .before .pre .1 .0, c .before .before .before .before .before .before .before .before .before .before .before .before .before .before .if1 .left)) (c .before .before .before .before .before .before .before .before .before .before .before .before .open-place .ensures) (c .before .before .before .before .before .before .before .before .before .before .before .if2 .left) (c .before .before .before .before .before .before .before .before .before .put-node2 .ensures)
-    (c .before .before .before .before .write-rows .ensures)
-
-pub +write-rows+write-state-spec : {M : Type 1} → statement M
-+write-rows+write-state-spec = close μ-write-rows μ-write-state (λ t. write-rows-lts.spec (
+-- The contracts of the functions that each member calls.
+abbrev rows-claims : ℕ → write-rows-lts.Claims
+rows-claims t = (
   put-transition-reads.Asked,
   put-transition-reads.Learnt,
   next-state-reads.Asked,
@@ -572,6 +65,155 @@ pub +write-rows+write-state-spec : {M : Type 1} → statement M
   write-rows-below t,
   write-rows.Post,
 )
+
+abbrev state-claims : ℕ → write-state-lts.Claims
+state-claims t = (
+  open-place-reads.Asked,
+  open-place-reads.Learnt,
+  put-node-reads.Asked,
+  put-node-reads.Learnt,
+  write-rows-below t,
+  write-rows.Post,
+)
+
+write-rows-add-result : (t : ℕ) → write-rows-lts.Need-add-result (rows-claims t) (write-rows-at t) write-rows.Post
+write-rows-add-result t c = search needs
+
+write-rows-returns : (t : ℕ) → write-rows-lts.Need-returns (rows-claims t) (write-rows-at t) write-rows.Post
+write-rows-returns t c = walk-full _ _ _ _ (c .if1 .taken) (c .before .before .before .before .pre .1 .0 .has-room .at-within)
+
+write-rows-put-transition-requires : (t : ℕ) → write-rows-lts.Need-put-transition-requires (rows-claims t) (write-rows-at t) write-rows.Post
+write-rows-put-transition-requires t c κs = search needs
+
+write-rows-next-state-requires : (t : ℕ) → write-rows-lts.Need-next-state-requires (rows-claims t) (write-rows-at t) write-rows.Post
+write-rows-next-state-requires t c κs = search needs
+
+write-rows-write-state-requires : (t : ℕ) → write-rows-lts.Need-write-state-requires (rows-claims t) (write-rows-at t) write-rows.Post
+write-rows-write-state-requires t c κs = search needs
+
+write-rows-value-of-requires : (t : ℕ) → write-rows-lts.Need-value-of-requires (rows-claims t) (write-rows-at t) write-rows.Post
+write-rows-value-of-requires t c κs = search needs
+
+write-rows-add-if2 : (t : ℕ) → write-rows-lts.Need-add-if2 (rows-claims t) (write-rows-at t) write-rows.Post
+write-rows-add-if2 t c = search needs
+
+write-rows-put-node-requires : (t : ℕ) → write-rows-lts.Need-put-node-requires (rows-claims t) (write-rows-at t) write-rows.Post
+write-rows-put-node-requires t c κs = search needs
+
+write-rows-same-length : (t : ℕ) → write-rows-lts.Need-same-length (rows-claims t) (write-rows-at t) write-rows.Post
+write-rows-same-length t c = search needs
+
+write-rows-same-length-2 : (t : ℕ) → write-rows-lts.Need-same-length-2 (rows-claims t) (write-rows-at t) write-rows.Post
+write-rows-same-length-2 t c = search needs
+
+write-rows-returns-2 : (t : ℕ) → write-rows-lts.Need-returns-2 (rows-claims t) (write-rows-at t) write-rows.Post
+write-rows-returns-2 t c =
+    let end = c .before .before .before .before .before in
+    let walked = end .before .before .before .before .before in
+    let entry = walked .before .before .before .before .before .before .before .before .before .before .before .before in
+    let a = entry .args in
+    walk-last (machine-of (a .events) (a .table .now)) (a .events) (entry .pre .1 .0 .has-room .at-within)
+    (walked .before .before .before .before .before .before .put-transition .ensures) (walked .before .before .before .next-state .ensures .0) (walked .write-state .ensures) (end .value-of .ensures .0)
+    (c .before .before .before .before .if2 .taken) (c .before .before .put-node .ensures)
+
+write-rows-put-output-requires : (t : ℕ) → write-rows-lts.Need-put-output-requires (rows-claims t) (write-rows-at t) write-rows.Post
+write-rows-put-output-requires t c κs = search needs
+
+write-rows-add-write-rows : (t : ℕ) → write-rows-lts.Need-add-write-rows (rows-claims t) (write-rows-at t) write-rows.Post
+write-rows-add-write-rows t c = search needs
+
+write-rows-write-rows-requires : (t : ℕ) → write-rows-lts.Need-write-rows-requires (rows-claims t) (write-rows-at t) write-rows.Post
+write-rows-write-rows-requires t c κs =
+    let walked = c .before .before .before .before .before .before .before .before .before .before .before .before in
+    let entry = walked .before .before .before .before .before .before .before .before .before .before .before .before in
+    let h = entry .pre .1 .0 in
+    let below = walked .before .before .before .before .before .before .before .before .if1 .left in
+    let x = walked .before .before .before .before .before .before .put-transition .ensures in
+    let y = walked .write-state .ensures in
+    let z = c .before .before .before .before .put-output .ensures in (
+      omega (arith, entry .pre .0, fewer-left h below x y z),
+      (ready-more h below x y z, omega (arith, entry .pre .1 .1, c .before .before .before .before .before .before .if2 .left)),
+    )
+
+write-rows-same-length-3 : (t : ℕ) → write-rows-lts.Need-same-length-3 (rows-claims t) (write-rows-at t) write-rows.Post
+write-rows-same-length-3 t c = search needs
+
+write-rows-same-length-4 : (t : ℕ) → write-rows-lts.Need-same-length-4 (rows-claims t) (write-rows-at t) write-rows.Post
+write-rows-same-length-4 t c = search needs
+
+write-rows-returns-3 : (t : ℕ) → write-rows-lts.Need-returns-3 (rows-claims t) (write-rows-at t) write-rows.Post
+write-rows-returns-3 t c =
+    let end = c .before .before .before .before .before .before .before .before .before .before .before .before in
+    let walked = end .before .before .before .before .before in
+    let entry = walked .before .before .before .before .before .before .before .before .before .before .before .before in
+    let a = entry .args in
+    walk-more (machine-of (a .events) (a .table .now)) (a .events) (entry .pre .1 .0 .has-room .at-within)
+    (walked .before .before .before .before .before .before .put-transition .ensures) (walked .before .before .before .next-state .ensures .0) (walked .write-state .ensures) (end .value-of .ensures .0)
+    (c .before .before .before .before .before .before .before .before .before .before .before .if2 .left) (c .before .before .before .before .before .before .before .before .before .put-output .ensures) (c .before .before .before .before .write-rows .ensures)
+
+write-state-add-result : (t : ℕ) → write-state-lts.Need-add-result (state-claims t) (write-state-at t) write-state.Post
+write-state-add-result t c = search needs
+
+write-state-returns : (t : ℕ) → write-state-lts.Need-returns (state-claims t) (write-state-at t) write-state.Post
+write-state-returns t c = walk-full _ _ _ _ (c .if1 .taken) (c .before .before .before .before .pre .1 .0 .has-room .at-within)
+
+write-state-open-place-requires : (t : ℕ) → write-state-lts.Need-open-place-requires (state-claims t) (write-state-at t) write-state.Post
+write-state-open-place-requires t c κs = search needs
+
+write-state-put-node-requires : (t : ℕ) → write-state-lts.Need-put-node-requires (state-claims t) (write-state-at t) write-state.Post
+write-state-put-node-requires t c κs = search needs
+
+write-state-same-length : (t : ℕ) → write-state-lts.Need-same-length (state-claims t) (write-state-at t) write-state.Post
+write-state-same-length t c = search needs
+
+write-state-same-length-2 : (t : ℕ) → write-state-lts.Need-same-length-2 (state-claims t) (write-state-at t) write-state.Post
+write-state-same-length-2 t c = search needs
+
+write-state-returns-2 : (t : ℕ) → write-state-lts.Need-returns-2 (state-claims t) (write-state-at t) write-state.Post
+write-state-returns-2 t c =
+    let looked = c .before .before .before .before .before in
+    let entry = looked .before .before .before .before .before .before in
+    let a = entry .args in
+    walk-open (machine-of (a .events) (a .table .now)) (a .events) (a .path .now) (entry .pre .1 .0 .has-room .at-within)
+    (looked .open-place .ensures) (c .before .before .before .before .if2 .taken) (c .before .before .put-node .ensures)
+
+write-state-put-node-requires-2 : (t : ℕ) → write-state-lts.Need-put-node-requires-2 (state-claims t) (write-state-at t) write-state.Post
+write-state-put-node-requires-2 t c κs = search needs
+
+write-state-mul-path : (t : ℕ) → write-state-lts.Need-mul-path (state-claims t) (write-state-at t) write-state.Post
+write-state-mul-path t c = search needs
+
+write-state-slice-write-path : (t : ℕ) → write-state-lts.Need-slice-write-path (state-claims t) (write-state-at t) write-state.Post
+write-state-slice-write-path t c = search needs
+
+write-state-add-write-rows : (t : ℕ) → write-state-lts.Need-add-write-rows (state-claims t) (write-state-at t) write-state.Post
+write-state-add-write-rows t c = search needs
+
+write-state-write-rows-requires : (t : ℕ) → write-state-lts.Need-write-rows-requires (state-claims t) (write-state-at t) write-state.Post
+write-state-write-rows-requires t c κs =
+    let x = c .before .before .before .before .put-node2 .ensures in
+    let entry = c .before .before .before .before .before .before .before .before .before .before .before .before .before in
+    let below = c .before .before .before .before .before .before .before .before .before .if1 .left in
+    (omega (arith, entry .pre .0, below, x .position), (ready-rows (entry .pre .1 .0) below x, entry .pre .1 .1))
+
+write-state-same-length-3 : (t : ℕ) → write-state-lts.Need-same-length-3 (state-claims t) (write-state-at t) write-state.Post
+write-state-same-length-3 t c = c .before .before .before .before .write-rows .kept .1 .1 .1 .0 ∙ simp length-set
+
+write-state-same-length-4 : (t : ℕ) → write-state-lts.Need-same-length-4 (state-claims t) (write-state-at t) write-state.Post
+write-state-same-length-4 t c = search needs
+
+write-state-returns-3 : (t : ℕ) → write-state-lts.Need-returns-3 (state-claims t) (write-state-at t) write-state.Post
+write-state-returns-3 t c =
+    let looked = c .before .before .before .before .before .before .before .before .before .before .before .before in
+    let entry = looked .before .before .before .before .before .before in
+    let a = entry .args in
+    let h = entry .pre .1 .0 in
+    walk-new (machine-of (a .events) (a .table .now)) (a .events) (a .path .now) (h .has-room .at-within)
+    (omega (arith, h, looked .before .before .if1 .left)) (looked .open-place .ensures) (c .before .before .before .before .before .before .before .before .before .before .before .if2 .left) (c .before .before .before .before .before .before .before .before .before .put-node2 .ensures)
+    (c .before .before .before .before .write-rows .ensures)
+
+pub +write-rows+write-state-spec : {M : Type 1} → statement M
++write-rows+write-state-spec = close μ-write-rows μ-write-state (λ t. write-rows-lts.spec (rows-claims t)
     (write-rows-at t)
     write-rows.Post
     (write-rows-add-result t)
@@ -591,14 +233,7 @@ pub +write-rows+write-state-spec : {M : Type 1} → statement M
     (write-rows-same-length-3 t)
     (write-rows-same-length-4 t)
     (write-rows-returns-3 t))
-    λ t. write-state-lts.spec (
-      open-place-reads.Asked,
-      open-place-reads.Learnt,
-      put-node-reads.Asked,
-      put-node-reads.Learnt,
-      write-rows-below t,
-      write-rows.Post,
-    )
+    λ t. write-state-lts.spec (state-claims t)
     (write-state-at t)
     write-state.Post
     (write-state-add-result t)

@@ -1,24 +1,19 @@
-use Rattle.characteristic.proofs.Outputs.{walk-listed}
+-- `characteristic::list_nodes` meets its contract: it is the walk from the start, with no state open.
+-- Assumes nothing.
 use borrow.Author.Needs.{needs}
+use Rattle.characteristic.proofs.Outputs.{walk-listed}
 use Rattle.characteristic.proofs.list_nodes.Statement.{statement}
 use Rattle.characteristic.proofs.list_nodes.Tie as tie
-use Rattle.characteristic.proofs.list_nodes.Reads as reads
-use Rattle.characteristic.proofs.list_nodes.Lts as lts
-use Rattle.characteristic.proofs.write_state.Reads as write-state-reads
 
--- src/lib.rt:153:39
 slice-aggregate-write-state : tie.Need-slice-aggregate-write-state
 slice-aggregate-write-state c = search needs
 
--- src/lib.rt:153:5
 write-state-requires : tie.Need-write-state-requires
 write-state-requires c κs = search needs
 
--- src/lib.rt:148:1
 same-length : tie.Need-same-length
 same-length c = search needs
 
--- src/lib.rt:148:1
 returns : tie.Need-returns
 returns c = walk-listed (c .before .before .before .before .before .before .before .before .args .events) (c .before .before .before .write-state .ensures)
 

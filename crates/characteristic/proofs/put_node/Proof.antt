@@ -1,69 +1,54 @@
-use Rattle.characteristic.proofs.Appended.{nothing-fits, one-node}
-use lib.ListN.{length-set}
+-- `characteristic::put_node` meets its contract: three stores, or no room.
+-- Assumes nothing.
 use native.Mathlib.Omega.{arith}
+use lib.ListN.{length-set}
 use borrow.Author.Needs.{needs}
+use Rattle.characteristic.proofs.Appended.{nothing-fits, one-node}
 use Rattle.characteristic.proofs.put_node.Statement.{statement}
 use Rattle.characteristic.proofs.put_node.Tie as tie
-use Rattle.characteristic.proofs.put_node.Reads as reads
-use Rattle.characteristic.proofs.put_node.Lts as lts
 
--- src/lib.rt:35:16
 add-result : tie.Need-add-result
 add-result c = search needs
 
--- src/lib.rt:35:9
 returns : tie.Need-returns
 returns c = nothing-fits 1 _ _ (c .if1 .taken) (c .before .pre .0 .at-within) (omega arith)
 
--- src/lib.rt:37:8
 mul-to : tie.Need-mul-to
 mul-to c = search needs
 
--- src/lib.rt:37:5
 slice-write-to : tie.Need-slice-write-to
 slice-write-to c = search needs
 
--- src/lib.rt:38:22
 cast-to : tie.Need-cast-to
 cast-to c = search needs
 
--- src/lib.rt:38:8
 mul-to-2 : tie.Need-mul-to-2
 mul-to-2 c = search needs
 
--- src/lib.rt:38:8
 add-to : tie.Need-add-to
 add-to c = search needs
 
--- src/lib.rt:38:5
 slice-write-to-2 : tie.Need-slice-write-to-2
 slice-write-to-2 c = simp length-set (omega arith)
 
--- src/lib.rt:39:22
 cast-to-2 : tie.Need-cast-to-2
 cast-to-2 c = search needs
 
--- src/lib.rt:39:8
 mul-to-3 : tie.Need-mul-to-3
 mul-to-3 c = search needs
 
--- src/lib.rt:39:8
 add-to-2 : tie.Need-add-to-2
 add-to-2 c = search needs
 
--- src/lib.rt:39:5
 slice-write-to-3 : tie.Need-slice-write-to-3
 slice-write-to-3 c = simp length-set (omega arith)
 
--- src/lib.rt:40:5
 add-result-2 : tie.Need-add-result-2
 add-result-2 c = search needs
 
--- src/lib.rt:30:1
 same-length : tie.Need-same-length
 same-length c = simp length-set
 
--- src/lib.rt:30:1
 returns-2 : tie.Need-returns-2
 returns-2 c = one-node _ _ _ _ (c .before .pre .0) (c .if1 .left)
 

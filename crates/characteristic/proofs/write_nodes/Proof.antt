@@ -1,50 +1,37 @@
-use Rattle.characteristic.proofs.Outputs.{too-many, too-short, all-copied}
-use native.Mathlib.Omega.{arith}
+-- `characteristic::write_nodes` meets its contract: 12 and 13 judged by the node count, and the copy.
+-- Assumes nothing.
 use borrow.Author.Needs.{needs}
+use Rattle.characteristic.proofs.Outputs.{too-many, too-short, all-copied}
 use Rattle.characteristic.proofs.write_nodes.Statement.{statement}
 use Rattle.characteristic.proofs.write_nodes.Tie as tie
-use Rattle.characteristic.proofs.write_nodes.Reads as reads
-use Rattle.characteristic.proofs.write_nodes.Lts as lts
-use Rattle.characteristic.proofs.copy_front.Reads as copy-front-reads
-use Rattle.characteristic.proofs.list_nodes.Reads as list-nodes-reads
 
--- src/lib.rt:172:62
 slice-aggregate-list-nodes : tie.Need-slice-aggregate-list-nodes
 slice-aggregate-list-nodes c = search needs
 
--- src/lib.rt:172:9
 list-nodes-requires : tie.Need-list-nodes-requires
 list-nodes-requires c κs = search needs
 
--- src/lib.rt:174:9
 returns : tie.Need-returns
 returns c = too-many (c .before .before .list-nodes .ensures) (c .if1 .taken)
 
--- src/lib.rt:176:19
 mul-if2 : tie.Need-mul-if2
 mul-if2 c = search needs
 
--- src/lib.rt:177:9
 returns-2 : tie.Need-returns-2
 returns-2 c = too-short (c .before .before .before .list-nodes .ensures) (c .before .if1 .left) (c .if2 .taken)
 
--- src/lib.rt:179:16
 slice-aggregate-copy-front : tie.Need-slice-aggregate-copy-front
 slice-aggregate-copy-front c = search needs
 
--- src/lib.rt:179:24
 mul-copy-front : tie.Need-mul-copy-front
 mul-copy-front c = search needs
 
--- src/lib.rt:179:5
 copy-front-requires : tie.Need-copy-front-requires
 copy-front-requires c κs = search needs
 
--- src/lib.rt:167:1
 same-length : tie.Need-same-length
 same-length c = search needs
 
--- src/lib.rt:167:1
 returns-3 : tie.Need-returns-3
 returns-3 c = all-copied (c .before .before .before .before .before .before .before .before .list-nodes .ensures) (c .before .before .before .before .before .before .if1 .left) (c .before .before .before .before .before .if2 .left) (c .before .before .copy-front .ensures)
 
