@@ -57,10 +57,10 @@ both {limit} {at} {p} {r} {a} {b} {xs} {ys} {before} {between} {after} x y =
     }
 
 -- The same nodes counted and listed in another way.
-pub said-as :
+pub recounted :
     {limit at a b r : ℕ} {xs ys before after : List ℕ} → a ≡ b → xs ≡ ys
     → Appends limit at a xs before after r → Appends limit at b ys before after r
-said-as {limit} {at} {before = before} e d x =
+recounted {limit} {at} {before = before} e d x =
     record {
       position = x .position ∙ ap (λ n. min (at + n) (limit + 1)) e;
       contents = λ h. x .contents h ∙ ap (λ l. take (at * 3) before ++ l) d;

@@ -30,7 +30,8 @@ use Rattle.machines.specs.TableBytes.{machine-of, table-condition}
 use Rattle.machines.specs.TableRefusal.{table-refusal}
 use Rattle.machines.proofs.TableRefusals.{table-refusal-first}
 use Rattle.characteristic.specs.RuleOfTable.{IsRuleOf, TooManyNodes, BufferTooShort, write-conditions, output-refusal, after-call, rule-of, write-refusal, write-answer, write-contents}
-use Rattle.characteristic.specs.Claims.{WriteRefusalClaim, RuleWritten, Written, WrittenClaim}
+use Rattle.characteristic.specs.Claims.{WriteRefusalClaim, RefusedClaim, RuleWritten, Written, WrittenClaim}
+use Rattle.characteristic.proofs.Outputs.{refused-answer}
 use Rattle.characteristic.proofs.Answers.{is-rule, runs, last-event, start-within}
 
 -- Conditions one after the other, where the later ones are judged only if the earlier ones are not met.
@@ -139,6 +140,13 @@ write-refusal-claim =
           (write-first state-limit node-limit s states start table room);
       ordered = write-order;
     }
+
+pub refused-claim : RefusedClaim
+unfolding write-answer write-contents
+refused-claim state-limit node-limit s states start table old refusal e =
+    let given =
+    refused-answer refusal (size (rule-of s states start table)) (encode-formula three-bytes (rule-of s states start table)) old e in
+    (sym (given .0), sym (given .1))
 
 -- The rule of an accepted call.
 module _ (s : Setup) (states start : ℕ) (table old : List ℕ)

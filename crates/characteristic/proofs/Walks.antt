@@ -15,7 +15,7 @@ use Rattle.formulas.specs.NodeBytes.{encode-formula, encode-all, three-bytes}
 use Rattle.formulas.proofs.Encoding.{encode-append}
 use Rattle.formulas.proofs.ThreeBytes.{three-bytes-code}
 use Rattle.characteristic.specs.NodeOutput.{Appends, HasRoom, Looked, open-path, Ready, Walked}
-use Rattle.characteristic.proofs.Appended.{nothing-fits, both, said-as}
+use Rattle.characteristic.proofs.Appended.{nothing-fits, both, recounted}
 use Rattle.characteristic.proofs.OpenPath.{path-kept, path-opened, path-below}
 
 module _ (m : Machine ℕ ℕ) (events limit : ℕ) where
@@ -33,7 +33,7 @@ module _ (m : Machine ℕ ℕ) (events limit : ℕ) {at : ℕ} {path before : Li
   pub open-state :
       {after : List ℕ} {i r : ℕ} → OpenAt s path i → Appends limit at 1 (1 ∷ i ∷ 0 ∷ []) before after r
       → State m events limit at path s before after r
-  open-state o x _ (already-open p) = said-as refl (ap (λ n. 1 ∷ n ∷ 0 ∷ []) (open-one o p)) x
+  open-state o x _ (already-open p) = recounted refl (ap (λ n. 1 ∷ n ∷ 0 ∷ []) (open-one o p)) x
   open-state {i = i} o x _ (opened c rows) = absurd (c i o)
 
   -- A state that is not.
@@ -41,7 +41,7 @@ module _ (m : Machine ℕ ℕ) (events limit : ℕ) {at : ℕ} {path before : Li
       {between after : List ℕ} {part r : ℕ} → ((i : ℕ) → ¬ OpenAt s path i) → Appends limit at 1 (5 ∷ 0 ∷ 0 ∷ []) before between part
       → RowsFrom m events limit part (s ∷ path) s zero between after r → State m events limit at path s before after r
   new-state c x rest _ (already-open {i = i} o) = absurd (c i o)
-  new-state c x rest _ (opened {φ = φ} d rows) = said-as (omega arith) refl (both x (rest φ rows))
+  new-state c x rest _ (opened {φ = φ} d rows) = recounted (omega arith) refl (both x (rest φ rows))
 
   module _ {e : ℕ} {one two : List ℕ} {part end : ℕ} (x : Appends limit at 2 (4 ∷ 0 ∷ 0 ∷ 2 ∷ e ∷ 0 ∷ []) before one part)
       (y : State m events limit part path (m .next s e) one two end) where
@@ -50,7 +50,7 @@ module _ (m : Machine ℕ ℕ) (events limit : ℕ) {at : ℕ} {path before : Li
         {after : List ℕ} {r : ℕ} → e + 1 ≡ events → Appends limit end 1 (3 ∷ e ∷ m .value s e ∷ []) two after r
         → RowsFrom m events limit at path s e before after r
     last-event l z _ (last-row {φ = φ} h w) =
-        said-as (omega arith)
+        recounted (omega arith)
         (ap (λ b. 4 ∷ 0 ∷ 0 ∷ 2 ∷ e ∷ 0 ∷ b) (sym (encode-append 3 three-bytes three-bytes-code (nodes φ) (output-node e (m .value s e) ∷ []))))
         (both x (both (y φ w) z))
     last-event l z _ (row h w rows) = absurd (omega arith)
@@ -61,7 +61,7 @@ module _ (m : Machine ℕ ℕ) (events limit : ℕ) {at : ℕ} {path before : Li
         → RowsFrom m events limit rest path s (suc e) three after r → RowsFrom m events limit at path s e before after r
     another-event l z more _ (last-row h w) = absurd (l (omega arith))
     another-event l z more _ (row {φ = φ} {χ = χ} h w rows) =
-        said-as (omega arith)
+        recounted (omega arith)
         (ap (λ b. 4 ∷ 0 ∷ 0 ∷ 2 ∷ e ∷ 0 ∷ b)
         (sym (encode-append 3 three-bytes three-bytes-code (nodes φ) (conjunction-node ∷ output-node e (m .value s e) ∷ nodes χ))))
         (both x (both (y φ w) (both z (more χ rows))))
@@ -137,7 +137,7 @@ module _ (m : Machine ℕ ℕ) (events : ℕ) {limit at depth state event next v
         same-stack = y .same-stack;
         same-path = y .same-path;
         written =
-            last-event m events limit x part-written l (said-as refl (ap (λ v. 3 ∷ event ∷ v ∷ []) value-is) z);
+            last-event m events limit x part-written l (recounted refl (ap (λ v. 3 ∷ event ∷ v ∷ []) value-is) z);
       }
 
   -- The row of another event, and those after it.
@@ -156,7 +156,7 @@ module _ (m : Machine ℕ ℕ) (events : ℕ) {limit at depth state event next v
         same-path = more .same-path ∙ y .same-path;
         written =
             another-event m events limit x part-written l
-            (said-as refl (ap (λ v. 4 ∷ 0 ∷ 0 ∷ 3 ∷ event ∷ v ∷ []) value-is) z)
+            (recounted refl (ap (λ v. 4 ∷ 0 ∷ 0 ∷ 3 ∷ event ∷ v ∷ []) value-is) z)
             (λ χ rows. more .written χ
             (subst (λ ps. Rows m events ps state (event + 1) χ) (sym (y .same-path))
             (subst (λ k. Rows m events (open-path stack depth) state k χ) e rows)));
@@ -182,6 +182,25 @@ ready-rows {depth = depth} {state = state} {stack = stack} h below x =
       few-events = h .few-events;
       small-state = h .small-state;
     }
+
+-- For the part of a G, with the same states open.
+pub ready-part :
+    {limit events depth state next at part : ℕ} {stack before after bytes : List ℕ} → Ready limit events depth state at stack before
+    → next < 256 → Appends limit at 2 bytes before after part → Ready limit events depth next part stack after
+ready-part h small x =
+    record {
+      has-room = room-after (h .has-room) x;
+      stack-room = h .stack-room;
+      shallow = omega (arith, h .shallow, h .has-room .at-within, x .position);
+      few-events = h .few-events;
+      small-state = small;
+    }
+
+-- After that part.
+pub room-walked :
+    {Of : List ℕ → Formula ℕ → Type 0} {limit depth at r : ℕ} {stack stack-after before after : List ℕ} → HasRoom limit at before
+    → Walked Of limit depth at stack stack-after before after r → HasRoom limit r after
+room-walked h y = record { room = omega (arith, h .room, y .same-length); some-limit = h .some-limit; at-within = y .within }
 
 module _ {Of : List ℕ → Formula ℕ → Type 0} {limit events depth state at part end rest : ℕ}
     {stack stack-one before one two three bytes others : List ℕ} (h : Ready limit events depth state at stack before)

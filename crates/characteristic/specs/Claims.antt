@@ -1,7 +1,7 @@
 -- What is claimed of the rule of a table (document 01, "Rule of a table" and refusals 12 and 13); proofs/Claims has a proof of each.
 -- Assumes nothing.
 use mathlib.Core.Path.{_≡_}
-use mathlib.Core.Option.{Option, none}
+use mathlib.Core.Option.{Option, none, some}
 use mathlib.Core.List.{List, [], _∷_}
 use Prim.Native.Nat.{ℕ, suc, _+_, _*_, _≤_, _<_}
 use lib.ListN.{length}
@@ -11,11 +11,11 @@ use Rattle.theory.specs.MealyMachine.{Machine, Word, after}
 use Rattle.theory.specs.ValueSets.{Below, meetAt}
 use Rattle.theory.specs.ReachableStates.{IsTableOf, StatesAtMost}
 use Rattle.refusal.specs.declared.Refusal.{Refusal}
-use Rattle.refusal.specs.declared.Counted.the-variants.{Count}
+use Rattle.refusal.specs.declared.Counted.the-variants.{Count, Refused}
 use Rattle.refusal.specs.Refusal.{First, InOrder}
 use Rattle.values.specs.Setup.{Setup}
 use Rattle.formulas.specs.NodeBytes.{encode-formula, three-bytes}
-use Rattle.formulas.specs.RuleRefusal.{rule-refusal}
+use Rattle.formulas.specs.RuleRefusal.{node-width, node-limit, rule-refusal}
 use Rattle.machines.specs.TableBytes.{machine-of}
 use Rattle.machines.specs.StoredEntries.{put}
 use Rattle.characteristic.specs.RuleOfTable.{IsRuleOf, write-conditions, write-refusal, write-answer, write-contents}
@@ -44,7 +44,7 @@ module _ (s : Setup) (start : ℕ) (table : List ℕ) where
   pub record RuleWritten (φ : Formula ℕ) : Type 0 where
     pub is-rule : IsRuleOf (s .events) start table φ
     pub only-rule : (χ : Formula ℕ) → IsRuleOf (s .events) start table χ → χ ≡ φ
-    pub accepted : Accepted 256 (s .events) (Below (s .values)) φ
+    pub accepted : Accepted node-limit (s .events) (Below (s .values)) φ
     pub accepted-bytes : rule-refusal (s .events) (s .values) (encode-formula three-bytes φ) ≡ none
     pub few-binders : binders φ ≤ 63
     pub size-by-binders : size φ + binders φ ≡ suc (5 * (s .events * binders φ))
@@ -53,7 +53,15 @@ module _ (s : Setup) (start : ℕ) (table : List ℕ) where
     pub same-values :
         (w : List ℕ) → Word (s .events) w → (e : ℕ) → e < s .events
         → Answers meet (s .top) φ w e (machine-of (s .events) table .value (after (machine-of (s .events) table) start w) e)
-    pub byte-count : length (encode-formula three-bytes φ) ≡ size φ * 3
+    pub byte-count : length (encode-formula three-bytes φ) ≡ size φ * node-width
+
+-- A refused call answers that refusal, and the buffer is as it was.
+abbrev pub RefusedClaim : Type 0
+RefusedClaim =
+    (state-limit node-limit : ℕ) (s : Setup) (states start : ℕ) (table old : List ℕ) (refusal : Refusal)
+    → write-refusal state-limit node-limit s states start table (length old) ≡ some refusal
+    → (write-answer state-limit node-limit s states start table old ≡ Refused refusal)
+    × (write-contents state-limit node-limit s states start table old ≡ old)
 
 -- An accepted call answers the node count of the written rule, and the buffer gets its nodes.
 pub record Written (s : Setup) (states start : ℕ) (table old : List ℕ) : Type 0 where

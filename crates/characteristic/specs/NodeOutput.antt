@@ -1,7 +1,6 @@
 -- What the parts of the walk over a table promise: nodes appended to a buffer up to a limit, and the path of open states.
 -- Assumes nothing.
 use mathlib.Core.Path.{_≡_}
-use mathlib.Core.Option.{Option}
 use mathlib.Core.List.{List, [], _∷_, _++_}
 use Prim.Native.Nat.{ℕ, zero, suc, _+_, _*_, _≤_, _<_, min}
 use lib.ListN.{length, getD, take}
@@ -10,18 +9,19 @@ use Rattle.theory.specs.CharacteristicFormula.{OpenAt}
 use Rattle.refusal.specs.declared.Counted.{Counted}
 use Rattle.refusal.specs.Refusal.{counted}
 use Rattle.formulas.specs.NodeBytes.{encode-formula, three-bytes}
+use Rattle.formulas.specs.RuleRefusal.{node-width}
 use Rattle.characteristic.specs.RuleOfTable.{IsRuleOf, output-refusal, after-call}
 
 -- After `at` nodes, `count` nodes more are appended, with these bytes; `r` is the node count afterwards. One more than the limit
 -- says that the nodes do not fit, and then the buffer's contents are no matter.
 pub record Appends (limit at count : ℕ) (bytes before after : List ℕ) (r : ℕ) : Type 0 where
   pub position : r ≡ min (at + count) (limit + 1)
-  pub contents : r ≤ limit → take (r * 3) after ≡ take (at * 3) before ++ bytes
+  pub contents : r ≤ limit → take (r * node-width) after ≡ take (at * node-width) before ++ bytes
   pub same-length : length after ≡ length before
 
 -- A buffer with room for `limit` nodes, of which `at` are there; the limit lets a node number fit a byte.
 pub record HasRoom (limit at : ℕ) (to : List ℕ) : Type 0 where
-  pub room : limit * 3 ≤ length to
+  pub room : limit * node-width ≤ length to
   pub some-limit : limit ≤ 256
   pub at-within : at ≤ limit + 1
 

@@ -16,6 +16,7 @@ use Rattle.refusal.specs.declared.Counted.{Counted}
 use Rattle.refusal.specs.Refusal.{Condition, plain, or-else, plain-unless, counted}
 use Rattle.values.specs.Setup.{Setup, setup-conditions, setup-refusal}
 use Rattle.formulas.specs.NodeBytes.{encode-formula, three-bytes}
+use Rattle.formulas.specs.RuleRefusal.{node-width}
 use Rattle.machines.specs.TableBytes.{machine-of, table-condition}
 use Rattle.machines.specs.TableRefusal.{table-refusal}
 use Rattle.machines.specs.StoredEntries.{put}
@@ -46,7 +47,7 @@ module _ (state-limit node-limit : ℕ) (s : Setup) (states start : ℕ) (table 
 -- Computing twins. 12 or 13 or none, for a formula that is written to a buffer of `room` bytes, three a node.
 unfoldable pub output-refusal : (node-limit : ℕ) → Formula ℕ → (room : ℕ) → Option Refusal
 output-refusal node-limit φ room =
-    or-else (plain-unless (leb (size φ) node-limit) 12) (plain-unless (leb (size φ * 3) room) 13)
+    or-else (plain-unless (leb (size φ) node-limit) 12) (plain-unless (leb (size φ * node-width) room) 13)
 
 -- A buffer after a call: the output at its front where there is no refusal, and otherwise as it was.
 unfoldable pub after-call : Option Refusal → (output old : List ℕ) → List ℕ

@@ -1,4 +1,6 @@
 // The rule of a table (document 01, "Rule of a table"): refusals 1 to 3, 11, 12 and 13.
+use formulas::NODE_LIMIT;
+use formulas::NODE_WIDTH;
 use refusal::Counted;
 use refusal::Judgement;
 use refusal::Refusal;
@@ -15,9 +17,6 @@ ghost use Rattle.characteristic.specs.NodeOutput.{Appends, HasRoom, Look
 
 // A table handed in has at most so many states.
 pub const STATE_LIMIT: usize = 64;
-
-// A written rule has at most so many nodes.
-pub const NODE_LIMIT: usize = 256;
 
 // Kinds of nodes.
 const VARIABLE: u8 = 1;
@@ -38,9 +37,9 @@ fn put_node(to: &mut [u8], limit: usize, at: usize, kind: u8, first: usize, valu
     if limit <= at {
         return limit + 1;
     }
-    to[at * 3] = kind;
-    to[at * 3 + 1] = first as u8;
-    to[at * 3 + 2] = value as u8;
+    to[at * NODE_WIDTH] = kind;
+    to[at * NODE_WIDTH + 1] = first as u8;
+    to[at * NODE_WIDTH + 2] = value as u8;
     at + 1
 }
 
@@ -187,10 +186,10 @@ fn write_nodes(table: &[u8], events: usize, start: usize, to: &mut [u8]) -> Coun
     if NODE_LIMIT < count {
         return Counted::Refused(Refusal::Plain(refusal::WRITTEN_SIZE));
     }
-    if to.len() < count * 3 {
+    if to.len() < count * NODE_WIDTH {
         return Counted::Refused(Refusal::Plain(refusal::BUFFER_LENGTH));
     }
-    copy_front(&nodes, count * 3, to);
+    copy_front(&nodes, count * NODE_WIDTH, to);
     Counted::Count(count)
 }
 

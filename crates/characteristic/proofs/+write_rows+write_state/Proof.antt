@@ -4,12 +4,13 @@
 use mathlib.Core.Path.{_∙_}
 use Prim.Native.Nat.{ℕ, _+_, _-_, _<_}
 use native.Mathlib.Omega.{arith}
+use lib.Dec.{lit<}
 use lib.ListN.{length-set}
 use borrow.Author.Needs.{needs}
 use borrow.Fn.Kinds.{In}
 use borrow.Fn.PlainCycle.{Measures, is, falls, and}
 use Rattle.machines.specs.TableBytes.{machine-of}
-use Rattle.characteristic.proofs.Walks.{walk-full, walk-open, walk-new, walk-last, walk-more, ready-rows, ready-more, fewer-left}
+use Rattle.characteristic.proofs.Walks.{walk-full, walk-open, walk-new, walk-last, walk-more, room-after, ready-rows, ready-part, room-walked, ready-more, fewer-left}
 use Rattle.characteristic.proofs.write_rows.Reads as write-rows
 use Rattle.characteristic.proofs.write_rows.Kinds as write-rows-kinds
 use Rattle.characteristic.proofs.+write_rows+write_state.Lts-write_rows as write-rows-lts
@@ -77,34 +78,51 @@ state-claims t = (
 )
 
 write-rows-add-result : (t : ℕ) → write-rows-lts.Need-add-result (rows-claims t) (write-rows-at t) write-rows.Post
-write-rows-add-result t c = search needs
+write-rows-add-result t c = omega (arith, c .before .before .before .before .pre .1 .0 .has-room .some-limit)
 
 write-rows-returns : (t : ℕ) → write-rows-lts.Need-returns (rows-claims t) (write-rows-at t) write-rows.Post
 write-rows-returns t c = walk-full _ _ _ _ (c .if1 .taken) (c .before .before .before .before .pre .1 .0 .has-room .at-within)
 
 write-rows-put-transition-requires : (t : ℕ) → write-rows-lts.Need-put-transition-requires (rows-claims t) (write-rows-at t) write-rows.Post
-write-rows-put-transition-requires t c κs = search needs
+write-rows-put-transition-requires t c κs =
+    let h = c .before .before .before .before .before .pre .1 in
+    (h .0 .has-room, omega (arith, h .1, h .0 .few-events))
 
 write-rows-next-state-requires : (t : ℕ) → write-rows-lts.Need-next-state-requires (rows-claims t) (write-rows-at t) write-rows.Post
-write-rows-next-state-requires t c κs = search needs
+write-rows-next-state-requires t c κs =
+    let h = c .before .before .before .before .before .before .before .before .pre .1 in
+    (h .0 .small-state, h .1, h .0 .few-events)
 
 write-rows-write-state-requires : (t : ℕ) → write-rows-lts.Need-write-state-requires (rows-claims t) (write-rows-at t) write-rows.Post
-write-rows-write-state-requires t c κs = search needs
+write-rows-write-state-requires t c κs =
+    let entry = c .before .before .before .before .before .before .before .before .before .before .before in
+    let x = c .before .before .before .before .before .put-transition .ensures in (
+      omega (arith, entry .pre .0, c .before .before .before .before .before .before .before .if1 .left, x .position),
+      (ready-part (entry .pre .1 .0) (c .before .before .next-state .ensures .1) x, omega (arith, entry .pre .1 .1)),
+    )
 
 write-rows-value-of-requires : (t : ℕ) → write-rows-lts.Need-value-of-requires (rows-claims t) (write-rows-at t) write-rows.Post
-write-rows-value-of-requires t c κs = search needs
+write-rows-value-of-requires t c κs =
+    let h = c .before .before .before .before .before .before .before .before .before .before .before .before .before .before .before .before .pre .1 in
+    (h .0 .small-state, h .1, h .0 .few-events)
 
 write-rows-add-if2 : (t : ℕ) → write-rows-lts.Need-add-if2 (rows-claims t) (write-rows-at t) write-rows.Post
-write-rows-add-if2 t c = search needs
+write-rows-add-if2 t c = let h = c .before .before .before .before .before .before .before .before .before .before .before .before .before .before .before .before .before .pre .1 in omega (arith, h .1, h .0 .few-events)
 
 write-rows-put-node-requires : (t : ℕ) → write-rows-lts.Need-put-node-requires (rows-claims t) (write-rows-at t) write-rows.Post
-write-rows-put-node-requires t c κs = search needs
+write-rows-put-node-requires t c κs =
+    let h = c .before .before .before .before .before .before .before .before .before .before .before .before .before .before .before .before .before .before .before .pre .1 in (
+      room-walked (room-after (h .0 .has-room) (c .before .before .before .before .before .before .before .before .before .before .before .before .before .put-transition .ensures)) (c .before .before .before .before .before .before .before .write-state .ensures),
+      omega (arith, h .1, h .0 .few-events),
+      c .before .before .value-of .ensures .1,
+    )
 
 write-rows-same-length : (t : ℕ) → write-rows-lts.Need-same-length (rows-claims t) (write-rows-at t) write-rows.Post
-write-rows-same-length t c = search needs
+write-rows-same-length t c = c .before .before .before .before .before .before .before .before .before .before .write-state .ensures .same-stack
 
 write-rows-same-length-2 : (t : ℕ) → write-rows-lts.Need-same-length-2 (rows-claims t) (write-rows-at t) write-rows.Post
-write-rows-same-length-2 t c = search needs
+write-rows-same-length-2 t c =
+    c .before .before .put-node .ensures .same-length ∙ c .before .before .before .before .before .before .before .before .before .before .write-state .ensures .same-length ∙ c .before .before .before .before .before .before .before .before .before .before .before .before .before .before .before .before .put-transition .ensures .same-length
 
 write-rows-returns-2 : (t : ℕ) → write-rows-lts.Need-returns-2 (rows-claims t) (write-rows-at t) write-rows.Post
 write-rows-returns-2 t c =
@@ -117,10 +135,15 @@ write-rows-returns-2 t c =
     (c .before .before .before .before .if2 .taken) (c .before .before .put-node .ensures)
 
 write-rows-put-output-requires : (t : ℕ) → write-rows-lts.Need-put-output-requires (rows-claims t) (write-rows-at t) write-rows.Post
-write-rows-put-output-requires t c κs = search needs
+write-rows-put-output-requires t c κs =
+    let h = c .before .before .before .before .before .before .before .before .before .before .before .before .before .before .before .before .before .before .before .pre .1 in (
+      room-walked (room-after (h .0 .has-room) (c .before .before .before .before .before .before .before .before .before .before .before .before .before .put-transition .ensures)) (c .before .before .before .before .before .before .before .write-state .ensures),
+      omega (arith, h .1, h .0 .few-events),
+      c .before .before .value-of .ensures .1,
+    )
 
 write-rows-add-write-rows : (t : ℕ) → write-rows-lts.Need-add-write-rows (rows-claims t) (write-rows-at t) write-rows.Post
-write-rows-add-write-rows t c = search needs
+write-rows-add-write-rows t c = let h = c .before .before .before .before .before .before .before .before .before .before .before .before .before .before .before .before .before .before .before .before .before .before .before .pre .1 in omega (arith, h .1, h .0 .few-events)
 
 write-rows-write-rows-requires : (t : ℕ) → write-rows-lts.Need-write-rows-requires (rows-claims t) (write-rows-at t) write-rows.Post
 write-rows-write-rows-requires t c κs =
@@ -136,10 +159,12 @@ write-rows-write-rows-requires t c κs =
     )
 
 write-rows-same-length-3 : (t : ℕ) → write-rows-lts.Need-same-length-3 (rows-claims t) (write-rows-at t) write-rows.Post
-write-rows-same-length-3 t c = search needs
+write-rows-same-length-3 t c = c .before .before .before .before .write-rows .ensures .same-stack ∙ c .before .before .before .before .before .before .before .before .before .before .before .before .before .before .before .before .before .write-state .ensures .same-stack
 
 write-rows-same-length-4 : (t : ℕ) → write-rows-lts.Need-same-length-4 (rows-claims t) (write-rows-at t) write-rows.Post
-write-rows-same-length-4 t c = search needs
+write-rows-same-length-4 t c =
+    c .before .before .before .before .write-rows .ensures .same-length ∙ c .before .before .before .before .before .before .before .before .before .put-output .ensures .same-length ∙ c .before .before .before .before .before .before .before .before .before .before .before .before .before .before .before .before .before .write-state .ensures .same-length
+    ∙ c .before .before .before .before .before .before .before .before .before .before .before .before .before .before .before .before .before .before .before .before .before .before .before .put-transition .ensures .same-length
 
 write-rows-returns-3 : (t : ℕ) → write-rows-lts.Need-returns-3 (rows-claims t) (write-rows-at t) write-rows.Post
 write-rows-returns-3 t c =
@@ -152,22 +177,26 @@ write-rows-returns-3 t c =
     (c .before .before .before .before .before .before .before .before .before .before .before .if2 .left) (c .before .before .before .before .before .before .before .before .before .put-output .ensures) (c .before .before .before .before .write-rows .ensures)
 
 write-state-add-result : (t : ℕ) → write-state-lts.Need-add-result (state-claims t) (write-state-at t) write-state.Post
-write-state-add-result t c = search needs
+write-state-add-result t c = omega (arith, c .before .before .before .before .pre .1 .0 .has-room .some-limit)
 
 write-state-returns : (t : ℕ) → write-state-lts.Need-returns (state-claims t) (write-state-at t) write-state.Post
 write-state-returns t c = walk-full _ _ _ _ (c .if1 .taken) (c .before .before .before .before .pre .1 .0 .has-room .at-within)
 
 write-state-open-place-requires : (t : ℕ) → write-state-lts.Need-open-place-requires (state-claims t) (write-state-at t) write-state.Post
-write-state-open-place-requires t c κs = search needs
+write-state-open-place-requires t c κs =
+    let h = c .before .before .before .before .before .pre .1 .0 in
+    omega (arith, h .stack-room, h .shallow, c .before .if1 .left)
 
 write-state-put-node-requires : (t : ℕ) → write-state-lts.Need-put-node-requires (state-claims t) (write-state-at t) write-state.Post
-write-state-put-node-requires t c κs = search needs
+write-state-put-node-requires t c κs =
+    let h = c .before .before .before .before .before .before .before .before .pre .1 .0 in
+    (h .has-room, omega (arith, h .shallow, h .has-room .some-limit, c .before .before .before .before .if1 .left, c .before .if2 .taken), lit< tt)
 
 write-state-same-length : (t : ℕ) → write-state-lts.Need-same-length (state-claims t) (write-state-at t) write-state.Post
 write-state-same-length t c = search needs
 
 write-state-same-length-2 : (t : ℕ) → write-state-lts.Need-same-length-2 (state-claims t) (write-state-at t) write-state.Post
-write-state-same-length-2 t c = search needs
+write-state-same-length-2 t c = c .before .before .put-node .ensures .same-length
 
 write-state-returns-2 : (t : ℕ) → write-state-lts.Need-returns-2 (state-claims t) (write-state-at t) write-state.Post
 write-state-returns-2 t c =
@@ -178,16 +207,20 @@ write-state-returns-2 t c =
     (looked .open-place .ensures) (c .before .before .before .before .if2 .taken) (c .before .before .put-node .ensures)
 
 write-state-put-node-requires-2 : (t : ℕ) → write-state-lts.Need-put-node-requires-2 (state-claims t) (write-state-at t) write-state.Post
-write-state-put-node-requires-2 t c κs = search needs
+write-state-put-node-requires-2 t c κs = (c .before .before .before .before .before .before .before .before .pre .1 .0 .has-room, lit< tt, lit< tt)
 
 write-state-mul-path : (t : ℕ) → write-state-lts.Need-mul-path (state-claims t) (write-state-at t) write-state.Post
 write-state-mul-path t c = search needs
 
 write-state-slice-write-path : (t : ℕ) → write-state-lts.Need-slice-write-path (state-claims t) (write-state-at t) write-state.Post
-write-state-slice-write-path t c = search needs
+write-state-slice-write-path t c =
+    let h = c .before .before .before .before .before .before .before .before .before .before .before .pre .1 .0 in
+    omega (arith, h .stack-room, h .shallow, c .before .before .before .before .before .before .before .if1 .left)
 
 write-state-add-write-rows : (t : ℕ) → write-state-lts.Need-add-write-rows (state-claims t) (write-state-at t) write-state.Post
-write-state-add-write-rows t c = search needs
+write-state-add-write-rows t c =
+    let h = c .before .before .before .before .before .before .before .before .before .before .before .before .pre .1 .0 in
+    omega (arith, h .shallow, h .has-room .some-limit, c .before .before .before .before .before .before .before .before .if1 .left)
 
 write-state-write-rows-requires : (t : ℕ) → write-state-lts.Need-write-rows-requires (state-claims t) (write-state-at t) write-state.Post
 write-state-write-rows-requires t c κs =
@@ -200,7 +233,7 @@ write-state-same-length-3 : (t : ℕ) → write-state-lts.Need-same-length-3 (st
 write-state-same-length-3 t c = c .before .before .before .before .write-rows .kept .1 .1 .1 .0 ∙ simp length-set
 
 write-state-same-length-4 : (t : ℕ) → write-state-lts.Need-same-length-4 (state-claims t) (write-state-at t) write-state.Post
-write-state-same-length-4 t c = search needs
+write-state-same-length-4 t c = c .before .before .before .before .write-rows .ensures .same-length ∙ c .before .before .before .before .before .before .before .before .before .put-node2 .ensures .same-length
 
 write-state-returns-3 : (t : ℕ) → write-state-lts.Need-returns-3 (state-claims t) (write-state-at t) write-state.Post
 write-state-returns-3 t c =
