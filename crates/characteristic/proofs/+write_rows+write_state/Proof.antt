@@ -1,0 +1,286 @@
+-- The proof of the cycle of calls {write_rows, write_state}. The measure is how many nodes are left up to one more than the limit.
+-- Each return is one step of the walk (`Walks`); each call of the other has fewer nodes left.
+-- Assumes nothing.
+use mathlib.Core.Path.{_∙_}
+use Prim.Native.Nat.{ℕ, _+_, _-_, _<_}
+use native.Mathlib.Omega.{arith}
+use lib.Dec.{lit<}
+use lib.ListN.{length-set}
+use borrow.Author.Needs.{needs}
+use borrow.Fn.Kinds.{In}
+use borrow.Fn.PlainCycle.{Measures, is, falls, and}
+use Rattle.machines.specs.TableBytes.{machine-of}
+use Rattle.characteristic.proofs.Walks.{walk-full, walk-open, walk-new, walk-last, walk-more, room-after, ready-rows, ready-part, room-walked, ready-more, fewer-left}
+use Rattle.characteristic.proofs.write_rows.Reads as write-rows
+use Rattle.characteristic.proofs.write_rows.Kinds as write-rows-kinds
+use Rattle.characteristic.proofs.+write_rows+write_state.Lts-write_rows as write-rows-lts
+use Rattle.characteristic.proofs.write_state.Reads as write-state
+use Rattle.characteristic.proofs.write_state.Kinds as write-state-kinds
+use Rattle.characteristic.proofs.+write_rows+write_state.Lts-write_state as write-state-lts
+use Rattle.characteristic.proofs.next_state.Reads as next-state-reads
+use Rattle.characteristic.proofs.open_place.Reads as open-place-reads
+use Rattle.characteristic.proofs.put_node.Reads as put-node-reads
+use Rattle.characteristic.proofs.put_output.Reads as put-output-reads
+use Rattle.characteristic.proofs.put_transition.Reads as put-transition-reads
+use Rattle.characteristic.proofs.value_of.Reads as value-of-reads
+use Rattle.characteristic.proofs.+write_rows+write_state.{statement}
+use Rattle.characteristic.proofs.+write_rows+write_state.Tie.{close}
+
+abbrev μ-write-rows : Measures 3 write-rows-kinds.ps ℕ
+μ-write-rows κs a = a .1 .1 .0 + 1 - a .1 .1 .1 .1 .1 .1 .1 .1 .0
+
+abbrev μ-write-state : Measures 3 write-state-kinds.ps ℕ
+μ-write-state κs a = a .1 .1 .0 + 1 - a .1 .1 .1 .1 .1 .1 .1 .0
+
+abbrev write-rows-at : ℕ → In 3 write-rows-kinds.ps
+write-rows-at t =
+    and 3 write-rows-kinds.ps (is 3 write-rows-kinds.ps μ-write-rows t) write-rows.Pre
+
+abbrev write-rows-below : ℕ → In 3 write-rows-kinds.ps
+write-rows-below t =
+    and 3 write-rows-kinds.ps (falls 3 write-rows-kinds.ps _<_ μ-write-rows t) write-rows.Pre
+
+abbrev write-state-at : ℕ → In 3 write-state-kinds.ps
+write-state-at t =
+    and 3 write-state-kinds.ps (is 3 write-state-kinds.ps μ-write-state t) write-state.Pre
+
+abbrev write-state-below : ℕ → In 3 write-state-kinds.ps
+write-state-below t =
+    and 3 write-state-kinds.ps (falls 3 write-state-kinds.ps _<_ μ-write-state t) write-state.Pre
+
+-- The contracts of the functions that each member calls.
+abbrev rows-claims : ℕ → write-rows-lts.Claims
+rows-claims t = (
+  put-transition-reads.Asked,
+  put-transition-reads.Learnt,
+  next-state-reads.Asked,
+  next-state-reads.Learnt,
+  write-state-below t,
+  write-state.Post,
+  value-of-reads.Asked,
+  value-of-reads.Learnt,
+  put-node-reads.Asked,
+  put-node-reads.Learnt,
+  put-output-reads.Asked,
+  put-output-reads.Learnt,
+  write-rows-below t,
+  write-rows.Post,
+)
+
+abbrev state-claims : ℕ → write-state-lts.Claims
+state-claims t = (
+  open-place-reads.Asked,
+  open-place-reads.Learnt,
+  put-node-reads.Asked,
+  put-node-reads.Learnt,
+  write-rows-below t,
+  write-rows.Post,
+)
+
+write-rows-add-result : (t : ℕ) → write-rows-lts.Need-add-result (rows-claims t) (write-rows-at t) write-rows.Post
+write-rows-add-result t c = omega (arith, c .before .before .before .before .pre .1 .0 .has-room .some-limit)
+
+write-rows-returns : (t : ℕ) → write-rows-lts.Need-returns (rows-claims t) (write-rows-at t) write-rows.Post
+write-rows-returns t c = walk-full _ _ _ _ (c .if1 .taken) (c .before .before .before .before .pre .1 .0 .has-room .at-within)
+
+write-rows-put-transition-requires : (t : ℕ) → write-rows-lts.Need-put-transition-requires (rows-claims t) (write-rows-at t) write-rows.Post
+write-rows-put-transition-requires t c κs =
+    let h = c .before .before .before .before .before .pre .1 in
+    (h .0 .has-room, omega (arith, h .1, h .0 .few-events))
+
+write-rows-next-state-requires : (t : ℕ) → write-rows-lts.Need-next-state-requires (rows-claims t) (write-rows-at t) write-rows.Post
+write-rows-next-state-requires t c κs =
+    let h = c .before .before .before .before .before .before .before .before .pre .1 in
+    (h .0 .small-state, h .1, h .0 .few-events)
+
+write-rows-write-state-requires : (t : ℕ) → write-rows-lts.Need-write-state-requires (rows-claims t) (write-rows-at t) write-rows.Post
+write-rows-write-state-requires t c κs =
+    let entry = c .before .before .before .before .before .before .before .before .before .before .before in
+    let x = c .before .before .before .before .before .put-transition .ensures in (
+      omega (arith, entry .pre .0, c .before .before .before .before .before .before .before .if1 .left, x .position),
+      (ready-part (entry .pre .1 .0) (c .before .before .next-state .ensures .1) x, omega (arith, entry .pre .1 .1)),
+    )
+
+write-rows-value-of-requires : (t : ℕ) → write-rows-lts.Need-value-of-requires (rows-claims t) (write-rows-at t) write-rows.Post
+write-rows-value-of-requires t c κs =
+    let h = c .before .before .before .before .before .before .before .before .before .before .before .before .before .before .before .before .pre .1 in
+    (h .0 .small-state, h .1, h .0 .few-events)
+
+write-rows-add-if2 : (t : ℕ) → write-rows-lts.Need-add-if2 (rows-claims t) (write-rows-at t) write-rows.Post
+write-rows-add-if2 t c = let h = c .before .before .before .before .before .before .before .before .before .before .before .before .before .before .before .before .before .pre .1 in omega (arith, h .1, h .0 .few-events)
+
+write-rows-put-node-requires : (t : ℕ) → write-rows-lts.Need-put-node-requires (rows-claims t) (write-rows-at t) write-rows.Post
+write-rows-put-node-requires t c κs =
+    let h = c .before .before .before .before .before .before .before .before .before .before .before .before .before .before .before .before .before .before .before .pre .1 in (
+      room-walked (room-after (h .0 .has-room) (c .before .before .before .before .before .before .before .before .before .before .before .before .before .put-transition .ensures)) (c .before .before .before .before .before .before .before .write-state .ensures),
+      omega (arith, h .1, h .0 .few-events),
+      c .before .before .value-of .ensures .1,
+    )
+
+write-rows-same-length : (t : ℕ) → write-rows-lts.Need-same-length (rows-claims t) (write-rows-at t) write-rows.Post
+write-rows-same-length t c = c .before .before .before .before .before .before .before .before .before .before .write-state .ensures .same-stack
+
+write-rows-same-length-2 : (t : ℕ) → write-rows-lts.Need-same-length-2 (rows-claims t) (write-rows-at t) write-rows.Post
+write-rows-same-length-2 t c =
+    c .before .before .put-node .ensures .same-length ∙ c .before .before .before .before .before .before .before .before .before .before .write-state .ensures .same-length ∙ c .before .before .before .before .before .before .before .before .before .before .before .before .before .before .before .before .put-transition .ensures .same-length
+
+write-rows-returns-2 : (t : ℕ) → write-rows-lts.Need-returns-2 (rows-claims t) (write-rows-at t) write-rows.Post
+write-rows-returns-2 t c =
+    let end = c .before .before .before .before .before in
+    let walked = end .before .before .before .before .before in
+    let entry = walked .before .before .before .before .before .before .before .before .before .before .before .before in
+    let a = entry .args in
+    walk-last (machine-of (a .events) (a .table .now)) (a .events) (entry .pre .1 .0 .has-room .at-within)
+    (walked .before .before .before .before .before .before .put-transition .ensures) (walked .before .before .before .next-state .ensures .0) (walked .write-state .ensures) (end .value-of .ensures .0)
+    (c .before .before .before .before .if2 .taken) (c .before .before .put-node .ensures)
+
+write-rows-put-output-requires : (t : ℕ) → write-rows-lts.Need-put-output-requires (rows-claims t) (write-rows-at t) write-rows.Post
+write-rows-put-output-requires t c κs =
+    let h = c .before .before .before .before .before .before .before .before .before .before .before .before .before .before .before .before .before .before .before .pre .1 in (
+      room-walked (room-after (h .0 .has-room) (c .before .before .before .before .before .before .before .before .before .before .before .before .before .put-transition .ensures)) (c .before .before .before .before .before .before .before .write-state .ensures),
+      omega (arith, h .1, h .0 .few-events),
+      c .before .before .value-of .ensures .1,
+    )
+
+write-rows-add-write-rows : (t : ℕ) → write-rows-lts.Need-add-write-rows (rows-claims t) (write-rows-at t) write-rows.Post
+write-rows-add-write-rows t c = let h = c .before .before .before .before .before .before .before .before .before .before .before .before .before .before .before .before .before .before .before .before .before .before .before .pre .1 in omega (arith, h .1, h .0 .few-events)
+
+write-rows-write-rows-requires : (t : ℕ) → write-rows-lts.Need-write-rows-requires (rows-claims t) (write-rows-at t) write-rows.Post
+write-rows-write-rows-requires t c κs =
+    let walked = c .before .before .before .before .before .before .before .before .before .before .before .before in
+    let entry = walked .before .before .before .before .before .before .before .before .before .before .before .before in
+    let h = entry .pre .1 .0 in
+    let below = walked .before .before .before .before .before .before .before .before .if1 .left in
+    let x = walked .before .before .before .before .before .before .put-transition .ensures in
+    let y = walked .write-state .ensures in
+    let z = c .before .before .before .before .put-output .ensures in (
+      omega (arith, entry .pre .0, fewer-left h below x y z),
+      (ready-more h below x y z, omega (arith, entry .pre .1 .1, c .before .before .before .before .before .before .if2 .left)),
+    )
+
+write-rows-same-length-3 : (t : ℕ) → write-rows-lts.Need-same-length-3 (rows-claims t) (write-rows-at t) write-rows.Post
+write-rows-same-length-3 t c = c .before .before .before .before .write-rows .ensures .same-stack ∙ c .before .before .before .before .before .before .before .before .before .before .before .before .before .before .before .before .before .write-state .ensures .same-stack
+
+write-rows-same-length-4 : (t : ℕ) → write-rows-lts.Need-same-length-4 (rows-claims t) (write-rows-at t) write-rows.Post
+write-rows-same-length-4 t c =
+    c .before .before .before .before .write-rows .ensures .same-length ∙ c .before .before .before .before .before .before .before .before .before .put-output .ensures .same-length ∙ c .before .before .before .before .before .before .before .before .before .before .before .before .before .before .before .before .before .write-state .ensures .same-length
+    ∙ c .before .before .before .before .before .before .before .before .before .before .before .before .before .before .before .before .before .before .before .before .before .before .before .put-transition .ensures .same-length
+
+write-rows-returns-3 : (t : ℕ) → write-rows-lts.Need-returns-3 (rows-claims t) (write-rows-at t) write-rows.Post
+write-rows-returns-3 t c =
+    let end = c .before .before .before .before .before .before .before .before .before .before .before .before in
+    let walked = end .before .before .before .before .before in
+    let entry = walked .before .before .before .before .before .before .before .before .before .before .before .before in
+    let a = entry .args in
+    walk-more (machine-of (a .events) (a .table .now)) (a .events) (entry .pre .1 .0 .has-room .at-within)
+    (walked .before .before .before .before .before .before .put-transition .ensures) (walked .before .before .before .next-state .ensures .0) (walked .write-state .ensures) (end .value-of .ensures .0)
+    (c .before .before .before .before .before .before .before .before .before .before .before .if2 .left) (c .before .before .before .before .before .before .before .before .before .put-output .ensures) (c .before .before .before .before .write-rows .ensures)
+
+write-state-add-result : (t : ℕ) → write-state-lts.Need-add-result (state-claims t) (write-state-at t) write-state.Post
+write-state-add-result t c = omega (arith, c .before .before .before .before .pre .1 .0 .has-room .some-limit)
+
+write-state-returns : (t : ℕ) → write-state-lts.Need-returns (state-claims t) (write-state-at t) write-state.Post
+write-state-returns t c = walk-full _ _ _ _ (c .if1 .taken) (c .before .before .before .before .pre .1 .0 .has-room .at-within)
+
+write-state-open-place-requires : (t : ℕ) → write-state-lts.Need-open-place-requires (state-claims t) (write-state-at t) write-state.Post
+write-state-open-place-requires t c κs =
+    let h = c .before .before .before .before .before .pre .1 .0 in
+    omega (arith, h .stack-room, h .shallow, c .before .if1 .left)
+
+write-state-put-node-requires : (t : ℕ) → write-state-lts.Need-put-node-requires (state-claims t) (write-state-at t) write-state.Post
+write-state-put-node-requires t c κs =
+    let h = c .before .before .before .before .before .before .before .before .pre .1 .0 in
+    (h .has-room, omega (arith, h .shallow, h .has-room .some-limit, c .before .before .before .before .if1 .left, c .before .if2 .taken), lit< tt)
+
+write-state-same-length : (t : ℕ) → write-state-lts.Need-same-length (state-claims t) (write-state-at t) write-state.Post
+write-state-same-length t c = search needs
+
+write-state-same-length-2 : (t : ℕ) → write-state-lts.Need-same-length-2 (state-claims t) (write-state-at t) write-state.Post
+write-state-same-length-2 t c = c .before .before .put-node .ensures .same-length
+
+write-state-returns-2 : (t : ℕ) → write-state-lts.Need-returns-2 (state-claims t) (write-state-at t) write-state.Post
+write-state-returns-2 t c =
+    let looked = c .before .before .before .before .before in
+    let entry = looked .before .before .before .before .before .before in
+    let a = entry .args in
+    walk-open (machine-of (a .events) (a .table .now)) (a .events) (a .path .now) (entry .pre .1 .0 .has-room .at-within)
+    (looked .open-place .ensures) (c .before .before .before .before .if2 .taken) (c .before .before .put-node .ensures)
+
+write-state-put-node-requires-2 : (t : ℕ) → write-state-lts.Need-put-node-requires-2 (state-claims t) (write-state-at t) write-state.Post
+write-state-put-node-requires-2 t c κs = (c .before .before .before .before .before .before .before .before .pre .1 .0 .has-room, lit< tt, lit< tt)
+
+write-state-mul-path : (t : ℕ) → write-state-lts.Need-mul-path (state-claims t) (write-state-at t) write-state.Post
+write-state-mul-path t c = search needs
+
+write-state-slice-write-path : (t : ℕ) → write-state-lts.Need-slice-write-path (state-claims t) (write-state-at t) write-state.Post
+write-state-slice-write-path t c =
+    let h = c .before .before .before .before .before .before .before .before .before .before .before .pre .1 .0 in
+    omega (arith, h .stack-room, h .shallow, c .before .before .before .before .before .before .before .if1 .left)
+
+write-state-add-write-rows : (t : ℕ) → write-state-lts.Need-add-write-rows (state-claims t) (write-state-at t) write-state.Post
+write-state-add-write-rows t c =
+    let h = c .before .before .before .before .before .before .before .before .before .before .before .before .pre .1 .0 in
+    omega (arith, h .shallow, h .has-room .some-limit, c .before .before .before .before .before .before .before .before .if1 .left)
+
+write-state-write-rows-requires : (t : ℕ) → write-state-lts.Need-write-rows-requires (state-claims t) (write-state-at t) write-state.Post
+write-state-write-rows-requires t c κs =
+    let x = c .before .before .before .before .put-node2 .ensures in
+    let entry = c .before .before .before .before .before .before .before .before .before .before .before .before .before in
+    let below = c .before .before .before .before .before .before .before .before .before .if1 .left in
+    (omega (arith, entry .pre .0, below, x .position), (ready-rows (entry .pre .1 .0) below x, entry .pre .1 .1))
+
+write-state-same-length-3 : (t : ℕ) → write-state-lts.Need-same-length-3 (state-claims t) (write-state-at t) write-state.Post
+write-state-same-length-3 t c = c .before .before .before .before .write-rows .kept .1 .1 .1 .0 ∙ simp length-set
+
+write-state-same-length-4 : (t : ℕ) → write-state-lts.Need-same-length-4 (state-claims t) (write-state-at t) write-state.Post
+write-state-same-length-4 t c = c .before .before .before .before .write-rows .ensures .same-length ∙ c .before .before .before .before .before .before .before .before .before .put-node2 .ensures .same-length
+
+write-state-returns-3 : (t : ℕ) → write-state-lts.Need-returns-3 (state-claims t) (write-state-at t) write-state.Post
+write-state-returns-3 t c =
+    let looked = c .before .before .before .before .before .before .before .before .before .before .before .before in
+    let entry = looked .before .before .before .before .before .before in
+    let a = entry .args in
+    let h = entry .pre .1 .0 in
+    walk-new (machine-of (a .events) (a .table .now)) (a .events) (a .path .now) (h .has-room .at-within)
+    (omega (arith, h, looked .before .before .if1 .left)) (looked .open-place .ensures) (c .before .before .before .before .before .before .before .before .before .before .before .if2 .left) (c .before .before .before .before .before .before .before .before .before .put-node2 .ensures)
+    (c .before .before .before .before .write-rows .ensures)
+
+pub +write-rows+write-state-spec : {M : Type 1} → statement M
++write-rows+write-state-spec = close μ-write-rows μ-write-state (λ t. write-rows-lts.spec (rows-claims t)
+    (write-rows-at t)
+    write-rows.Post
+    (write-rows-add-result t)
+    (write-rows-returns t)
+    (write-rows-put-transition-requires t)
+    (write-rows-next-state-requires t)
+    (write-rows-write-state-requires t)
+    (write-rows-value-of-requires t)
+    (write-rows-add-if2 t)
+    (write-rows-put-node-requires t)
+    (write-rows-same-length t)
+    (write-rows-same-length-2 t)
+    (write-rows-returns-2 t)
+    (write-rows-put-output-requires t)
+    (write-rows-add-write-rows t)
+    (write-rows-write-rows-requires t)
+    (write-rows-same-length-3 t)
+    (write-rows-same-length-4 t)
+    (write-rows-returns-3 t))
+    λ t. write-state-lts.spec (state-claims t)
+    (write-state-at t)
+    write-state.Post
+    (write-state-add-result t)
+    (write-state-returns t)
+    (write-state-open-place-requires t)
+    (write-state-put-node-requires t)
+    (write-state-same-length t)
+    (write-state-same-length-2 t)
+    (write-state-returns-2 t)
+    (write-state-put-node-requires-2 t)
+    (write-state-mul-path t)
+    (write-state-slice-write-path t)
+    (write-state-add-write-rows t)
+    (write-state-write-rows-requires t)
+    (write-state-same-length-3 t)
+    (write-state-same-length-4 t)
+    (write-state-returns-3 t)
