@@ -9,7 +9,7 @@ use native.Mathlib.Omega.{arith}
 use lib.Dec.{eqb}
 use borrow.Author.Tests.{eqb-true, eq-eqb, ne-eqb}
 use Rattle.text_format.specs.Format.{Parsed, ok, bad, bind, Format, Stuck, Laws}
-use Rattle.text_format.specs.Combinators.{sequence, mapped, find-in, letter-of, letter-parse, letter, Alphabet, choice, empty, the, the-byte, word}
+use Rattle.text_format.specs.Combinators.{sequence, mapped, find-in, letter-of, letter-parse, letter, Alphabet, choice, empty, the, the-byte, word, keyed}
 
 -- An answer is not both.
 pub not-both : {A : Type 0} {C : Type 0} {a : A} {r q : List ℕ} {x : Parsed A} → x ≡ ok a r → x ≡ bad q → C
@@ -250,3 +250,19 @@ word-hit b w s = rw (eq-eqb b b refl) (word-collapse (word w .parse s))
 
 pub word-miss : (b c : ℕ) (w s : List ℕ) → (c ≡ b → ⊥) → word (b ∷ w) .parse (c ∷ s) ≡ bad (c ∷ s)
 word-miss b c w s h = rw (ne-eqb c b h)
+
+-- ---- a key in front of a value
+
+module _ {A : Type 0} (key : List ℕ) (F : Format A) where
+  pub keyed-laws : Laws F → Laws (keyed key F)
+  keyed-laws LF = mapped-laws (sequence (word key) (λ _. F)) (λ p. p .1) (λ a. (tt, a)) (sequence-laws (word key) (λ _. F) (word-laws key) (λ _. LF)) (λ a h. refl)
+
+  pub keyed-fits : (a : A) → F .Fits a → keyed key F .Fits a
+  keyed-fits a h = ((word-laws key .sample-fits, h), refl)
+
+  pub keyed-of-fits : (a : A) → keyed key F .Fits a → F .Fits a
+  keyed-of-fits a h = h .0 .1
+
+pub word-print : (w : List ℕ) → word w .print tt ≡ w
+word-print [] = refl
+word-print (b ∷ w) = ap (λ (z : List ℕ). b ∷ z) (word-print w)

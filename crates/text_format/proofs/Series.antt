@@ -2,15 +2,15 @@
 -- Assumes nothing.
 use Prim.Native.Nat.{ℕ, zero, suc, _+_, _-_, _*_, _≤_, _<_}
 use mathlib.Core.Path.{_≡_, refl, sym, ap, _∙_, subst}
-use mathlib.Core.List.{List, [], _∷_, _++_, append-assoc, append-nil}
+use mathlib.Core.List.{List, [], _∷_, _++_, map, append-assoc, append-nil}
 use mathlib.Core.Option.{Option, some, none}
 use mathlib.Core.Bool.{false}
 use native.Mathlib.Omega.{arith}
 use lib.ListN.{length, length-append}
-use Rattle.text_format.specs.Format.{Parsed, ok, bad, bind, Format, Stuck, Laws}
+use Rattle.text_format.specs.Format.{Parsed, ok, bad, bind, Format, Stuck, Laws, ascii}
 use Rattle.text_format.specs.Combinators.{find-in, letter, Alphabet}
 use Rattle.text_format.specs.Decimal.{is-digit, decimal}
-use Rattle.text_format.specs.Series.{Separator, space, newline, separator-byte, separator, number-item, series-print, series-fits, series-go, series-within, series-parse, series}
+use Rattle.text_format.specs.Series.{Separator, space, newline, separator-byte, separator, number-item, series-print, series-fits, series-go, series-within, series-parse, series, separated, OneOrMore}
 use Rattle.text_format.proofs.Combinators.{letter-laws, not-both}
 use Rattle.text_format.proofs.Decimal.{numbered-laws}
 
@@ -194,3 +194,26 @@ module _ {A : Type 0} (F : Format (A × Separator)) (one : A) (LF : Laws F) (sol
         full = series-full;
         stuck = λ s r h. series-stuck (suc (length s)) s (omega arith) r h;
       }
+
+-- ---- a series is its items' texts with one space between and byte 10 behind
+
+module _ {A : Type 0} (F : Format (A × Separator)) (P : A → Type 0) where
+  pub series-text : (f : A → List ℕ) → ((a : A) (e : Separator) → F .print (a, e) ≡ f a ++ (separator-byte e ∷ []))
+      → (xs : List A) → OneOrMore P xs → series-print F xs ≡ separated (map f xs) ++ ascii "\n"
+  series-text f shown [] h = absurd h
+  series-text f shown (a ∷ []) h = shown a newline
+  series-text f shown (a ∷ b ∷ xs) h =
+      ap (λ (z : List ℕ). z ++ series-print F (b ∷ xs)) (shown a space)
+      ∙ ap (λ (z : List ℕ). (f a ++ ascii " ") ++ z) (series-text f shown (b ∷ xs) (h .1))
+      ∙ append-assoc (f a) (ascii " ") (separated (map f (b ∷ xs)) ++ ascii "\n")
+      ∙ sym (append-assoc (f a) (ascii " " ++ separated (map f (b ∷ xs))) (ascii "\n"))
+
+  pub series-fitting : ((a : A) (e : Separator) → P a → F .Fits (a, e)) → (xs : List A) → OneOrMore P xs → series-fits F xs
+  series-fitting to [] h = h
+  series-fitting to (a ∷ []) h = to a newline h
+  series-fitting to (a ∷ b ∷ xs) h = (to a space (h .0), series-fitting to (b ∷ xs) (h .1))
+
+  pub series-of-fitting : ((a : A) (e : Separator) → F .Fits (a, e) → P a) → (xs : List A) → series-fits F xs → OneOrMore P xs
+  series-of-fitting of [] h = h
+  series-of-fitting of (a ∷ []) h = of a newline h
+  series-of-fitting of (a ∷ b ∷ xs) h = (of a space (h .0), series-of-fitting of (b ∷ xs) (h .1))

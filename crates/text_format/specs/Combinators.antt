@@ -74,3 +74,7 @@ the-byte b = letter (the b) tt []
 abbrev pub word : List ℕ → Format (Unit {0})
 word [] = empty
 word (b ∷ w) = mapped (sequence (the-byte b) (λ _. word w)) (λ _. tt) (λ _. (tt, tt))
+
+-- A fixed word in front of a value, as the key of a line.
+abbrev pub keyed : {A : Type 0} → List ℕ → Format A → Format A
+keyed key F = mapped (sequence (word key) (λ _. F)) (λ p. p .1) (λ a. (tt, a))

@@ -1,0 +1,4 @@
+-- The format's laws, then what the functions' proofs share, then the claims.
+pub mod FileFormat
+pub mod Offsets
+pub mod Reading
