@@ -2,3 +2,5 @@
 pub mod FileFormat
 pub mod Offsets
 pub mod Reading
+pub mod Stretches
+pub mod Claims
