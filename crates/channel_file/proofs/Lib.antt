@@ -3,4 +3,6 @@ pub mod FileFormat
 pub mod Offsets
 pub mod Reading
 pub mod Stretches
+pub mod Buffers
 pub mod Claims
+pub mod Accepted

@@ -3,9 +3,11 @@
 -- Assumes nothing.
 use Prim.Native.Nat.{ℕ, _+_, _≤_}
 use mathlib.Core.Path.{_≡_}
-use mathlib.Core.List.{List, [], _∷_}
-use lib.ListN.{length, drop}
+use mathlib.Core.List.{List, [], _∷_, _++_}
+use lib.ListN.{length, drop, set}
 use Rattle.text_format.specs.Format.{Parsed, ok, bad, Format}
+use Rattle.channel_file.specs.Reading.{read-file, stretch, tokens-stretch}
+use Rattle.channel_file.specs.Bytes.{encoded}
 use Rattle.text_format.specs.Combinators.{letter-parse, the, word}
 use Rattle.text_format.specs.Decimal.{number, numbered-parse}
 use Rattle.text_format.specs.Series.{Separator, space, newline, separator-byte, separator, number-item}
@@ -21,6 +23,7 @@ use Rattle.channel_file.specs.declared.Counted.{Counted}
 use Rattle.channel_file.specs.declared.Reached.{Reached}
 use Rattle.channel_file.specs.declared.Head.{Head}
 use Rattle.channel_file.specs.declared.Listed.{Listed}
+use Rattle.channel_file.specs.declared.Span.{Span}
 
 -- The token and the separator that values of src/ stand for.
 abbrev pub token-of : Item → Token
@@ -87,3 +90,41 @@ pub record SawListed₁ {A : Type 0} (F : Format (List A)) (t : List ℕ) (at s 
 abbrev pub SawListed : {A : Type 0} → Format (List A) → List ℕ → ℕ → Listed → Type 0
 SawListed F t at (Listed.Items s m n) = SawListed₁ F t at s m n
 SawListed F t at (Listed.Bad p) = Saw (counted 0 (F .parse (drop at t))) (bad (drop p t)) t p
+
+-- The offsets of the stretch of tokens; equal where 4 refuses.
+pub record SpansTokens (t : List ℕ) (r : Span) : Type 0 where
+  pub ordered : r .from ≤ r .to
+  pub within : r .to ≤ length t
+  pub same : stretch (r .from) (r .to) t ≡ tokens-stretch t (read-file t)
+
+-- ---- bytes put into a lent buffer
+
+-- l with the bytes of s from the offset i on.
+abbrev pub puts : List ℕ → ℕ → List ℕ → List ℕ
+puts l i [] = l
+puts l i (b ∷ s) = puts (set l i b) (i + 1) s
+
+-- s was put into l at i: l′ is the buffer afterwards, and r the offset behind s.
+pub record Wrote (l s l′ : List ℕ) (i r : ℕ) : Type 0 where
+  pub same : l′ ≡ puts l i s
+  pub next : r ≡ i + length s
+
+-- ---- a series that is stored item by item
+
+abbrev pub IsOk : {A : Type 0} → Parsed A → Type 0
+IsOk (ok a r) = Unit {0}
+IsOk (bad r) = ⊥
+
+abbrev pub values-of : {A : Type 0} → Parsed (List A) → List A
+values-of (ok xs r) = xs
+values-of (bad r) = []
+
+-- The codes of the items of a series that stands in t at an offset.
+abbrev pub codes-at : {A : Type 0} → Format (List A) → (A → List ℕ) → List ℕ → ℕ → List ℕ
+codes-at F code t at = encoded code (values-of (F .parse (drop at t)))
+
+-- A series stands in t at an offset, and the codes of its items fit into l from k on.
+pub record Storable {A : Type 0} (F : Format (List A)) (code : A → List ℕ) (t : List ℕ) (at : ℕ) (l : List ℕ) (k : ℕ) : Type 0 where
+  pub within : at ≤ length t
+  pub stands : IsOk (F .parse (drop at t))
+  pub room : k + length (codes-at F code t at) ≤ length l

@@ -5,9 +5,10 @@ ghost use Prim.Native.Nat.{_≤_, _<_, _+_, _*_};
 ghost use lib.ListN.{length, drop};
 ghost use Rattle.text_format.specs.Format.{ascii, read};
 ghost use Rattle.text_format.specs.Decimal.{is-digit, number};
-ghost use Rattle.channel_file.specs.FileFormat.{field, plain, token-item, tokens, entries, meet-line, rule-line, file};
-ghost use Rattle.channel_file.specs.Reading.{checked, read-file};
-ghost use Rattle.channel_file.specs.Steps.{token-of, SawNumber, SawEnded, SawEnd, SawEntry, SawItem, SawWord, SawMany, SawHead, SawListed};
+ghost use Rattle.channel_file.specs.FileFormat.{first, second, field, plain, token-item, tokens, entries, meet-line, rule-line, file};
+ghost use Rattle.channel_file.specs.Reading.{checked, read-file, tokens-stretch};
+ghost use Rattle.channel_file.specs.Bytes.{clamp, kind, node, entry, meet-bytes, rule-bytes, Stores};
+ghost use Rattle.channel_file.specs.Steps.{token-of, SawNumber, SawEnded, SawEnd, SawEntry, SawItem, SawWord, SawMany, SawHead, SawListed, SpansTokens, puts, Wrote, codes-at, Storable};
 
 // The answer to a text: its numbers, how many meet entries and rule items there are and where they start; or 4's place.
 pub enum Checked {
@@ -92,6 +93,12 @@ enum Head {
 enum Listed {
     Items(usize, usize, usize),
     Bad(usize),
+}
+
+// Offsets in a text, from and to before.
+struct Span {
+    from: usize,
+    to: usize,
 }
 
 fn wide(b: u8) -> usize
@@ -394,4 +401,179 @@ pub fn check_form(text: &[u8]) -> Checked
         return Checked::Refused(4096);
     }
     check_text(text)
+}
+
+fn token_span(text: &[u8]) -> Span
+    ensures { λ r. ⌜ SpansTokens (now (text .entry)) r ⌝ }
+{
+    match check_form(text) {
+        Checked::Refused(_) => Span { from: 0, to: 0 },
+        Checked::Form { rule_at, .. } => Span {
+            from: rule_at,
+            to: text.len() - 1,
+        },
+    }
+}
+
+// The stretch of the text that holds the rule's tokens; empty for a text that 4 refuses.
+pub fn tokens(text: &[u8]) -> &[u8]
+    ensures { λ r. ⌜ now r ≡ tokens-stretch (now (text .entry)) (read-file (now (text .entry))) ⌝ }
+{
+    let span = token_span(text);
+    let from = span.from;
+    let to = span.to;
+    &text[from..to]
+}
+
+fn clip(v: usize) -> u8
+    ensures { λ r. ⌜ r ≡ clamp v ⌝ }
+{
+    if v < 255 { v as u8 } else { 255 }
+}
+
+fn kind_of(x: Item) -> u8
+    ensures { λ r. ⌜ r ≡ kind (token-of x) ⌝ }
+{
+    match x {
+        Item::Truth => 0,
+        Item::Variable(_) => 1,
+        Item::Next(_) => 2,
+        Item::Output(_, _) => 3,
+        Item::Both => 4,
+        Item::Binder => 5,
+    }
+}
+
+fn first_of(x: Item) -> usize
+    ensures { λ r. ⌜ r ≡ first (token-of x) ⌝ }
+{
+    match x {
+        Item::Truth => 0,
+        Item::Variable(n) => n,
+        Item::Next(e) => e,
+        Item::Output(e, _) => e,
+        Item::Both => 0,
+        Item::Binder => 0,
+    }
+}
+
+fn second_of(x: Item) -> usize
+    ensures { λ r. ⌜ r ≡ second (token-of x) ⌝ }
+{
+    match x {
+        Item::Truth => 0,
+        Item::Variable(_) => 0,
+        Item::Next(_) => 0,
+        Item::Output(_, v) => v,
+        Item::Both => 0,
+        Item::Binder => 0,
+    }
+}
+
+// Puts a byte at an offset, and answers the offset behind it.
+fn put(out: &mut [u8], at: usize, b: u8) -> usize
+    requires { ⌜ at < length (now out) ⌝ }
+    ensures { λ r. ⌜ Wrote (now (out .entry)) (b ∷ []) (now (out .exit)) at r ⌝ }
+{
+    out[at] = b;
+    at + 1
+}
+
+fn put_node(out: &mut [u8], at: usize, x: Item) -> usize
+    requires { ⌜ at + 3 ≤ length (now out) ⌝ }
+    ensures { λ r. ⌜ Wrote (now (out .entry)) (node (token-of x)) (now (out .exit)) at r ⌝ }
+{
+    let a = put(out, at, kind_of(x));
+    let b = put(out, a, clip(first_of(x)));
+    put(out, b, clip(second_of(x)))
+}
+
+// The nodes of the tokens that start at an offset.
+fn store_items(text: &[u8], at: usize, out: &mut [u8])
+    requires { ⌜ Storable tokens node (now text) at (now out) 0 ⌝ }
+    ensures { λ r. ⌜ now (out .exit) ≡ puts (now (out .entry)) 0 (codes-at tokens node (now (text .entry)) at) ⌝ }
+{
+    let mut i = at;
+    let mut k = 0;
+    loop {
+        match item_at(text, i) {
+            Scanned::Bad(_) => {
+                return;
+            }
+            Scanned::Of(x, e, m) => {
+                k = put_node(out, k, x);
+                match e {
+                    Behind::Newline => {
+                        return;
+                    }
+                    Behind::Space => {
+                        i = m;
+                    }
+                }
+            }
+        }
+    }
+}
+
+// The meet entries that start at an offset.
+fn store_entries(text: &[u8], at: usize, out: &mut [u8])
+    requires { ⌜ Storable entries entry (now text) at (now out) 0 ⌝ }
+    ensures { λ r. ⌜ now (out .exit) ≡ puts (now (out .entry)) 0 (codes-at entries entry (now (text .entry)) at) ⌝ }
+{
+    let mut i = at;
+    let mut k = 0;
+    loop {
+        match entry_at(text, i) {
+            Entry::Bad(_) => {
+                return;
+            }
+            Entry::Of(v, e, m) => {
+                k = put(out, k, clip(v));
+                match e {
+                    Behind::Newline => {
+                        return;
+                    }
+                    Behind::Space => {
+                        i = m;
+                    }
+                }
+            }
+        }
+    }
+}
+
+// The meet entries of a text, one byte each, a number above 255 as 255.
+pub fn store_meet(text: &[u8], out: &mut [u8]) -> Stored
+    ensures { λ r. ⌜ Stores meet-bytes (now (text .entry)) (now (out .entry)) (now (out .exit)) r ⌝ }
+{
+    match check_form(text) {
+        Checked::Refused(p) => Stored::Refused(p),
+        Checked::Form {
+            entries,
+            meet_at,
+            ..
+        } => {
+            if out.len() < entries {
+                return Stored::Short;
+            }
+            store_entries(text, meet_at, out);
+            Stored::Bytes(entries)
+        }
+    }
+}
+
+// The rule's nodes, three bytes each, a number above 255 as 255.
+pub fn store_rule(text: &[u8], out: &mut [u8]) -> Stored
+    ensures { λ r. ⌜ Stores rule-bytes (now (text .entry)) (now (out .entry)) (now (out .exit)) r ⌝ }
+{
+    match check_form(text) {
+        Checked::Refused(p) => Stored::Refused(p),
+        Checked::Form { items, rule_at, .. } => {
+            if out.len() / 3 < items {
+                return Stored::Short;
+            }
+            store_items(text, rule_at, out);
+            Stored::Bytes(3 * items)
+        }
+    }
 }
