@@ -1,6 +1,6 @@
 -- The claims of specs/Claims.
 -- Assumes nothing.
-use Prim.Native.Nat.{ℕ, suc, _+_, _-_, _*_, _≤_, _<_}
+use Prim.Native.Nat.{ℕ, suc, _+_, _-_, _*_, _≤_, _<_, min}
 use mathlib.Core.Path.{_≡_, refl, sym, ap, _∙_, subst}
 use mathlib.Core.List.{List, [], _∷_, _++_, map}
 use mathlib.Core.Bool.{Bool, true, false, cond}
@@ -18,7 +18,8 @@ use Rattle.text_format.proofs.Place.{answers, one-answer}
 use Rattle.channel_file.specs.ChannelFile.{Token, token-T, token-A, token-V, token-X, token-G, token-O, Contents, number, Small, SmallToken, token-text, text, SmallContents, Shows, Form}
 use Rattle.channel_file.specs.FileFormat.{file}
 use Rattle.channel_file.specs.Reading.{file-limit, Refused4, over-long, off-form, AnswersFile, read-file, tokens-stretch}
-use Rattle.channel_file.specs.Claims.{AnswerClaim, OneAnswerClaim, RewriteClaim, ReadBackClaim, LengthClaim, TokensClaim}
+use Rattle.channel_file.specs.Bytes.{clamp}
+use Rattle.channel_file.specs.Claims.{AnswerClaim, OneAnswerClaim, RewriteClaim, ReadBackClaim, LengthClaim, TokensClaim, SomeTokensClaim, ClampClaim}
 use Rattle.channel_file.proofs.FileFormat.{file-laws, file-renders}
 use Rattle.channel_file.proofs.Stretches.{tokens-between}
 
@@ -102,3 +103,27 @@ length-claim c s m n =
 pub tokens-claim : TokensClaim
 tokens-claim t c e =
     ap (tokens-stretch t) e ∙ subst (λ (z : List ℕ). tokens-stretch z (contents c) ≡ separated (map token-text (c .rule))) (rewrite-claim t c e) (tokens-between c)
+
+-- an item has at least one byte
+some-byte : (x : Token) → 1 ≤ length (token-text x)
+some-byte token-T = omega arith
+some-byte token-A = omega arith
+some-byte token-V = omega arith
+some-byte (token-X n) = omega arith
+some-byte (token-G n) = omega arith
+some-byte (token-O e v) = omega arith
+
+some-bytes : (xs : List Token) → OneOrMore SmallToken xs → 1 ≤ length (separated (map token-text xs))
+some-bytes [] h = absurd h
+some-bytes (x ∷ []) h = some-byte x
+some-bytes (x ∷ y ∷ xs) h = omega (arith, some-byte x, length-append (token-text x) (32 ∷ separated (map token-text (y ∷ xs))))
+
+pub some-tokens-claim : SomeTokensClaim
+some-tokens-claim t c e h =
+    let l : 1 ≤ length (separated (map token-text (c .rule))) = some-bytes (c .rule) (shown t c e .1 .small .rule) in
+    omega (arith, ap length (sym (tokens-claim t c e) ∙ h))
+
+-- ---- clamping
+
+pub clamp-claim : ClampClaim
+clamp-claim v n h = ((λ l. omega arith), (λ l. omega arith))

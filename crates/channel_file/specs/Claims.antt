@@ -4,12 +4,12 @@ use Prim.Native.Nat.{ℕ, _≤_, _<_}
 use mathlib.Core.Path.{_≡_}
 use mathlib.Core.List.{List, [], _∷_, _++_, map}
 use mathlib.Core.Logic.{_↔_}
-use mathlib.Core.Option.{some}
 use lib.ListN.{length}
 use Rattle.text_format.specs.Format.{Outcome, contents, refused}
 use Rattle.text_format.specs.Series.{separated}
 use Rattle.channel_file.specs.ChannelFile.{Token, token-text, Contents, text, SmallContents, Shows, Form}
 use Rattle.channel_file.specs.Reading.{file-limit, AnswersFile, read-file, tokens-stretch}
+use Rattle.channel_file.specs.Bytes.{clamp}
 
 -- The answer to every text is the one that document 01 asks for: its contents, or 4's place.
 abbrev pub AnswerClaim : Type 0
@@ -34,3 +34,13 @@ LengthClaim = (c : Contents) → SmallContents c → length (c .meet) ≤ 256 �
 -- The stretch of tokens is the rule's items with one space between.
 abbrev pub TokensClaim : Type 0
 TokensClaim = (t : List ℕ) (c : Contents) → read-file t ≡ contents c → tokens-stretch t (read-file t) ≡ separated (map token-text (c .rule))
+
+-- The stretch of tokens of an accepted text is not empty; so it is empty exactly where 4 refuses.
+abbrev pub SomeTokensClaim : Type 0
+SomeTokensClaim = (t : List ℕ) (c : Contents) → read-file t ≡ contents c → tokens-stretch t (read-file t) ≡ [] → ⊥
+
+-- A number above 255 is stored as 255. No judgement on it is lost: for every limit n up to 255, the number is below n exactly
+-- if its byte is. Limits of events, values and entries are at most 16. A variable at node i has at most i binders above it, so
+-- within 256 nodes at most 255, and it is bound if its number is below their count.
+abbrev pub ClampClaim : Type 0
+ClampClaim = (v n : ℕ) → n ≤ 255 → (v < n) ↔ (clamp v < n)

@@ -1,4 +1,4 @@
-// The channel file: its form and refusal 4, the bytes stored from it, the text written.
+// The channel file: its form and refusal 4, the bytes stored from it, and the stretch of its tokens.
 ghost use mathlib.Core.Path.{_≡_};
 ghost use mathlib.Core.List.{_∷_, []};
 ghost use Prim.Native.Nat.{_≤_, _<_, _+_, _*_};
@@ -29,13 +29,6 @@ pub enum Stored {
     Bytes(usize),
     Short,
     Refused(usize),
-}
-
-// Reply of a call that writes a text: its length, a text longer than the limit or the buffer, or no text.
-pub enum Written {
-    Text(usize),
-    Long,
-    Malformed,
 }
 
 // A token of the rule line.

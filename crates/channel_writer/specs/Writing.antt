@@ -7,10 +7,10 @@ use mathlib.Core.Bool.{cond}
 use mathlib.Core.Option.{Option, some, none}
 use lib.Dec.{ltb, eqb}
 use lib.ListN.{length}
 use Rattle.channel_file.specs.ChannelFile.{Token, token-T, token-A, token-V, token-X, token-G, token-O, Contents, text}
 use Rattle.channel_file.specs.Reading.{file-limit}
 use Rattle.channel_file.specs.Bytes.{put-in}
-use Rattle.channel_file.specs.declared.Written.{Written}
+use Rattle.channel_writer.specs.declared.Written.{Written}
 
 -- The token of a node, for bytes: none for an unknown kind, or where an unused field is not 0 (Claims, NodeClaim).
 abbrev pub bare-token : ℕ → Option Token
