@@ -1,0 +1,129 @@
+-- The claims of specs/Claims.
+-- Assumes nothing.
+use Prim.Native.Nat.{ℕ, suc, _+_, _-_, _*_, _≤_, _<_, min}
+use mathlib.Core.Path.{_≡_, refl, sym, ap, _∙_, subst}
+use mathlib.Core.List.{List, [], _∷_, _++_, map}
+use mathlib.Core.Bool.{Bool, true, false, cond}
+use native.Mathlib.Omega.{arith}
+use native.Mathlib.Nat.{suc-mul}
+use lib.Dec.{ltb}
+use borrow.Author.Tests.{ltb-true, ltb-false, lt-ltb, le-ltb}
+use lib.ListN.{length, length-append}
+use Rattle.text_format.specs.Format.{Outcome, contents, refused, read}
+use Rattle.text_format.specs.Series.{separated, OneOrMore}
+use Rattle.text_format.specs.Decimal.{Numeral}
+use Rattle.text_format.specs.Place.{Answers}
+use Rattle.text_format.proofs.Decimal.{decimal-numeral}
+use Rattle.text_format.proofs.Place.{answers, one-answer}
+use Rattle.channel_file.specs.ChannelFile.{Token, token-T, token-A, token-V, token-X, token-G, token-O, Contents, number, Small, SmallToken, token-text, text, SmallContents, Shows, Form}
+use Rattle.channel_file.specs.FileFormat.{file}
+use Rattle.channel_file.specs.Reading.{file-limit, Refused4, over-long, off-form, AnswersFile, read-file, tokens-stretch}
+use Rattle.channel_file.specs.Bytes.{clamp}
+use Rattle.channel_file.specs.Claims.{AnswerClaim, OneAnswerClaim, RewriteClaim, ReadBackClaim, LengthClaim, TokensClaim, SomeTokensClaim, ClampClaim}
+use Rattle.channel_file.proofs.FileFormat.{file-laws, file-renders}
+use Rattle.channel_file.proofs.Stretches.{tokens-between}
+
+-- ---- the answer
+
+within : (t : List ℕ) → length t ≤ file-limit → (x : Outcome Contents) → Answers Shows t x → AnswersFile t x
+within t h (contents c) a = (h, a)
+within t h (refused p) a = off-form p h a
+
+answer₁ : (b : Bool) (t : List ℕ) → ltb file-limit (length t) ≡ b → AnswersFile t (cond b (refused file-limit) (read file t))
+answer₁ true t e = over-long (ltb-true file-limit (length t) e)
+answer₁ false t e = within t (ltb-false file-limit (length t) e) (read file t) (answers file Shows file-laws file-renders t)
+
+pub answer-claim : AnswerClaim
+answer-claim t = answer₁ (ltb file-limit (length t)) t refl
+
+-- an answer is of one of the two kinds
+too-long : (t : List ℕ) → file-limit < length t → (x : Outcome Contents) → AnswersFile t x → x ≡ refused file-limit
+too-long t h (contents c) a = let l : length t ≤ file-limit = a .0 in absurd (omega arith)
+too-long t h (refused p) (over-long l) = refl
+too-long t h (refused p) (off-form q l a) = absurd (omega arith)
+
+not-long : (t : List ℕ) → length t ≤ file-limit → (x : Outcome Contents) → AnswersFile t x → Answers Shows t x
+not-long t h (contents c) a = a .1
+not-long t h (refused p) (over-long l) = absurd (omega arith)
+not-long t h (refused p) (off-form q l a) = a
+
+one₁ : (b : Bool) (t : List ℕ) → ltb file-limit (length t) ≡ b → (x y : Outcome Contents) → AnswersFile t x → AnswersFile t y → x ≡ y
+one₁ true t e x y hx hy = too-long t (ltb-true file-limit (length t) e) x hx ∙ sym (too-long t (ltb-true file-limit (length t) e) y hy)
+one₁ false t e x y hx hy =
+    one-answer file Shows file-laws file-renders t x y (not-long t (ltb-false file-limit (length t) e) x hx) (not-long t (ltb-false file-limit (length t) e) y hy)
+
+pub one-answer-claim : OneAnswerClaim
+one-answer-claim t x y hx hy = one₁ (ltb file-limit (length t)) t refl x y hx hy
+
+-- ---- read and written
+
+-- what a text shows where it is accepted
+pub shown : (t : List ℕ) (c : Contents) → read-file t ≡ contents c → (length t ≤ file-limit) × Shows c t
+shown t c e = subst (AnswersFile t) e (answer-claim t)
+
+pub rewrite-claim : RewriteClaim
+rewrite-claim t c e = shown t c e .1 .printed
+
+pub read-back-claim : ReadBackClaim
+read-back-claim c s l = one-answer-claim (text c) (read-file (text c)) (contents c) (answer-claim (text c)) (l, record { small = s; printed = refl })
+
+-- ---- how long a text is
+
+number-length : (v : ℕ) → Small v → length (number v) ≤ 3
+number-length v h = let n : Numeral 2 v (number v) = decimal-numeral 2 v h in n .few-digits
+
+-- the longest is O with two numbers of three digits and the dot
+token-length : (x : Token) → SmallToken x → length (token-text x) ≤ 8
+token-length token-T h = omega arith
+token-length token-A h = omega arith
+token-length token-V h = omega arith
+token-length (token-X n) h = omega (arith, number-length n h)
+token-length (token-G n) h = omega (arith, number-length n h)
+token-length (token-O e v) h =
+    omega (arith, number-length e (h .0), number-length v (h .1), length-append (number e) (46 ∷ number v))
+
+-- items of at most w bytes, each with the byte behind it
+items-length : {A : Type 0} (P : A → Type 0) (f : A → List ℕ) (w : ℕ) → ((a : A) → P a → length (f a) ≤ w)
+    → (xs : List A) → OneOrMore P xs → length (separated (map f xs)) + 1 ≤ length xs * (w + 1)
+items-length P f w short [] h = absurd h
+items-length P f w short (a ∷ []) h = omega (arith, short a h)
+items-length P f w short (a ∷ b ∷ xs) h =
+    let ih : length (separated (map f (b ∷ xs))) + 1 ≤ length (b ∷ xs) * (w + 1) = items-length P f w short (b ∷ xs) (h .1) in
+    omega (arith, short a (h .0), length-append (f a) (32 ∷ separated (map f (b ∷ xs))), suc-mul (length (b ∷ xs)) (w + 1))
+
+pub length-claim : LengthClaim
+length-claim c s m n =
+    let e = number-length (c .events) (s .events) in
+    let v = number-length (c .values) (s .values) in
+    let p = number-length (c .top) (s .top) in
+    let x = items-length Small number 3 number-length (c .meet) (s .meet) in
+    let y = items-length SmallToken token-text 8 token-length (c .rule) (s .rule) in
+    simp length-append (omega arith)
+
+pub tokens-claim : TokensClaim
+tokens-claim t c e =
+    ap (tokens-stretch t) e ∙ subst (λ (z : List ℕ). tokens-stretch z (contents c) ≡ separated (map token-text (c .rule))) (rewrite-claim t c e) (tokens-between c)
+
+-- an item has at least one byte
+some-byte : (x : Token) → 1 ≤ length (token-text x)
+some-byte token-T = omega arith
+some-byte token-A = omega arith
+some-byte token-V = omega arith
+some-byte (token-X n) = omega arith
+some-byte (token-G n) = omega arith
+some-byte (token-O e v) = omega arith
+
+some-bytes : (xs : List Token) → OneOrMore SmallToken xs → 1 ≤ length (separated (map token-text xs))
+some-bytes [] h = absurd h
+some-bytes (x ∷ []) h = some-byte x
+some-bytes (x ∷ y ∷ xs) h = omega (arith, some-byte x, length-append (token-text x) (32 ∷ separated (map token-text (y ∷ xs))))
+
+pub some-tokens-claim : SomeTokensClaim
+some-tokens-claim t c e h =
+    let l : 1 ≤ length (separated (map token-text (c .rule))) = some-bytes (c .rule) (shown t c e .1 .small .rule) in
+    omega (arith, ap length (sym (tokens-claim t c e) ∙ h))
+
+-- ---- clamping
+
+pub clamp-claim : ClampClaim
+clamp-claim v n h = ((λ l. omega arith), (λ l. omega arith))

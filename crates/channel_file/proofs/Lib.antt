@@ -1,0 +1,8 @@
+-- The format's laws, then what the functions' proofs share, then the claims.
+pub mod FileFormat
+pub mod Offsets
+pub mod Reading
+pub mod Stretches
+pub mod Buffers
+pub mod Claims
+pub mod Accepted

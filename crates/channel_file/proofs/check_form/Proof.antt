@@ -1,0 +1,30 @@
+use Rattle.channel_file.specs.Reading.{checked}
+use Rattle.channel_file.specs.FileFormat.{file}
+use Rattle.channel_file.specs.ChannelFile.{Contents}
+use Rattle.text_format.specs.Format.{Outcome, refused, read}
+use borrow.Author.Tests.{lt-ltb, le-ltb}
+use denote.Ref.{now}
+use lib.ListN.{length}
+use mathlib.Core.Bool.{Bool, cond}
+use mathlib.Core.Path.{_≡_, sym, ap, _∙_}
+use borrow.Author.Needs.{needs}
+use Rattle.channel_file.proofs.check_form.Statement.{statement}
+use Rattle.channel_file.proofs.check_form.Tie as tie
+use Rattle.channel_file.proofs.check_form.Reads as reads
+use Rattle.channel_file.proofs.check_form.Lts as lts
+use Rattle.channel_file.proofs.check_text.Reads as check-text-reads
+
+-- src/lib.rt:378:9
+returns : tie.Need-returns
+returns c = sym (ap (λ (b : Bool). checked (cond b (refused 4096) (read file (now (c .before .before .args .text))))) (lt-ltb 4096 (length (now (c .before .before .args .text))) (c .if1 .taken)))
+
+-- src/lib.rt:380:5
+check-text-requires : tie.Need-check-text-requires
+check-text-requires c κs = search needs
+
+-- src/lib.rt:374:1
+returns-2 : tie.Need-returns-2
+returns-2 c = c .check-text .ensures ∙ sym (ap (λ (b : Bool). checked (cond b (refused 4096) (read file (now (c .before .before .before .args .text))))) (le-ltb 4096 (length (now (c .before .before .before .args .text))) (c .before .if1 .left)))
+
+pub check-form-spec : {M : Type 1} → statement M
+check-form-spec = tie.close (tie.spec returns check-text-requires returns-2)

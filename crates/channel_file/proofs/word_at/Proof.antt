@@ -1,0 +1,88 @@
+-- `channel_file::word_at` meets its contract. Assumes nothing.
+use Rattle.text_format.specs.Combinators.{word}
+use Rattle.channel_file.proofs.Offsets.{here, over, word-on, word-off}
+use denote.Ref.{now}
+use Prim.Native.Nat.{_+_, _-_, _≤_}
+use mathlib.Core.Path.{_≡_, refl, sym, ap, _∙_, subst}
+use lib.ListN.{length, drop, getD}
+use borrow.Author.Needs.{needs}
+use native.Mathlib.Omega.{arith}
+use Rattle.channel_file.proofs.word_at.Statement.{statement}
+use Rattle.channel_file.proofs.word_at.Tie as tie
+use Rattle.channel_file.proofs.word_at.Reads as reads
+use Rattle.channel_file.proofs.word_at.Lts as lts
+
+abbrev Inv-loop : tie.InvT-loop
+Inv-loop text at key i₀ j₀ i j = (j ≤ length key) × (i ≤ length text) × (word key .parse (drop at text) ≡ word (drop j key) .parse (drop i text))
+
+abbrev μ-loop : tie.MeasureT-loop
+μ-loop text at key i₀ j₀ i j = length key - j
+
+-- src/lib.rt:205:5
+loop-holds : tie.Need-loop-holds Inv-loop μ-loop
+loop-holds c = (omega arith, c .pre, refl)
+
+-- src/lib.rt:207:13
+returns : tie.Need-returns Inv-loop μ-loop
+returns c =
+    record {
+      same = c .before .before .loop .inv .2 ∙ rw (over _ _ (c .if1 .taken)) (rw (here _ _ (c .before .loop-test .taken)));
+      within = search needs;
+    }
+
+-- src/lib.rt:209:12
+shared-slice-read-if2 : tie.Need-shared-slice-read-if2 Inv-loop μ-loop
+shared-slice-read-if2 c = search needs
+
+-- src/lib.rt:209:23
+shared-slice-read-if2-2 : tie.Need-shared-slice-read-if2-2 Inv-loop μ-loop
+shared-slice-read-if2-2 c = search needs
+
+-- src/lib.rt:210:13
+returns-2 : tie.Need-returns-2 Inv-loop μ-loop
+returns-2 c =
+    record {
+      same = c .before .before .before .before .before .loop .inv .2 ∙ word-off (c .before .before .before .before .before .before .args .key .now) (c .before .before .before .before .before .before .args .text .now) (c .before .before .before .before .before .loop .j) (c .before .before .before .before .before .loop .i) (c .before .before .before .before .loop-test .taken) (c .before .before .before .if1 .left) (c .if2 .taken);
+      within = search needs;
+    }
+
+-- src/lib.rt:212:9
+add-i : tie.Need-add-i Inv-loop μ-loop
+add-i c = search needs
+
+-- src/lib.rt:213:9
+add-j : tie.Need-add-j Inv-loop μ-loop
+add-j c = search needs
+
+-- src/lib.rt:205:5
+loop-less : tie.Need-loop-less Inv-loop μ-loop
+loop-less c = search needs
+
+-- src/lib.rt:205:5
+loop-again : tie.Need-loop-again Inv-loop μ-loop
+loop-again c = (
+  omega arith,
+  omega arith,
+  c .before .before .before .before .before .loop .inv .2 ∙ word-on (c .before .before .before .before .before .before .args .key .now) (c .before .before .before .before .before .before .args .text .now) (c .before .before .before .before .before .loop .j) (c .before .before .before .before .before .loop .i) (c .before .before .before .before .loop-test .taken) (c .before .before .before .if1 .left) (c .if2 .left),
+)
+
+-- src/lib.rt:199:1
+returns-3 : tie.Need-returns-3 Inv-loop μ-loop
+returns-3 c = record { same = c .before .loop .inv .2 ∙ rw (over _ _ (c .loop-test .left)); within = search needs }
+
+pub word-at-spec : {M : Type 1} → statement M
+word-at-spec =
+    tie.close
+    (tie.spec
+    Inv-loop
+    μ-loop
+    loop-holds
+    returns
+    shared-slice-read-if2
+    shared-slice-read-if2-2
+    returns-2
+    add-i
+    add-j
+    loop-less
+    loop-again
+    returns-3)

@@ -1,0 +1,46 @@
+-- What is claimed of the channel file; each claim is inhabited in proofs/Claims.
+-- Assumes nothing.
+use Prim.Native.Nat.{ℕ, _≤_, _<_}
+use mathlib.Core.Path.{_≡_}
+use mathlib.Core.List.{List, [], _∷_, _++_, map}
+use mathlib.Core.Logic.{_↔_}
+use lib.ListN.{length}
+use Rattle.text_format.specs.Format.{Outcome, contents, refused}
+use Rattle.text_format.specs.Series.{separated}
+use Rattle.channel_file.specs.ChannelFile.{Token, token-text, Contents, text, SmallContents, Shows, Form}
+use Rattle.channel_file.specs.Reading.{file-limit, AnswersFile, read-file, tokens-stretch}
+use Rattle.channel_file.specs.Bytes.{clamp}
+
+-- The answer to every text is the one that document 01 asks for: its contents, or 4's place.
+abbrev pub AnswerClaim : Type 0
+AnswerClaim = (t : List ℕ) → AnswersFile t (read-file t)
+
+-- There is no other: the contents are unique and so is the place.
+abbrev pub OneAnswerClaim : Type 0
+OneAnswerClaim = (t : List ℕ) (x y : Outcome Contents) → AnswersFile t x → AnswersFile t y → x ≡ y
+
+-- The text of the contents read is the text itself.
+abbrev pub RewriteClaim : Type 0
+RewriteClaim = (t : List ℕ) (c : Contents) → read-file t ≡ contents c → text c ≡ t
+
+-- The text of contents is of the form and reads back as the same contents.
+abbrev pub ReadBackClaim : Type 0
+ReadBackClaim = (c : Contents) → SmallContents c → length (text c) ≤ file-limit → read-file (text c) ≡ contents c
+
+-- Meet tables of up to 16 values and rules of up to 256 nodes have a text within the limit.
+abbrev pub LengthClaim : Type 0
+LengthClaim = (c : Contents) → SmallContents c → length (c .meet) ≤ 256 → length (c .rule) ≤ 256 → length (text c) ≤ file-limit
+
+-- The stretch of tokens is the rule's items with one space between.
+abbrev pub TokensClaim : Type 0
+TokensClaim = (t : List ℕ) (c : Contents) → read-file t ≡ contents c → tokens-stretch t (read-file t) ≡ separated (map token-text (c .rule))
+
+-- The stretch of tokens of an accepted text is not empty; so it is empty exactly where 4 refuses.
+abbrev pub SomeTokensClaim : Type 0
+SomeTokensClaim = (t : List ℕ) (c : Contents) → read-file t ≡ contents c → tokens-stretch t (read-file t) ≡ [] → ⊥
+
+-- A number above 255 is stored as 255. No judgement on it is lost: for every limit n up to 255, the number is below n exactly
+-- if its byte is. Limits of events, values and entries are at most 16. A variable at node i has at most i binders above it, so
+-- within 256 nodes at most 255, and it is bound if its number is below their count.
+abbrev pub ClampClaim : Type 0
+ClampClaim = (v n : ℕ) → n ≤ 255 → (v < n) ↔ (clamp v < n)

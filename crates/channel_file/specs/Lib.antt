@@ -1,0 +1,8 @@
+-- In reading order: the form, its format, the answer to a text, the bytes stored from it, the claims; and
+-- last what the private functions of src/ say.
+pub mod ChannelFile
+pub mod FileFormat
+pub mod Reading
+pub mod Bytes
+pub mod Claims
+pub mod Steps

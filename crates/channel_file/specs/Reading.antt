@@ -1,0 +1,65 @@
+-- The answer to a text (document 01, refusal 4), with the limit of 4,096 bytes tested first; where its items stand; and the
+-- stretch of the text that holds the rule's tokens.
+-- Assumes nothing.
+use Prim.Native.Nat.{ℕ, _+_, _-_, _≤_, _<_}
+use mathlib.Core.Path.{_≡_}
+use mathlib.Core.List.{List, [], _∷_, _++_, map}
+use mathlib.Core.Bool.{cond}
+use lib.Dec.{ltb}
+use lib.ListN.{length, take, drop}
+use Rattle.text_format.specs.Format.{Outcome, contents, refused, read, ascii}
+use Rattle.text_format.specs.Series.{separated}
+use Rattle.text_format.specs.Place.{Refused}
+use Rattle.channel_file.specs.ChannelFile.{Contents, number, token-text, line, Shows, Form}
+use Rattle.channel_file.specs.FileFormat.{file}
+use Rattle.channel_file.specs.declared.Checked.{Checked}
+
+abbrev pub file-limit : ℕ
+file-limit = 4096
+
+-- Refusal 4 at a place: "over 4,096 bytes: place 4,096, tested first"; else where the form refuses the text.
+pub data Refused4 (t : List ℕ) : ℕ → Type 0 where
+  over-long : file-limit < length t → Refused4 t file-limit
+  off-form : (p : ℕ) → length t ≤ file-limit → Refused Form t p → Refused4 t p
+
+-- What an answer says of a text.
+abbrev pub AnswersFile : List ℕ → Outcome Contents → Type 0
+AnswersFile t (contents c) = (length t ≤ file-limit) × Shows c t
+AnswersFile t (refused p) = Refused4 t p
+
+-- The computing twin: the answer to a text. It is the one that AnswersFile asks for (Claims, AnswerClaim).
+abbrev pub read-file : List ℕ → Outcome Contents
+read-file t = cond (ltb file-limit (length t)) (refused file-limit) (read file t)
+
+-- ---- offsets
+
+-- The first three lines, and the first four.
+abbrev pub head-text : Contents → List ℕ
+head-text c = line (ascii "events=") (number (c .events)) ++ (line (ascii "values=") (number (c .values)) ++ line (ascii "top=") (number (c .top)))
+
+abbrev pub meet-text : Contents → List ℕ
+meet-text c = line (ascii "meet=") (separated (map number (c .meet)))
+
+-- Where the meet entries start: after `meet=`.
+abbrev pub meet-start : Contents → ℕ
+meet-start c = length (head-text c) + 5
+
+-- Where the rule's tokens start: after `rule=`.
+abbrev pub rule-start : Contents → ℕ
+rule-start c = length (head-text c) + length (meet-text c) + 5
+
+-- The bytes of t from the offset a to before the offset b.
+abbrev pub stretch : ℕ → ℕ → List ℕ → List ℕ
+stretch a b t = take (b - a) (drop a t)
+
+-- The stretch of tokens: "from after `rule=` to before the last byte 10, and is empty for a text that 4 refuses".
+abbrev pub tokens-stretch : List ℕ → Outcome Contents → List ℕ
+tokens-stretch t (contents c) = stretch (rule-start c) (length t - 1) t
+tokens-stretch t (refused p) = []
+
+-- ---- the answer as the code gives it: numbers, how many items there are, and where they start
+
+abbrev pub checked : Outcome Contents → Checked
+checked (contents c) =
+    Checked.Form (c .events) (c .values) (c .top) (length (c .meet)) (meet-start c) (length (c .rule)) (rule-start c)
+checked (refused p) = Checked.Refused p

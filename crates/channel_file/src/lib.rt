@@ -1,0 +1,572 @@
+// The channel file: its form and refusal 4, the bytes stored from it, and the stretch of its tokens.
+ghost use mathlib.Core.Path.{_≡_};
+ghost use mathlib.Core.List.{_∷_, []};
+ghost use Prim.Native.Nat.{_≤_, _<_, _+_, _*_};
+ghost use lib.ListN.{length, drop};
+ghost use Rattle.text_format.specs.Format.{ascii, read};
+ghost use Rattle.text_format.specs.Decimal.{is-digit, number};
+ghost use Rattle.channel_file.specs.FileFormat.{first, second, field, plain, token-item, tokens, entries, meet-line, rule-line, file};
+ghost use Rattle.channel_file.specs.Reading.{checked, read-file, tokens-stretch};
+ghost use Rattle.channel_file.specs.Bytes.{clamp, kind, node, entry, meet-bytes, rule-bytes, Stores};
+ghost use Rattle.channel_file.specs.Steps.{token-of, SawNumber, SawEnded, SawEnd, SawEntry, SawItem, SawWord, SawMany, SawHead, SawListed, SpansTokens, puts, Wrote, codes-at, Storable};
+
+// The answer to a text: its numbers, how many meet entries and rule items there are and where they start; or 4's place.
+pub enum Checked {
+    Form {
+        events: usize,
+        values: usize,
+        top: usize,
+        entries: usize,
+        meet_at: usize,
+        items: usize,
+        rule_at: usize,
+    },
+    Refused(usize),
+}
+
+// Reply of a call that stores bytes: how many, a buffer that is too short, or 4's place.
+pub enum Stored {
+    Bytes(usize),
+    Short,
+    Refused(usize),
+}
+
+// A token of the rule line.
+enum Item {
+    Truth,
+    Both,
+    Binder,
+    Variable(usize),
+    Next(usize),
+    Output(usize, usize),
+}
+
+// What stands behind an item.
+enum Behind {
+    Space,
+    Newline,
+}
+
+// Each answer below has what was read and the offset behind it, or the offset where the text cannot go on.
+enum Number {
+    Value(usize, usize),
+    Bad(usize),
+}
+
+enum Ended {
+    By(Behind, usize),
+    Bad(usize),
+}
+
+enum Entry {
+    Of(usize, Behind, usize),
+    Bad(usize),
+}
+
+enum Scanned {
+    Of(Item, Behind, usize),
+    Bad(usize),
+}
+
+enum Counted {
+    Many(usize, usize),
+    Bad(usize),
+}
+
+enum Reached {
+    Past(usize),
+    Bad(usize),
+}
+
+enum Head {
+    Numbers(usize, usize, usize, usize),
+    Bad(usize),
+}
+
+enum Listed {
+    Items(usize, usize, usize),
+    Bad(usize),
+}
+
+// Offsets in a text, from and to before.
+struct Span {
+    from: usize,
+    to: usize,
+}
+
+fn wide(b: u8) -> usize
+    ensures { λ r. ⌜ r ≡ b ⌝ }
+{
+    b as usize
+}
+
+fn digit(b: u8) -> bool
+    ensures { λ r. ⌜ r ≡ is-digit b ⌝ }
+{
+    if b < 48 { false } else { b < 58 }
+}
+
+// A number of one to three digits without leading zero.
+fn number_at(text: &[u8], at: usize) -> Number
+    requires { ⌜ at ≤ length (now text) ⌝ }
+    ensures { λ r. ⌜ SawNumber (number 2) (now (text .entry)) at r ⌝ }
+{
+    if text.len() <= at {
+        return Number::Bad(at);
+    }
+    let b = text[at];
+    if !digit(b) {
+        return Number::Bad(at);
+    }
+    if b == 48 {
+        return Number::Value(0, at + 1);
+    }
+    let mut v = wide(b) - 48;
+    let mut i = at + 1;
+    let mut k: usize = 2;
+    while 0 < k {
+        if text.len() <= i {
+            return Number::Value(v, i);
+        }
+        let d = text[i];
+        if !digit(d) {
+            return Number::Value(v, i);
+        }
+        v = v * 10 + (wide(d) - 48);
+        i += 1;
+        k -= 1;
+    }
+    Number::Value(v, i)
+}
+
+// A number and the one byte that may end it.
+fn ended_at(text: &[u8], at: usize, end: u8) -> Number
+    requires { ⌜ at ≤ length (now text) ⌝ }
+    ensures { λ r. ⌜ SawEnded end (now (text .entry)) at r ⌝ }
+{
+    match number_at(text, at) {
+        Number::Bad(p) => Number::Bad(p),
+        Number::Value(v, i) => {
+            if text.len() <= i {
+                return Number::Bad(i);
+            }
+            if text[i] == end {
+                Number::Value(v, i + 1)
+            } else {
+                Number::Bad(i)
+            }
+        }
+    }
+}
+
+fn end_at(text: &[u8], at: usize) -> Ended
+    requires { ⌜ at ≤ length (now text) ⌝ }
+    ensures { λ r. ⌜ SawEnd (now (text .entry)) at r ⌝ }
+{
+    if text.len() <= at {
+        return Ended::Bad(at);
+    }
+    let b = text[at];
+    if b == 10 {
+        Ended::By(Behind::Newline, at + 1)
+    } else if b == 32 {
+        Ended::By(Behind::Space, at + 1)
+    } else {
+        Ended::Bad(at)
+    }
+}
+
+// An entry of the meet line.
+fn entry_at(text: &[u8], at: usize) -> Entry
+    requires { ⌜ at ≤ length (now text) ⌝ }
+    ensures { λ r. ⌜ SawEntry (now (text .entry)) at r ⌝ }
+{
+    match number_at(text, at) {
+        Number::Bad(p) => Entry::Bad(p),
+        Number::Value(v, i) => match end_at(text, i) {
+            Ended::Bad(p) => Entry::Bad(p),
+            Ended::By(e, n) => Entry::Of(v, e, n),
+        },
+    }
+}
+
+// What stands behind a token that is one letter.
+fn plain_at(text: &[u8], at: usize, x: Item) -> Scanned
+    requires { ⌜ at ≤ length (now text) ⌝ }
+    ensures { λ r. ⌜ SawItem (plain (token-of x)) (now (text .entry)) at r ⌝ }
+{
+    match end_at(text, at) {
+        Ended::Bad(p) => Scanned::Bad(p),
+        Ended::By(e, n) => Scanned::Of(x, e, n),
+    }
+}
+
+// A token of the rule line.
+fn item_at(text: &[u8], at: usize) -> Scanned
+    requires { ⌜ at ≤ length (now text) ⌝ }
+    ensures { λ r. ⌜ SawItem token-item (now (text .entry)) at r ⌝ }
+{
+    if text.len() <= at {
+        return Scanned::Bad(at);
+    }
+    let b = text[at];
+    let n = at + 1;
+    match b {
+        84 => plain_at(text, n, Item::Truth),
+        65 => plain_at(text, n, Item::Both),
+        86 => plain_at(text, n, Item::Binder),
+        88 => match entry_at(text, n) {
+            Entry::Bad(p) => Scanned::Bad(p),
+            Entry::Of(v, e, m) => Scanned::Of(Item::Variable(v), e, m),
+        },
+        71 => match entry_at(text, n) {
+            Entry::Bad(p) => Scanned::Bad(p),
+            Entry::Of(v, e, m) => Scanned::Of(Item::Next(v), e, m),
+        },
+        79 => match ended_at(text, n, 46) {
+            Number::Bad(p) => Scanned::Bad(p),
+            Number::Value(v, k) => match entry_at(text, k) {
+                Entry::Bad(p) => Scanned::Bad(p),
+                Entry::Of(w, e, m) => Scanned::Of(Item::Output(v, w), e, m),
+            },
+        },
+        _ => Scanned::Bad(at),
+    }
+}
+
+fn word_at(text: &[u8], at: usize, key: &[u8]) -> Reached
+    requires { ⌜ at ≤ length (now text) ⌝ }
+    ensures { λ r. ⌜ SawWord (now (key .entry)) (now (text .entry)) at r ⌝ }
+{
+    let mut i = at;
+    let mut j = 0;
+    while j < key.len() {
+        if text.len() <= i {
+            return Reached::Bad(i);
+        }
+        if text[i] != key[j] {
+            return Reached::Bad(i);
+        }
+        i += 1;
+        j += 1;
+    }
+    Reached::Past(i)
+}
+
+// The tokens of the rule line, to its end: how many.
+fn items_at(text: &[u8], at: usize) -> Counted
+    requires { ⌜ at ≤ length (now text) ⌝ }
+    ensures { λ r. ⌜ SawMany tokens (now (text .entry)) at r ⌝ }
+{
+    let mut i = at;
+    let mut n = 0;
+    loop {
+        match item_at(text, i) {
+            Scanned::Bad(p) => {
+                return Counted::Bad(p);
+            }
+            Scanned::Of(_, e, m) => match e {
+                Behind::Newline => {
+                    return Counted::Many(n + 1, m);
+                }
+                Behind::Space => {
+                    i = m;
+                    n += 1;
+                }
+            },
+        }
+    }
+}
+
+// The entries of the meet line, to its end: how many.
+fn entries_at(text: &[u8], at: usize) -> Counted
+    requires { ⌜ at ≤ length (now text) ⌝ }
+    ensures { λ r. ⌜ SawMany entries (now (text .entry)) at r ⌝ }
+{
+    let mut i = at;
+    let mut n = 0;
+    loop {
+        match entry_at(text, i) {
+            Entry::Bad(p) => {
+                return Counted::Bad(p);
+            }
+            Entry::Of(_, e, m) => match e {
+                Behind::Newline => {
+                    return Counted::Many(n + 1, m);
+                }
+                Behind::Space => {
+                    i = m;
+                    n += 1;
+                }
+            },
+        }
+    }
+}
+
+// A key and a number, to the line's end.
+fn field_at(text: &[u8], at: usize, key: &[u8]) -> Number
+    requires { ⌜ at ≤ length (now text) ⌝ }
+    ensures { λ r. ⌜ SawNumber (field (now (key .entry)) .parse) (now (text .entry)) at r ⌝ }
+{
+    match word_at(text, at, key) {
+        Reached::Bad(p) => Number::Bad(p),
+        Reached::Past(a) => ended_at(text, a, 10),
+    }
+}
+
+// The first three lines.
+fn head_at(text: &[u8]) -> Head
+    ensures { λ r. ⌜ SawHead (now (text .entry)) 0 r ⌝ }
+{
+    match field_at(text, 0, b"events=") {
+        Number::Bad(p) => Head::Bad(p),
+        Number::Value(events, a) => match field_at(text, a, b"values=") {
+            Number::Bad(p) => Head::Bad(p),
+            Number::Value(values, b) => match field_at(text, b, b"top=") {
+                Number::Bad(p) => Head::Bad(p),
+                Number::Value(top, d) => Head::Numbers(events, values, top, d),
+            },
+        },
+    }
+}
+
+fn meet_line_at(text: &[u8], at: usize) -> Listed
+    requires { ⌜ at ≤ length (now text) ⌝ }
+    ensures { λ r. ⌜ SawListed meet-line (now (text .entry)) at r ⌝ }
+{
+    match word_at(text, at, b"meet=") {
+        Reached::Bad(p) => Listed::Bad(p),
+        Reached::Past(a) => match entries_at(text, a) {
+            Counted::Bad(p) => Listed::Bad(p),
+            Counted::Many(m, n) => Listed::Items(a, m, n),
+        },
+    }
+}
+
+fn rule_line_at(text: &[u8], at: usize) -> Listed
+    requires { ⌜ at ≤ length (now text) ⌝ }
+    ensures { λ r. ⌜ SawListed rule-line (now (text .entry)) at r ⌝ }
+{
+    match word_at(text, at, b"rule=") {
+        Reached::Bad(p) => Listed::Bad(p),
+        Reached::Past(a) => match items_at(text, a) {
+            Counted::Bad(p) => Listed::Bad(p),
+            Counted::Many(m, n) => Listed::Items(a, m, n),
+        },
+    }
+}
+
+// The form without its length limit.
+fn check_text(text: &[u8]) -> Checked
+    ensures { λ r. ⌜ r ≡ checked (read file (now (text .entry))) ⌝ }
+{
+    match head_at(text) {
+        Head::Bad(p) => Checked::Refused(p),
+        Head::Numbers(events, values, top, a) => match meet_line_at(text, a) {
+            Listed::Bad(p) => Checked::Refused(p),
+            Listed::Items(meet_at, entries, b) => match rule_line_at(text, b) {
+                Listed::Bad(p) => Checked::Refused(p),
+                Listed::Items(rule_at, items, d) => {
+                    if d < text.len() {
+                        Checked::Refused(d)
+                    } else {
+                        Checked::Form {
+                            events,
+                            values,
+                            top,
+                            entries,
+                            meet_at,
+                            items,
+                            rule_at,
+                        }
+                    }
+                }
+            },
+        },
+    }
+}
+
+// Refusal 4: the numbers of a text and where its items are, or the place where it is refused.
+pub fn check_form(text: &[u8]) -> Checked
+    ensures { λ r. ⌜ r ≡ checked (read-file (now (text .entry))) ⌝ }
+{
+    if 4096 < text.len() {
+        return Checked::Refused(4096);
+    }
+    check_text(text)
+}
+
+fn token_span(text: &[u8]) -> Span
+    ensures { λ r. ⌜ SpansTokens (now (text .entry)) r ⌝ }
+{
+    match check_form(text) {
+        Checked::Refused(_) => Span { from: 0, to: 0 },
+        Checked::Form { rule_at, .. } => Span {
+            from: rule_at,
+            to: text.len() - 1,
+        },
+    }
+}
+
+// The stretch of the text that holds the rule's tokens; empty for a text that 4 refuses.
+pub fn tokens(text: &[u8]) -> &[u8]
+    ensures { λ r. ⌜ now r ≡ tokens-stretch (now (text .entry)) (read-file (now (text .entry))) ⌝ }
+{
+    let span = token_span(text);
+    let from = span.from;
+    let to = span.to;
+    &text[from..to]
+}
+
+fn clip(v: usize) -> u8
+    ensures { λ r. ⌜ r ≡ clamp v ⌝ }
+{
+    if v < 255 { v as u8 } else { 255 }
+}
+
+fn kind_of(x: Item) -> u8
+    ensures { λ r. ⌜ r ≡ kind (token-of x) ⌝ }
+{
+    match x {
+        Item::Truth => 0,
+        Item::Variable(_) => 1,
+        Item::Next(_) => 2,
+        Item::Output(_, _) => 3,
+        Item::Both => 4,
+        Item::Binder => 5,
+    }
+}
+
+fn first_of(x: Item) -> usize
+    ensures { λ r. ⌜ r ≡ first (token-of x) ⌝ }
+{
+    match x {
+        Item::Truth => 0,
+        Item::Variable(n) => n,
+        Item::Next(e) => e,
+        Item::Output(e, _) => e,
+        Item::Both => 0,
+        Item::Binder => 0,
+    }
+}
+
+fn second_of(x: Item) -> usize
+    ensures { λ r. ⌜ r ≡ second (token-of x) ⌝ }
+{
+    match x {
+        Item::Truth => 0,
+        Item::Variable(_) => 0,
+        Item::Next(_) => 0,
+        Item::Output(_, v) => v,
+        Item::Both => 0,
+        Item::Binder => 0,
+    }
+}
+
+// Puts a byte at an offset, and answers the offset behind it.
+fn put(out: &mut [u8], at: usize, b: u8) -> usize
+    requires { ⌜ at < length (now out) ⌝ }
+    ensures { λ r. ⌜ Wrote (now (out .entry)) (b ∷ []) (now (out .exit)) at r ⌝ }
+{
+    out[at] = b;
+    at + 1
+}
+
+fn put_node(out: &mut [u8], at: usize, x: Item) -> usize
+    requires { ⌜ at + 3 ≤ length (now out) ⌝ }
+    ensures { λ r. ⌜ Wrote (now (out .entry)) (node (token-of x)) (now (out .exit)) at r ⌝ }
+{
+    let a = put(out, at, kind_of(x));
+    let b = put(out, a, clip(first_of(x)));
+    put(out, b, clip(second_of(x)))
+}
+
+// The nodes of the tokens that start at an offset.
+fn store_items(text: &[u8], at: usize, out: &mut [u8])
+    requires { ⌜ Storable tokens node (now text) at (now out) 0 ⌝ }
+    ensures { λ r. ⌜ now (out .exit) ≡ puts (now (out .entry)) 0 (codes-at tokens node (now (text .entry)) at) ⌝ }
+{
+    let mut i = at;
+    let mut k = 0;
+    loop {
+        match item_at(text, i) {
+            Scanned::Bad(_) => {
+                return;
+            }
+            Scanned::Of(x, e, m) => {
+                k = put_node(out, k, x);
+                match e {
+                    Behind::Newline => {
+                        return;
+                    }
+                    Behind::Space => {
+                        i = m;
+                    }
+                }
+            }
+        }
+    }
+}
+
+// The meet entries that start at an offset.
+fn store_entries(text: &[u8], at: usize, out: &mut [u8])
+    requires { ⌜ Storable entries entry (now text) at (now out) 0 ⌝ }
+    ensures { λ r. ⌜ now (out .exit) ≡ puts (now (out .entry)) 0 (codes-at entries entry (now (text .entry)) at) ⌝ }
+{
+    let mut i = at;
+    let mut k = 0;
+    loop {
+        match entry_at(text, i) {
+            Entry::Bad(_) => {
+                return;
+            }
+            Entry::Of(v, e, m) => {
+                k = put(out, k, clip(v));
+                match e {
+                    Behind::Newline => {
+                        return;
+                    }
+                    Behind::Space => {
+                        i = m;
+                    }
+                }
+            }
+        }
+    }
+}
+
+// The meet entries of a text, one byte each, a number above 255 as 255.
+pub fn store_meet(text: &[u8], out: &mut [u8]) -> Stored
+    ensures { λ r. ⌜ Stores meet-bytes (now (text .entry)) (now (out .entry)) (now (out .exit)) r ⌝ }
+{
+    match check_form(text) {
+        Checked::Refused(p) => Stored::Refused(p),
+        Checked::Form {
+            entries,
+            meet_at,
+            ..
+        } => {
+            if out.len() < entries {
+                return Stored::Short;
+            }
+            store_entries(text, meet_at, out);
+            Stored::Bytes(entries)
+        }
+    }
+}
+
+// The rule's nodes, three bytes each, a number above 255 as 255.
+pub fn store_rule(text: &[u8], out: &mut [u8]) -> Stored
+    ensures { λ r. ⌜ Stores rule-bytes (now (text .entry)) (now (out .entry)) (now (out .exit)) r ⌝ }
+{
+    match check_form(text) {
+        Checked::Refused(p) => Stored::Refused(p),
+        Checked::Form { items, rule_at, .. } => {
+            if out.len() / 3 < items {
+                return Stored::Short;
+            }
+            store_items(text, rule_at, out);
+            Stored::Bytes(3 * items)
+        }
+    }
+}

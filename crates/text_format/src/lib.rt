@@ -1,0 +1,1 @@
+// Definitions and laws of two-way text formats (specs/, proofs/). There is no code here.
