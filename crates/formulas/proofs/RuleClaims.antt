@@ -10,12 +10,12 @@ use native.Mathlib.Nat.{min-le-left, min-eq-right, mul-div-cancel}
 use native.Mathlib.Omega.{arith}
 use lib.Dec.{ltb}
 use lib.ListN.{length, drop}
+use borrow.Author.Tests.{ltb-true, lt-ltb}
 use Rattle.theory.specs.Formula.{Formula, size, Accepted}
 use Rattle.theory.specs.PrefixCode.{Node, nodes}
 use Rattle.theory.specs.ValueSets.{Below}
-use Rattle.refusal.specs.Refusal.{HasNumber, HasNumbers, has-place, part-of, order}
+use Rattle.refusal.specs.Refusal.{number, Numbered, part-of, order}
 use Rattle.refusal.specs.declared.Refusal.{Refusal}
-use Rattle.refusal.specs.declared.Refusal.the-variants.{At}
 use Rattle.refusal.proofs.Refusals.{plain-number, at-lowest-number, first-unique, accepted-exactly}
 use Rattle.formulas.specs.NodeBytes.{encode-all, encode-formula, three-bytes}
 use Rattle.formulas.specs.RuleConditions.{Unbound, InClosedPosition, NodeFits, node-at, CountAtFault, NodeAtFault, RunOut, LeftOver, rule-conditions}
@@ -31,25 +31,26 @@ use Rattle.formulas.proofs.Prefix.{length-nodes, first-is}
 use Rattle.formulas.proofs.Reading.{reads-nodes, reads-unique, whole-read}
 use Rattle.formulas.proofs.Encoding.{formula-length, read-back, known-back, bytes-from}
 use Rattle.formulas.proofs.Conditions.{conditions-functional, none-met, first-refusal, accepted-formula}
-use Rattle.formulas.proofs.ThreeBytes.{three-bytes-code, fields-sound, fields-full, node-bytes, value-byte}
+use Rattle.formulas.proofs.NodeFields.{fields-sound, fields-full}
+use Rattle.formulas.proofs.ThreeBytes.{three-bytes-code, fields-bytes, bytes-fields, node-bytes, value-byte}
 
 pub functional : FunctionalClaim
 functional B width encode code limit events In bytes = conditions-functional width encode code limit events In bytes
 
 pub in-order : InOrderClaim
-unfolding HasNumbers has-place part-of order
+unfolding Numbered number part-of order
 in-order B width encode limit events In bytes =
     record {
       numbered = (
-        plain-number 5 (CountAtFault width encode limit events In bytes) refl,
+        plain-number 5 (CountAtFault width encode limit events In bytes),
         (
-          at-lowest-number 6 (NodeAtFault width encode limit events In bytes) refl,
+          at-lowest-number 6 (NodeAtFault width encode limit events In bytes),
           (
             end-number,
             (
-              (λ r m. at-lowest-number 8 (Unbound (m .0)) refl r (m .2)),
+              (λ r m. at-lowest-number 8 (Unbound (m .0)) r (m .2)),
               (
-                (λ r m. at-lowest-number 9 (InClosedPosition (m .0)) refl r (m .2)),
+                (λ r m. at-lowest-number 9 (InClosedPosition (m .0)) r (m .2)),
                 tt,
               ),
             ),
@@ -59,12 +60,9 @@ in-order B width encode limit events In bytes =
       ordered = refl;
     }
   where
-    at-place : (p : ℕ) (r : Refusal) → r ≡ At 7 p → HasNumber 7 r
-    at-place p r e = at-lowest-number 7 (λ i. i ≡ p) refl r (p, record { holds = refl; least = λ i h q. omega (arith, h, q) }, e)
-
-    end-number : (r : Refusal) → RunOut width encode limit events In bytes r ⊎ LeftOver width encode limit events In bytes r → HasNumber 7 r
-    end-number r (inl m) = at-place _ r (m .4)
-    end-number r (inr m) = at-place _ r (m .4)
+    end-number : (r : Refusal) → RunOut width encode limit events In bytes r ⊎ LeftOver width encode limit events In bytes r → number r ≡ 7
+    end-number r (inl m) = ap number (m .4)
+    end-number r (inr m) = ap number (m .4)
 
 module _ (events values : ℕ) (bytes : List ℕ) where
   abbrev fit : ℕ → Bool
@@ -78,12 +76,17 @@ module _ (events values : ℕ) (bytes : List ℕ) where
 
   sound : (i : ℕ) → i < length bytes / 3 → fit i ≡ true → (at i ≡ three-bytes (node i)) × NodeFits events (Below values) (node i)
   sound i h e =
-      let w = fields-sound events values (kind-at bytes i) (first-at bytes i) (second-at bytes i) e in
-      (node-bytes bytes i h ∙ w .0, w .1)
+      let w =
+      fields-sound events (Below values) (λ v. ltb v values) (λ v. ltb-true v values) (kind-at bytes i) (first-at bytes i) (second-at bytes i) e in
+      (node-bytes bytes i h ∙ fields-bytes (node i) (kind-at bytes i) (first-at bytes i) (second-at bytes i) (w .0), w .1)
 
   full : (i : ℕ) → i < length bytes / 3 → fit i ≡ false → (n : Node ℕ) → at i ≡ three-bytes n → ¬ NodeFits events (Below values) n
   full i h e n d f =
-      clash (sym e ∙ fields-full events values n f (kind-at bytes i) (first-at bytes i) (second-at bytes i) (sym (node-bytes bytes i h) ∙ d))
+      clash
+      (sym e
+      ∙ fields-full events (Below values) (λ v. ltb v values) (λ v. lt-ltb v values) n (kind-at bytes i) (first-at bytes i) (second-at bytes i)
+      (bytes-fields n (kind-at bytes i) (first-at bytes i) (second-at bytes i) (sym (node-bytes bytes i h) ∙ d))
+      f)
     where
       clash : false ≡ true → ⊥
       clash x = let z : _≡_ {A = ℕ} 0 1 = cc in omega arith
