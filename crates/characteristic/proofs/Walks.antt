@@ -167,7 +167,7 @@ pub room-after :
     {limit at count r : ℕ} {bytes before after : List ℕ} → HasRoom limit at before → Appends limit at count bytes before after r
     → HasRoom limit r after
 room-after h x =
-    record { room = omega (arith, h .room, x .same-length); some-limit = h .some-limit; at-within = omega (arith, x .position) }
+    record { room = omega (arith, h .room, x .same-length); small-limit = h .small-limit; at-within = omega (arith, x .position) }
 
 -- With one state more open.
 pub ready-rows :
@@ -200,7 +200,7 @@ ready-part h small x =
 pub room-walked :
     {Of : List ℕ → Formula ℕ → Type 0} {limit depth at r : ℕ} {stack stack-after before after : List ℕ} → HasRoom limit at before
     → Walked Of limit depth at stack stack-after before after r → HasRoom limit r after
-room-walked h y = record { room = omega (arith, h .room, y .same-length); some-limit = h .some-limit; at-within = y .within }
+room-walked h y = record { room = omega (arith, h .room, y .same-length); small-limit = h .small-limit; at-within = y .within }
 
 module _ {Of : List ℕ → Formula ℕ → Type 0} {limit events depth state at part end rest : ℕ}
     {stack stack-one before one two three bytes others : List ℕ} (h : Ready limit events depth state at stack before)
@@ -213,7 +213,7 @@ module _ {Of : List ℕ → Formula ℕ → Type 0} {limit events depth state at
         has-room =
             record {
               room = omega (arith, h .has-room .room, x .same-length, y .same-length, z .same-length);
-              some-limit = h .has-room .some-limit;
+              small-limit = h .has-room .small-limit;
               at-within = omega (arith, z .position);
             };
         stack-room = omega (arith, h .stack-room, y .same-stack);

@@ -22,7 +22,7 @@ pub record Appends (limit at count : ℕ) (bytes before after : List ℕ) (r : �
 -- A buffer with room for `limit` nodes, of which `at` are there; the limit lets a node number fit a byte.
 pub record HasRoom (limit at : ℕ) (to : List ℕ) : Type 0 where
   pub room : limit * node-width ≤ length to
-  pub some-limit : limit ≤ 256
+  pub small-limit : limit ≤ 256
   pub at-within : at ≤ limit + 1
 
 -- The first `depth` states of a stack, the last one first: the open path.

@@ -78,7 +78,7 @@ state-claims t = (
 )
 
 write-rows-add-result : (t : ℕ) → write-rows-lts.Need-add-result (rows-claims t) (write-rows-at t) write-rows.Post
-write-rows-add-result t c = omega (arith, c .before .before .before .before .pre .1 .0 .has-room .some-limit)
+write-rows-add-result t c = omega (arith, c .before .before .before .before .pre .1 .0 .has-room .small-limit)
 
 write-rows-returns : (t : ℕ) → write-rows-lts.Need-returns (rows-claims t) (write-rows-at t) write-rows.Post
 write-rows-returns t c = walk-full _ _ _ _ (c .if1 .taken) (c .before .before .before .before .pre .1 .0 .has-room .at-within)
@@ -177,7 +177,7 @@ write-rows-returns-3 t c =
     (c .before .before .before .before .before .before .before .before .before .before .before .if2 .left) (c .before .before .before .before .before .before .before .before .before .put-output .ensures) (c .before .before .before .before .write-rows .ensures)
 
 write-state-add-result : (t : ℕ) → write-state-lts.Need-add-result (state-claims t) (write-state-at t) write-state.Post
-write-state-add-result t c = omega (arith, c .before .before .before .before .pre .1 .0 .has-room .some-limit)
+write-state-add-result t c = omega (arith, c .before .before .before .before .pre .1 .0 .has-room .small-limit)
 
 write-state-returns : (t : ℕ) → write-state-lts.Need-returns (state-claims t) (write-state-at t) write-state.Post
 write-state-returns t c = walk-full _ _ _ _ (c .if1 .taken) (c .before .before .before .before .pre .1 .0 .has-room .at-within)
@@ -190,7 +190,7 @@ write-state-open-place-requires t c κs =
 write-state-put-node-requires : (t : ℕ) → write-state-lts.Need-put-node-requires (state-claims t) (write-state-at t) write-state.Post
 write-state-put-node-requires t c κs =
     let h = c .before .before .before .before .before .before .before .before .pre .1 .0 in
-    (h .has-room, omega (arith, h .shallow, h .has-room .some-limit, c .before .before .before .before .if1 .left, c .before .if2 .taken), lit< tt)
+    (h .has-room, omega (arith, h .shallow, h .has-room .small-limit, c .before .before .before .before .if1 .left, c .before .if2 .taken), lit< tt)
 
 write-state-same-length : (t : ℕ) → write-state-lts.Need-same-length (state-claims t) (write-state-at t) write-state.Post
 write-state-same-length t c = search needs
@@ -220,7 +220,7 @@ write-state-slice-write-path t c =
 write-state-add-write-rows : (t : ℕ) → write-state-lts.Need-add-write-rows (state-claims t) (write-state-at t) write-state.Post
 write-state-add-write-rows t c =
     let h = c .before .before .before .before .before .before .before .before .before .before .before .before .pre .1 .0 in
-    omega (arith, h .shallow, h .has-room .some-limit, c .before .before .before .before .before .before .before .before .if1 .left)
+    omega (arith, h .shallow, h .has-room .small-limit, c .before .before .before .before .before .before .before .before .if1 .left)
 
 write-state-write-rows-requires : (t : ℕ) → write-state-lts.Need-write-rows-requires (state-claims t) (write-state-at t) write-state.Post
 write-state-write-rows-requires t c κs =
