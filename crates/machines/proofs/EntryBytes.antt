@@ -1,10 +1,9 @@
 -- Laws of entries in bytes, for every encoding: joining, comparing, reading back.
 -- Assumes nothing.
 use mathlib.Core.Path.{_≡_, refl, sym, _∙_, ap}
-use mathlib.Core.List.{List, [], _∷_, _++_, append-assoc, append-nil}
+use mathlib.Core.List.{List, _++_, append-assoc, append-nil}
 use Prim.Native.Nat.{ℕ, zero, suc, _+_, _*_, _-_, _/_, _%_, _≤_, _<_}
-use native.Mathlib.Nat.{add-zero, add-suc, suc-add, zero-add, suc-mul, add-comm, add-assoc}
-use native.Mathlib.Numerals.{add-one}
+use native.Mathlib.Nat.{add-zero, add-suc, suc-add, zero-add}
 use native.Mathlib.Omega.{arith}
 use lib.ListN.{length, getD, take, drop, length-append, take-append-drop, drop-of-length-le, List·getD-append}
 use lib.Seq.{drop-drop, getD-append-add}
@@ -45,6 +44,17 @@ same-bytes B encode events n m k agree =
       values-agree = λ l e h g. agree .values-agree l e (omega arith) g;
       nexts-agree = λ l e h g. agree .nexts-agree l e (omega arith) g;
     }
+
+-- Entries with the same bytes, by two encodings.
+pub entries-same : {B C : Type 0} (encode : B → ℕ → List ℕ) (code : C → ℕ → List ℕ)
+    (v : ℕ → B) (w : ℕ → C) (t u : ℕ → ℕ) (c i : ℕ)
+    → ((k : ℕ) → i ≤ k → k < i + c → encode (v k) (t k) ≡ code (w k) (u k))
+    → entries-bytes encode v t c i ≡ entries-bytes code w u c i
+unfolding entries-bytes
+entries-same encode code v w t u zero i same = refl
+entries-same encode code v w t u (suc c) i same =
+    let rest = entries-same encode code v w t u c (suc i) (λ k h g. same k (omega arith) (omega arith)) in
+    cc (same i (omega arith) (omega arith), rest)
 
 -- Entries read by number.
 module _ {B : Type 0} (encode : B → ℕ → List ℕ) (value-at : ℕ → B) (next-at : ℕ → ℕ) where

@@ -1,3 +1,7 @@
+-- Tests of every number below a bound.
+pub mod AllBelow
+-- Tests of a product by remainder and quotient.
+pub mod Products
 -- Entry l × events + e of a table.
 pub mod EntryIndex
 -- Laws of entries in bytes, of any width.
@@ -6,3 +10,7 @@ pub mod EntryBytes
 pub mod TableRoundTrip
 -- Refusal 11 is the printed condition.
 pub mod TableRefusals
+-- The tests of refusal 11 one after the other.
+pub mod TableTests
+-- Outputs put over a buffer, and flat arrays stored as a table.
+pub mod Stores

@@ -1,16 +1,16 @@
 -- A machine's bytes are read as that machine, and bytes of a table's length are those of the machine that they are read as.
 -- Assumes nothing.
-use mathlib.Core.Path.{_≡_, refl, sym, _∙_, ap}
-use mathlib.Core.List.{List, [], _∷_}
-use Prim.Native.Nat.{ℕ, suc, _+_, _*_, _/_, _%_, _<_}
+use mathlib.Core.Path.{_≡_, refl, _∙_, ap}
+use mathlib.Core.List.{List}
+use Prim.Native.Nat.{ℕ, _+_, _*_, _/_, _%_, _<_}
 use native.Mathlib.Nat.{add-zero, mul-le-mul-right}
 use native.Mathlib.Numerals.{add-one}
 use native.Mathlib.Omega.{arith}
 use lib.ListN.{length, getD, take, drop}
 use lib.Seq.{drop-cons}
 use Rattle.theory.specs.MealyMachine.{Machine}
-use Rattle.machines.specs.TableBytes.{table-bytes, two-bytes, machine-of}
-use Rattle.machines.specs.Claims.{Agree, ReadBackClaim, WriteBackClaim}
+use Rattle.machines.specs.TableBytes.{table-bytes, two-bytes}
+use Rattle.machines.specs.Claims.{ReadBackClaim, WriteBackClaim}
 use Rattle.machines.proofs.EntryIndex.{index-below, index-state, index-event}
 use Rattle.machines.proofs.EntryBytes.{table-flat, table-entries, entries-at, entries-of}
 

@@ -1,0 +1,2 @@
+-- What is claimed of a trial.
+-- Assumes nothing.
