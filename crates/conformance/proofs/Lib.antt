@@ -2,3 +2,5 @@
 pub mod Places
 -- The queue's arrays hold the words of the search.
 pub mod Queues
+-- The words that the arrays link, and how they are written.
+pub mod Words

@@ -4,14 +4,12 @@ use refusal::Refusal;
 use values::ValueKind;
 ghost use mathlib.Core.Path.{_≡_};
 ghost use mathlib.Core.Bool.{true};
-ghost use mathlib.Core.List.{List, reverse};
 ghost use Prim.Native.Nat.{ℕ, _+_, _*_, _≤_, _<_};
-ghost use lib.ListN.{length, getD};
+ghost use lib.ListN.{length};
 ghost use Rattle.refusal.specs.Refusal.{judgement};
 ghost use Rattle.values.specs.Setup.{setup};
-ghost use Rattle.machines.specs.StoredEntries.{put};
 ghost use Rattle.conformance.specs.Trial.{input, device-limit, table-limit, trial-refusal, trial-answer, trial-buffer, outcome, shown, first-failure};
-ghost use Rattle.conformance.specs.PairQueue.{at-or-below-on, FirstBadEvent, queue, Sized, is-new, pushed, pushed-count, Expandable, Expanded};
+ghost use Rattle.conformance.specs.PairQueue.{at-or-below-on, FirstBadEvent, queue, Sized, is-new, pushed, pushed-count, Expandable, Expanded, Reaches, Deep, Writable, Written, Searchable, Searched};
 
 // Document 01's limits: a device's states, a rule's table's states, and their product, the events of a word.
 pub const DEVICE_LIMIT: usize = 64;
@@ -95,26 +93,121 @@ fn push_pair(
     parent: usize,
     e: usize,
     count: usize,
-    device_states: &mut [u8; WORD_LIMIT],
-    table_states: &mut [u8; WORD_LIMIT],
+    device_queue: &mut [u8; WORD_LIMIT],
+    table_queue: &mut [u8; WORD_LIMIT],
     parents: &mut [u16; WORD_LIMIT],
     last_events: &mut [u8; WORD_LIMIT],
     flags: &mut [u8; WORD_LIMIT],
 ) -> usize
-    requires { ⌜ Sized 4096 (queue (now «device_states») (now «table_states») (now parents) (now «last_events») (now flags))
+    requires { ⌜ Sized 4096 (queue (now «device_queue») (now «table_queue») (now parents) (now «last_events») (now flags))
         × (place < 4096) × (s < 256) × (t < 256) × (parent < 4096) × (e < 256)
-        × (is-new (queue (now «device_states») (now «table_states») (now parents) (now «last_events») (now flags)) place ≡ true → count < 4096) ⌝ }
-    ensures { λ r. ⌜ (r ≡ pushed-count (queue (now («device_states» .entry)) (now («table_states» .entry)) (now (parents .entry)) (now («last_events» .entry)) (now (flags .entry))) count place)
-        × (queue (now («device_states» .exit)) (now («table_states» .exit)) (now (parents .exit)) (now («last_events» .exit)) (now (flags .exit))
-            ≡ pushed (queue (now («device_states» .entry)) (now («table_states» .entry)) (now (parents .entry)) (now («last_events» .entry)) (now (flags .entry))) count place s t parent e) ⌝ }
+        × (is-new (queue (now «device_queue») (now «table_queue») (now parents) (now «last_events») (now flags)) place ≡ true → count < 4096) ⌝ }
+    ensures { λ r. ⌜ (r ≡ pushed-count (queue (now («device_queue» .entry)) (now («table_queue» .entry)) (now (parents .entry)) (now («last_events» .entry)) (now (flags .entry))) count place)
+        × (queue (now («device_queue» .exit)) (now («table_queue» .exit)) (now (parents .exit)) (now («last_events» .exit)) (now (flags .exit))
+            ≡ pushed (queue (now («device_queue» .entry)) (now («table_queue» .entry)) (now (parents .entry)) (now («last_events» .entry)) (now (flags .entry))) count place s t parent e) ⌝ }
 {
     if flags[place] != 0 {
         return count;
     }
     flags[place] = 1;
-    device_states[count] = s as u8;
-    table_states[count] = t as u8;
+    device_queue[count] = s as u8;
+    table_queue[count] = t as u8;
     parents[count] = parent as u16;
     last_events[count] = e as u8;
     count + 1
+}
+
+// Puts the successors of a pair in the queue at the queue's end, events rising; returns how many pairs the queue has then.
+fn push_successors(
+    events: usize,
+    states: usize,
+    device: &[u8],
+    table: &[u8],
+    i: usize,
+    count: usize,
+    device_queue: &mut [u8; WORD_LIMIT],
+    table_queue: &mut [u8; WORD_LIMIT],
+    parents: &mut [u16; WORD_LIMIT],
+    last_events: &mut [u8; WORD_LIMIT],
+    flags: &mut [u8; WORD_LIMIT],
+) -> usize
+    requires { ⌜ Sized 4096 (queue (now «device_queue») (now «table_queue») (now parents) (now «last_events») (now flags))
+        × Expandable 4096 events states (now device) (now table) i count (queue (now «device_queue») (now «table_queue») (now parents) (now «last_events») (now flags)) ⌝ }
+    ensures { λ r. ⌜ Sized 4096 (queue (now («device_queue» .exit)) (now («table_queue» .exit)) (now (parents .exit)) (now («last_events» .exit)) (now (flags .exit)))
+        × Expanded 4096 events states (now (device .entry)) (now (table .entry)) i count
+            (queue (now («device_queue» .entry)) (now («table_queue» .entry)) (now (parents .entry)) (now («last_events» .entry)) (now (flags .entry))) r (queue (now («device_queue» .exit)) (now («table_queue» .exit)) (now (parents .exit)) (now («last_events» .exit)) (now (flags .exit))) ⌝ }
+{
+    let s = wide(device_queue[i]);
+    let t = wide(table_queue[i]);
+    let mut n = count;
+    let mut e: usize = 0;
+    while e < events {
+        let x = machines::next_at(device, s * events + e);
+        let y = machines::next_at(table, t * events + e);
+        n = push_pair(x * states + y, x, y, i, e, n, device_queue, table_queue, parents, last_events, flags);
+        e += 1;
+    }
+    n
+}
+
+// Takes pairs from the queue, the start's first, until one fails or none is left.
+fn find_failure(
+    events: usize,
+    values: usize,
+    meet: &[u8],
+    states: usize,
+    table: &[u8],
+    device: &[u8],
+    device_queue: &mut [u8; WORD_LIMIT],
+    table_queue: &mut [u8; WORD_LIMIT],
+    parents: &mut [u16; WORD_LIMIT],
+    last_events: &mut [u8; WORD_LIMIT],
+    flags: &mut [u8; WORD_LIMIT],
+) -> Failure
+    requires { ⌜ Sized 4096 (queue (now «device_queue») (now «table_queue») (now parents) (now «last_events») (now flags))
+        × Searchable 4096 events values states (now device) (now table) (queue (now «device_queue») (now «table_queue») (now parents) (now «last_events») (now flags)) ⌝ }
+    ensures { λ r. ⌜ Searched 4096 events values (now (meet .entry)) states (now (device .entry)) (now (table .entry))
+        (queue (now («device_queue» .entry)) (now («table_queue» .entry)) (now (parents .entry)) (now («last_events» .entry)) (now (flags .entry))) r (queue (now («device_queue» .exit)) (now («table_queue» .exit)) (now (parents .exit)) (now («last_events» .exit)) (now (flags .exit))) ⌝ }
+{
+    let mut count: usize = 1;
+    let mut i: usize = 0;
+    while i < count {
+        let s = wide(device_queue[i]);
+        let t = wide(table_queue[i]);
+        let e = bad_event(events, values, meet, device, table, s, t);
+        if e < events {
+            return Failure::At(i, e);
+        }
+        count = push_successors(events, states, device, table, i, count, device_queue, table_queue, parents, last_events, flags);
+        i += 1;
+    }
+    Failure::Nowhere
+}
+
+// How many events lead to a place of the queue.
+fn depth(parents: &[u16; WORD_LIMIT], last_events: &[u8; WORD_LIMIT], i: usize) -> usize
+    requires { ⌜ Reaches 4096 i (now parents) (now «last_events») ⌝ }
+    ensures { λ r. ⌜ Deep 4096 i (now (parents .entry)) (now («last_events» .entry)) r ⌝ }
+{
+    let mut n: usize = 0;
+    let mut j = i;
+    while j != 0 {
+        j = wide16(parents[j]);
+        n += 1;
+    }
+    n
+}
+
+// Writes the events that lead to a place of the queue, in order of play, to the front of the buffer.
+fn write_path(parents: &[u16; WORD_LIMIT], last_events: &[u8; WORD_LIMIT], i: usize, n: usize, word: &mut [u8])
+    requires { ⌜ Writable 4096 i n (now parents) (now «last_events») (now word) ⌝ }
+    ensures { λ r. ⌜ Written 4096 i n (now (parents .entry)) (now («last_events» .entry)) (now (word .entry)) (now (word .exit)) ⌝ }
+{
+    let mut j = i;
+    let mut at = n;
+    while at != 0 {
+        at -= 1;
+        word[at] = last_events[j];
+        j = wide16(parents[j]);
+    }
 }

@@ -23,20 +23,20 @@ element-write-flags : tie.Need-element-write-flags
 element-write-flags c = search needs
 
 -- src/lib.rt:115:28
-cast-device-states : tie.Need-cast-device-states
-cast-device-states c = search needs
+cast-device-queue : tie.Need-cast-device-queue
+cast-device-queue c = search needs
 
 -- src/lib.rt:115:5
-element-write-device-states : tie.Need-element-write-device-states
-element-write-device-states c = c .before .before .pre .6 (eq-eqb _ _ (c .if1 .left))
+element-write-device-queue : tie.Need-element-write-device-queue
+element-write-device-queue c = c .before .before .pre .6 (eq-eqb _ _ (c .if1 .left))
 
 -- src/lib.rt:116:27
-cast-table-states : tie.Need-cast-table-states
-cast-table-states c = search needs
+cast-table-queue : tie.Need-cast-table-queue
+cast-table-queue c = search needs
 
 -- src/lib.rt:116:5
-element-write-table-states : tie.Need-element-write-table-states
-element-write-table-states c = c .before .before .pre .6 (eq-eqb _ _ (c .if1 .left))
+element-write-table-queue : tie.Need-element-write-table-queue
+element-write-table-queue c = c .before .before .pre .6 (eq-eqb _ _ (c .if1 .left))
 
 -- src/lib.rt:117:22
 cast-parents : tie.Need-cast-parents
@@ -73,10 +73,10 @@ push-pair-spec =
     element-copy-out-if1
     returns
     element-write-flags
-    cast-device-states
-    element-write-device-states
-    cast-table-states
-    element-write-table-states
+    cast-device-queue
+    element-write-device-queue
+    cast-table-queue
+    element-write-table-queue
     cast-parents
     mul-parents
     element-write-parents
