@@ -4,3 +4,5 @@ pub mod Places
 pub mod Queues
 -- The words that the arrays link, and how they are written.
 pub mod Words
+-- Pushing a pair's successors adds their words.
+pub mod Successors

@@ -143,19 +143,10 @@ module _ (n k : ℕ) (m q : Machine ℕ ℕ) (start : ℕ × ℕ) where
     abbrev w : List ℕ
     w = getD P i []
 
-    abbrev x : ℕ
-    x = m .next (getD (a .device-queue) i 0) e
+    module _ (x y : ℕ) (next-state : state (e ∷ w) ≡ (x, y)) (x-in : x < n) (y-in : y < k) where
+      abbrev place : ℕ
+      place = x * k + y
 
-    abbrev y : ℕ
-    y = q .next (getD (a .table-queue) i 0) e
-
-    next-state : state (e ∷ w) ≡ (x, y)
-    next-state = λ j. (m .next (sym (held .device-at i i-in) j) e, q .next (sym (held .table-at i i-in) j) e)
-
-    abbrev place : ℕ
-    place = x * k + y
-
-    module _ (x-in : x < n) (y-in : y < k) where
       place-in : place < n * k
       place-in = omega (arith, mul-le-mul-right k x-in, suc-mul x k)
 
