@@ -6,3 +6,5 @@ pub mod Queues
 pub mod Words
 -- Pushing a pair's successors adds their words.
 pub mod Successors
+-- The search is breadth-first exploration.
+pub mod Progress

@@ -116,10 +116,10 @@ or-assoc : (a b c : Bool) → (a || (b || c)) ≡ ((a || b) || c)
 or-assoc true b c = refl
 or-assoc false b c = refl
 
-same-pair-self : (x y : ℕ) → same-pair (x, y) (x, y) ≡ true
+pub same-pair-self : (x y : ℕ) → same-pair (x, y) (x, y) ≡ true
 same-pair-self x y = rw (eq-eqb x x refl, eq-eqb y y refl)
 
-same-pair-true : (x y : ℕ × ℕ) → same-pair x y ≡ true → (x .0 ≡ y .0) × (x .1 ≡ y .1)
+pub same-pair-true : (x y : ℕ × ℕ) → same-pair x y ≡ true → (x .0 ≡ y .0) × (x .1 ≡ y .1)
 same-pair-true x y e =
     let h : T (eqb (x .0) (y .0)) × T (eqb (x .1) (y .1)) = and-yes (eqb (x .0) (y .0)) (eqb (x .1) (y .1)) (subst⁻¹ T e tt) in
     (eqb→eq _ _ (h .0), eqb→eq _ _ (h .1))

@@ -15,8 +15,10 @@ use Rattle.machines.specs.TableBytes.{machine-of}
 use Rattle.machines.specs.StoredEntries.{put}
 use Rattle.values.specs.declared.ValueKind.the-variants.{Numbered}
 use Rattle.values.specs.ValueKind.{at-or-below}
+use Rattle.conformance.specs.declared.Verdict.{Verdict}
 use Rattle.conformance.specs.declared.Failure.{Failure}
 use Rattle.conformance.specs.declared.Failure.the-variants.{Nowhere, At}
+use Rattle.conformance.specs.Trial.{outcome, shown}
 
 -- The pair of states after an event.
 abbrev pub pair-step : Machine ℕ ℕ → Machine ℕ ℕ → ℕ × ℕ → ℕ → ℕ × ℕ
@@ -169,3 +171,24 @@ Searched size events values meet k device table a r b =
     (x : Searchable size events values k device table a) →
     Located size events
     (counterexample (at-or-below (Numbered values) meet) (machine-of events device) (machine-of events table) events (x .n) k (x .s) zero) r b
+
+-- What the search is given, and the buffer has room for the longest word.
+pub record Tried (size events values k : ℕ) (table : List ℕ) (s : ℕ) (device buffer : List ℕ) : Type 0 where
+  pub few-values : values ≤ 16
+  pub n : ℕ
+  pub ready : Ready size events n k device table
+  pub start-in : s < n
+  pub some-states : 0 < k
+  pub room : size ≤ length buffer
+
+-- The answer and the later buffer are those of the first counterexample.
+pub record Answers (found : Option (List ℕ)) (old : List ℕ) (answer : Verdict) (later : List ℕ) : Type 0 where
+  pub answer-is : answer ≡ outcome found
+  pub later-is : later ≡ shown found old
+
+abbrev pub Answered : ℕ → ℕ → ℕ → List ℕ → ℕ → List ℕ → ℕ → List ℕ → List ℕ → Verdict → List ℕ → Type 0
+Answered size events values meet k table s device old answer later =
+    (x : Tried size events values k table s device old) →
+    Answers
+    (counterexample (at-or-below (Numbered values) meet) (machine-of events device) (machine-of events table) events (x .n) k s zero)
+    old answer later

@@ -19,8 +19,8 @@ use Rattle.values.specs.ValueKind.{meetOf, at-or-below}
 use Rattle.machines.specs.TableBytes.{machine-of, table-condition}
 use Rattle.machines.specs.TableRefusal.{table-refusal}
 use Rattle.machines.specs.StoredEntries.{put}
-use Rattle.conformance.specs.declared.Trial.{Trial}
-use Rattle.conformance.specs.declared.Trial.the-variants.{Pass, Fail, Refused}
+use Rattle.conformance.specs.declared.Verdict.{Verdict}
+use Rattle.conformance.specs.declared.Verdict.the-variants.{Pass, Fail, Refused}
 
 -- What is handed in beside the word buffer: a set-up, the rule's table with its state count, and the device with its state count
 -- and start. The rule's table starts at state 0.
@@ -102,7 +102,7 @@ first-failure x =
 
 -- The answer for a word or none, and the buffer after it: a word is put over the front, and the bytes after it keep their
 -- contents.
-unfoldable pub outcome : Option (List ℕ) → Trial
+unfoldable pub outcome : Option (List ℕ) → Verdict
 outcome none = Pass
 outcome (some word) = Fail (length word)
 
@@ -111,7 +111,7 @@ shown none old = old
 shown (some word) old = put word old
 
 -- A refusal is the answer, and leaves the buffer as it was.
-unfoldable pub answer-unless : Option Refusal → Option (List ℕ) → Trial
+unfoldable pub answer-unless : Option Refusal → Option (List ℕ) → Verdict
 answer-unless none found = outcome found
 answer-unless (some refusal) found = Refused refusal
 
@@ -120,19 +120,19 @@ buffer-unless none found old = shown found old
 buffer-unless (some refusal) found old = old
 
 -- What a trial answers, and what the word buffer holds afterwards.
-unfoldable pub trial-answer : ℕ → ℕ → TrialInput → List ℕ → Trial
+unfoldable pub trial-answer : ℕ → ℕ → TrialInput → List ℕ → Verdict
 trial-answer device-most table-most x old = answer-unless (trial-refusal device-most table-most x old) (first-failure x)
 
 unfoldable pub trial-buffer : ℕ → ℕ → TrialInput → List ℕ → List ℕ
 trial-buffer device-most table-most x old = buffer-unless (trial-refusal device-most table-most x old) (first-failure x) old
 
 -- Document 01's number of each answer, where it is a refusal, and a failed trial's word length.
-unfoldable pub refusal-of : Trial → Option Refusal
+unfoldable pub refusal-of : Verdict → Option Refusal
 refusal-of Pass = none
 refusal-of (Fail n) = none
 refusal-of (Refused refusal) = some refusal
 
-unfoldable pub word-length : Trial → Option ℕ
+unfoldable pub word-length : Verdict → Option ℕ
 word-length Pass = none
 word-length (Fail n) = some n
 word-length (Refused refusal) = none

@@ -8,8 +8,8 @@ ghost use Prim.Native.Nat.{ℕ, _+_, _*_, _≤_, _<_};
 ghost use lib.ListN.{length};
 ghost use Rattle.refusal.specs.Refusal.{judgement};
 ghost use Rattle.values.specs.Setup.{setup};
-ghost use Rattle.conformance.specs.Trial.{input, device-limit, table-limit, trial-refusal, trial-answer, trial-buffer, outcome, shown, first-failure};
-ghost use Rattle.conformance.specs.PairQueue.{at-or-below-on, FirstBadEvent, queue, Sized, is-new, pushed, pushed-count, Expandable, Expanded, Reaches, Deep, Writable, Written, Searchable, Searched};
+ghost use Rattle.conformance.specs.Trial.{input, device-limit, table-limit, trial-refusal, trial-answer, trial-buffer};
+ghost use Rattle.conformance.specs.PairQueue.{at-or-below-on, FirstBadEvent, queue, Sized, is-new, pushed, pushed-count, Expandable, Expanded, Reaches, Deep, Writable, Written, Searchable, Searched, Tried, Answered};
 
 // Document 01's limits: a device's states, a rule's table's states, and their product, the events of a word.
 pub const DEVICE_LIMIT: usize = 64;
@@ -19,7 +19,7 @@ pub const TABLE_LIMIT: usize = 64;
 pub const WORD_LIMIT: usize = 4096;
 
 // The answer of a trial; a failed one has the word's length.
-pub enum Trial {
+pub enum Verdict {
     Pass,
     Fail(usize),
     Refused(Refusal),
@@ -210,4 +210,108 @@ fn write_path(parents: &[u16; WORD_LIMIT], last_events: &[u8; WORD_LIMIT], i: us
         word[at] = last_events[j];
         j = wide16(parents[j]);
     }
+}
+
+// Searches the pairs of states that events reach from the device's start and the table's state 0, and writes the first word on
+// which the device fails.
+fn search(
+    events: usize,
+    values: usize,
+    meet: &[u8],
+    states: usize,
+    table: &[u8],
+    device_start: usize,
+    device: &[u8],
+    word: &mut [u8],
+) -> Verdict
+    requires { ⌜ Tried 4096 events values states (now table) «device_start» (now device) (now word) ⌝ }
+    ensures { λ r. ⌜ Answered 4096 events values (now (meet .entry)) states (now (table .entry)) «device_start» (now (device .entry)) (now (word .entry)) r (now (word .exit)) ⌝ }
+{
+    let mut device_queue = [0u8; WORD_LIMIT];
+    let mut table_queue = [0u8; WORD_LIMIT];
+    let mut parents = [0u16; WORD_LIMIT];
+    let mut last_events = [0u8; WORD_LIMIT];
+    let mut flags = [0u8; WORD_LIMIT];
+    device_queue[0] = device_start as u8;
+    flags[device_start * states] = 1;
+    let failure = find_failure(
+        events,
+        values,
+        meet,
+        states,
+        table,
+        device,
+        &mut device_queue,
+        &mut table_queue,
+        &mut parents,
+        &mut last_events,
+        &mut flags,
+    );
+    let Failure::At(i, e) = failure else {
+        return Verdict::Pass;
+    };
+    let n = depth(&parents, &last_events, i);
+    word[n] = e as u8;
+    write_path(&parents, &last_events, i, n, word);
+    Verdict::Fail(n + 1)
+}
+
+// The check of a trial's inputs: refusals 1 to 3, 11 for the device and the table, and 13.
+fn check_trial(
+    events: usize,
+    values: usize,
+    top: usize,
+    meet: &[u8],
+    states: usize,
+    table: &[u8],
+    device_states: usize,
+    device_start: usize,
+    device: &[u8],
+    word: &[u8],
+) -> Judgement
+    ensures { λ r. ⌜ r ≡ judgement (trial-refusal device-limit table-limit
+        (input (setup events values top (now (meet .entry))) states (now (table .entry)) «device_states» «device_start» (now (device .entry))) (now (word .entry))) ⌝ }
+{
+    let setup = values::check_setup(events, values, top, meet);
+    if let Judgement::Refused(_) = setup {
+        return setup;
+    }
+    let first = machines::check_table(DEVICE_LIMIT, events, values, device_states, device_start, device);
+    if let Judgement::Refused(_) = first {
+        return first;
+    }
+    let second = machines::check_table(TABLE_LIMIT, events, values, states, 0, table);
+    if let Judgement::Refused(_) = second {
+        return second;
+    }
+    if word.len() < WORD_LIMIT {
+        return Judgement::Refused(Refusal::Plain(refusal::BUFFER_LENGTH));
+    }
+    Judgement::Accepted
+}
+
+// The trial of a device against a rule's table, both in bytes. A failed one has the first word on which the device fails written
+// to the front of the buffer.
+pub fn trial(
+    events: usize,
+    values: usize,
+    top: usize,
+    meet: &[u8],
+    states: usize,
+    table: &[u8],
+    device_states: usize,
+    device_start: usize,
+    device: &[u8],
+    word: &mut [u8],
+) -> Verdict
+    ensures answer { λ r. ⌜ r ≡ trial-answer device-limit table-limit
+        (input (setup events values top (now (meet .entry))) states (now (table .entry)) «device_states» «device_start» (now (device .entry))) (now (word .entry)) ⌝ }
+    ensures contents { λ r. ⌜ now (word .exit) ≡ trial-buffer device-limit table-limit
+        (input (setup events values top (now (meet .entry))) states (now (table .entry)) «device_states» «device_start» (now (device .entry))) (now (word .entry)) ⌝ }
+{
+    let judged = check_trial(events, values, top, meet, states, table, device_states, device_start, device, word);
+    if let Judgement::Refused(refusal) = judged {
+        return Verdict::Refused(refusal);
+    }
+    search(events, values, meet, states, table, device_start, device, word)
 }

@@ -1,0 +1,79 @@
+use borrow.Author.Needs.{needs}
+use Rattle.conformance.proofs.check_trial.Statement.{statement}
+use Rattle.conformance.proofs.check_trial.Tie as tie
+use Rattle.conformance.proofs.check_trial.Reads as reads
+use Rattle.conformance.proofs.check_trial.Lts as lts
+use Rattle.machines.proofs.check_table.Reads as check-table-reads
+use Rattle.values.proofs.check_setup.Reads as check-setup-reads
+
+-- src/lib.rt:275:9
+check-setup-requires : tie.Need-check-setup-requires
+check-setup-requires c κs = search needs
+
+-- src/lib.rt:277:9
+enum-told : tie.Need-enum-told
+enum-told c = search needs
+
+-- src/lib.rt:277:9
+returns : tie.Need-returns
+returns c = search needs
+
+enum-told-2 : tie.Need-enum-told-2
+enum-told-2 c = search needs
+
+-- src/lib.rt:279:9
+check-table-requires : tie.Need-check-table-requires
+check-table-requires c κs = search needs
+
+-- src/lib.rt:281:9
+enum-told-3 : tie.Need-enum-told-3
+enum-told-3 c = search needs
+
+-- src/lib.rt:281:9
+returns-2 : tie.Need-returns-2
+returns-2 c = search needs
+
+enum-told-4 : tie.Need-enum-told-4
+enum-told-4 c = search needs
+
+-- src/lib.rt:283:9
+check-table-requires-2 : tie.Need-check-table-requires-2
+check-table-requires-2 c κs = search needs
+
+-- src/lib.rt:285:9
+enum-told-5 : tie.Need-enum-told-5
+enum-told-5 c = search needs
+
+-- src/lib.rt:285:9
+returns-3 : tie.Need-returns-3
+returns-3 c = search needs
+
+enum-told-6 : tie.Need-enum-told-6
+enum-told-6 c = search needs
+
+-- src/lib.rt:288:9
+returns-4 : tie.Need-returns-4
+returns-4 c = search needs
+
+-- src/lib.rt:260:1
+returns-5 : tie.Need-returns-5
+returns-5 c = search needs
+
+pub check-trial-spec : {M : Type 1} → statement M
+check-trial-spec =
+    tie.close
+    (tie.spec
+    check-setup-requires
+    enum-told
+    returns
+    enum-told-2
+    check-table-requires
+    enum-told-3
+    returns-2
+    enum-told-4
+    check-table-requires-2
+    enum-told-5
+    returns-3
+    enum-told-6
+    returns-4
+    returns-5)
