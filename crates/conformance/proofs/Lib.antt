@@ -8,3 +8,5 @@ pub mod Words
 pub mod Successors
 -- The search is breadth-first exploration.
 pub mod Progress
+-- The search's start and its answer.
+pub mod Starts

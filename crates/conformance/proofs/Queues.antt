@@ -104,7 +104,7 @@ linked-push P parents last-events i e hi hp hl v =
         ∙ ap₂ _∷_ (sym (getD-set-same last-events (length P) e 0 hl))
             (sym (List·getD-append P (w ∷ []) [] i hi) ∙ ap (λ x. getD P′ x []) (sym (getD-set-same parents (length P) i 0 hp))))
 
-or-false : (b : Bool) → (b || false) ≡ b
+pub or-false : (b : Bool) → (b || false) ≡ b
 or-false true = refl
 or-false false = refl
 

@@ -16,11 +16,14 @@ use Rattle.machines.proofs.EntryIndex.{index-state, index-event}
 -- Two machines with the same entries.
 module _ {B : Type 0} (encode : B → ℕ → List ℕ) (events : ℕ) (m k : Machine ℕ B) where
   row-same : (c l e : ℕ)
-      → ((f : ℕ) → e ≤ f → f < e + c → m .value l f ≡ k .value l f) → ((f : ℕ) → e ≤ f → f < e + c → m .next l f ≡ k .next l f)
+      → ((f : ℕ) → e ≤ f → f < e + c → m .value l f ≡ k .value l f)
+      → ((f : ℕ) → e ≤ f → f < e + c → m .next l f ≡ k .next l f)
       → row-bytes encode events m c l e ≡ row-bytes encode events k c l e
   row-same zero l e same-value same-next = refl
   row-same (suc c) l e same-value same-next =
-      let rest = row-same c l (suc e) (λ f h g. same-value f (omega arith) (omega arith)) (λ f h g. same-next f (omega arith) (omega arith)) in
+      let rest =
+      row-same c l (suc e)
+      (λ f h g. same-value f (omega arith) (omega arith)) (λ f h g. same-next f (omega arith) (omega arith)) in
       cc (rest, same-value e (omega arith) (omega arith), same-next e (omega arith) (omega arith))
 
   rows-same : (n l : ℕ) → Agree events (l + n) m k → rows-bytes encode events m n l ≡ rows-bytes encode events k n l

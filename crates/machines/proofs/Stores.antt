@@ -9,6 +9,7 @@ use native.Mathlib.Numerals.{add-one}
 use native.Mathlib.Omega.{arith}
 use borrow.Author.Tests.{le-leb, lt-leb}
 use lib.ListN.{length, getD, drop, set, length-append}
+use lib.Dec.{leb}
 use lib.Seq.{drop-cons, set-append-seam, sets}
 use Rattle.machines.specs.TableBytes.{two-bytes}
 use Rattle.machines.specs.StoredEntries.{entries-bytes, put, low-bytes, stored, storable, after-store}
@@ -61,15 +62,21 @@ module _ (values nexts : List ℕ) where
 
 -- What a store answers and leaves.
 module _ (values nexts : List ℕ) (count : ℕ) (old : List ℕ) where
+  pub after-none : storable values nexts count old ≡ false → after-store values nexts count old ≡ old
+  unfolding after-store
+  after-none short = ap (λ b. cond b (put (stored values nexts count) old) old) short
+
+  pub after-all : storable values nexts count old ≡ true → after-store values nexts count old ≡ put (stored values nexts count) old
+  unfolding after-store
+  after-all fits = ap (λ b. cond b (put (stored values nexts count) old) old) fits
+
   pub not-stored : storable values nexts count old ≡ false
       → (false ≡ storable values nexts count old) × (old ≡ after-store values nexts count old)
-  unfolding after-store
-  not-stored short = (sym short, ap (λ b. cond b (put (stored values nexts count) old) old) (sym short))
+  not-stored short = (sym short, sym (after-none short))
 
   pub all-stored : storable values nexts count old ≡ true → (now : List ℕ) → now ≡ put (stored values nexts count) old
       → (true ≡ storable values nexts count old) × (now ≡ after-store values nexts count old)
-  unfolding after-store
-  all-stored fits now e = (sym fits, e ∙ ap (λ b. cond b (put (stored values nexts count) old) old) (sym fits))
+  all-stored fits now e = (sym fits, e ∙ sym (after-all fits))
 
   pub few-values : length values < count → storable values nexts count old ≡ false
   unfolding storable
@@ -79,13 +86,16 @@ module _ (values nexts : List ℕ) (count : ℕ) (old : List ℕ) where
   unfolding storable
   few-nexts hv h = rw (le-leb count (length values) hv, lt-leb count (length nexts) h)
 
-  pub short-buffer : count ≤ length values → count ≤ length nexts → length old < count * 2 → storable values nexts count old ≡ false
+  -- Where the arrays are long enough, the room decides.
+  pub storable-room : count ≤ length values → count ≤ length nexts → storable values nexts count old ≡ leb (count * 2) (length old)
   unfolding storable
-  short-buffer hv hn h = rw (le-leb count (length values) hv, le-leb count (length nexts) hn, lt-leb (count * 2) (length old) h)
+  storable-room hv hn = rw (le-leb count (length values) hv, le-leb count (length nexts) hn)
+
+  pub short-buffer : count ≤ length values → count ≤ length nexts → length old < count * 2 → storable values nexts count old ≡ false
+  short-buffer hv hn h = storable-room hv hn ∙ lt-leb (count * 2) (length old) h
 
   pub enough : count ≤ length values → count ≤ length nexts → count * 2 ≤ length old → storable values nexts count old ≡ true
-  unfolding storable
-  enough hv hn h = rw (le-leb count (length values) hv, le-leb count (length nexts) hn, le-leb (count * 2) (length old) h)
+  enough hv hn h = storable-room hv hn ∙ le-leb (count * 2) (length old) h
 
 pub stored-table : StoredTableClaim
 unfolding stored

@@ -69,7 +69,8 @@ module _ (values states : ℕ) (bytes : List ℕ) (i : ℕ) where
   entry-sound : entry-test values states bytes i ≡ true → (getD bytes (i * 2) 0 < values) × (getD bytes (i * 2 + 1) 0 < states)
   unfolding entry-test
   entry-sound holds =
-      (ltb-true (getD bytes (i * 2) 0) values (and-left (ltb (getD bytes (i * 2) 0) values) _ holds), ltb-true (getD bytes (i * 2 + 1) 0) states (and-right (ltb (getD bytes (i * 2) 0) values) _ holds))
+      let value-test = ltb (getD bytes (i * 2) 0) values in
+      (ltb-true _ values (and-left value-test _ holds), ltb-true _ states (and-right value-test _ holds))
 
   entry-complete : getD bytes (i * 2) 0 < values → getD bytes (i * 2 + 1) 0 < states → entry-test values states bytes i ≡ true
   unfolding entry-test

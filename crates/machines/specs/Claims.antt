@@ -17,7 +17,8 @@ use Rattle.machines.specs.StoredEntries.{stored}
 abbrev pub TableRefusalClaim : Type 0
 TableRefusalClaim =
     (limit events values states start : ℕ) (bytes : List ℕ)
-    → First (table-condition 2 limit events (Below values) states start bytes (machine-of events bytes) ∷ []) (table-refusal limit events values states start bytes)
+    → First (table-condition 2 limit events (Below values) states start bytes (machine-of events bytes) ∷ [])
+    (table-refusal limit events values states start bytes)
 
 -- An accepted table is a machine with a start among its states, and its bytes are that machine's.
 pub record AcceptedTable (events values states start : ℕ) (bytes : List ℕ) : Type 0 where

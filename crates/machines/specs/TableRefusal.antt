@@ -14,11 +14,11 @@ unfoldable pub all-below : ℕ → (ℕ → Bool) → Bool
 all-below zero test = true
 all-below (suc n) test = all-below n test && test n
 
--- A table handed in is in order; `entry-test i` tests entry i.
+-- A table handed in is in order; `test i` tests entry i.
 unfoldable pub table-test : ℕ → ℕ → ℕ → (ℕ → Bool) → ℕ → ℕ → List ℕ → Bool
-table-test width limit events entry-test states start bytes =
+table-test width limit events test states start bytes =
     ltb 0 states && (leb states limit && (ltb start states
-    && (eqb (length bytes) (states * events * width) && all-below (states * events) entry-test)))
+    && (eqb (length bytes) (states * events * width) && all-below (states * events) test)))
 
 -- Entry i of two bytes has a value below `values` and a next state below `states`.
 unfoldable pub entry-test : ℕ → ℕ → List ℕ → ℕ → Bool

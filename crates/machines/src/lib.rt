@@ -5,7 +5,7 @@ use refusal::Refusal;
 use refusal::TABLE_LIMITS;
 ghost use mathlib.Core.Path.{_≡_};
 ghost use Prim.Native.Nat.{_+_, _*_};
-ghost use lib.ListN.{length, getD};
+ghost use lib.ListN.{getD};
 ghost use lib.Dec.{eqb};
 ghost use Rattle.refusal.specs.Refusal.{judgement};
 ghost use Rattle.machines.specs.TableRefusal.{all-below, entry-test, table-test, table-refusal};
@@ -127,8 +127,8 @@ pub fn check_table(
 // Stores the first `count` entries of flat arrays: each value's low byte and the next state. Nothing is stored, and the answer
 // is false, where an array or the buffer is too short.
 pub fn store_entries(values: &[u32], nexts: &[u8], count: usize, to: &mut [u8]) -> bool
-    ensures stores { λ r. ⌜ r ≡ storable (now (values .entry)) (now (nexts .entry)) count (now (to .entry)) ⌝ }
-    ensures contents { λ r. ⌜ now (to .exit) ≡ after-store (now (values .entry)) (now (nexts .entry)) count (now (to .entry)) ⌝ }
+    ensures answer { λ r. ⌜ r ≡ storable (now (values .entry)) (now (nexts .entry)) count (now (to .entry)) ⌝ }
+    ensures contents { λ _. ⌜ now (to .exit) ≡ after-store (now (values .entry)) (now (nexts .entry)) count (now (to .entry)) ⌝ }
 {
     if values.len() < count {
         return false;

@@ -16,7 +16,7 @@ enum-told c = search needs
 
 -- src/lib.rt:277:9
 returns : tie.Need-returns
-returns c = search needs
+returns c = ?
 
 enum-told-2 : tie.Need-enum-told-2
 enum-told-2 c = search needs
@@ -31,7 +31,7 @@ enum-told-3 c = search needs
 
 -- src/lib.rt:281:9
 returns-2 : tie.Need-returns-2
-returns-2 c = search needs
+returns-2 c = ?
 
 enum-told-4 : tie.Need-enum-told-4
 enum-told-4 c = search needs
@@ -46,18 +46,18 @@ enum-told-5 c = search needs
 
 -- src/lib.rt:285:9
 returns-3 : tie.Need-returns-3
-returns-3 c = search needs
+returns-3 c = ?
 
 enum-told-6 : tie.Need-enum-told-6
 enum-told-6 c = search needs
 
 -- src/lib.rt:288:9
 returns-4 : tie.Need-returns-4
-returns-4 c = search needs
+returns-4 c = ?
 
 -- src/lib.rt:260:1
 returns-5 : tie.Need-returns-5
-returns-5 c = search needs
+returns-5 c = ?
 
 pub check-trial-spec : {M : Type 1} → statement M
 check-trial-spec =

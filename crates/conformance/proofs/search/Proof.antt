@@ -17,15 +17,15 @@ array-write-device-queue c = search needs
 
 -- src/lib.rt:236:11
 mul-flags : tie.Need-mul-flags
-mul-flags c = search needs
+mul-flags c = ?
 
 -- src/lib.rt:236:5
 array-write-flags : tie.Need-array-write-flags
-array-write-flags c = search needs
+array-write-flags c = ?
 
 -- src/lib.rt:237:9
 find-failure-requires : tie.Need-find-failure-requires
-find-failure-requires c κs = search needs
+find-failure-requires c κs = ?
 
 -- src/lib.rt:250:21
 enum-known-failure : tie.Need-enum-known-failure
@@ -37,35 +37,35 @@ enum-told c = search needs
 
 -- src/lib.rt:251:9
 returns : tie.Need-returns
-returns c = search needs
+returns c = ?
 
 -- src/lib.rt:253:9
 depth-requires : tie.Need-depth-requires
-depth-requires c κs = search needs
+depth-requires c κs = ?
 
 -- src/lib.rt:254:15
 cast-word : tie.Need-cast-word
-cast-word c = search needs
+cast-word c = ?
 
 -- src/lib.rt:254:5
 slice-write-word : tie.Need-slice-write-word
-slice-write-word c = search needs
+slice-write-word c = ?
 
 -- src/lib.rt:255:5
 write-path-requires : tie.Need-write-path-requires
-write-path-requires c κs = search needs
+write-path-requires c κs = ?
 
 -- src/lib.rt:256:19
 add-t21 : tie.Need-add-t21
-add-t21 c = search needs
+add-t21 c = ?
 
 -- src/lib.rt:217:1
 same-length : tie.Need-same-length
-same-length c = search needs
+same-length c = ?
 
 -- src/lib.rt:217:1
 returns-2 : tie.Need-returns-2
-returns-2 c = search needs
+returns-2 c = ?
 
 pub search-spec : {M : Type 1} → statement M
 search-spec =

@@ -20,14 +20,14 @@ same-length c = search needs
 
 -- src/lib.rt:314:9
 returns : tie.Need-returns
-returns c = search needs
+returns c = ?
 
 enum-told : tie.Need-enum-told
 enum-told c = search needs
 
 -- src/lib.rt:316:5
 search-requires : tie.Need-search-requires
-search-requires c κs = search needs
+search-requires c κs = ?
 
 -- src/lib.rt:295:1
 same-length-2 : tie.Need-same-length-2
@@ -35,7 +35,7 @@ same-length-2 c = search needs
 
 -- src/lib.rt:295:1
 returns-2 : tie.Need-returns-2
-returns-2 c = search needs
+returns-2 c = ?
 
 pub trial-spec : {M : Type 1} → statement M
 trial-spec =
