@@ -10,3 +10,5 @@ pub mod Successors
 pub mod Progress
 -- The search's start and its answer.
 pub mod Starts
+-- A trial's refusals and answers.
+pub mod Trials

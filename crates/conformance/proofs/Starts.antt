@@ -7,35 +7,40 @@ use mathlib.Core.Option.{Option, none, some}
 use Prim.Native.Nat.{ℕ, zero, suc, _+_, _*_, _≤_, _<_}
 use native.Mathlib.Nat.{mul-le-mul-right, suc-mul}
 use native.Mathlib.Omega.{arith}
-use lib.ListN.{length, getD, set, length-set, length-reverse}
+use lib.ListN.{length, getD, set, replicate, length-set, length-reverse, length-replicate, getD-replicate}
 use lib.Seq.{getD-set-same, getD-set-other}
 use Rattle.theory.specs.Exploration.{reached, has-state}
-use Rattle.theory.specs.Conformance.{same-pair}
+use Rattle.theory.specs.Conformance.{same-pair, counterexample}
 use Rattle.theory.proofs.Numbers.{digits-equal}
+use Rattle.values.specs.declared.ValueKind.the-variants.{Numbered}
+use Rattle.values.specs.ValueKind.{at-or-below}
 use Rattle.machines.specs.TableBytes.{machine-of}
 use Rattle.machines.specs.StoredEntries.{put}
 use Rattle.conformance.specs.declared.Verdict.{Verdict}
 use Rattle.conformance.specs.declared.Verdict.the-variants.{Pass, Fail}
+use Rattle.conformance.specs.declared.Failure.{Failure}
+use Rattle.conformance.specs.declared.Failure.the-variants.{Nowhere, At}
 use Rattle.conformance.specs.Trial.{outcome, shown}
-use Rattle.conformance.specs.PairQueue.{Queue, queue, Sized, Linked, Holds, flag, pair-step, Searchable, Tried, Answers, Reaches, FailsAt}
+use Rattle.conformance.specs.PairQueue.{Queue, queue, Sized, Linked, Holds, flag, pair-step, Searchable, Searched, Located, Tried, Answers, FailsAt, Zeros}
 use Rattle.conformance.proofs.Queues.{same-pair-self, same-pair-true, or-false}
 use Rattle.conformance.proofs.Words.{short-word, put-last}
 
--- A list of zeros.
-pub record Zeros (size : ℕ) (l : List ℕ) : Type 0 where
-  pub long : length l ≡ size
-  pub zeros : (i : ℕ) → i < size → getD l i 0 ≡ 0
+-- An array as it is made.
+pub made-zeros : (size : ℕ) → Zeros size (replicate size 0)
+made-zeros size = record { long = length-replicate size 0; zeros = λ i h. getD-replicate size i 0 0 h }
+
+module _ {size events values k : ℕ} {table : List ℕ} {s : ℕ} {device buffer : List ℕ} (x : Tried size events values k table s device buffer) where
+  -- The start's state and pair fit.
+  pub start-place : s * k < size
+  start-place = omega (arith, x .some-states, mul-le-mul-right k (x .start-in), suc-mul s k, x .ready .few-pairs)
+
+  pub start-small : s < 256
+  start-small = omega (arith, x .start-in, x .ready .few-device-states)
 
 module _ {size events values k : ℕ} {table : List ℕ} {s : ℕ} {device buffer : List ℕ} (x : Tried size events values k table s device buffer)
     (d t p l f : List ℕ) (d-is : Zeros size d) (t-is : Zeros size t) (p-is : Zeros size p) (l-is : Zeros size l) (f-is : Zeros size f) where
   abbrev started : Queue
   started = queue (set d 0 s) t p l (set f (s * k) 1)
-
-  start-place : s * k < size
-  start-place = omega (arith, x .some-states, mul-le-mul-right k (x .start-in), suc-mul s k, x .ready .few-pairs)
-
-  pub start-fits : (s < 256) × (s * k < size)
-  start-fits = (omega (arith, x .start-in, x .ready .few-device-states), start-place)
 
   pub start-sized : Sized size started
   start-sized =
@@ -87,7 +92,7 @@ module _ {size events values k : ℕ} {table : List ℕ} {s : ℕ} {device buffe
       second-state j h = ap (λ y. state (word y) .1) (only j h)
 
       some-room : 0 < size
-      some-room = omega (arith, start-place)
+      some-room = omega (arith, start-place x)
 
       device-at′ : (j : ℕ) → j < 1 → getD (set d 0 s) j 0 ≡ state (word j) .0
       device-at′ j h =
@@ -103,7 +108,7 @@ module _ {size events values k : ℕ} {table : List ℕ} {s : ℕ} {device buffe
       flagged′ u v hu hv true z =
           let e : (s ≡ u) × (zero ≡ v) = same-pair-true (s, zero) (u, v) z in
           let place : u * k + v ≡ s * k = omega (arith, ap (λ y. y * k) (e .0), e .1) in
-          ap (λ y. getD (set f (s * k) 1) y 0) place ∙ getD-set-same f (s * k) 1 0 (omega (arith, f-is .long, start-place))
+          ap (λ y. getD (set f (s * k) 1) y 0) place ∙ getD-set-same f (s * k) 1 0 (omega (arith, f-is .long, start-place x))
           ∙ ap flag (sym (or-false (same-pair (s, zero) (u, v)) ∙ z))
       flagged′ u v hu hv false z =
           getD-set-other f (s * k) (u * k + v) 1 0 (λ y. other (digits-equal k u s v zero hv (x .some-states) (omega arith)))
@@ -115,6 +120,23 @@ module _ {size events values k : ℕ} {table : List ℕ} {s : ℕ} {device buffe
               let c : _≡_ {A = Bool} true false
               = sym (same-pair-self s zero) ∙ ap₂ (λ a b. same-pair (s, zero) (a, b)) (sym (e .0)) (sym (e .1)) ∙ z in
               let c′ : _≡_ {A = ℕ} 1 0 = ap flag c in omega arith
+
+  -- What the search finds from there.
+  module _ (meet : List ℕ) (r : Failure) (b : Queue) (h : Searched size events values meet k device table started r b) where
+    abbrev found : Option (List ℕ)
+    found = counterexample (at-or-below (Numbered values) meet) (machine-of events device) (machine-of events table) events (x .n) k s zero
+
+    located : Located size events found r b
+    unfolding start-searchable
+    located = h start-searchable
+
+    pub found-nowhere : r ≡ Nowhere → found ≡ none
+    unfolding Located
+    found-nowhere z = subst (λ y. Located size events found y b) z located
+
+    pub found-at-place : (i e : ℕ) → r ≡ At i e → FailsAt size events found i e (b .parents) (b .last-events)
+    unfolding Located
+    found-at-place i e z = subst (λ y. Located size events found y b) z located
 
 -- The answer where the search finds nothing.
 pub answer-none : (found : Option (List ℕ)) (old : List ℕ) → found ≡ none → Answers found old Pass old

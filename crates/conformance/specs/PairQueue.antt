@@ -145,6 +145,11 @@ abbrev pub Written : ℕ → ℕ → ℕ → List ℕ → List ℕ → List ℕ 
 Written size i n parents last-events old later =
     (x : Writable size i n parents last-events old) → later ≡ put (reverse (getD (x .reaches .words) i [])) old
 
+-- An array of zeros.
+pub record Zeros (size : ℕ) (l : List ℕ) : Type 0 where
+  pub long : length l ≡ size
+  pub zeros : (i : ℕ) → i < size → getD l i 0 ≡ 0
+
 -- The arrays hold the pair of the device's start and the table's state 0 alone.
 pub record Searchable (size events values k : ℕ) (device table : List ℕ) (a : Queue) : Type 0 where
   pub few-values : values ≤ 16

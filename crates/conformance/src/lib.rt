@@ -9,7 +9,7 @@ ghost use lib.ListN.{length};
 ghost use Rattle.refusal.specs.Refusal.{judgement};
 ghost use Rattle.values.specs.Setup.{setup};
 ghost use Rattle.conformance.specs.Trial.{input, device-limit, table-limit, trial-refusal, trial-answer, trial-buffer};
-ghost use Rattle.conformance.specs.PairQueue.{at-or-below-on, FirstBadEvent, queue, Sized, is-new, pushed, pushed-count, Expandable, Expanded, Reaches, Deep, Writable, Written, Searchable, Searched, Tried, Answered};
+ghost use Rattle.conformance.specs.PairQueue.{at-or-below-on, FirstBadEvent, queue, Sized, is-new, pushed, pushed-count, Expandable, Expanded, Reaches, Deep, Writable, Written, Zeros, Searchable, Searched, Tried, Answered};
 
 // Document 01's limits: a device's states, a rule's table's states, and their product, the events of a word.
 pub const DEVICE_LIMIT: usize = 64;
@@ -212,6 +212,19 @@ fn write_path(parents: &[u16; WORD_LIMIT], last_events: &[u8; WORD_LIMIT], i: us
     }
 }
 
+// An empty array.
+fn zeros() -> [u8; WORD_LIMIT]
+    ensures { λ r. ⌜ Zeros 4096 r ⌝ }
+{
+    [0u8; WORD_LIMIT]
+}
+
+fn zeros16() -> [u16; WORD_LIMIT]
+    ensures { λ r. ⌜ Zeros 4096 r ⌝ }
+{
+    [0u16; WORD_LIMIT]
+}
+
 // Searches the pairs of states that events reach from the device's start and the table's state 0, and writes the first word on
 // which the device fails.
 fn search(
@@ -227,11 +240,11 @@ fn search(
     requires { ⌜ Tried 4096 events values states (now table) «device_start» (now device) (now word) ⌝ }
     ensures { λ r. ⌜ Answered 4096 events values (now (meet .entry)) states (now (table .entry)) «device_start» (now (device .entry)) (now (word .entry)) r (now (word .exit)) ⌝ }
 {
-    let mut device_queue = [0u8; WORD_LIMIT];
-    let mut table_queue = [0u8; WORD_LIMIT];
-    let mut parents = [0u16; WORD_LIMIT];
-    let mut last_events = [0u8; WORD_LIMIT];
-    let mut flags = [0u8; WORD_LIMIT];
+    let mut device_queue = zeros();
+    let mut table_queue = zeros();
+    let mut parents = zeros16();
+    let mut last_events = zeros();
+    let mut flags = zeros();
     device_queue[0] = device_start as u8;
     flags[device_start * states] = 1;
     let failure = find_failure(

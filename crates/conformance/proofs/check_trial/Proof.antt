@@ -1,3 +1,8 @@
+-- `conformance::check_trial` meets its contract: each answer is the judgement of the first check that refuses.
+-- Assumes nothing.
+use Rattle.conformance.specs.Trial.{input}
+use Rattle.values.specs.Setup.{setup}
+use Rattle.conformance.proofs.Trials.{setup-refused, device-refused, table-refused, buffer-refused, all-accepted}
 use borrow.Author.Needs.{needs}
 use Rattle.conformance.proofs.check_trial.Statement.{statement}
 use Rattle.conformance.proofs.check_trial.Tie as tie
@@ -16,6 +21,7 @@ enum-told c = search needs
 
 -- src/lib.rt:277:9
 returns : tie.Need-returns
+unfolding input setup
 returns c = ?
 
 enum-told-2 : tie.Need-enum-told-2
@@ -31,6 +37,7 @@ enum-told-3 c = search needs
 
 -- src/lib.rt:281:9
 returns-2 : tie.Need-returns-2
+unfolding input setup
 returns-2 c = ?
 
 enum-told-4 : tie.Need-enum-told-4
@@ -46,6 +53,7 @@ enum-told-5 c = search needs
 
 -- src/lib.rt:285:9
 returns-3 : tie.Need-returns-3
+unfolding input setup
 returns-3 c = ?
 
 enum-told-6 : tie.Need-enum-told-6
@@ -53,10 +61,12 @@ enum-told-6 c = search needs
 
 -- src/lib.rt:288:9
 returns-4 : tie.Need-returns-4
+unfolding input setup
 returns-4 c = ?
 
 -- src/lib.rt:260:1
 returns-5 : tie.Need-returns-5
+unfolding input setup
 returns-5 c = ?
 
 pub check-trial-spec : {M : Type 1} → statement M
