@@ -74,7 +74,7 @@ module _ {S : Type 0} (same : S → S → Bool) (next : S → ℕ → S) (start 
       let z : limit - i ≡ suc (limit - suc i) = omega arith in
       ap (λ c. explore same next start events c i P) z
       ∙ ap (λ b. cond b (explore same next start events (limit - suc i) (suc i) (add-events same next start events zero P (getD P i []))) P)
-          (lt-ltb i (length P) h)
+      (lt-ltb i (length P) h)
 
   explore-end : (c i : ℕ) (P : List (List ℕ)) → length P ≤ i → explore same next start events c i P ≡ P
   explore-end zero i P h = refl
@@ -271,8 +271,8 @@ module _ {size events values k : ℕ} {device table : List ℕ} {a₀ : Queue} (
                     ap in-play-order
                     (sym (p .passed) ∙ here
                     ∙ ap (λ o. or-else o (first-from (drop (suc i) Q)))
-                        (bad-first (pair-step m q) start (bad-pair below m q) e w (bad-is e false (judged .bad l)) events zero (omega arith) (omega arith)
-                        (λ c u v. bad-is c true (judged .before c v))));
+                    (bad-first (pair-step m q) start (bad-pair below m q) e w (bad-is e false (judged .bad l)) events zero (omega arith) (omega arith)
+                    (λ c u v. bad-is c true (judged .before c v))));
               }
 
           -- It does not, and its successors are pushed.
@@ -289,7 +289,7 @@ module _ {size events values k : ℕ} {device table : List ℕ} {a₀ : Queue} (
                 passed =
                     sym (here
                     ∙ ap (λ o. or-else o (first-from (drop (suc i) Q)))
-                        (bad-none (pair-step m q) start (bad-pair below m q) events zero w (λ c u v. bad-is c true (judged .before c (omega arith)))))
+                    (bad-none (pair-step m q) start (bad-pair below m q) events zero w (λ c u v. bad-is c true (judged .before c (omega arith)))))
                     ∙ p .passed;
               })
             where

@@ -96,13 +96,13 @@ linked-push P parents last-events i e hi hp hl v =
     longer′ l u (old h q) =
         q ∙ v .longer l u h
         ∙ ap₂ _∷_ (sym (getD-set-other last-events (length P) l e 0 (λ x. omega arith)))
-            (sym (List·getD-append P (w ∷ []) [] (getD parents l 0) (omega (arith, v .earlier l u h)))
-            ∙ ap (λ x. getD P′ x []) (sym (getD-set-other parents (length P) l i 0 (λ x. omega arith))))
+        (sym (List·getD-append P (w ∷ []) [] (getD parents l 0) (omega (arith, v .earlier l u h)))
+        ∙ ap (λ x. getD P′ x []) (sym (getD-set-other parents (length P) l i 0 (λ x. omega arith))))
     longer′ l u (new h q) =
         subst⁻¹ (λ x. getD P′ x [] ≡ getD (set last-events (length P) e) x 0 ∷ getD P′ (getD (set parents (length P) i) x 0) []) h
         (getD-append-seam P w [] []
         ∙ ap₂ _∷_ (sym (getD-set-same last-events (length P) e 0 hl))
-            (sym (List·getD-append P (w ∷ []) [] i hi) ∙ ap (λ x. getD P′ x []) (sym (getD-set-same parents (length P) i 0 hp))))
+        (sym (List·getD-append P (w ∷ []) [] i hi) ∙ ap (λ x. getD P′ x []) (sym (getD-set-same parents (length P) i 0 hp))))
 
 pub or-false : (b : Bool) → (b || false) ≡ b
 or-false true = refl
@@ -248,9 +248,8 @@ module _ (n k : ℕ) (m q : Machine ℕ ℕ) (start : ℕ × ℕ) where
                 let f : getD (a .flags) place 0 ≡ 0 → ⊥ = kept (ap (has P) (sym next-state) ∙ h) in
                 (subst⁻¹ (Holds n k m q start P) (pushed-not a (length P) place x y i e f) held, counted-not a (length P) place f)
             go false h r =
-                let fresh : has P (x, y) ≡ false = ap (has P) (sym next-state) ∙ h in
-                (
+                let fresh : has P (x, y) ≡ false = ap (has P) (sym next-state) ∙ h in (
                   subst⁻¹ (Holds n k m q start (P ++ ((e ∷ w) ∷ []))) (pushed-new a (length P) place x y i e (unset fresh))
-                  (extended fresh (omega (arith, length-end P (e ∷ w)))),
+                      (extended fresh (omega (arith, length-end P (e ∷ w)))),
                   counted-new a (length P) place (unset fresh) ∙ omega (arith, length-end P (e ∷ w)),
                 )

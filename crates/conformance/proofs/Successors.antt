@@ -118,10 +118,9 @@ module _ (n k : ℕ) (m q : Machine ℕ ℕ) (start : ℕ × ℕ) (size : ℕ) (
         (b : Queue) (r : ℕ) → b ≡ pushed a count (x * k + y) x y i e → r ≡ pushed-count a count (x * k + y) →
         Holds n k m q start (parts (e + 1)) b × (r ≡ length (parts (e + 1)))
     turn b r b-is r-is =
-        let h = push-holds n k m q start size (parts e) a sized held i e (has-i e) x y next-state x-in y-in pairs more-fits in
-        (
+        let h = push-holds n k m q start size (parts e) a sized held i e (has-i e) x y next-state x-in y-in pairs more-fits in (
           subst⁻¹ (λ Q. Holds n k m q start Q b) more-is
-          (subst⁻¹ (Holds n k m q start more) (b-is ∙ ap (λ c. pushed a c (x * k + y) x y i e) counted) (h .0)),
+              (subst⁻¹ (Holds n k m q start more) (b-is ∙ ap (λ c. pushed a c (x * k + y) x y i e) counted) (h .0)),
           r-is ∙ ap (λ c. pushed-count a c (x * k + y)) counted ∙ h .1 ∙ sym (ap length more-is),
         )
 

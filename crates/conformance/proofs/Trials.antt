@@ -144,8 +144,7 @@ module _ (d t : ℕ) (x : TrialInput) (buffer : List ℕ) where
         (r ≡ trial-answer d t x buffer) × (later ≡ trial-buffer d t x buffer)
     unfolding tried first-failure trial-answer trial-buffer answer-unless buffer-unless
     trial-searched z r later f =
-        let a = f tried in
-        (
+        let a = f tried in (
           a .answer-is ∙ ap (λ o. answer-unless o (first-failure x)) (sym z),
           a .later-is ∙ ap (λ o. buffer-unless o (first-failure x) buffer) (sym z),
         )

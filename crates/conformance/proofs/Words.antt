@@ -70,8 +70,8 @@ unfolding put
 put-last w old e h =
     ap (λ i. reverse w ++ drop i (set old (length w) e)) (length-reverse w)
     ∙ ap (λ l. reverse w ++ l)
-        (drop-cons (set old (length w) e) (length w) 0 (simp length-set h)
-        ∙ ap₂ _∷_ (getD-set-same old (length w) e 0 h) (drop-set-lt (suc (length w)) old (length w) e (omega arith)))
+    (drop-cons (set old (length w) e) (length w) 0 (simp length-set h)
+    ∙ ap₂ _∷_ (getD-set-same old (length w) e 0 h) (drop-set-lt (suc (length w)) old (length w) e (omega arith)))
     ∙ sym (append-assoc (reverse w) (e ∷ []) (drop (suc (length w)) old))
     ∙ ap₂ _++_ (sym (reverse-cons e w)) (ap (λ i. drop i old) (sym (length-reverse (e ∷ w))))
 
@@ -105,9 +105,9 @@ module _ (P : List (List ℕ)) (parents last-events : List ℕ) (v : Linked P pa
         has = omega (arith, depth-less g);
         long = omega (arith, h .long, one-longer P parents last-events v j j-in g, ap (λ x. length (getD P x [])) r-is);
         whole =
-        ap (λ x. reverse (getD P x []) ++ drop (p - 1) (set buffer (p - 1) (getD last-events j 0))) r-is
-        ∙ write-one P parents last-events v j j-in g buffer (p - 1) (s ∙ h .long) (omega arith)
-        ∙ ap (λ x. reverse (getD P j []) ++ drop x buffer) s ∙ h .whole;
+            ap (λ x. reverse (getD P x []) ++ drop (p - 1) (set buffer (p - 1) (getD last-events j 0))) r-is
+            ∙ write-one P parents last-events v j j-in g buffer (p - 1) (s ∙ h .long) (omega arith)
+            ∙ ap (λ x. reverse (getD P j []) ++ drop x buffer) s ∙ h .whole;
       }
 
 pub write-end : (P : List (List ℕ)) (j p : ℕ) (buffer target : List ℕ) → p ≡ 0 → Rest P j p buffer target → buffer ≡ target

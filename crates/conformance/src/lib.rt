@@ -104,7 +104,7 @@ fn push_pair(
         × (is-new (queue (now «device_queue») (now «table_queue») (now parents) (now «last_events») (now flags)) place ≡ true → count < 4096) ⌝ }
     ensures { λ r. ⌜ (r ≡ pushed-count (queue (now («device_queue» .entry)) (now («table_queue» .entry)) (now (parents .entry)) (now («last_events» .entry)) (now (flags .entry))) count place)
         × (queue (now («device_queue» .exit)) (now («table_queue» .exit)) (now (parents .exit)) (now («last_events» .exit)) (now (flags .exit))
-            ≡ pushed (queue (now («device_queue» .entry)) (now («table_queue» .entry)) (now (parents .entry)) (now («last_events» .entry)) (now (flags .entry))) count place s t parent e) ⌝ }
+        ≡ pushed (queue (now («device_queue» .entry)) (now («table_queue» .entry)) (now (parents .entry)) (now («last_events» .entry)) (now (flags .entry))) count place s t parent e) ⌝ }
 {
     if flags[place] != 0 {
         return count;
@@ -135,7 +135,7 @@ fn push_successors(
         × Expandable 4096 events states (now device) (now table) i count (queue (now «device_queue») (now «table_queue») (now parents) (now «last_events») (now flags)) ⌝ }
     ensures { λ r. ⌜ Sized 4096 (queue (now («device_queue» .exit)) (now («table_queue» .exit)) (now (parents .exit)) (now («last_events» .exit)) (now (flags .exit)))
         × Expanded 4096 events states (now (device .entry)) (now (table .entry)) i count
-            (queue (now («device_queue» .entry)) (now («table_queue» .entry)) (now (parents .entry)) (now («last_events» .entry)) (now (flags .entry))) r (queue (now («device_queue» .exit)) (now («table_queue» .exit)) (now (parents .exit)) (now («last_events» .exit)) (now (flags .exit))) ⌝ }
+        (queue (now («device_queue» .entry)) (now («table_queue» .entry)) (now (parents .entry)) (now («last_events» .entry)) (now (flags .entry))) r (queue (now («device_queue» .exit)) (now («table_queue» .exit)) (now (parents .exit)) (now («last_events» .exit)) (now (flags .exit))) ⌝ }
 {
     let s = wide(device_queue[i]);
     let t = wide(table_queue[i]);
@@ -144,7 +144,19 @@ fn push_successors(
     while e < events {
         let x = machines::next_at(device, s * events + e);
         let y = machines::next_at(table, t * events + e);
-        n = push_pair(x * states + y, x, y, i, e, n, device_queue, table_queue, parents, last_events, flags);
+        n = push_pair(
+            x * states + y,
+            x,
+            y,
+            i,
+            e,
+            n,
+            device_queue,
+            table_queue,
+            parents,
+            last_events,
+            flags,
+        );
         e += 1;
     }
     n
@@ -178,7 +190,19 @@ fn find_failure(
         if e < events {
             return Failure::At(i, e);
         }
-        count = push_successors(events, states, device, table, i, count, device_queue, table_queue, parents, last_events, flags);
+        count = push_successors(
+            events,
+            states,
+            device,
+            table,
+            i,
+            count,
+            device_queue,
+            table_queue,
+            parents,
+            last_events,
+            flags,
+        );
         i += 1;
     }
     Failure::Nowhere
@@ -199,7 +223,13 @@ fn depth(parents: &[u16; WORD_LIMIT], last_events: &[u8; WORD_LIMIT], i: usize) 
 }
 
 // Writes the events that lead to a place of the queue, in order of play, to the front of the buffer.
-fn write_path(parents: &[u16; WORD_LIMIT], last_events: &[u8; WORD_LIMIT], i: usize, n: usize, word: &mut [u8])
+fn write_path(
+    parents: &[u16; WORD_LIMIT],
+    last_events: &[u8; WORD_LIMIT],
+    i: usize,
+    n: usize,
+    word: &mut [u8],
+)
     requires { ⌜ Writable 4096 i n (now parents) (now «last_events») (now word) ⌝ }
     ensures { λ r. ⌜ Written 4096 i n (now (parents .entry)) (now («last_events» .entry)) (now (word .entry)) (now (word .exit)) ⌝ }
 {
@@ -289,7 +319,14 @@ fn check_trial(
     if let Judgement::Refused(_) = setup {
         return setup;
     }
-    let first = machines::check_table(DEVICE_LIMIT, events, values, device_states, device_start, device);
+    let first = machines::check_table(
+        DEVICE_LIMIT,
+        events,
+        values,
+        device_states,
+        device_start,
+        device,
+    );
     if let Judgement::Refused(_) = first {
         return first;
     }
@@ -322,9 +359,29 @@ pub fn trial(
     ensures contents { λ r. ⌜ now (word .exit) ≡ trial-buffer device-limit table-limit
         (input (setup events values top (now (meet .entry))) states (now (table .entry)) «device_states» «device_start» (now (device .entry))) (now (word .entry)) ⌝ }
 {
-    let judged = check_trial(events, values, top, meet, states, table, device_states, device_start, device, word);
+    let judged = check_trial(
+        events,
+        values,
+        top,
+        meet,
+        states,
+        table,
+        device_states,
+        device_start,
+        device,
+        word,
+    );
     if let Judgement::Refused(refusal) = judged {
         return Verdict::Refused(refusal);
     }
-    search(events, values, meet, states, table, device_start, device, word)
+    search(
+        events,
+        values,
+        meet,
+        states,
+        table,
+        device_start,
+        device,
+        word,
+    )
 }

@@ -31,10 +31,10 @@ at-or-below-on-requires c κs = search needs
 -- src/lib.rt:83:13
 returns : tie.Need-returns Inv-loop μ-loop
 returns c = record {
-      at-most = search needs;
-      before = c .before .before .before .loop .inv .1;
-      bad = λ h. sym (c .before .at-or-below-on .ensures) ∙ not-true _ (c .if1 .taken);
-    }
+  at-most = search needs;
+  before = c .before .before .before .loop .inv .1;
+  bad = λ h. sym (c .before .at-or-below-on .ensures) ∙ not-true _ (c .if1 .taken);
+}
 
 -- src/lib.rt:85:9
 add-e : tie.Need-add-e Inv-loop μ-loop

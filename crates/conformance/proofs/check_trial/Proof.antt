@@ -22,7 +22,7 @@ enum-told c = search needs
 -- src/lib.rt:277:9
 returns : tie.Need-returns
 unfolding input setup
-returns c = ?
+returns c = setup-refused _ _ _ _ _ _ (c .before .before .check-setup .ensures) (c .enum-told .given .1)
 
 enum-told-2 : tie.Need-enum-told-2
 enum-told-2 c = search needs
@@ -38,7 +38,7 @@ enum-told-3 c = search needs
 -- src/lib.rt:281:9
 returns-2 : tie.Need-returns-2
 unfolding input setup
-returns-2 c = ?
+returns-2 c = device-refused _ _ _ _ _ (c .before .before .before .before .before .check-setup .ensures) (c .before .before .before .enum-told2 .given .1) _ _ (c .before .before .check-table .ensures) (c .enum-told3 .given .1)
 
 enum-told-4 : tie.Need-enum-told-4
 enum-told-4 c = search needs
@@ -54,7 +54,7 @@ enum-told-5 c = search needs
 -- src/lib.rt:285:9
 returns-3 : tie.Need-returns-3
 unfolding input setup
-returns-3 c = ?
+returns-3 c = table-refused _ _ _ _ _ (c .before .before .before .before .before .before .before .before .check-setup .ensures) (c .before .before .before .before .before .before .enum-told2 .given .1) _ (c .before .before .before .before .before .check-table .ensures) (c .before .before .before .enum-told4 .given .1) _ _ (c .before .before .check-table2 .ensures) (c .enum-told5 .given .1)
 
 enum-told-6 : tie.Need-enum-told-6
 enum-told-6 c = search needs
@@ -62,12 +62,12 @@ enum-told-6 c = search needs
 -- src/lib.rt:288:9
 returns-4 : tie.Need-returns-4
 unfolding input setup
-returns-4 c = ?
+returns-4 c = buffer-refused _ _ _ _ _ (c .before .before .before .before .before .before .before .before .before .check-setup .ensures) (c .before .before .before .before .before .before .before .enum-told2 .given .1) _ (c .before .before .before .before .before .before .check-table .ensures) (c .before .before .before .before .enum-told4 .given .1) _ (c .before .before .before .check-table2 .ensures) (c .before .enum-told6 .given .1) (c .if1 .taken)
 
 -- src/lib.rt:260:1
 returns-5 : tie.Need-returns-5
 unfolding input setup
-returns-5 c = ?
+returns-5 c = all-accepted _ _ _ _ _ (c .before .before .before .before .before .before .before .before .before .check-setup .ensures) (c .before .before .before .before .before .before .before .enum-told2 .given .1) _ (c .before .before .before .before .before .before .check-table .ensures) (c .before .before .before .before .enum-told4 .given .1) _ (c .before .before .before .check-table2 .ensures) (c .before .enum-told6 .given .1) (c .if1 .left)
 
 pub check-trial-spec : {M : Type 1} → statement M
 check-trial-spec =

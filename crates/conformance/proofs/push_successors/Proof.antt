@@ -17,7 +17,7 @@ use Rattle.conformance.proofs.wide.Reads as wide-reads
 use Rattle.machines.proofs.next_at.Reads as next-at-reads
 
 abbrev Inv-loop : tie.InvT-loop
-Inv-loop events states device table i count device-queue₀ table-queue₀ parents₀ last-events₀ flags₀ s t n₀ e₀ device-queue table-queue parents last-events flags n e = 
+Inv-loop events states device table i count device-queue₀ table-queue₀ parents₀ last-events₀ flags₀ s t n₀ e₀ device-queue table-queue parents last-events flags n e =
     Sized 4096 (queue device-queue table-queue parents last-events flags) × (e ≤ events)
     × ((x : Expandable 4096 events states device table i count (queue device-queue₀ table-queue₀ parents₀ last-events₀ flags₀)) →
     Turned x s t e n (queue device-queue table-queue parents last-events flags))
@@ -48,14 +48,14 @@ loop-holds c = (c .before .before .before .before .before .before .pre .0, searc
 -- src/lib.rt:147:43
 mul-next-at : tie.Need-mul-next-at Inv-loop μ-loop
 mul-next-at c = let x = c .before .before .before .before .before .before .before .before .pre .1 in
-  let h = c .before .loop .inv .2 x in
-  omega (arith, entry-place _ _ _ (s-small x _ _ _ _ _ h) (x .ready .few-events) (c .loop-test .taken))
+    let h = c .before .loop .inv .2 x in
+    omega (arith, entry-place _ _ _ (s-small x _ _ _ _ _ h) (x .ready .few-events) (c .loop-test .taken))
 
 -- src/lib.rt:147:43
 add-next-at : tie.Need-add-next-at Inv-loop μ-loop
 add-next-at c = let x = c .before .before .before .before .before .before .before .before .pre .1 in
-  let h = c .before .loop .inv .2 x in
-  omega (arith, entry-place _ _ _ (s-small x _ _ _ _ _ h) (x .ready .few-events) (c .loop-test .taken))
+    let h = c .before .loop .inv .2 x in
+    omega (arith, entry-place _ _ _ (s-small x _ _ _ _ _ h) (x .ready .few-events) (c .loop-test .taken))
 
 -- src/lib.rt:147:13
 next-at-requires : tie.Need-next-at-requires Inv-loop μ-loop
@@ -64,14 +64,14 @@ next-at-requires c κs = search needs
 -- src/lib.rt:148:42
 mul-next-at-2 : tie.Need-mul-next-at-2 Inv-loop μ-loop
 mul-next-at-2 c = let x = c .before .before .before .before .before .before .before .before .before .pre .1 in
-  let h = c .before .before .loop .inv .2 x in
-  omega (arith, entry-place _ _ _ (t-small x _ _ _ _ _ h) (x .ready .few-events) (c .before .loop-test .taken))
+    let h = c .before .before .loop .inv .2 x in
+    omega (arith, entry-place _ _ _ (t-small x _ _ _ _ _ h) (x .ready .few-events) (c .before .loop-test .taken))
 
 -- src/lib.rt:148:42
 add-next-at-2 : tie.Need-add-next-at-2 Inv-loop μ-loop
 add-next-at-2 c = let x = c .before .before .before .before .before .before .before .before .before .pre .1 in
-  let h = c .before .before .loop .inv .2 x in
-  omega (arith, entry-place _ _ _ (t-small x _ _ _ _ _ h) (x .ready .few-events) (c .before .loop-test .taken))
+    let h = c .before .before .loop .inv .2 x in
+    omega (arith, entry-place _ _ _ (t-small x _ _ _ _ _ h) (x .ready .few-events) (c .before .loop-test .taken))
 
 -- src/lib.rt:148:13
 next-at-requires-2 : tie.Need-next-at-requires-2 Inv-loop μ-loop
@@ -80,32 +80,31 @@ next-at-requires-2 c κs = search needs
 -- src/lib.rt:149:23
 mul-push-pair : tie.Need-mul-push-pair Inv-loop μ-loop
 mul-push-pair c = let x = c .before .before .before .before .before .before .before .before .before .before .pre .1 in
-  let h = c .before .before .before .loop .inv .2 x in
-  omega (arith, next-place x _ _ _ _ _ h (c .before .before .loop-test .taken) _ _ (c .before .next-at .ensures) (c .next-at2 .ensures))
+    let h = c .before .before .before .loop .inv .2 x in
+    omega (arith, next-place x _ _ _ _ _ h (c .before .before .loop-test .taken) _ _ (c .before .next-at .ensures) (c .next-at2 .ensures))
 
 -- src/lib.rt:149:23
 add-push-pair : tie.Need-add-push-pair Inv-loop μ-loop
 add-push-pair c = let x = c .before .before .before .before .before .before .before .before .before .before .pre .1 in
-  let h = c .before .before .before .loop .inv .2 x in
-  omega (arith, next-place x _ _ _ _ _ h (c .before .before .loop-test .taken) _ _ (c .before .next-at .ensures) (c .next-at2 .ensures))
+    let h = c .before .before .before .loop .inv .2 x in
+    omega (arith, next-place x _ _ _ _ _ h (c .before .before .loop-test .taken) _ _ (c .before .next-at .ensures) (c .next-at2 .ensures))
 
 -- src/lib.rt:149:9
 push-pair-requires : tie.Need-push-pair-requires Inv-loop μ-loop
 push-pair-requires c κs = let x = c .before .before .before .before .before .before .before .before .before .before .before .before .before .before .before .pre .1 in
-  let h = c .before .before .before .before .before .before .before .before .loop .inv .2 x in
-  let l = c .before .before .before .before .before .before .before .loop-test .taken in
-  let z = c .before .before .before .before .before .before .before .before .loop .inv .0 in
-  let u = c .before .before .before .before .before .before .next-at .ensures in
-  let v = c .before .before .before .before .before .next-at2 .ensures in
-  (
-   z,
-   next-place x _ _ _ _ _ h l _ _ u v,
-   next-small x _ _ _ _ _ h l _ _ u v .0,
-   next-small x _ _ _ _ _ h l _ _ u v .1,
-   place-small x,
-   omega (arith, l, x .ready .few-events),
-   next-room x _ _ _ _ _ h l _ _ u v z,
-  )
+    let h = c .before .before .before .before .before .before .before .before .loop .inv .2 x in
+    let l = c .before .before .before .before .before .before .before .loop-test .taken in
+    let z = c .before .before .before .before .before .before .before .before .loop .inv .0 in
+    let u = c .before .before .before .before .before .before .next-at .ensures in
+    let v = c .before .before .before .before .before .next-at2 .ensures in (
+      z,
+      next-place x _ _ _ _ _ h l _ _ u v,
+      next-small x _ _ _ _ _ h l _ _ u v .0,
+      next-small x _ _ _ _ _ h l _ _ u v .1,
+      place-small x,
+      omega (arith, l, x .ready .few-events),
+      next-room x _ _ _ _ _ h l _ _ u v z,
+    )
 
 -- src/lib.rt:150:9
 add-e : tie.Need-add-e Inv-loop μ-loop
@@ -118,12 +117,11 @@ loop-less c = search needs
 -- src/lib.rt:146:5
 loop-again : tie.Need-loop-again Inv-loop μ-loop
 loop-again c = let z = c .before .before .before .before .before .before .before .before .before .loop .inv .0 in
-  let p = c .push-pair .ensures in
-  (
-   subst⁻¹ (Sized 4096) (p .1) (sized-pushed _ _ _ _ _ _ _ _ z),
-   search needs,
-   λ x. turned-next x _ _ _ _ _ (c .before .before .before .before .before .before .before .before .before .loop .inv .2 x) (c .before .before .before .before .before .before .before .before .loop-test .taken) _ _ (c .before .before .before .before .before .before .before .next-at .ensures) (c .before .before .before .before .before .before .next-at2 .ensures) z _ _ (p .1) (p .0),
-  )
+    let p = c .push-pair .ensures in (
+      subst⁻¹ (Sized 4096) (p .1) (sized-pushed _ _ _ _ _ _ _ _ z),
+      search needs,
+      λ x. turned-next x _ _ _ _ _ (c .before .before .before .before .before .before .before .before .before .loop .inv .2 x) (c .before .before .before .before .before .before .before .before .loop-test .taken) _ _ (c .before .before .before .before .before .before .before .next-at .ensures) (c .before .before .before .before .before .before .next-at2 .ensures) z _ _ (p .1) (p .0),
+    )
 
 -- src/lib.rt:123:1
 returns : tie.Need-returns Inv-loop μ-loop

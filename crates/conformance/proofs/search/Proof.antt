@@ -70,44 +70,51 @@ returns c = λ x. answer-none _ _ (found-nowhere x _ _ _ _ _ (c .before .before 
 -- src/lib.rt:266:9
 depth-requires : tie.Need-depth-requires
 depth-requires c κs = let x = c .before .before .before .before .before .before .before .before .before .before .before .before .before .before .before .before .before .before .before .before .pre in
-  let y = found-at-place x _ _ _ _ _ (c .before .before .before .before .before .before .before .before .before .before .before .before .before .before .before .zeros .ensures) (c .before .before .before .before .before .before .before .before .before .before .before .before .before .before .zeros2 .ensures) (c .before .before .before .before .before .before .before .before .before .before .before .before .before .zeros16 .ensures) (c .before .before .before .before .before .before .before .before .before .before .before .before .zeros3 .ensures) (c .before .before .before .before .before .before .before .before .before .before .before .zeros4 .ensures) _ _ _ (c .before .before .before .before .before .find-failure .ensures) _ _ (c .before .before .before .failure .given .1) in
-  y .reaches
+    let y = found-at-place x _ _ _ _ _ (c .before .before .before .before .before .before .before .before .before .before .before .before .before .before .before .zeros .ensures) (c .before .before .before .before .before .before .before .before .before .before .before .before .before .before .zeros2 .ensures) (c .before .before .before .before .before .before .before .before .before .before .before .before .before .zeros16 .ensures) (c .before .before .before .before .before .before .before .before .before .before .before .before .zeros3 .ensures) (c .before .before .before .before .before .before .before .before .before .before .before .zeros4 .ensures) _ _ _ (c .before .before .before .before .before .find-failure .ensures) _ _ (c .before .before .before .failure .given .1) in
+    y .reaches
 
 -- src/lib.rt:267:15
 cast-word : tie.Need-cast-word
 cast-word c = let x = c .before .before .before .before .before .before .before .before .before .before .before .before .before .before .before .before .before .before .before .before .before .pre in
-  let y = found-at-place x _ _ _ _ _ (c .before .before .before .before .before .before .before .before .before .before .before .before .before .before .before .before .zeros .ensures) (c .before .before .before .before .before .before .before .before .before .before .before .before .before .before .before .zeros2 .ensures) (c .before .before .before .before .before .before .before .before .before .before .before .before .before .before .zeros16 .ensures) (c .before .before .before .before .before .before .before .before .before .before .before .before .before .zeros3 .ensures) (c .before .before .before .before .before .before .before .before .before .before .before .before .zeros4 .ensures) _ _ _ (c .before .before .before .before .before .before .find-failure .ensures) _ _ (c .before .before .before .before .failure .given .1) in
-  omega (arith, y .event-in, x .ready .few-events)
+    let y = found-at-place x _ _ _ _ _ (c .before .before .before .before .before .before .before .before .before .before .before .before .before .before .before .before .zeros .ensures) (c .before .before .before .before .before .before .before .before .before .before .before .before .before .before .before .zeros2 .ensures) (c .before .before .before .before .before .before .before .before .before .before .before .before .before .before .zeros16 .ensures) (c .before .before .before .before .before .before .before .before .before .before .before .before .before .zeros3 .ensures) (c .before .before .before .before .before .before .before .before .before .before .before .before .zeros4 .ensures) _ _ _ (c .before .before .before .before .before .before .find-failure .ensures) _ _ (c .before .before .before .before .failure .given .1) in
+    omega (arith, y .event-in, x .ready .few-events)
 
 -- src/lib.rt:267:5
 slice-write-word : tie.Need-slice-write-word
 slice-write-word c = let x = c .before .before .before .before .before .before .before .before .before .before .before .before .before .before .before .before .before .before .before .before .before .pre in
-  let y = found-at-place x _ _ _ _ _ (c .before .before .before .before .before .before .before .before .before .before .before .before .before .before .before .before .zeros .ensures) (c .before .before .before .before .before .before .before .before .before .before .before .before .before .before .before .zeros2 .ensures) (c .before .before .before .before .before .before .before .before .before .before .before .before .before .before .zeros16 .ensures) (c .before .before .before .before .before .before .before .before .before .before .before .before .before .zeros3 .ensures) (c .before .before .before .before .before .before .before .before .before .before .before .before .zeros4 .ensures) _ _ _ (c .before .before .before .before .before .before .find-failure .ensures) _ _ (c .before .before .before .before .failure .given .1) in
-  omega (arith, word-fits y _ (c .depth .ensures (y .reaches)), x .room)
+    let y = found-at-place x _ _ _ _ _ (c .before .before .before .before .before .before .before .before .before .before .before .before .before .before .before .before .zeros .ensures) (c .before .before .before .before .before .before .before .before .before .before .before .before .before .before .before .zeros2 .ensures) (c .before .before .before .before .before .before .before .before .before .before .before .before .before .before .zeros16 .ensures) (c .before .before .before .before .before .before .before .before .before .before .before .before .before .zeros3 .ensures) (c .before .before .before .before .before .before .before .before .before .before .before .before .zeros4 .ensures) _ _ _ (c .before .before .before .before .before .before .find-failure .ensures) _ _ (c .before .before .before .before .failure .given .1) in
+    omega (arith, word-fits y _ (c .depth .ensures (y .reaches)), x .room)
 
 -- src/lib.rt:268:5
 write-path-requires : tie.Need-write-path-requires
 write-path-requires c κs = let x = c .before .before .before .before .before .before .before .before .before .before .before .before .before .before .before .before .before .before .before .before .before .before .before .before .pre in
-  let y = found-at-place x _ _ _ _ _ (c .before .before .before .before .before .before .before .before .before .before .before .before .before .before .before .before .before .before .before .zeros .ensures) (c .before .before .before .before .before .before .before .before .before .before .before .before .before .before .before .before .before .before .zeros2 .ensures) (c .before .before .before .before .before .before .before .before .before .before .before .before .before .before .before .before .before .zeros16 .ensures) (c .before .before .before .before .before .before .before .before .before .before .before .before .before .before .before .before .zeros3 .ensures) (c .before .before .before .before .before .before .before .before .before .before .before .before .before .before .before .zeros4 .ensures) _ _ _ (c .before .before .before .before .before .before .before .before .before .find-failure .ensures) _ _ (c .before .before .before .before .before .before .before .failure .given .1) in
-  record {
-   reaches = y .reaches;
-   long = c .before .before .before .depth .ensures (y .reaches);
-   room = simp length-set (omega (arith, word-fits y _ (c .before .before .before .depth .ensures (y .reaches)), x .room));
-  }
+    let y = found-at-place x _ _ _ _ _ (c .before .before .before .before .before .before .before .before .before .before .before .before .before .before .before .before .before .before .before .zeros .ensures) (c .before .before .before .before .before .before .before .before .before .before .before .before .before .before .before .before .before .before .zeros2 .ensures) (c .before .before .before .before .before .before .before .before .before .before .before .before .before .before .before .before .before .zeros16 .ensures) (c .before .before .before .before .before .before .before .before .before .before .before .before .before .before .before .before .zeros3 .ensures) (c .before .before .before .before .before .before .before .before .before .before .before .before .before .before .before .zeros4 .ensures) _ _ _ (c .before .before .before .before .before .before .before .before .before .find-failure .ensures) _ _ (c .before .before .before .before .before .before .before .failure .given .1) in
+    record {
+      reaches = y .reaches;
+      long = c .before .before .before .depth .ensures (y .reaches);
+      room = simp length-set (omega (arith, word-fits y _ (c .before .before .before .depth .ensures (y .reaches)), x .room));
+    }
 
 -- src/lib.rt:269:19
 add-t23 : tie.Need-add-t23
 add-t23 c = let x = c .before .before .before .before .before .before .before .before .before .before .before .before .before .before .before .before .before .before .before .before .before .before .before .before .before .before .before .pre in
-  let y = found-at-place x _ _ _ _ _ (c .before .before .before .before .before .before .before .before .before .before .before .before .before .before .before .before .before .before .before .before .before .before .zeros .ensures) (c .before .before .before .before .before .before .before .before .before .before .before .before .before .before .before .before .before .before .before .before .before .zeros2 .ensures) (c .before .before .before .before .before .before .before .before .before .before .before .before .before .before .before .before .before .before .before .before .zeros16 .ensures) (c .before .before .before .before .before .before .before .before .before .before .before .before .before .before .before .before .before .before .before .zeros3 .ensures) (c .before .before .before .before .before .before .before .before .before .before .before .before .before .before .before .before .before .before .zeros4 .ensures) _ _ _ (c .before .before .before .before .before .before .before .before .before .before .before .before .find-failure .ensures) _ _ (c .before .before .before .before .before .before .before .before .before .before .failure .given .1) in
-  omega (arith, word-fits y _ (c .before .before .before .before .before .before .depth .ensures (y .reaches)))
+    let y = found-at-place x _ _ _ _ _ (c .before .before .before .before .before .before .before .before .before .before .before .before .before .before .before .before .before .before .before .before .before .before .zeros .ensures) (c .before .before .before .before .before .before .before .before .before .before .before .before .before .before .before .before .before .before .before .before .before .zeros2 .ensures) (c .before .before .before .before .before .before .before .before .before .before .before .before .before .before .before .before .before .before .before .before .zeros16 .ensures) (c .before .before .before .before .before .before .before .before .before .before .before .before .before .before .before .before .before .before .before .zeros3 .ensures) (c .before .before .before .before .before .before .before .before .before .before .before .before .before .before .before .before .before .before .zeros4 .ensures) _ _ _ (c .before .before .before .before .before .before .before .before .before .before .before .before .find-failure .ensures) _ _ (c .before .before .before .before .before .before .before .before .before .before .failure .given .1) in
+    omega (arith, word-fits y _ (c .before .before .before .before .before .before .depth .ensures (y .reaches)))
 
 -- src/lib.rt:230:1
 same-length : tie.Need-same-length
-same-length c = ?
+same-length c = c .before .before .write-path .kept .1 .1 .1 .1 .0 ∙ simp length-set
 
 -- src/lib.rt:230:1
 returns-2 : tie.Need-returns-2
-returns-2 c = ?
+returns-2 c = λ x.
+    let y = found-at-place x _ _ _ _ _ (c .before .before .before .before .before .before .before .before .before .before .before .before .before .before .before .before .before .before .before .before .before .before .zeros .ensures) (c .before .before .before .before .before .before .before .before .before .before .before .before .before .before .before .before .before .before .before .before .before .zeros2 .ensures) (c .before .before .before .before .before .before .before .before .before .before .before .before .before .before .before .before .before .before .before .before .zeros16 .ensures) (c .before .before .before .before .before .before .before .before .before .before .before .before .before .before .before .before .before .before .before .zeros3 .ensures) (c .before .before .before .before .before .before .before .before .before .before .before .before .before .before .before .before .before .before .zeros4 .ensures) _ _ _ (c .before .before .before .before .before .before .before .before .before .before .before .before .find-failure .ensures) _ _ (c .before .before .before .before .before .before .before .before .before .before .failure .given .1) in
+    let n = c .before .before .before .before .before .before .depth .ensures (y .reaches) in
+    answer-some y _ _ _ n (x .room) (c .before .before .write-path .ensures record {
+      reaches = y .reaches;
+      long = n;
+      room = simp length-set (omega (arith, word-fits y _ n, x .room));
+    })
 
 pub search-spec : {M : Type 1} → statement M
 search-spec =

@@ -57,12 +57,11 @@ loop-less c = search needs
 
 -- src/lib.rt:208:5
 loop-again : tie.Need-loop-again Inv-loop μ-loop
-loop-again c = let v = c .before .before .before .before .loop .inv in
-    (
-      simp length-set (v .0),
-      search needs,
-      λ x. write-step _ _ _ (x .reaches .linked) _ _ (v .2 x .has) (c .wide16 .ensures) _ _ _ (c .before .before .before .loop-test .taken) (omega (arith, v .0, v .1, x .room)) (v .2 x),
-    )
+loop-again c = let v = c .before .before .before .before .loop .inv in (
+  simp length-set (v .0),
+  search needs,
+  λ x. write-step _ _ _ (x .reaches .linked) _ _ (v .2 x .has) (c .wide16 .ensures) _ _ _ (c .before .before .before .loop-test .taken) (omega (arith, v .0, v .1, x .room)) (v .2 x),
+)
 
 -- src/lib.rt:202:1
 same-length : tie.Need-same-length Inv-loop μ-loop
