@@ -12,3 +12,5 @@ pub mod Progress
 pub mod Starts
 -- A trial's refusals and answers.
 pub mod Trials
+-- The claims on a trial.
+pub mod TrialClaims
