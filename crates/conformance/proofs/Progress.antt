@@ -1,0 +1,297 @@
+-- The search over the queue is breadth-first exploration: it stops at the first failing word, or has looked at all pairs.
+-- Assumes nothing.
+use mathlib.Core.Path.{_≡_, refl, sym, _∙_, ap, ap₂, subst, subst⁻¹}
+use mathlib.Core.Bool.{Bool, true, false, not, cond}
+use mathlib.Core.Logic.{_↔_, _⊎_, inl, inr}
+use mathlib.Core.List.{List, [], _∷_, _++_, reverse}
+use mathlib.Core.Option.{Option, none, some}
+use Prim.Native.Nat.{ℕ, zero, suc, _+_, _*_, _-_, _≤_, _<_}
+use native.Mathlib.Nat.{mul-le-mul-right, suc-mul}
+use native.Mathlib.Numerals.{add-one}
+use native.Mathlib.Omega.{arith}
+use borrow.Author.Tests.{eqb-true, eqb-false, lt-ltb, le-ltb}
+use lib.Dec.{T, ltb, eqb}
+use lib.ListN.{length, getD, drop, drop-of-length-le}
+use lib.Seq.{drop-cons}
+use Rattle.theory.specs.MealyMachine.{Machine, Word}
+use Rattle.theory.specs.Exploration.{reached, has-state, add-events, explore, explored}
+use Rattle.theory.specs.Conformance.{same-pair, bad-event, or-else, first-bad, bad-pair, in-play-order, counterexample}
+use Rattle.theory.proofs.Numbers.{digits-equal, pigeonhole}
+use Rattle.theory.proofs.Exploration.{Grows, Kept, explore-grows, invariant}
+use Rattle.values.specs.declared.ValueKind.the-variants.{Numbered}
+use Rattle.values.specs.ValueKind.{at-or-below}
+use Rattle.machines.specs.TableBytes.{machine-of}
+use Rattle.conformance.specs.declared.Failure.{Failure}
+use Rattle.conformance.specs.declared.Failure.the-variants.{Nowhere, At}
+use Rattle.conformance.specs.PairQueue.{Queue, Holds, pair-step, at-or-below-on, FirstBadEvent, Ready, successors, Expandable, Expanded, Reaches, FailsAt, Located, Searchable}
+use Rattle.conformance.proofs.Queues.{same-pair-self, same-pair-true}
+use Rattle.conformance.proofs.Successors.{part-grows}
+
+-- What exploration and the first bad word compute, step by step.
+module _ {S : Type 0} (next : S → ℕ → S) (start : S) (bad : S → ℕ → Bool) where
+  abbrev Fine : List ℕ → ℕ → Type 0
+  Fine w e = bad (reached next start w) e ≡ false
+
+  -- No event is bad after w.
+  bad-none : (c e : ℕ) (w : List ℕ) → ((a : ℕ) → e ≤ a → a < e + c → Fine w a) → bad-event next start bad c e w ≡ none
+  bad-none zero e w f = refl
+  bad-none (suc c) e w f =
+      ap (λ b. cond b (some (e ∷ w)) (bad-event next start bad c (suc e) w)) (f e (omega arith) (omega arith))
+      ∙ bad-none c (suc e) w (λ a h k. f a (omega arith) (omega arith))
+
+  -- Event r is the first that is.
+  bad-first :
+      (r : ℕ) (w : List ℕ) → bad (reached next start w) r ≡ true → (c e : ℕ) → e ≤ r → r < e + c → ((a : ℕ) → e ≤ a → a < r → Fine w a) →
+      bad-event next start bad c e w ≡ some (r ∷ w)
+  bad-first r w t zero e h k f = absurd (omega arith)
+  bad-first r w t (suc c) e h k f = go (eqb e r) refl (λ x y z. bad-first r w t c (suc e) x y z)
+    where
+      later : List ℕ → Option (List ℕ)
+      later v = bad-event next start bad c (suc e) v
+
+      go :
+          (b : Bool) → eqb e r ≡ b → (suc e ≤ r → r < suc e + c → ((a : ℕ) → suc e ≤ a → a < r → Fine w a) → later w ≡ some (r ∷ w)) →
+          cond (bad (reached next start w) e) (some (e ∷ w)) (later w) ≡ some (r ∷ w)
+      go true z g =
+          let same : e ≡ r = eqb-true e r z in
+          ap (λ b. cond b (some (e ∷ w)) (later w)) (ap (bad (reached next start w)) same ∙ t) ∙ ap (λ x. some (x ∷ w)) same
+      go false z g =
+          let other : ¬ (e ≡ r) = eqb-false e r z in
+          ap (λ b. cond b (some (e ∷ w)) (later w)) (f e (omega arith) (omega arith))
+          ∙ g (omega arith) (omega arith) (λ a x y. f a (omega arith) y)
+
+  -- The words from number i on.
+  module _ (events : ℕ) (Q : List (List ℕ)) (i : ℕ) (i-in : i < length Q) where
+    first-at : first-bad next start bad events (drop i Q) ≡ or-else (bad-event next start bad events zero (getD Q i [])) (first-bad next start bad events (drop (suc i) Q))
+    first-at = ap (first-bad next start bad events) (drop-cons Q i [] i-in)
+
+module _ {S : Type 0} (same : S → S → Bool) (next : S → ℕ → S) (start : S) (events : ℕ) where
+  explore-step :
+      (limit i : ℕ) (P : List (List ℕ)) → i < length P → i < limit →
+      explore same next start events (limit - i) i P
+      ≡ explore same next start events (limit - suc i) (suc i) (add-events same next start events zero P (getD P i []))
+  explore-step limit i P h l =
+      let z : limit - i ≡ suc (limit - suc i) = omega arith in
+      ap (λ c. explore same next start events c i P) z
+      ∙ ap (λ b. cond b (explore same next start events (limit - suc i) (suc i) (add-events same next start events zero P (getD P i []))) P)
+      (lt-ltb i (length P) h)
+
+  explore-end : (c i : ℕ) (P : List (List ℕ)) → length P ≤ i → explore same next start events c i P ≡ P
+  explore-end zero i P h = refl
+  explore-end (suc c) i P h =
+      ap (λ b. cond b (explore same next start events c (suc i) (add-events same next start events zero P (getD P i []))) P)
+      (le-ltb i (length P) h)
+
+same-pair-iff : (x y : ℕ × ℕ) → T (same-pair x y) ↔ (x ≡ y)
+same-pair-iff x y = (
+  (λ h. let e : (x .0 ≡ y .0) × (x .1 ≡ y .1) = same-pair-true x y (is-true (same-pair x y) h) in λ i. (e .0 i, e .1 i)),
+  λ e. subst (λ z. T (same-pair x z)) e (subst⁻¹ T (same-pair-self (x .0) (x .1)) tt),
+)
+  where
+    is-true : (b : Bool) → T b → b ≡ true
+    is-true true h = refl
+    is-true false h = absurd h
+
+-- There are no more pairs of states than n × k.
+module _ {size events n k : ℕ} {device table : List ℕ} (ready : Ready size events n k device table) (s : ℕ) (s-in : s < n) (t-in : 0 < k) where
+  abbrev step : ℕ × ℕ → ℕ → ℕ × ℕ
+  step = pair-step (machine-of events device) (machine-of events table)
+
+  abbrev state : List ℕ → ℕ × ℕ
+  state w = reached step (s, zero) w
+
+  abbrev all-words : List (List ℕ)
+  all-words = explored same-pair step (s, zero) events (n * k)
+
+  pair-in : (w : List ℕ) → Word events w → (state w .0 < n) × (state w .1 < k)
+  pair-in [] v = (s-in, t-in)
+  pair-in (e ∷ w) v =
+      let r : (state w .0 < n) × (state w .1 < k) = pair-in w (v .1) in
+      (ready .device-nexts (state w .0) e (r .0) (v .0), ready .table-nexts (state w .1) e (r .1) (v .0))
+
+  pub few-words : length all-words ≤ n * k
+  few-words = pigeonhole (n * k) (length all-words) number in-range different
+    where
+      number : ℕ → ℕ
+      number l = state (getD all-words l []) .0 * k + state (getD all-words l []) .1
+
+      kept : Kept same-pair same-pair-iff step (s, zero) events all-words
+      kept = invariant same-pair same-pair-iff step (s, zero) events (n * k)
+
+      at-in : (l : ℕ) → l < length all-words → (state (getD all-words l []) .0 < n) × (state (getD all-words l []) .1 < k)
+      at-in l h = pair-in (getD all-words l []) (kept .1 .words l h)
+
+      in-range : (l : ℕ) → l < length all-words → number l < n * k
+      in-range l h =
+          let r = at-in l h in
+          omega (arith, r .1, mul-le-mul-right k (r .0), suc-mul (state (getD all-words l []) .0) k)
+
+      different : (j l : ℕ) → j < l → l < length all-words → ¬ (number j ≡ number l)
+      different j l u h e =
+          let d = digits-equal k (state (getD all-words j []) .0) (state (getD all-words l []) .0) (state (getD all-words j []) .1)
+          (state (getD all-words l []) .1) (at-in j (omega arith) .1) (at-in l h .1) e in
+          kept .1 .different j l u h (λ i. (d .0 i, d .1 i))
+
+-- What holds when i pairs have been taken from the queue and none of them failed.
+module _ {size events values k : ℕ} {device table : List ℕ} {a₀ : Queue} (meet : List ℕ) (x : Searchable size events values k device table a₀) where
+  abbrev limit : ℕ
+  limit = x .n * k
+
+  abbrev below : ℕ → ℕ → Bool
+  below = at-or-below (Numbered values) meet
+
+  abbrev m : Machine ℕ ℕ
+  m = machine-of events device
+
+  abbrev q : Machine ℕ ℕ
+  q = machine-of events table
+
+  abbrev start : ℕ × ℕ
+  start = (x .s, zero)
+
+  abbrev Q : List (List ℕ)
+  Q = explored same-pair (pair-step m q) start events limit
+
+  abbrev first-from : List (List ℕ) → Option (List ℕ)
+  first-from P = first-bad (pair-step m q) start (bad-pair below m q) events P
+
+  pub record Progress (i count : ℕ) (a : Queue) : Type 0 where
+    pub words : List (List ℕ)
+    pub held : Holds (x .n) k m q start words a
+    pub counted : count ≡ length words
+    pub at-most : i ≤ count
+    pub on-way : explore same-pair (pair-step m q) start events (limit - i) i words ≡ Q
+    pub passed : first-from (drop i Q) ≡ first-from Q
+
+  Q-few : length Q ≤ limit
+  Q-few = few-words (x .ready) (x .s) (x .start-in) (x .some-states)
+
+  grows : (c i : ℕ) (P : List (List ℕ)) → Grows P (explore same-pair (pair-step m q) start events c i P)
+  grows c i P = explore-grows same-pair same-pair-iff (pair-step m q) start events c i P
+
+  pub progress-start : Progress zero 1 a₀
+  progress-start =
+      let z : limit - zero ≡ limit = omega arith in
+      record {
+        words = [] ∷ [];
+        held = x .held;
+        counted = refl;
+        at-most = omega arith;
+        on-way = ap (λ c. explore same-pair (pair-step m q) start events c zero ([] ∷ [])) z;
+        passed = refl;
+      }
+
+  module _ (i count : ℕ) (a : Queue) (p : Progress i count a) where
+    words-grow : Grows (p .words) Q
+    words-grow = subst (Grows (p .words)) (p .on-way) (grows (limit - i) i (p .words))
+
+    words-few : length (p .words) ≤ limit
+    words-few = omega (arith, words-grow .0, Q-few)
+
+    -- No pair is left.
+    pub found-none : count ≤ i → counterexample below m q events (x .n) k (x .s) zero ≡ none
+    found-none h =
+        let z : length (p .words) ≤ i = omega (arith, p .counted) in
+        let is : p .words ≡ Q = sym (explore-end same-pair (pair-step m q) start events (limit - i) i (p .words) z) ∙ p .on-way in
+        ap in-play-order (sym (p .passed) ∙ ap first-from (ap (drop i) (sym is) ∙ drop-of-length-le (p .words) z))
+
+    module _ (h : i < count) where
+      i-in : i < length (p .words)
+      i-in = subst (λ c. i < c) (p .counted) h
+
+      pub taken-small : i < size
+      taken-small = omega (arith, i-in, words-few, x .ready .few-pairs)
+
+      abbrev after : List (List ℕ)
+      after = successors events device table start (p .words) i
+
+      step-way : explore same-pair (pair-step m q) start events (limit - suc i) (suc i) after ≡ Q
+      step-way =
+          sym (explore-step same-pair (pair-step m q) start events limit i (p .words) i-in (omega (arith, i-in, words-few))) ∙ p .on-way
+
+      after-grow : Grows after Q
+      after-grow = subst (Grows after) step-way (grows (limit - suc i) (suc i) after)
+
+      pub after-fits : length after ≤ size
+      after-fits = omega (arith, after-grow .0, Q-few, x .ready .few-pairs)
+
+      unfoldable pub expandable : Expandable size events k device table i count a
+      expandable =
+          record {
+            n = x .n;
+            ready = x .ready;
+            start = start;
+            words = p .words;
+            held = p .held;
+            counted = p .counted;
+            taken = h;
+            room = after-fits;
+          }
+
+      module _ (s t : ℕ) (s-is : s ≡ getD (a .device-queue) i 0) (t-is : t ≡ getD (a .table-queue) i 0) where
+        pub s-small : s < 256
+        s-small = omega (arith, s-is, p .held .device-in i i-in, x .ready .few-device-states)
+
+        pub t-small : t < 256
+        t-small = omega (arith, t-is, p .held .table-in i i-in, x .ready .few-table-states)
+
+        abbrev w : List ℕ
+        w = getD (p .words) i []
+
+        bad-is :
+            (e : ℕ) (b : Bool) → at-or-below-on events values meet device table s t e ≡ b →
+            bad-pair below m q (reached (pair-step m q) start w) e ≡ not b
+        unfolding at-or-below-on
+        bad-is e b z =
+            ap₂ (λ u v. not (below (m .value u e) (q .value v e))) (sym (s-is ∙ p .held .device-at i i-in)) (sym (t-is ∙ p .held .table-at i i-in))
+            ∙ ap not z
+
+        taken-word : getD Q i [] ≡ w
+        taken-word = words-grow .1 i i-in
+
+        here : first-from (drop i Q) ≡ or-else (bad-event (pair-step m q) start (bad-pair below m q) events zero w) (first-from (drop (suc i) Q))
+        here =
+            first-at (pair-step m q) start (bad-pair below m q) events Q i (omega (arith, i-in, words-grow .0))
+            ∙ ap (λ u. or-else (bad-event (pair-step m q) start (bad-pair below m q) events zero u) (first-from (drop (suc i) Q))) taken-word
+
+        module _ (e : ℕ) (judged : FirstBadEvent events (at-or-below-on events values meet device table s t) e) where
+          -- The pair fails.
+          pub found-at : e < events → FailsAt size events (counterexample below m q events (x .n) k (x .s) zero) i e (a .parents) (a .last-events)
+          found-at l =
+              record {
+                reaches =
+                    record {
+                      words = p .words;
+                      linked = p .held .linked;
+                      few = omega (arith, words-few, x .ready .few-pairs);
+                      has = i-in;
+                    };
+                event-in = l;
+                is-first =
+                    ap in-play-order
+                    (sym (p .passed) ∙ here
+                    ∙ ap (λ o. or-else o (first-from (drop (suc i) Q)))
+                    (bad-first (pair-step m q) start (bad-pair below m q) e w (bad-is e false (judged .bad l)) events zero (omega arith) (omega arith)
+                    (λ c u v. bad-is c true (judged .before c v))));
+              }
+
+          -- It does not, and its successors are pushed.
+          pub progress-next : events ≤ e → (r : ℕ) (b : Queue) → Expanded size events k device table i count a r b → Progress (i + 1) r b
+          unfolding expandable
+          progress-next l r b f =
+              let g = f expandable in
+              subst (λ c. Progress c r b) (sym (add-one i)) (record {
+                words = after;
+                held = g .0;
+                counted = g .1;
+                at-most = omega (arith, g .1, i-in, more);
+                on-way = step-way;
+                passed =
+                    sym (here
+                    ∙ ap (λ o. or-else o (first-from (drop (suc i) Q)))
+                    (bad-none (pair-step m q) start (bad-pair below m q) events zero w (λ c u v. bad-is c true (judged .before c (omega arith)))))
+                    ∙ p .passed;
+              })
+            where
+              more : length (p .words) ≤ length after
+              more = part-grows same-pair (pair-step m q) start (p .words) w events

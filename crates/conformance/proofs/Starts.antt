@@ -1,0 +1,170 @@
+-- The queue with the start's pair alone, and what the answer is when the search has ended.
+-- Assumes nothing.
+use mathlib.Core.Path.{_≡_, refl, sym, _∙_, ap, ap₂, subst, subst⁻¹}
+use mathlib.Core.Bool.{Bool, true, false, _||_}
+use mathlib.Core.List.{List, [], _∷_, reverse}
+use mathlib.Core.Option.{Option, none, some}
+use Prim.Native.Nat.{ℕ, zero, suc, _+_, _*_, _≤_, _<_}
+use native.Mathlib.Nat.{mul-le-mul-right, suc-mul}
+use native.Mathlib.Omega.{arith}
+use lib.ListN.{length, getD, set, replicate, length-set, length-reverse, length-replicate, getD-replicate}
+use lib.Seq.{getD-set-same, getD-set-other}
+use Rattle.theory.specs.Exploration.{reached, has-state}
+use Rattle.theory.specs.Conformance.{same-pair, counterexample}
+use Rattle.theory.proofs.Numbers.{digits-equal}
+use Rattle.values.specs.declared.ValueKind.the-variants.{Numbered}
+use Rattle.values.specs.ValueKind.{at-or-below}
+use Rattle.machines.specs.TableBytes.{machine-of}
+use Rattle.machines.specs.StoredEntries.{put}
+use Rattle.conformance.specs.declared.Verdict.{Verdict}
+use Rattle.conformance.specs.declared.Verdict.the-variants.{Pass, Fail}
+use Rattle.conformance.specs.declared.Failure.{Failure}
+use Rattle.conformance.specs.declared.Failure.the-variants.{Nowhere, At}
+use Rattle.conformance.specs.Trial.{outcome, shown}
+use Rattle.conformance.specs.PairQueue.{Queue, queue, Sized, Linked, Holds, flag, pair-step, Searchable, Searched, Located, Tried, Answers, FailsAt, Zeros}
+use Rattle.conformance.proofs.Queues.{same-pair-self, same-pair-true, or-false}
+use Rattle.conformance.proofs.Words.{short-word, put-last}
+
+-- An array as it is made.
+pub made-zeros : (size : ℕ) → Zeros size (replicate size 0)
+made-zeros size = record { long = length-replicate size 0; zeros = λ i h. getD-replicate size i 0 0 h }
+
+module _ {size events values k : ℕ} {table : List ℕ} {s : ℕ} {device buffer : List ℕ} (x : Tried size events values k table s device buffer) where
+  -- The start's state and pair fit.
+  pub start-place : s * k < size
+  start-place = omega (arith, x .some-states, mul-le-mul-right k (x .start-in), suc-mul s k, x .ready .few-pairs)
+
+  pub start-small : s < 256
+  start-small = omega (arith, x .start-in, x .ready .few-device-states)
+
+module _ {size events values k : ℕ} {table : List ℕ} {s : ℕ} {device buffer : List ℕ} (x : Tried size events values k table s device buffer)
+    (d t p l f : List ℕ) (d-is : Zeros size d) (t-is : Zeros size t) (p-is : Zeros size p) (l-is : Zeros size l) (f-is : Zeros size f) where
+  abbrev started : Queue
+  started = queue (set d 0 s) t p l (set f (s * k) 1)
+
+  pub start-sized : Sized size started
+  start-sized =
+      record {
+        device-queue-size = simp length-set (d-is .long);
+        table-queue-size = t-is .long;
+        parents-size = p-is .long;
+        last-events-size = l-is .long;
+        flags-size = simp length-set (f-is .long);
+      }
+
+  pub start-searchable : Searchable size events values k device table started
+  start-searchable =
+      record {
+        few-values = x .few-values;
+        n = x .n;
+        ready = x .ready;
+        s = s;
+        start-in = x .start-in;
+        some-states = x .some-states;
+        held = record {
+          linked = record {
+            some-word = omega arith;
+            empty-first = refl;
+            earlier = λ j u h. absurd (omega arith);
+            longer = λ j u h. absurd (omega arith);
+          };
+          device-at = λ j h. device-at′ j h;
+          table-at = λ j h. table-at′ j h;
+          device-in = λ j h. subst⁻¹ (λ y. y < x .n) (device-at′ j h ∙ first-state j h) (x .start-in);
+          table-in = λ j h. subst⁻¹ (λ y. y < k) (table-at′ j h ∙ second-state j h) (x .some-states);
+          flagged = λ u v hu hv. flagged′ u v hu hv (same-pair (s, zero) (u, v)) refl;
+        };
+      }
+    where
+      state : List ℕ → ℕ × ℕ
+      state w = reached (pair-step (machine-of events device) (machine-of events table)) (s, zero) w
+
+      word : ℕ → List ℕ
+      word j = getD ([] ∷ []) j []
+
+      only : (j : ℕ) → j < 1 → j ≡ 0
+      only j h = omega arith
+
+      first-state : (j : ℕ) → j < 1 → state (word j) .0 ≡ s
+      first-state j h = ap (λ y. state (word y) .0) (only j h)
+
+      second-state : (j : ℕ) → j < 1 → state (word j) .1 ≡ 0
+      second-state j h = ap (λ y. state (word y) .1) (only j h)
+
+      some-room : 0 < size
+      some-room = omega (arith, start-place x)
+
+      device-at′ : (j : ℕ) → j < 1 → getD (set d 0 s) j 0 ≡ state (word j) .0
+      device-at′ j h =
+          ap (λ y. getD (set d 0 s) y 0) (only j h) ∙ getD-set-same d 0 s 0 (omega (arith, d-is .long, some-room)) ∙ sym (first-state j h)
+
+      table-at′ : (j : ℕ) → j < 1 → getD t j 0 ≡ state (word j) .1
+      table-at′ j h = ap (λ y. getD t y 0) (only j h) ∙ t-is .zeros 0 some-room ∙ sym (second-state j h)
+
+      flagged′ :
+          (u v : ℕ) → u < x .n → v < k → (b : Bool) → same-pair (s, zero) (u, v) ≡ b →
+          getD (set f (s * k) 1) (u * k + v) 0
+          ≡ flag (has-state same-pair (pair-step (machine-of events device) (machine-of events table)) (s, zero) ([] ∷ []) (u, v))
+      flagged′ u v hu hv true z =
+          let e : (s ≡ u) × (zero ≡ v) = same-pair-true (s, zero) (u, v) z in
+          let place : u * k + v ≡ s * k = omega (arith, ap (λ y. y * k) (e .0), e .1) in
+          ap (λ y. getD (set f (s * k) 1) y 0) place ∙ getD-set-same f (s * k) 1 0 (omega (arith, f-is .long, start-place x))
+          ∙ ap flag (sym (or-false (same-pair (s, zero) (u, v)) ∙ z))
+      flagged′ u v hu hv false z =
+          getD-set-other f (s * k) (u * k + v) 1 0 (λ y. other (digits-equal k u s v zero hv (x .some-states) (omega arith)))
+          ∙ f-is .zeros (u * k + v) (omega (arith, hv, mul-le-mul-right k hu, suc-mul u k, x .ready .few-pairs))
+          ∙ ap flag (sym (or-false (same-pair (s, zero) (u, v)) ∙ z))
+        where
+          other : (u ≡ s) × (v ≡ zero) → ⊥
+          other e =
+              let c : _≡_ {A = Bool} true false
+              = sym (same-pair-self s zero) ∙ ap₂ (λ a b. same-pair (s, zero) (a, b)) (sym (e .0)) (sym (e .1)) ∙ z in
+              let c′ : _≡_ {A = ℕ} 1 0 = ap flag c in omega arith
+
+  -- What the search finds from there.
+  module _ (meet : List ℕ) (r : Failure) (b : Queue) (h : Searched size events values meet k device table started r b) where
+    abbrev found : Option (List ℕ)
+    found = counterexample (at-or-below (Numbered values) meet) (machine-of events device) (machine-of events table) events (x .n) k s zero
+
+    located : Located size events found r b
+    unfolding start-searchable
+    located = h start-searchable
+
+    pub found-nowhere : r ≡ Nowhere → found ≡ none
+    unfolding Located
+    found-nowhere z = subst (λ y. Located size events found y b) z located
+
+    pub found-at-place : (i e : ℕ) → r ≡ At i e → FailsAt size events found i e (b .parents) (b .last-events)
+    unfolding Located
+    found-at-place i e z = subst (λ y. Located size events found y b) z located
+
+-- The answer where the search finds nothing.
+pub answer-none : (found : Option (List ℕ)) (old : List ℕ) → found ≡ none → Answers found old Pass old
+unfolding outcome shown
+answer-none found old z = record { answer-is = ap outcome (sym z); later-is = ap (λ o. shown o old) (sym z) }
+
+-- And where it fails at a place of the queue.
+module _ {size events : ℕ} {found : Option (List ℕ)} {i e : ℕ} {parents last-events : List ℕ} (y : FailsAt size events found i e parents last-events) where
+  abbrev w : List ℕ
+  w = getD (y .reaches .words) i []
+
+  pub word-fits : (n : ℕ) → n ≡ length w → n < size
+  word-fits n z =
+      omega (
+        arith,
+        short-word (y .reaches .words) parents last-events (y .reaches .linked) i (y .reaches .has),
+        y .reaches .has,
+        y .reaches .few,
+      )
+
+  pub answer-some :
+      (old later : List ℕ) (n : ℕ) → n ≡ length w → size ≤ length old → later ≡ put (reverse w) (set old n e) →
+      Answers found old (Fail (n + 1)) later
+  unfolding outcome shown
+  answer-some old later n z room is =
+      record {
+        answer-is = ap Fail (omega (arith, length-reverse (e ∷ w))) ∙ ap outcome (sym (y .is-first));
+        later-is =
+            is ∙ ap (λ c. put (reverse w) (set old c e)) z ∙ put-last w old e (omega (arith, word-fits n z))
+            ∙ ap (λ o. shown o old) (sym (y .is-first));
+      }

@@ -1,0 +1,199 @@
+-- The queue of the breadth-first search in flat arrays: what its private parts ask of each other. `counterexample` of theory says
+-- what the search finds.
+-- Assumes nothing.
+use mathlib.Core.Path.{_≡_}
+use mathlib.Core.Bool.{Bool, true, false, cond}
+use mathlib.Core.List.{List, [], _∷_, reverse}
+use mathlib.Core.Option.{Option, none, some}
+use Prim.Native.Nat.{ℕ, zero, suc, _+_, _*_, _≤_, _<_}
+use lib.Dec.{eqb}
+use lib.ListN.{length, getD, set}
+use Rattle.theory.specs.MealyMachine.{Machine}
+use Rattle.theory.specs.Exploration.{reached, has-state, add-events}
+use Rattle.theory.specs.Conformance.{same-pair, counterexample}
+use Rattle.machines.specs.TableBytes.{machine-of}
+use Rattle.machines.specs.StoredEntries.{put}
+use Rattle.values.specs.declared.ValueKind.the-variants.{Numbered}
+use Rattle.values.specs.ValueKind.{at-or-below}
+use Rattle.conformance.specs.declared.Verdict.{Verdict}
+use Rattle.conformance.specs.declared.Failure.{Failure}
+use Rattle.conformance.specs.declared.Failure.the-variants.{Nowhere, At}
+use Rattle.conformance.specs.Trial.{outcome, shown}
+
+-- The pair of states after an event.
+abbrev pub pair-step : Machine ℕ ℕ → Machine ℕ ℕ → ℕ × ℕ → ℕ → ℕ × ℕ
+pair-step m q x e = (m .next (x .0) e, q .next (x .1) e)
+
+-- On an event in a pair of states the device's value is at or below the table's.
+unfoldable pub at-or-below-on : ℕ → ℕ → List ℕ → List ℕ → List ℕ → ℕ → ℕ → ℕ → Bool
+at-or-below-on events values meet device table s t e =
+    at-or-below (Numbered values) meet (machine-of events device .value s e) (machine-of events table .value t e)
+
+-- r is the first of the events that is not allowed, or their count.
+pub record FirstBadEvent (events : ℕ) (good : ℕ → Bool) (r : ℕ) : Type 0 where
+  pub at-most : r ≤ events
+  pub before : (e : ℕ) → e < r → good e ≡ true
+  pub bad : r < events → good r ≡ false
+
+-- The arrays: of each pair in the queue its device state, its table state, the place of the pair that it was reached from and the
+-- event; and of each pair of states a flag that it is in the queue.
+pub record Queue : Type 0 where
+  pub device-queue : List ℕ
+  pub table-queue : List ℕ
+  pub parents : List ℕ
+  pub last-events : List ℕ
+  pub flags : List ℕ
+
+abbrev pub queue : List ℕ → List ℕ → List ℕ → List ℕ → List ℕ → Queue
+queue device-queue table-queue parents last-events flags =
+    record { device-queue = device-queue; table-queue = table-queue; parents = parents; last-events = last-events; flags = flags }
+
+pub record Sized (size : ℕ) (a : Queue) : Type 0 where
+  pub device-queue-size : length (a .device-queue) ≡ size
+  pub table-queue-size : length (a .table-queue) ≡ size
+  pub parents-size : length (a .parents) ≡ size
+  pub last-events-size : length (a .last-events) ≡ size
+  pub flags-size : length (a .flags) ≡ size
+
+-- The words in the queue, last event first: each is its parent's with one event more.
+pub record Linked (P : List (List ℕ)) (parents last-events : List ℕ) : Type 0 where
+  pub some-word : 0 < length P
+  pub empty-first : getD P 0 [] ≡ []
+  pub earlier : (l : ℕ) → 0 < l → l < length P → getD parents l 0 < l
+  pub longer : (l : ℕ) → 0 < l → l < length P → getD P l [] ≡ getD last-events l 0 ∷ getD P (getD parents l 0) []
+
+abbrev pub flag : Bool → ℕ
+flag true = 1
+flag false = 0
+
+-- The arrays hold the words P and the pairs that they reach, of n and k states.
+module _ (n k : ℕ) (m q : Machine ℕ ℕ) (start : ℕ × ℕ) where
+  pub record Holds (P : List (List ℕ)) (a : Queue) : Type 0 where
+    pub linked : Linked P (a .parents) (a .last-events)
+    pub device-at : (l : ℕ) → l < length P → getD (a .device-queue) l 0 ≡ reached (pair-step m q) start (getD P l []) .0
+    pub table-at : (l : ℕ) → l < length P → getD (a .table-queue) l 0 ≡ reached (pair-step m q) start (getD P l []) .1
+    pub device-in : (l : ℕ) → l < length P → getD (a .device-queue) l 0 < n
+    pub table-in : (l : ℕ) → l < length P → getD (a .table-queue) l 0 < k
+    pub flagged :
+        (s t : ℕ) → s < n → t < k → getD (a .flags) (s * k + t) 0 ≡ flag (has-state same-pair (pair-step m q) start P (s, t))
+
+-- The queue with a pair at its end, where it is not in it yet; and how many pairs it has then.
+abbrev pub is-new : Queue → ℕ → Bool
+is-new a place = eqb (getD (a .flags) place 0) 0
+
+abbrev pub push : Queue → ℕ → ℕ → ℕ → ℕ → ℕ → ℕ → Queue
+push a count place s t parent e =
+    queue (set (a .device-queue) count s) (set (a .table-queue) count t) (set (a .parents) count parent) (set (a .last-events) count e)
+    (set (a .flags) place 1)
+
+unfoldable pub pushed : Queue → ℕ → ℕ → ℕ → ℕ → ℕ → ℕ → Queue
+pushed a count place s t parent e = cond (is-new a place) (push a count place s t parent e) a
+
+unfoldable pub pushed-count : Queue → ℕ → ℕ → ℕ
+pushed-count a count place = cond (is-new a place) (count + 1) count
+
+-- What the search is given: the device and the table run over their states, which are few enough for the arrays.
+pub record Ready (size events n k : ℕ) (device table : List ℕ) : Type 0 where
+  pub few-events : events ≤ 16
+  pub few-device-states : n ≤ 256
+  pub few-table-states : k ≤ 256
+  pub few-pairs : n * k ≤ size
+  pub device-nexts : (s e : ℕ) → s < n → e < events → machine-of events device .next s e < n
+  pub table-nexts : (t e : ℕ) → t < k → e < events → machine-of events table .next t e < k
+
+-- The list of words with the successors of word i.
+abbrev pub successors : ℕ → List ℕ → List ℕ → ℕ × ℕ → List (List ℕ) → ℕ → List (List ℕ)
+successors events device table start P i =
+    add-events same-pair (pair-step (machine-of events device) (machine-of events table)) start events zero P (getD P i [])
+
+-- The arrays hold `count` pairs, and pair i's successors fit in.
+pub record Expandable (size events k : ℕ) (device table : List ℕ) (i count : ℕ) (a : Queue) : Type 0 where
+  pub n : ℕ
+  pub ready : Ready size events n k device table
+  pub start : ℕ × ℕ
+  pub words : List (List ℕ)
+  pub held : Holds n k (machine-of events device) (machine-of events table) start words a
+  pub counted : count ≡ length words
+  pub taken : i < count
+  pub room : length (successors events device table start words i) ≤ size
+
+-- Whatever words they hold, they hold them afterwards with those of pair i's successors.
+abbrev pub Expanded : ℕ → ℕ → ℕ → List ℕ → List ℕ → ℕ → ℕ → Queue → ℕ → Queue → Type 0
+Expanded size events k device table i count a r b =
+    (x : Expandable size events k device table i count a) →
+    Holds (x .n) k (machine-of events device) (machine-of events table) (x .start) (successors events device table (x .start) (x .words) i) b
+    × (r ≡ length (successors events device table (x .start) (x .words) i))
+
+-- Some list of words is linked by the arrays and has word i.
+pub record Reaches (size i : ℕ) (parents last-events : List ℕ) : Type 0 where
+  pub words : List (List ℕ)
+  pub linked : Linked words parents last-events
+  pub few : length words ≤ size
+  pub has : i < length words
+
+-- n is the length of word i.
+abbrev pub Deep : ℕ → ℕ → List ℕ → List ℕ → ℕ → Type 0
+Deep size i parents last-events n = (x : Reaches size i parents last-events) → n ≡ length (getD (x .words) i [])
+
+-- Word i of n events, in order of play, is put over the front of the buffer.
+pub record Writable (size i n : ℕ) (parents last-events old : List ℕ) : Type 0 where
+  pub reaches : Reaches size i parents last-events
+  pub long : n ≡ length (getD (reaches .words) i [])
+  pub room : n ≤ length old
+
+abbrev pub Written : ℕ → ℕ → ℕ → List ℕ → List ℕ → List ℕ → List ℕ → Type 0
+Written size i n parents last-events old later =
+    (x : Writable size i n parents last-events old) → later ≡ put (reverse (getD (x .reaches .words) i [])) old
+
+-- An array of zeros.
+pub record Zeros (size : ℕ) (l : List ℕ) : Type 0 where
+  pub long : length l ≡ size
+  pub zeros : (i : ℕ) → i < size → getD l i 0 ≡ 0
+
+-- The arrays hold the pair of the device's start and the table's state 0 alone.
+pub record Searchable (size events values k : ℕ) (device table : List ℕ) (a : Queue) : Type 0 where
+  pub few-values : values ≤ 16
+  pub n : ℕ
+  pub ready : Ready size events n k device table
+  pub s : ℕ
+  pub start-in : s < n
+  pub some-states : 0 < k
+  pub held : Holds n k (machine-of events device) (machine-of events table) (s, zero) ([] ∷ []) a
+
+-- A failure at place i of the queue on event e: the word of place i, then e, is the first on which the device fails.
+pub record FailsAt (size events : ℕ) (first : Option (List ℕ)) (i e : ℕ) (parents last-events : List ℕ) : Type 0 where
+  pub reaches : Reaches size i parents last-events
+  pub event-in : e < events
+  pub is-first : first ≡ some (reverse (e ∷ getD (reaches .words) i []))
+
+unfoldable pub Located : ℕ → ℕ → Option (List ℕ) → Failure → Queue → Type 0
+Located size events first Nowhere a = first ≡ none
+Located size events first (At i e) a = FailsAt size events first i e (a .parents) (a .last-events)
+
+-- What the search finds is the first counterexample.
+abbrev pub Searched : ℕ → ℕ → ℕ → List ℕ → ℕ → List ℕ → List ℕ → Queue → Failure → Queue → Type 0
+Searched size events values meet k device table a r b =
+    (x : Searchable size events values k device table a) →
+    Located size events
+    (counterexample (at-or-below (Numbered values) meet) (machine-of events device) (machine-of events table) events (x .n) k (x .s) zero) r b
+
+-- What the search is given, and the buffer has room for the longest word.
+pub record Tried (size events values k : ℕ) (table : List ℕ) (s : ℕ) (device buffer : List ℕ) : Type 0 where
+  pub few-values : values ≤ 16
+  pub n : ℕ
+  pub ready : Ready size events n k device table
+  pub start-in : s < n
+  pub some-states : 0 < k
+  pub room : size ≤ length buffer
+
+-- The answer and the later buffer are those of the first counterexample.
+pub record Answers (found : Option (List ℕ)) (old : List ℕ) (answer : Verdict) (later : List ℕ) : Type 0 where
+  pub answer-is : answer ≡ outcome found
+  pub later-is : later ≡ shown found old
+
+abbrev pub Answered : ℕ → ℕ → ℕ → List ℕ → ℕ → List ℕ → ℕ → List ℕ → List ℕ → Verdict → List ℕ → Type 0
+Answered size events values meet k table s device old answer later =
+    (x : Tried size events values k table s device old) →
+    Answers
+    (counterexample (at-or-below (Numbered values) meet) (machine-of events device) (machine-of events table) events (x .n) k s zero)
+    old answer later

@@ -1,0 +1,387 @@
+// Document 01, "Trial": a device judged against a rule's table.
+use refusal::Judgement;
+use refusal::Refusal;
+use values::ValueKind;
+ghost use mathlib.Core.Path.{_≡_};
+ghost use mathlib.Core.Bool.{true};
+ghost use Prim.Native.Nat.{ℕ, _+_, _*_, _≤_, _<_};
+ghost use lib.ListN.{length};
+ghost use Rattle.refusal.specs.Refusal.{judgement};
+ghost use Rattle.values.specs.Setup.{setup};
+ghost use Rattle.conformance.specs.Trial.{input, device-limit, table-limit, trial-refusal, trial-answer, trial-buffer};
+ghost use Rattle.conformance.specs.PairQueue.{at-or-below-on, FirstBadEvent, queue, Sized, is-new, pushed, pushed-count, Expandable, Expanded, Reaches, Deep, Writable, Written, Zeros, Searchable, Searched, Tried, Answered};
+
+// Document 01's limits: a device's states, a rule's table's states, and their product, the events of a word.
+pub const DEVICE_LIMIT: usize = 64;
+
+pub const TABLE_LIMIT: usize = 64;
+
+pub const WORD_LIMIT: usize = 4096;
+
+// The answer of a trial; a failed one has the word's length.
+pub enum Verdict {
+    Pass,
+    Fail(usize),
+    Refused(Refusal),
+}
+
+// Where the search finds a value that is not at or below: at a place of the queue, on an event.
+enum Failure {
+    Nowhere,
+    At(usize, usize),
+}
+
+fn wide(x: u8) -> usize
+    ensures { λ r. ⌜ r ≡ x ⌝ }
+{
+    x as usize
+}
+
+fn wide16(x: u16) -> usize
+    ensures { λ r. ⌜ r ≡ x ⌝ }
+{
+    x as usize
+}
+
+// Whether in a pair of states the device's value on an event is at or below the table's. Values are compared here only.
+fn at_or_below_on(
+    events: usize,
+    values: usize,
+    meet: &[u8],
+    device: &[u8],
+    table: &[u8],
+    s: usize,
+    t: usize,
+    e: usize,
+) -> bool
+    requires { ⌜ (events ≤ 16) × (values ≤ 16) × (s < 256) × (t < 256) × (e < events) ⌝ }
+    ensures { λ r. ⌜ r ≡ at-or-below-on events values (now (meet .entry)) (now (device .entry)) (now (table .entry)) s t e ⌝ }
+{
+    let b = machines::value_at(device, s * events + e);
+    let c = machines::value_at(table, t * events + e);
+    values::at_or_below(ValueKind::Numbered(values as u32), meet, b, c)
+}
+
+// The first event on which the device fails in a pair of states; the event count where there is none.
+fn bad_event(
+    events: usize,
+    values: usize,
+    meet: &[u8],
+    device: &[u8],
+    table: &[u8],
+    s: usize,
+    t: usize,
+) -> usize
+    requires { ⌜ (events ≤ 16) × (values ≤ 16) × (s < 256) × (t < 256) ⌝ }
+    ensures { λ r. ⌜ FirstBadEvent events (at-or-below-on events values (now (meet .entry)) (now (device .entry)) (now (table .entry)) s t) r ⌝ }
+{
+    let mut e: usize = 0;
+    while e < events {
+        if !at_or_below_on(events, values, meet, device, table, s, t, e) {
+            return e;
+        }
+        e += 1;
+    }
+    events
+}
+
+// Puts a pair of states at the end of the queue, where it is not in it yet; returns how many pairs the queue has then.
+fn push_pair(
+    place: usize,
+    s: usize,
+    t: usize,
+    parent: usize,
+    e: usize,
+    count: usize,
+    device_queue: &mut [u8; WORD_LIMIT],
+    table_queue: &mut [u8; WORD_LIMIT],
+    parents: &mut [u16; WORD_LIMIT],
+    last_events: &mut [u8; WORD_LIMIT],
+    flags: &mut [u8; WORD_LIMIT],
+) -> usize
+    requires { ⌜ Sized 4096 (queue (now «device_queue») (now «table_queue») (now parents) (now «last_events») (now flags))
+        × (place < 4096) × (s < 256) × (t < 256) × (parent < 4096) × (e < 256)
+        × (is-new (queue (now «device_queue») (now «table_queue») (now parents) (now «last_events») (now flags)) place ≡ true → count < 4096) ⌝ }
+    ensures { λ r. ⌜ (r ≡ pushed-count (queue (now («device_queue» .entry)) (now («table_queue» .entry)) (now (parents .entry)) (now («last_events» .entry)) (now (flags .entry))) count place)
+        × (queue (now («device_queue» .exit)) (now («table_queue» .exit)) (now (parents .exit)) (now («last_events» .exit)) (now (flags .exit))
+        ≡ pushed (queue (now («device_queue» .entry)) (now («table_queue» .entry)) (now (parents .entry)) (now («last_events» .entry)) (now (flags .entry))) count place s t parent e) ⌝ }
+{
+    if flags[place] != 0 {
+        return count;
+    }
+    flags[place] = 1;
+    device_queue[count] = s as u8;
+    table_queue[count] = t as u8;
+    parents[count] = parent as u16;
+    last_events[count] = e as u8;
+    count + 1
+}
+
+// Puts the successors of a pair in the queue at the queue's end, events rising; returns how many pairs the queue has then.
+fn push_successors(
+    events: usize,
+    states: usize,
+    device: &[u8],
+    table: &[u8],
+    i: usize,
+    count: usize,
+    device_queue: &mut [u8; WORD_LIMIT],
+    table_queue: &mut [u8; WORD_LIMIT],
+    parents: &mut [u16; WORD_LIMIT],
+    last_events: &mut [u8; WORD_LIMIT],
+    flags: &mut [u8; WORD_LIMIT],
+) -> usize
+    requires { ⌜ Sized 4096 (queue (now «device_queue») (now «table_queue») (now parents) (now «last_events») (now flags))
+        × Expandable 4096 events states (now device) (now table) i count (queue (now «device_queue») (now «table_queue») (now parents) (now «last_events») (now flags)) ⌝ }
+    ensures { λ r. ⌜ Sized 4096 (queue (now («device_queue» .exit)) (now («table_queue» .exit)) (now (parents .exit)) (now («last_events» .exit)) (now (flags .exit)))
+        × Expanded 4096 events states (now (device .entry)) (now (table .entry)) i count
+        (queue (now («device_queue» .entry)) (now («table_queue» .entry)) (now (parents .entry)) (now («last_events» .entry)) (now (flags .entry))) r (queue (now («device_queue» .exit)) (now («table_queue» .exit)) (now (parents .exit)) (now («last_events» .exit)) (now (flags .exit))) ⌝ }
+{
+    let s = wide(device_queue[i]);
+    let t = wide(table_queue[i]);
+    let mut n = count;
+    let mut e: usize = 0;
+    while e < events {
+        let x = machines::next_at(device, s * events + e);
+        let y = machines::next_at(table, t * events + e);
+        n = push_pair(
+            x * states + y,
+            x,
+            y,
+            i,
+            e,
+            n,
+            device_queue,
+            table_queue,
+            parents,
+            last_events,
+            flags,
+        );
+        e += 1;
+    }
+    n
+}
+
+// Takes pairs from the queue, the start's first, until one fails or none is left.
+fn find_failure(
+    events: usize,
+    values: usize,
+    meet: &[u8],
+    states: usize,
+    table: &[u8],
+    device: &[u8],
+    device_queue: &mut [u8; WORD_LIMIT],
+    table_queue: &mut [u8; WORD_LIMIT],
+    parents: &mut [u16; WORD_LIMIT],
+    last_events: &mut [u8; WORD_LIMIT],
+    flags: &mut [u8; WORD_LIMIT],
+) -> Failure
+    requires { ⌜ Sized 4096 (queue (now «device_queue») (now «table_queue») (now parents) (now «last_events») (now flags))
+        × Searchable 4096 events values states (now device) (now table) (queue (now «device_queue») (now «table_queue») (now parents) (now «last_events») (now flags)) ⌝ }
+    ensures { λ r. ⌜ Searched 4096 events values (now (meet .entry)) states (now (device .entry)) (now (table .entry))
+        (queue (now («device_queue» .entry)) (now («table_queue» .entry)) (now (parents .entry)) (now («last_events» .entry)) (now (flags .entry))) r (queue (now («device_queue» .exit)) (now («table_queue» .exit)) (now (parents .exit)) (now («last_events» .exit)) (now (flags .exit))) ⌝ }
+{
+    let mut count: usize = 1;
+    let mut i: usize = 0;
+    while i < count {
+        let s = wide(device_queue[i]);
+        let t = wide(table_queue[i]);
+        let e = bad_event(events, values, meet, device, table, s, t);
+        if e < events {
+            return Failure::At(i, e);
+        }
+        count = push_successors(
+            events,
+            states,
+            device,
+            table,
+            i,
+            count,
+            device_queue,
+            table_queue,
+            parents,
+            last_events,
+            flags,
+        );
+        i += 1;
+    }
+    Failure::Nowhere
+}
+
+// How many events lead to a place of the queue.
+fn depth(parents: &[u16; WORD_LIMIT], last_events: &[u8; WORD_LIMIT], i: usize) -> usize
+    requires { ⌜ Reaches 4096 i (now parents) (now «last_events») ⌝ }
+    ensures { λ r. ⌜ Deep 4096 i (now (parents .entry)) (now («last_events» .entry)) r ⌝ }
+{
+    let mut n: usize = 0;
+    let mut j = i;
+    while j != 0 {
+        j = wide16(parents[j]);
+        n += 1;
+    }
+    n
+}
+
+// Writes the events that lead to a place of the queue, in order of play, to the front of the buffer.
+fn write_path(
+    parents: &[u16; WORD_LIMIT],
+    last_events: &[u8; WORD_LIMIT],
+    i: usize,
+    n: usize,
+    word: &mut [u8],
+)
+    requires { ⌜ Writable 4096 i n (now parents) (now «last_events») (now word) ⌝ }
+    ensures { λ r. ⌜ Written 4096 i n (now (parents .entry)) (now («last_events» .entry)) (now (word .entry)) (now (word .exit)) ⌝ }
+{
+    let mut j = i;
+    let mut at = n;
+    while at != 0 {
+        at -= 1;
+        word[at] = last_events[j];
+        j = wide16(parents[j]);
+    }
+}
+
+// An empty array.
+fn zeros() -> [u8; WORD_LIMIT]
+    ensures { λ r. ⌜ Zeros 4096 r ⌝ }
+{
+    [0u8; WORD_LIMIT]
+}
+
+fn zeros16() -> [u16; WORD_LIMIT]
+    ensures { λ r. ⌜ Zeros 4096 r ⌝ }
+{
+    [0u16; WORD_LIMIT]
+}
+
+// Searches the pairs of states that events reach from the device's start and the table's state 0, and writes the first word on
+// which the device fails.
+fn search(
+    events: usize,
+    values: usize,
+    meet: &[u8],
+    states: usize,
+    table: &[u8],
+    device_start: usize,
+    device: &[u8],
+    word: &mut [u8],
+) -> Verdict
+    requires { ⌜ Tried 4096 events values states (now table) «device_start» (now device) (now word) ⌝ }
+    ensures { λ r. ⌜ Answered 4096 events values (now (meet .entry)) states (now (table .entry)) «device_start» (now (device .entry)) (now (word .entry)) r (now (word .exit)) ⌝ }
+{
+    let mut device_queue = zeros();
+    let mut table_queue = zeros();
+    let mut parents = zeros16();
+    let mut last_events = zeros();
+    let mut flags = zeros();
+    device_queue[0] = device_start as u8;
+    flags[device_start * states] = 1;
+    let failure = find_failure(
+        events,
+        values,
+        meet,
+        states,
+        table,
+        device,
+        &mut device_queue,
+        &mut table_queue,
+        &mut parents,
+        &mut last_events,
+        &mut flags,
+    );
+    let Failure::At(i, e) = failure else {
+        return Verdict::Pass;
+    };
+    let n = depth(&parents, &last_events, i);
+    word[n] = e as u8;
+    write_path(&parents, &last_events, i, n, word);
+    Verdict::Fail(n + 1)
+}
+
+// The check of a trial's inputs: refusals 1 to 3, 11 for the device and the table, and 13.
+fn check_trial(
+    events: usize,
+    values: usize,
+    top: usize,
+    meet: &[u8],
+    states: usize,
+    table: &[u8],
+    device_states: usize,
+    device_start: usize,
+    device: &[u8],
+    word: &[u8],
+) -> Judgement
+    ensures { λ r. ⌜ r ≡ judgement (trial-refusal device-limit table-limit
+        (input (setup events values top (now (meet .entry))) states (now (table .entry)) «device_states» «device_start» (now (device .entry))) (now (word .entry))) ⌝ }
+{
+    let setup = values::check_setup(events, values, top, meet);
+    if let Judgement::Refused(_) = setup {
+        return setup;
+    }
+    let first = machines::check_table(
+        DEVICE_LIMIT,
+        events,
+        values,
+        device_states,
+        device_start,
+        device,
+    );
+    if let Judgement::Refused(_) = first {
+        return first;
+    }
+    let second = machines::check_table(TABLE_LIMIT, events, values, states, 0, table);
+    if let Judgement::Refused(_) = second {
+        return second;
+    }
+    if word.len() < WORD_LIMIT {
+        return Judgement::Refused(Refusal::Plain(refusal::BUFFER_LENGTH));
+    }
+    Judgement::Accepted
+}
+
+// The trial of a device against a rule's table, both in bytes. A failed one has the first word on which the device fails written
+// to the front of the buffer.
+pub fn trial(
+    events: usize,
+    values: usize,
+    top: usize,
+    meet: &[u8],
+    states: usize,
+    table: &[u8],
+    device_states: usize,
+    device_start: usize,
+    device: &[u8],
+    word: &mut [u8],
+) -> Verdict
+    ensures answer { λ r. ⌜ r ≡ trial-answer device-limit table-limit
+        (input (setup events values top (now (meet .entry))) states (now (table .entry)) «device_states» «device_start» (now (device .entry))) (now (word .entry)) ⌝ }
+    ensures contents { λ r. ⌜ now (word .exit) ≡ trial-buffer device-limit table-limit
+        (input (setup events values top (now (meet .entry))) states (now (table .entry)) «device_states» «device_start» (now (device .entry))) (now (word .entry)) ⌝ }
+{
+    let judged = check_trial(
+        events,
+        values,
+        top,
+        meet,
+        states,
+        table,
+        device_states,
+        device_start,
+        device,
+        word,
+    );
+    if let Judgement::Refused(refusal) = judged {
+        return Verdict::Refused(refusal);
+    }
+    search(
+        events,
+        values,
+        meet,
+        states,
+        table,
+        device_start,
+        device,
+        word,
+    )
+}
