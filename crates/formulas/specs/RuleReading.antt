@@ -39,7 +39,7 @@ fields-fit events kind-A first value fits = eqb first 0 && eqb value 0
 fields-fit events kind-V first value fits = eqb first 0 && eqb value 0
 fields-fit events unknown-kind first value fits = false
 
--- How many parts are awaited after a node of a kind, where its own place was one of those awaited and k are the others.
+-- How many parts are awaited after a node of a kind, where k others were awaited beside it.
 unfoldable pub awaited : Kind → ℕ → ℕ
 awaited kind-T k = k
 awaited kind-X k = k
