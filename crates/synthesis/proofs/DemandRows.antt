@@ -9,11 +9,11 @@ use lib.ListN.{length, getD, replicate}
 use Rattle.theory.specs.Formula.{Formula, size, Guarded}
 use Rattle.theory.specs.Demands.{NodeSet}
 use Rattle.theory.specs.DemandSets.{empty, union, demands}
+use Rattle.theory.proofs.NodeSets.{empty-union}
 use Rattle.formulas.specs.NodeReading.{Reads}
 use Rattle.synthesis.specs.NodeWords.{set-at, row, Stored}
 use Rattle.synthesis.specs.NodeWalks.{read, Binds, Gathers}
 use Rattle.synthesis.specs.DemandRows.{AllBelow, RowsTo}
-use Rattle.synthesis.proofs.NodeSetLaws.{empty-union}
 use Rattle.synthesis.proofs.NodeWords.{no-members, stored-there, stored-else}
 
 map-below : (f g : ℕ → NodeSet) (i : ℕ) (σ : List ℕ) → AllBelow i σ → ((j : ℕ) → j < i → f j ≡ g j) → map f σ ≡ map g σ

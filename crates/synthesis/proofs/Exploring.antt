@@ -1,9 +1,8 @@
 -- The loops over states: what one more candidate, one more entry and one more state do to what is kept.
 -- Assumes nothing.
-use mathlib.Core.Path.{_≡_, refl, sym, _∙_, ap, ap₂, subst, subst⁻¹}
-use mathlib.Core.Bool.{Bool, true, false, _||_, _&&_, cond, or-true, Bool·beq}
+use mathlib.Core.Path.{_≡_, refl, sym, _∙_, ap, ap₂, subst}
+use mathlib.Core.Bool.{Bool, true, false, _||_, cond, or-true}
 use mathlib.Core.List.{List, [], _∷_, _++_}
-use mathlib.Core.Logic.{_↔_}
 use Prim.Native.Nat.{ℕ, zero, suc, _+_, _*_, _-_, _/_, _%_, _≤_, _<_}
 use native.Mathlib.Nat.{zero-mul, add-mul}
 use native.Mathlib.Decide.{decLt, ℕ-discrete}
@@ -15,40 +14,10 @@ use lib.Dec.{T}
 use lib.ListN.{length, getD, set, length-append, List·getD-append}
 use lib.Seq.{getD-append-seam, getD-set-same, getD-set-other}
 use Rattle.theory.specs.Exploration.{reached, has-state, add, add-events, explore, index, bits, same-bits}
+use Rattle.theory.proofs.BitSets.{same-bits-iff}
 use Rattle.synthesis.specs.NodeWords.{set-at, bits-at, Stored}
 use Rattle.synthesis.specs.Exploring.{stepped, next-bits, Found, Unchanged, state-of, events-to, Entry, Kept, Counted, Expanded, sequences}
 use Rattle.synthesis.proofs.NodeWords.{member-bits-at, stored-there, stored-else, bits-of}
-
--- The comparison of bits decides equality.
-bit-iff : (x y : Bool) → T (Bool·beq x y) ↔ (x ≡ y)
-bit-iff true true = ((λ t. refl), λ e. tt)
-bit-iff true false = ((λ t. absurd t), λ e. subst T e tt)
-bit-iff false true = ((λ t. absurd t), λ e. subst⁻¹ T e tt)
-bit-iff false false = ((λ t. refl), λ e. tt)
-
-same-bits-iff : (L K : List Bool) → T (same-bits L K) ↔ (L ≡ K)
-same-bits-iff L K = (to L K, λ e. subst (λ x. T (same-bits L x)) e (self L))
-  where
-    and-left : (a b : Bool) → T (a && b) → T a
-    and-left true b h = tt
-    and-left false b h = h
-
-    and-right : (a b : Bool) → T (a && b) → T b
-    and-right true b h = h
-    and-right false b h = absurd h
-
-    to : (L K : List Bool) → T (same-bits L K) → L ≡ K
-    to [] [] h = refl
-    to [] (y ∷ K) h = absurd h
-    to (x ∷ L) [] h = absurd h
-    to (x ∷ L) (y ∷ K) h =
-        ap₂ _∷_ (bit-iff x y .0 (and-left (Bool·beq x y) (same-bits L K) h))
-        (to L K (and-right (Bool·beq x y) (same-bits L K) h))
-
-    self : (L : List Bool) → T (same-bits L L)
-    self [] = tt
-    self (true ∷ L) = self L
-    self (false ∷ L) = self L
 
 same-true : (L K : List Bool) → L ≡ K → same-bits L K ≡ true
 same-true L K e = go (same-bits L K) (same-bits-iff L K .1 e)

@@ -7,3 +7,5 @@ pub mod Binding
 pub mod DemandRows
 pub mod Stepping
 pub mod Exploring
+pub mod TableEntries
+pub mod FormulaTable

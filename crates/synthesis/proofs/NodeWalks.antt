@@ -9,10 +9,11 @@ use lib.ListN.{length, getD}
 use Rattle.theory.specs.Formula.{Formula, truth, variable, transition, output, conjunction, greatest, size, Guarded}
 use Rattle.theory.specs.Demands.{NodeSet}
 use Rattle.theory.specs.DemandSets.{empty, union, only, demands}
+use Rattle.theory.proofs.NodeSets.{union-empty, demands-swap}
 use Rattle.formulas.specs.NodeReading.{Reads}
 use Rattle.synthesis.specs.NodeWords.{set-at, row}
 use Rattle.synthesis.specs.NodeWalks.{read, Ends, Binds, Gathers}
-use Rattle.synthesis.proofs.NodeSetLaws.{union-empty, union-assoc, binder-map, demands-swap}
+use Rattle.synthesis.proofs.NodeSetLaws.{union-assoc, binder-map}
 
 pub size-pos : {B : Type 0} (φ : Formula B) → 0 < size φ
 size-pos truth = omega arith

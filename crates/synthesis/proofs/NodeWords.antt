@@ -11,11 +11,12 @@ use borrow.Author.Tests.{lt-ltb, le-ltb, eq-eqb, ne-eqb}
 use lib.Arith.{digits-div, digits-mod}
 use lib.Bits.{bitOr}
 use lib.Dec.{ltb, eqb}
-use lib.ListN.{length, getD, set, replicate, getD-replicate, List·getD-eq-default}
+use lib.ListN.{length, getD, set, replicate, getD-replicate}
 use lib.Seq.{getD-set-same, getD-set-other}
 use Rattle.theory.specs.Demands.{NodeSet}
 use Rattle.theory.specs.DemandSets.{empty, union, only}
 use Rattle.theory.specs.Exploration.{member, bits}
+use Rattle.theory.proofs.BitSets.{member-bits}
 use Rattle.synthesis.specs.NodeWords.{bit-at, set-at, row, bits-at, Stored}
 use Rattle.synthesis.proofs.Bits.{or-bit, power-bit, zero-bit, same-number}
 
@@ -128,29 +129,10 @@ stored-else before after from i j h d = set-same after before (j * 4) (j * 4) (�
         far (yes x) = omega arith
         far (no x) = absurd (d (omega arith))
 
--- Sets as bits.
-member-below : (n i : ℕ) (D : NodeSet) (j : ℕ) → j < n → member (bits n i D) j ≡ D (i + j)
-member-below zero i D j h = absurd (omega arith)
-member-below (suc n) i D zero h = ap D (omega arith)
-member-below (suc n) i D (suc j) h = member-below n (suc i) D j (omega arith) ∙ ap D (omega arith)
-
-bits-length : (n i : ℕ) (D : NodeSet) → length (bits n i D) ≡ n
-bits-length zero i D = refl
-bits-length (suc n) i D = ap suc (bits-length n (suc i) D)
-
-member-all :
-    (n : ℕ) (D : NodeSet) → ((j : ℕ) → n ≤ j → D j ≡ false) → member (bits n 0 D) ≡ D
-member-all n D f = fun-ext λ j. go j (decLt j n)
-  where
-    go : (j : ℕ) → Dec (j < n) → member (bits n 0 D) j ≡ D j
-    go j (yes h) = member-below n 0 D j h ∙ ap D (omega arith)
-    go j (no h) =
-        List·getD-eq-default (bits n 0 D) false {n = j} (omega (arith, bits-length n 0 D)) ∙ sym (f j (omega arith))
-
 -- The members of the bits are the set's.
 pub member-bits-at : (words : List ℕ) (base : ℕ) → member (bits-at words base) ≡ set-at words base
 unfolding bits-at
-member-bits-at words base = member-all 256 (set-at words base) (λ j h. past-words words base j h)
+member-bits-at words base = member-bits 256 (set-at words base) (λ j h. past-words words base j h)
 
 -- Equal sets, equal bits; equal bits, equal words.
 pub bits-of : (l m : List ℕ) (b c : ℕ) → set-at l b ≡ set-at m c → bits-at l b ≡ bits-at m c

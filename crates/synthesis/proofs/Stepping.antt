@@ -16,7 +16,7 @@ use Rattle.formulas.specs.NodeReading.{Reads}
 use Rattle.synthesis.specs.NodeWords.{row}
 use Rattle.synthesis.specs.NodeWalks.{read, Binds}
 use Rattle.synthesis.specs.DemandRows.{AllBelow, RowsTo}
-use Rattle.synthesis.specs.Exploring.{some-in, goes, brings, stepped}
+use Rattle.synthesis.specs.Exploring.{some-in, for-event, brings, stepped}
 use Rattle.synthesis.proofs.NodeWalks.{size-pos}
 
 some-split : (p : ℕ → Bool) (i n m : ℕ) → some-in p i (n + m) ≡ some-in p i n || some-in p (i + n) m
@@ -40,7 +40,7 @@ module _ (kinds firsts rows : List ℕ) (n : ℕ) (D : NodeSet) (e : ℕ) where
   stepped-none = refl
 
   pub stepped-yes :
-      D n && goes kinds firsts e n ≡ true →
+      D n && for-event kinds firsts 2 e n ≡ true →
       stepped kinds firsts rows (n + 1) D e ≡ union (stepped kinds firsts rows n D e) (row rows (n + 1))
   unfolding stepped union
   stepped-yes h =
@@ -49,7 +49,7 @@ module _ (kinds firsts rows : List ℕ) (n : ℕ) (D : NodeSet) (e : ℕ) where
       (ap (λ t. t && row rows (suc n) k) h ∙ ap (λ m. row rows m k) (sym (add-one n)))
 
   pub stepped-no :
-      D n && goes kinds firsts e n ≡ false → stepped kinds firsts rows (n + 1) D e ≡ stepped kinds firsts rows n D e
+      D n && for-event kinds firsts 2 e n ≡ false → stepped kinds firsts rows (n + 1) D e ≡ stepped kinds firsts rows n D e
   unfolding stepped
   stepped-no h =
       fun-ext λ k. some-last (brings kinds firsts rows D e k) n
@@ -57,16 +57,23 @@ module _ (kinds firsts rows : List ℕ) (n : ℕ) (D : NodeSet) (e : ℕ) where
       ∙ or-false (some-in (brings kinds firsts rows D e k) 0 n)
 
 -- A node of one kind for one event, as the code tests it.
-module _ (kind first k e : ℕ) where
-  pub test-kind : (x : Bool) → ¬ (kind ≡ k) → false ≡ x && (eqb kind k && eqb first e)
-  test-kind x h = sym (ap (λ t. x && (t && eqb first e)) (ne-eqb kind k h) ∙ and-false x)
+module _ (kinds firsts : List ℕ) (k e i : ℕ) (x : Bool) where
+  pub test-kind : ¬ (read kinds i ≡ k) → false ≡ x && for-event kinds firsts k e i
+  unfolding for-event
+  test-kind h = sym (ap (λ t. x && (t && eqb (read firsts i) e)) (ne-eqb (read kinds i) k h) ∙ and-false x)
 
-  pub test-event : (x : Bool) → ¬ (first ≡ e) → false ≡ x && (eqb kind k && eqb first e)
-  test-event x h =
-      sym (ap (λ t. x && (eqb kind k && t)) (ne-eqb first e h) ∙ ap (λ t. x && t) (and-false (eqb kind k)) ∙ and-false x)
+  pub test-event : ¬ (read firsts i ≡ e) → false ≡ x && for-event kinds firsts k e i
+  unfolding for-event
+  test-event h =
+      sym
+      (ap (λ t. x && (eqb (read kinds i) k && t)) (ne-eqb (read firsts i) e h)
+      ∙ ap (λ t. x && t) (and-false (eqb (read kinds i) k))
+      ∙ and-false x)
 
-  pub test-both : (x : Bool) → kind ≡ k → first ≡ e → x ≡ x && (eqb kind k && eqb first e)
-  test-both x h q = sym (ap (λ t. x && t) (ap₂ (λ a b. a && b) (eq-eqb kind k h) (eq-eqb first e q)) ∙ and-true x)
+  pub test-both : read kinds i ≡ k → read firsts i ≡ e → x ≡ x && for-event kinds firsts k e i
+  unfolding for-event
+  test-both h q =
+      sym (ap (λ t. x && t) (ap₂ (λ a b. a && b) (eq-eqb (read kinds i) k h) (eq-eqb (read firsts i) e q)) ∙ and-true x)
 
 below-more : (i : ℕ) (σ : List ℕ) → AllBelow i σ → AllBelow (suc i) σ
 below-more i [] u = tt
@@ -76,19 +83,21 @@ below-far : (i n : ℕ) (σ : List ℕ) → AllBelow i σ → AllBelow (i + n) �
 below-far i n [] u = tt
 below-far i n (x ∷ σ) u = (omega (arith, u .0), below-far i n σ (u .1))
 
-goes-not : (kinds firsts : List ℕ) (e i : ℕ) → ¬ (read kinds i ≡ 2) → goes kinds firsts e i ≡ false
-unfolding goes
-goes-not kinds firsts e i h = ap (λ t. t && eqb (read firsts i) e) (ne-eqb (read kinds i) 2 h)
+-- A node of another kind, and a node of the kind.
+module _ (kinds firsts : List ℕ) (k e i : ℕ) where
+  pub other-kind : ¬ (read kinds i ≡ k) → for-event kinds firsts k e i ≡ false
+  unfolding for-event
+  other-kind h = ap (λ t. t && eqb (read firsts i) e) (ne-eqb (read kinds i) k h)
 
-goes-at : (kinds firsts : List ℕ) (e i : ℕ) → read kinds i ≡ 2 → goes kinds firsts e i ≡ eqb (read firsts i) e
-unfolding goes
-goes-at kinds firsts e i h = ap (λ t. t && eqb (read firsts i) e) (eq-eqb (read kinds i) 2 h)
+  pub same-kind : read kinds i ≡ k → for-event kinds firsts k e i ≡ eqb (read firsts i) e
+  unfolding for-event
+  same-kind h = ap (λ t. t && eqb (read firsts i) e) (eq-eqb (read kinds i) k h)
 
 module _ (kinds firsts b : List ℕ) (total : ℕ) (rows : List ℕ) (ok : RowsTo kinds b total rows total) (value : ℕ → ℕ)
     (D : NodeSet) (e : ℕ) where
   brings-not : (i k : ℕ) → ¬ (read kinds i ≡ 2) → brings kinds firsts rows D e k i ≡ false
   brings-not i k h =
-      ap (λ t. t && row rows (suc i) k) (ap (λ t. D i && t) (goes-not kinds firsts e i h) ∙ and-false (D i))
+      ap (λ t. t && row rows (suc i) k) (ap (λ t. D i && t) (other-kind kinds firsts 2 e i h) ∙ and-false (D i))
 
   cond-at : (t : Bool) (C : NodeSet) (k : ℕ) → cond t C empty k ≡ t && C k
   unfolding empty
@@ -106,7 +115,7 @@ module _ (kinds firsts b : List ℕ) (total : ℕ) (rows : List ℕ) (ok : RowsT
       ap₂ (λ x y. x || y)
       (cond-at (D i && eqb a e) (demands (map (row rows) σ) (suc i) φ) k
       ∙ ap₂ (λ x y. x && y)
-      (ap (λ t. D i && t) (sym (goes-at kinds firsts e i (d .0) ∙ ap (λ x. eqb x e) (d .1))))
+      (ap (λ t. D i && t) (sym (same-kind kinds firsts 2 e i (d .0) ∙ ap (λ x. eqb x e) (d .1))))
       (ap (λ C. C k)
       (sym (ok (suc i) (omega (arith, h, size-pos φ)) (read firsts) value φ σ (d .2) (omega arith) w n (below-more i σ u)))))
       (moved-rows φ σ (suc i) (d .2) (omega arith) w n (below-more i σ u) k)

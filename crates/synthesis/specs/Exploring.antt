@@ -16,13 +16,13 @@ abbrev pub some-in : (ℕ → Bool) → ℕ → ℕ → Bool
 some-in p i zero = false
 some-in p i (suc n) = p i || some-in p (suc i) n
 
--- Node i is a G for event e.
-unfoldable pub goes : List ℕ → List ℕ → ℕ → ℕ → Bool
-goes kinds firsts e i = eqb (read kinds i) 2 && eqb (read firsts i) e
+-- Node i is of kind k, for event e.
+unfoldable pub for-event : List ℕ → List ℕ → ℕ → ℕ → ℕ → Bool
+for-event kinds firsts k e i = eqb (read kinds i) k && eqb (read firsts i) e
 
 -- Node i is in D, a G for e, and its part demands node d.
 abbrev pub brings : List ℕ → List ℕ → List ℕ → NodeSet → ℕ → ℕ → ℕ → Bool
-brings kinds firsts rows D e d i = (D i && goes kinds firsts e i) && row rows (suc i) d
+brings kinds firsts rows D e d i = (D i && for-event kinds firsts 2 e i) && row rows (suc i) d
 
 -- The next set on e of what D has among the first n nodes.
 unfoldable pub stepped : List ℕ → List ℕ → List ℕ → ℕ → NodeSet → ℕ → NodeSet

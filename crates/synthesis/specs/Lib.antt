@@ -5,3 +5,5 @@ pub mod NodeWalks
 pub mod Binding
 pub mod DemandRows
 pub mod Exploring
+pub mod TableEntries
+pub mod FormulaTable

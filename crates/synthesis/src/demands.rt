@@ -1,5 +1,10 @@
 // The demands of every node, worked out before the walk over states (document 01, "Table of a rule").
 // Nodes stand in prefix order: a node, then its parts; the nodes remaining are the falling number of each walk.
+use crate::kinds::CONJUNCTION;
+use crate::kinds::GREATEST;
+use crate::kinds::OUTPUT;
+use crate::kinds::TRANSITION;
+use crate::kinds::VARIABLE;
 use crate::node_sets::insert;
 use crate::node_sets::store;
 use crate::node_sets::unite;
@@ -21,14 +26,14 @@ pub fn end_of(kinds: &[u8; 256], at: usize, left: usize) -> usize
         return at;
     }
     let kind = kinds[at];
-    if kind == 4 {
+    if kind == CONJUNCTION {
         let second = end_of(kinds, at + 1, left - 1);
         return end_of(kinds, second, at + left - second);
     }
-    if kind == 2 {
+    if kind == TRANSITION {
         return end_of(kinds, at + 1, left - 1);
     }
-    if kind == 5 {
+    if kind == GREATEST {
         return end_of(kinds, at + 1, left - 1);
     }
     at + 1
@@ -45,21 +50,21 @@ pub fn bind(kinds: &[u8; 256], firsts: &[u8; 256], at: usize, left: usize, depth
         return at;
     }
     let kind = kinds[at];
-    if kind == 1 {
+    if kind == VARIABLE {
         let first = wide(firsts[at]);
         if first < depth {
             binders[at] = stack[depth - 1 - first];
         }
         return at + 1;
     }
-    if kind == 2 {
+    if kind == TRANSITION {
         return bind(kinds, firsts, at + 1, left - 1, depth, stack, binders);
     }
-    if kind == 4 {
+    if kind == CONJUNCTION {
         let second = bind(kinds, firsts, at + 1, left - 1, depth, stack, binders);
         return bind(kinds, firsts, second, at + left - second, depth, stack, binders);
     }
-    if kind == 5 {
+    if kind == GREATEST {
         stack[depth] = narrow(at);
         return bind(kinds, firsts, at + 1, left - 1, depth + 1, stack, binders);
     }
@@ -76,24 +81,24 @@ pub fn gather(kinds: &[u8; 256], binders: &[u8; 256], rows: &[u64; 1028], at: us
         return at;
     }
     let kind = kinds[at];
-    if kind == 1 {
+    if kind == VARIABLE {
         let binder = wide(binders[at]);
         unite(set, rows, binder * 4);
         return at + 1;
     }
-    if kind == 2 {
+    if kind == TRANSITION {
         insert(set, at);
         return end_of(kinds, at + 1, left - 1);
     }
-    if kind == 3 {
+    if kind == OUTPUT {
         insert(set, at);
         return at + 1;
     }
-    if kind == 4 {
+    if kind == CONJUNCTION {
         let second = gather(kinds, binders, rows, at + 1, left - 1, set);
         return gather(kinds, binders, rows, second, at + left - second, set);
     }
-    if kind == 5 {
+    if kind == GREATEST {
         return gather(kinds, binders, rows, at + 1, left - 1, set);
     }
     at + 1

@@ -1,35 +1,20 @@
 // The states that event sequences reach, in document 01's order, and the next state of each on each event.
-use crate::node_sets::contains;
+use crate::kinds::TRANSITION;
+use crate::node_sets::active;
 use crate::node_sets::same;
 use crate::node_sets::store;
 use crate::node_sets::unite;
 use crate::numbers::entry_at;
 use crate::numbers::narrow;
-use crate::numbers::wide;
 ghost use mathlib.Core.Path.{_≡_};
-ghost use mathlib.Core.Bool.{_&&_};
 ghost use Prim.Native.Nat.{ℕ, _+_, _*_, _<_, _≤_};
 ghost use lib.ListN.{length};
 ghost use Rattle.theory.specs.DemandSets.{empty};
 ghost use Rattle.synthesis.specs.NodeWords.{set-at, bits-at};
-ghost use Rattle.synthesis.specs.Exploring.{goes, stepped, next-bits, Found, Counted, Expanded, sequences, Unchanged};
+ghost use Rattle.synthesis.specs.Exploring.{stepped, next-bits, Found, Counted, Expanded, sequences, Unchanged};
 
 // The most states of a table.
 pub const STATE_LIMIT: usize = 64;
-
-// Whether a node is a G for the event, and in the set.
-fn active(kinds: &[u8; 256], firsts: &[u8; 256], node: usize, event: usize, states: &[u64; 1028], base: usize) -> bool
-    requires { ⌜ (node < 256) × (base + 4 ≤ 1028) × (length (now kinds) ≡ 256) × (length (now firsts) ≡ 256) × (length (now states) ≡ 1028) ⌝ }
-    ensures { λ r. ⌜ r ≡ set-at (now (states .entry)) base node && goes (now (kinds .entry)) (now (firsts .entry)) event node ⌝ }
-{
-    if kinds[node] != 2 {
-        return false;
-    }
-    if wide(firsts[node]) != event {
-        return false;
-    }
-    contains(states, base, node)
-}
 
 // The next set: the demands of the parts of the set's G nodes for the event.
 fn advance(kinds: &[u8; 256], firsts: &[u8; 256], count: usize, rows: &[u64; 1028], states: &[u64; 1028], base: usize, event: usize, next: &mut [u64; 4])
@@ -41,7 +26,7 @@ fn advance(kinds: &[u8; 256], firsts: &[u8; 256], count: usize, rows: &[u64; 102
 {
     let mut node: usize = 0;
     while node < count {
-        if active(kinds, firsts, node, event, states, base) {
+        if active(kinds, firsts, TRANSITION, node, event, states, base) {
             unite(next, rows, (node + 1) * 4);
         }
         node += 1;

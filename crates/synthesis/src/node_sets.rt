@@ -1,11 +1,13 @@
 // Sets of node numbers, four words of 64 bits a set.
+use crate::numbers::wide;
 use crate::numbers::word;
 ghost use mathlib.Core.Path.{_≡_};
-ghost use mathlib.Core.Bool.{true, false};
+ghost use mathlib.Core.Bool.{true, false, _&&_};
 ghost use Prim.Native.Nat.{ℕ, _+_, _*_, _<_, _≤_, _^_};
 ghost use lib.ListN.{length};
 ghost use Rattle.theory.specs.DemandSets.{union, only};
 ghost use Rattle.synthesis.specs.NodeWords.{set-at, bits-at, Stored};
+ghost use Rattle.synthesis.specs.Exploring.{for-event};
 
 // 2 to the k-th.
 fn power(k: usize) -> u64
@@ -75,4 +77,18 @@ pub fn same(rows: &[u64; 1028], base: usize, set: &[u64; 4]) -> bool
         i += 1;
     }
     true
+}
+
+// Whether a node is of the kind, for the event, and in the set from base on.
+pub fn active(kinds: &[u8; 256], firsts: &[u8; 256], kind: u8, node: usize, event: usize, rows: &[u64; 1028], base: usize) -> bool
+    requires { ⌜ (node < 256) × (base + 4 ≤ 1028) × (length (now kinds) ≡ 256) × (length (now firsts) ≡ 256) × (length (now rows) ≡ 1028) ⌝ }
+    ensures { λ r. ⌜ r ≡ set-at (now (rows .entry)) base node && for-event (now (kinds .entry)) (now (firsts .entry)) kind event node ⌝ }
+{
+    if kinds[node] != kind {
+        return false;
+    }
+    if wide(firsts[node]) != event {
+        return false;
+    }
+    contains(rows, base, node)
 }

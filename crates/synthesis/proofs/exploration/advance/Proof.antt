@@ -12,7 +12,7 @@ use Rattle.synthesis.proofs.exploration.advance.Statement.{statement}
 use Rattle.synthesis.proofs.exploration.advance.Tie as tie
 use Rattle.synthesis.proofs.exploration.advance.Reads as reads
 use Rattle.synthesis.proofs.exploration.advance.Lts as lts
-use Rattle.synthesis.proofs.exploration.active.Reads as active-reads
+use Rattle.synthesis.proofs.node_sets.active.Reads as active-reads
 use Rattle.synthesis.proofs.node_sets.unite.Reads as unite-reads
 
 abbrev Inv-loop : tie.InvT-loop

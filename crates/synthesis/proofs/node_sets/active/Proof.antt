@@ -1,13 +1,11 @@
 use mathlib.Core.Path.{sym, _∙_}
 use Rattle.synthesis.specs.NodeWords.{set-at}
-use Rattle.synthesis.specs.NodeWalks.{read}
-use Rattle.synthesis.specs.Exploring.{goes}
 use Rattle.synthesis.proofs.Stepping.{test-kind, test-event, test-both}
 use borrow.Author.Needs.{needs}
-use Rattle.synthesis.proofs.exploration.active.Statement.{statement}
-use Rattle.synthesis.proofs.exploration.active.Tie as tie
-use Rattle.synthesis.proofs.exploration.active.Reads as reads
-use Rattle.synthesis.proofs.exploration.active.Lts as lts
+use Rattle.synthesis.proofs.node_sets.active.Statement.{statement}
+use Rattle.synthesis.proofs.node_sets.active.Tie as tie
+use Rattle.synthesis.proofs.node_sets.active.Reads as reads
+use Rattle.synthesis.proofs.node_sets.active.Lts as lts
 use Rattle.synthesis.proofs.node_sets.contains.Reads as contains-reads
 use Rattle.synthesis.proofs.numbers.wide.Reads as wide-reads
 
@@ -17,10 +15,9 @@ element-copy-out-if1 c = search needs
 
 -- src/exploration.rt:26:9
 returns : tie.Need-returns
-unfolding goes
 returns c =
     let a = c .before .before .args in
-    test-kind (read (a .kinds .now) (a .node)) (read (a .firsts .now) (a .node)) 2 (a .event) (set-at (a .states .now) (a .base) (a .node)) (c .if1 .taken)
+    test-kind (a .kinds .now) (a .firsts .now) (a .kind) (a .event) (a .node) (set-at (a .rows .now) (a .base) (a .node)) (c .if1 .taken)
 
 -- src/exploration.rt:28:13
 element-copy-out-wide : tie.Need-element-copy-out-wide
@@ -32,10 +29,9 @@ wide-requires c κs = search needs
 
 -- src/exploration.rt:29:9
 returns-2 : tie.Need-returns-2
-unfolding goes
 returns-2 c =
     let a = c .before .before .before .before .before .args in
-    test-event (read (a .kinds .now) (a .node)) (read (a .firsts .now) (a .node)) 2 (a .event) (set-at (a .states .now) (a .base) (a .node))
+    test-event (a .kinds .now) (a .firsts .now) (a .kind) (a .event) (a .node) (set-at (a .rows .now) (a .base) (a .node))
     (λ e. c .if2 .taken (c .before .wide .ensures .0 ∙ e))
 
 -- src/exploration.rt:31:5
@@ -44,11 +40,10 @@ contains-requires c κs = search needs
 
 -- src/exploration.rt:21:1
 returns-3 : tie.Need-returns-3
-unfolding goes
 returns-3 c =
     let a = c .before .before .before .before .before .before .args in
     c .contains .ensures
-    ∙ test-both (read (a .kinds .now) (a .node)) (read (a .firsts .now) (a .node)) 2 (a .event) (set-at (a .states .now) (a .base) (a .node)) (c .before .before .before .before .if1 .left)
+    ∙ test-both (a .kinds .now) (a .firsts .now) (a .kind) (a .event) (a .node) (set-at (a .rows .now) (a .base) (a .node)) (c .before .before .before .before .if1 .left)
     (sym (c .before .before .wide .ensures .0) ∙ c .before .if2 .left)
 
 pub active-spec : {M : Type 1} → statement M
