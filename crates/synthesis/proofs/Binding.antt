@@ -50,10 +50,11 @@ module _ (kinds firsts : List ℕ) (at left depth : ℕ) (stack : List ℕ) wher
       AllBound kinds firsts at left depth stack b
   unfolding AllBound
   bound-variable b k e value truth σ d h sc st = tt
-  bound-variable b k e value (variable m) σ d h sc st =
-      (sc,
-      let l : m < depth = omega (arith, sc, st .deep) in
-      e (subst (λ x. x < depth) (sym (d .1)) l) ∙ ap (λ x. getD stack (depth - 1 - x) 0) (d .1) ∙ st .at m l)
+  bound-variable b k e value (variable m) σ d h sc st = (
+    sc,
+    let l : m < depth = omega (arith, sc, st .deep) in
+        e (subst (λ x. x < depth) (sym (d .1)) l) ∙ ap (λ x. getD stack (depth - 1 - x) 0) (d .1) ∙ st .at m l,
+  )
   bound-variable b k e value (transition a φ) σ d h sc st = absurd (omega (arith, k, d .0))
   bound-variable b k e value (output a v) σ d h sc st = tt
   bound-variable b k e value (conjunction φ χ) σ d h sc st = absurd (omega (arith, k, d .0))
@@ -109,11 +110,12 @@ module _ (kinds firsts : List ℕ) (at left depth : ℕ) (stack : List ℕ) wher
       let z : suc at ≡ at + 1 = sym (add-one at) in
       let e : m ≡ at + 1 + size φ
       = r (read firsts) value φ (reads-at (read kinds) (read firsts) value φ z (d .1)) (omega arith) in
-      let y : suc at + size φ ≡ m = omega (arith, e) in
-      (binds-agree (read b) (read b′) σ (suc at) φ (λ x l u. old x (omega (arith, y)))
-      (binds-at (read b) σ φ (add-one at)
-      (one value φ σ (reads-at (read kinds) (read firsts) value φ z (d .1)) (omega arith) (sc .0) st)),
-      binds-at (read b′) σ χ (sym y)
-      (two value χ σ (reads-at (read kinds) (read firsts) value χ y (d .2)) (omega (arith, e)) (sc .1)
-      (record { deep = st .deep; at = λ j l. rest (depth - 1 - j) (omega arith) ∙ st .at j l })))
+      let y : suc at + size φ ≡ m = omega (arith, e) in (
+        binds-agree (read b) (read b′) σ (suc at) φ (λ x l u. old x (omega (arith, y)))
+            (binds-at (read b) σ φ (add-one at)
+            (one value φ σ (reads-at (read kinds) (read firsts) value φ z (d .1)) (omega arith) (sc .0) st)),
+        binds-at (read b′) σ χ (sym y)
+            (two value χ σ (reads-at (read kinds) (read firsts) value χ y (d .2)) (omega (arith, e)) (sc .1)
+            (record { deep = st .deep; at = λ j l. rest (depth - 1 - j) (omega arith) ∙ st .at j l })),
+      )
   bound-conjunction b b′ stack′ m k r one rest old two value (greatest φ) σ d h sc st = absurd (omega (arith, k, d .0))

@@ -102,7 +102,7 @@ same-number zero x y h l f = omega (arith, h, l)
 same-number (suc n) x y h l f =
     let ih : x / 2 ≡ y / 2
     = same-number n (x / 2) (y / 2) (half x h) (half y l)
-      (λ k u. ap (λ b. eqb b 1) (half-bit x k) ∙ f (suc k) (omega arith) ∙ ap (λ b. eqb b 1) (sym (half-bit y k))) in
+    (λ k u. ap (λ b. eqb b 1) (half-bit x k) ∙ f (suc k) (omega arith) ∙ ap (λ b. eqb b 1) (sym (half-bit y k))) in
     let d : x % 2 ≡ y % 2
     = sym (low-bit x) ∙ same-bit (bit-at x 0) (bit-at y 0) (bit-small x 0) (bit-small y 0) (f 0 (omega arith)) ∙ low-bit y in
     sym (div-add-mod' x 2) ∙ ap₂ (λ a b. a * 2 + b) ih d ∙ div-add-mod' y 2

@@ -124,9 +124,9 @@ module _ (next : List Bool → ℕ → List Bool) (start : List Bool) where
           of-state = omega (arith, v .of-state);
           to-state = omega (arith, v .to-state);
           number =
-            ap (λ u. number-in (P ++ (w ∷ [])) (next (st u) (x % events))) at
-            ∙ index-append P (w ∷ []) y (omega (arith, v .number, v .to-state, q))
-            ∙ v .number;
+              ap (λ u. number-in (P ++ (w ∷ [])) (next (st u) (x % events))) at
+              ∙ index-append P (w ∷ []) y (omega (arith, v .number, v .to-state, q))
+              ∙ v .number;
         }
 
     -- One more entry.
@@ -161,11 +161,12 @@ module _ (next : List Bool → ℕ → List Bool) (start : List Bool) where
         Kept next start events (plus P w) k m states nexts × (number-in (plus P w) (st w) ≡ j)
     keep-old P w k m states nexts from j v f h e =
         let at : st (getD P j []) ≡ st w = sym (v .state j h) ∙ f .here h ∙ e in
-        let q : plus P w ≡ P = add-yes P w (has-yes P (st w) j (omega (arith, v .count)) at) in
-        (subst (λ Q. Kept next start events Q k m states nexts) (sym q) v,
-        ap (λ Q. number-in Q (st w)) q
-        ∙ index-at P (st w) j (omega (arith, v .count))
-        (λ i l u. f .before i l (v .state i (omega arith) ∙ u ∙ sym e)) at)
+        let q : plus P w ≡ P = add-yes P w (has-yes P (st w) j (omega (arith, v .count)) at) in (
+          subst (λ Q. Kept next start events Q k m states nexts) (sym q) v,
+          ap (λ Q. number-in Q (st w)) q
+              ∙ index-at P (st w) j (omega (arith, v .count))
+              (λ i l u. f .before i l (v .state i (omega arith) ∙ u ∙ sym e)) at,
+        )
 
     new-one :
         (P : Seqs) (w : List ℕ) (k m : ℕ) (states nexts from : List ℕ) → Kept next start events P k m states nexts →
@@ -185,18 +186,19 @@ module _ (next : List Bool → ℕ → List Bool) (start : List Bool) where
         Found states k from k → bits-at from 0 ≡ st w → Stored states after (k * 4) from →
         Kept next start events (plus P w) (k + 1) m after nexts × (number-in (plus P w) (st w) ≡ k)
     keep-new P w k m states nexts from after v f e stored =
-        let q : plus P w ≡ P ++ (w ∷ []) = new-one P w k m states nexts from v f e in
-        (subst (λ Q. Kept next start events Q (k + 1) m after nexts) (sym q)
-        (record {
-          count = omega (arith, end-length P w, v .count);
-          state = λ j h. go j h (ℕ-discrete j k);
-          entry = λ x h. entry-stays P w k (k + 1) nexts x (v .count) (omega arith) (v .entry x h);
-        }),
-        ap (λ Q. number-in Q (st w)) q
-        ∙ index-at (P ++ (w ∷ [])) (st w) k (omega (arith, end-length P w, v .count))
-        (λ i l u. f .before i l
-        (v .state i l ∙ ap st (sym (List·getD-append P (w ∷ []) [] i (omega (arith, v .count)))) ∙ u ∙ sym e))
-        (ap st last))
+        let q : plus P w ≡ P ++ (w ∷ []) = new-one P w k m states nexts from v f e in (
+          subst (λ Q. Kept next start events Q (k + 1) m after nexts) (sym q)
+              (record {
+                count = omega (arith, end-length P w, v .count);
+                state = λ j h. go j h (ℕ-discrete j k);
+                entry = λ x h. entry-stays P w k (k + 1) nexts x (v .count) (omega arith) (v .entry x h);
+              }),
+          ap (λ Q. number-in Q (st w)) q
+              ∙ index-at (P ++ (w ∷ [])) (st w) k (omega (arith, end-length P w, v .count))
+              (λ i l u. f .before i l
+              (v .state i l ∙ ap st (sym (List·getD-append P (w ∷ []) [] i (omega (arith, v .count)))) ∙ u ∙ sym e))
+              (ap st last),
+        )
       where
         last : getD (P ++ (w ∷ [])) k [] ≡ w
         last = ap (λ x. getD (P ++ (w ∷ [])) x []) (sym (v .count)) ∙ getD-append-seam P w [] []
@@ -400,7 +402,7 @@ module _ (kinds firsts rows : List ℕ) (count events i n k e : ℕ) (before₀ 
           Kept go-to start events one-more k (i * events + (e + 1)) states (set nexts at value)
       candidate-old j at value f h a q l =
           let r : Kept go-to start events (add same-bits go-to start so-far (e ∷ at-i)) k (i * events + e) states nexts
-              × (index same-bits go-to start (add same-bits go-to start so-far (e ∷ at-i)) (reached go-to start (e ∷ at-i)) ≡ j)
+          × (index same-bits go-to start (add same-bits go-to start so-far (e ∷ at-i)) (reached go-to start (e ∷ at-i)) ≡ j)
           = keep-old go-to start events so-far (e ∷ at-i) k (i * events + e) states nexts from j v f h candidate in
           entered k j at value states (omega arith) h a q l
           (subst (λ Q. Kept go-to start events Q k (i * events + e) states nexts) one-more-is (r .0))
@@ -412,9 +414,9 @@ module _ (kinds firsts rows : List ℕ) (count events i n k e : ℕ) (before₀ 
           Kept go-to start events one-more (k + 1) (i * events + (e + 1)) after (set nexts at value)
       candidate-new after j at value c f stored a q l =
           let r : Kept go-to start events (add same-bits go-to start so-far (e ∷ at-i)) (k + 1) (i * events + e) after nexts
-              × (index same-bits go-to start (add same-bits go-to start so-far (e ∷ at-i)) (reached go-to start (e ∷ at-i)) ≡ k)
+          × (index same-bits go-to start (add same-bits go-to start so-far (e ∷ at-i)) (reached go-to start (e ∷ at-i)) ≡ k)
           = keep-new go-to start events so-far (e ∷ at-i) k (i * events + e) states nexts from after v
-            (subst (Found states k from) c f) candidate stored in
+          (subst (Found states k from) c f) candidate stored in
           entered (k + 1) k at value after (omega arith) (omega arith) a (q ∙ c) l
           (subst (λ Q. Kept go-to start events Q (k + 1) (i * events + e) after nexts) one-more-is (r .0))
           (subst (λ Q. index same-bits go-to start Q (reached go-to start (e ∷ at-i)) ≡ k) one-more-is (r .1))

@@ -105,8 +105,13 @@ module _ (kinds firsts fields stack b rows states : List ℕ) (meet : ℕ → �
 pub tables :
     (kinds firsts fields stack b rows states : List ℕ) (meet : ℕ → ℕ → ℕ) (top events limit n count : ℕ)
     (values nexts values′ nexts′ : List ℕ) →
-    Parts kinds firsts fields stack b rows states meet top events limit n values nexts values′ nexts′ count →
+    AllBound kinds firsts 0 count 0 stack b → RowsTo kinds b count rows count →
+    Counted (next-bits kinds firsts rows count) (bits-at rows 0) events limit
+    (sequences (next-bits kinds firsts rows count) (bits-at rows 0) events limit) n (n * events) states nexts′ →
+    (n ≤ limit → EntriesTo (state-value meet top kinds firsts fields count states) events (n * events) values′) →
+    (n ≤ limit → Unchanged (n * events) values values′) → (n ≤ limit → Unchanged (n * events) nexts nexts′) →
     Tables kinds firsts fields count meet top events limit values nexts values′ nexts′ n
-tables kinds firsts fields stack b rows states meet top events limit n count values nexts values′ nexts′ p φ d q closed guarded =
+tables kinds firsts fields stack b rows states meet top events limit n count values nexts values′ nexts′ bo fi co va vk nk φ d q closed guarded =
     tabled kinds firsts fields stack b rows states meet top events limit n values nexts values′ nexts′ φ d closed guarded
-    (subst (Parts kinds firsts fields stack b rows states meet top events limit n values nexts values′ nexts′) (sym q) p)
+    (subst (Parts kinds firsts fields stack b rows states meet top events limit n values nexts values′ nexts′) (sym q)
+    (record { bound = bo; filled = fi; counted = co; valued = va; values-kept = vk; nexts-kept = nk }))

@@ -40,7 +40,15 @@ pub fn end_of(kinds: &[u8; 256], at: usize, left: usize) -> usize
 }
 
 // Gives each variable of the formula at a node its binder's node. The stack has the binders around, the innermost last.
-pub fn bind(kinds: &[u8; 256], firsts: &[u8; 256], at: usize, left: usize, depth: usize, stack: &mut [u8; 256], binders: &mut [u8; 256]) -> usize
+pub fn bind(
+    kinds: &[u8; 256],
+    firsts: &[u8; 256],
+    at: usize,
+    left: usize,
+    depth: usize,
+    stack: &mut [u8; 256],
+    binders: &mut [u8; 256],
+) -> usize
     requires { ⌜ (at + left ≤ 256) × (depth ≤ at) × (length (now kinds) ≡ 256) × (length (now firsts) ≡ 256) × (length (now stack) ≡ 256)
         × (length (now binders) ≡ 256) ⌝ }
     ensures { λ r. ⌜ Bound (now (kinds .entry)) (now (firsts .entry)) at left depth (now (stack .entry)) (now (binders .entry))
@@ -62,7 +70,15 @@ pub fn bind(kinds: &[u8; 256], firsts: &[u8; 256], at: usize, left: usize, depth
     }
     if kind == CONJUNCTION {
         let second = bind(kinds, firsts, at + 1, left - 1, depth, stack, binders);
-        return bind(kinds, firsts, second, at + left - second, depth, stack, binders);
+        return bind(
+            kinds,
+            firsts,
+            second,
+            at + left - second,
+            depth,
+            stack,
+            binders,
+        );
     }
     if kind == GREATEST {
         stack[depth] = narrow(at);
@@ -72,7 +88,14 @@ pub fn bind(kinds: &[u8; 256], firsts: &[u8; 256], at: usize, left: usize, depth
 }
 
 // Adds the demands of the formula at a node to a set; the answer is the node after that formula.
-pub fn gather(kinds: &[u8; 256], binders: &[u8; 256], rows: &[u64; 1028], at: usize, left: usize, set: &mut [u64; 4]) -> usize
+pub fn gather(
+    kinds: &[u8; 256],
+    binders: &[u8; 256],
+    rows: &[u64; 1028],
+    at: usize,
+    left: usize,
+    set: &mut [u64; 4],
+) -> usize
     requires { ⌜ (at + left ≤ 256) × (length (now kinds) ≡ 256) × (length (now binders) ≡ 256) × (length (now rows) ≡ 1028)
         × (length (now set) ≡ 4) ⌝ }
     ensures { λ r. ⌜ Gathered (now (kinds .entry)) (now (binders .entry)) (now (rows .entry)) at left (now (set .entry)) (now (set .exit)) r ⌝ }

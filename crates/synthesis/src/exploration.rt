@@ -17,12 +17,21 @@ ghost use Rattle.synthesis.specs.Exploring.{stepped, next-bits, Found, C
 pub const STATE_LIMIT: usize = 64;
 
 // The next set: the demands of the parts of the set's G nodes for the event.
-fn advance(kinds: &[u8; 256], firsts: &[u8; 256], count: usize, rows: &[u64; 1028], states: &[u64; 1028], base: usize, event: usize, next: &mut [u64; 4])
+fn advance(
+    kinds: &[u8; 256],
+    firsts: &[u8; 256],
+    count: usize,
+    rows: &[u64; 1028],
+    states: &[u64; 1028],
+    base: usize,
+    event: usize,
+    next: &mut [u64; 4],
+)
     requires { ⌜ (count ≤ 256) × (base + 4 ≤ 1028) × (length (now kinds) ≡ 256) × (length (now firsts) ≡ 256) × (length (now rows) ≡ 1028)
         × (length (now states) ≡ 1028) × (length (now next) ≡ 4) × (set-at (now next) 0 ≡ empty) ⌝ }
     ensures { λ _. ⌜ (length (now (next .exit)) ≡ 4)
         × (set-at (now (next .exit)) 0
-          ≡ stepped (now (kinds .entry)) (now (firsts .entry)) (now (rows .entry)) count (set-at (now (states .entry)) base) event) ⌝ }
+        ≡ stepped (now (kinds .entry)) (now (firsts .entry)) (now (rows .entry)) count (set-at (now (states .entry)) base) event) ⌝ }
 {
     let mut node: usize = 0;
     while node < count {
@@ -50,13 +59,23 @@ fn find(states: &[u64; 1028], n: usize, set: &[u64; 4]) -> usize
 
 // The states that the events lead to from state i come after the n there are, and the entries of state i get their numbers;
 // the limit and one where there are more.
-fn expand(kinds: &[u8; 256], firsts: &[u8; 256], count: usize, rows: &[u64; 1028], events: usize, i: usize, n: usize, states: &mut [u64; 1028], nexts: &mut [u8; 1024]) -> usize
+fn expand(
+    kinds: &[u8; 256],
+    firsts: &[u8; 256],
+    count: usize,
+    rows: &[u64; 1028],
+    events: usize,
+    i: usize,
+    n: usize,
+    states: &mut [u64; 1028],
+    nexts: &mut [u8; 1024],
+) -> usize
     requires { ⌜ (count ≤ 256) × (i < n) × (n ≤ 64) × (events ≤ 16) × (length (now kinds) ≡ 256) × (length (now firsts) ≡ 256)
         × (length (now rows) ≡ 1028) × (length (now states) ≡ 1028) × (length (now nexts) ≡ 1024) ⌝ }
     ensures { λ r. ⌜ (length (now (states .exit)) ≡ 1028) × (length (now (nexts .exit)) ≡ 1024) × (n ≤ r)
         × Unchanged (i * events + events) (now (nexts .entry)) (now (nexts .exit))
         × Expanded (next-bits (now (kinds .entry)) (now (firsts .entry)) (now (rows .entry)) count) events 64 i n
-          (now (states .entry)) (now (nexts .entry)) r (now (states .exit)) (now (nexts .exit)) ⌝ }
+        (now (states .entry)) (now (nexts .entry)) r (now (states .exit)) (now (nexts .exit)) ⌝ }
 {
     let mut k = n;
     let mut event: usize = 0;
@@ -80,14 +99,22 @@ fn expand(kinds: &[u8; 256], firsts: &[u8; 256], count: usize, rows: &[u64; 1028
 
 // The states that event sequences reach, in order, from the first, and the numbers of the next states, by state and then event;
 // the limit and one where there are more.
-pub fn explore(kinds: &[u8; 256], firsts: &[u8; 256], count: usize, rows: &[u64; 1028], events: usize, states: &mut [u64; 1028], nexts: &mut [u8; 1024]) -> usize
+pub fn explore(
+    kinds: &[u8; 256],
+    firsts: &[u8; 256],
+    count: usize,
+    rows: &[u64; 1028],
+    events: usize,
+    states: &mut [u64; 1028],
+    nexts: &mut [u8; 1024],
+) -> usize
     requires { ⌜ (count ≤ 256) × (events ≤ 16) × (length (now kinds) ≡ 256) × (length (now firsts) ≡ 256) × (length (now rows) ≡ 1028)
         × (length (now states) ≡ 1028) × (length (now nexts) ≡ 1024) ⌝ }
     ensures { λ r. ⌜ (length (now (states .exit)) ≡ 1028) × (length (now (nexts .exit)) ≡ 1024)
         × (r ≤ 64 → Unchanged (r * events) (now (nexts .entry)) (now (nexts .exit)))
         × Counted (next-bits (now (kinds .entry)) (now (firsts .entry)) (now (rows .entry)) count) (bits-at (now (states .entry)) 0) events 64
-          (sequences (next-bits (now (kinds .entry)) (now (firsts .entry)) (now (rows .entry)) count) (bits-at (now (states .entry)) 0) events 64)
-          r (r * events) (now (states .exit)) (now (nexts .exit)) ⌝ }
+        (sequences (next-bits (now (kinds .entry)) (now (firsts .entry)) (now (rows .entry)) count) (bits-at (now (states .entry)) 0) events 64)
+        r (r * events) (now (states .exit)) (now (nexts .exit)) ⌝ }
 {
     let mut n: usize = 1;
     let mut i: usize = 0;

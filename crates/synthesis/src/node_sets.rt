@@ -80,7 +80,15 @@ pub fn same(rows: &[u64; 1028], base: usize, set: &[u64; 4]) -> bool
 }
 
 // Whether a node is of the kind, for the event, and in the set from base on.
-pub fn active(kinds: &[u8; 256], firsts: &[u8; 256], kind: u8, node: usize, event: usize, rows: &[u64; 1028], base: usize) -> bool
+pub fn active(
+    kinds: &[u8; 256],
+    firsts: &[u8; 256],
+    kind: u8,
+    node: usize,
+    event: usize,
+    rows: &[u64; 1028],
+    base: usize,
+) -> bool
     requires { ⌜ (node < 256) × (base + 4 ≤ 1028) × (length (now kinds) ≡ 256) × (length (now firsts) ≡ 256) × (length (now rows) ≡ 1028) ⌝ }
     ensures { λ r. ⌜ r ≡ set-at (now (rows .entry)) base node && for-event (now (kinds .entry)) (now (firsts .entry)) kind event node ⌝ }
 {

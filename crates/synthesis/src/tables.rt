@@ -12,12 +12,23 @@ ghost use Rattle.values.specs.ValueKind.{meetOf};
 ghost use Rattle.synthesis.specs.FormulaTable.{Tables};
 
 // The number of states, or the limit and one where there are more; the entries by state and then event.
-pub fn table_of(kind: ValueKind, meet: &[u8], top: u32, kinds: &[u8; 256], firsts: &[u8; 256], fields: &[u32; 256], count: usize, events: usize, values: &mut [u32; 1024], nexts: &mut [u8; 1024]) -> usize
+pub fn table_of(
+    kind: ValueKind,
+    meet: &[u8],
+    top: u32,
+    kinds: &[u8; 256],
+    firsts: &[u8; 256],
+    fields: &[u32; 256],
+    count: usize,
+    events: usize,
+    values: &mut [u32; 1024],
+    nexts: &mut [u8; 1024],
+) -> usize
     requires { ⌜ (count ≤ 256) × (events ≤ 16) × (length (now kinds) ≡ 256) × (length (now firsts) ≡ 256) × (length (now fields) ≡ 256)
         × (length (now values) ≡ 1024) × (length (now nexts) ≡ 1024) ⌝ }
     ensures { λ r. ⌜ (length (now (values .exit)) ≡ 1024) × (length (now (nexts .exit)) ≡ 1024)
         × Tables (now (kinds .entry)) (now (firsts .entry)) (now (fields .entry)) count (meetOf kind (now (meet .entry))) top events 64
-          (now (values .entry)) (now (nexts .entry)) (now (values .exit)) (now (nexts .exit)) r ⌝ }
+        (now (values .entry)) (now (nexts .entry)) (now (values .exit)) (now (nexts .exit)) r ⌝ }
 {
     let mut stack = [0u8; 256];
     let mut binders = [0u8; 256];
@@ -29,6 +40,18 @@ pub fn table_of(kind: ValueKind, meet: &[u8], top: u32, kinds: &[u8; 256], first
     if STATE_LIMIT < n {
         return n;
     }
-    fill_values(kind, meet, top, kinds, firsts, fields, count, &states, n, events, values);
+    fill_values(
+        kind,
+        meet,
+        top,
+        kinds,
+        firsts,
+        fields,
+        count,
+        &states,
+        n,
+        events,
+        values,
+    );
     n
 }

@@ -156,9 +156,9 @@ bind-returns-2 t c =
       below = λ k h. refl;
       earlier = λ i h. ⊎-elim (λ w. ap (λ l. getD l i 0) (w .2) ∙ getD-set-other (a .binders .now) (a .at) i _ 0 (λ e. omega (arith, e))) (λ w. ap (λ l. getD l i 0) (w .1)) (c .if3 .came);
       bound = bound-variable (a .kinds .now) (a .firsts .now) _ _ _ (a .stack .now) (c .if3 .binders) k (λ h. ⊎-elim
-      (λ w. ap (λ l. getD l (a .at) 0) (w .2) ∙ getD-set-same (a .binders .now) (a .at) _ 0 (search needs) ∙ ap (λ x. getD (a .stack .now) (a .depth - 1 - x) 0) (c .before .wide .ensures .0))
-      (λ w. absurd (omega (arith, w .0 .left, h, c .before .wide .ensures .0)))
-      (c .if3 .came));
+          (λ w. ap (λ l. getD l (a .at) 0) (w .2) ∙ getD-set-same (a .binders .now) (a .at) _ 0 (search needs) ∙ ap (λ x. getD (a .stack .now) (a .depth - 1 - x) 0) (c .before .wide .ensures .0))
+          (λ w. absurd (omega (arith, w .0 .left, h, c .before .wide .ensures .0)))
+          (c .if3 .came));
     }
 
 -- src/demands.rt:56:36

@@ -1,4 +1,3 @@
-
 use borrow.Author.Needs.{needs}
 use Prim.Native.Nat.{_≤_, _-_}
 use mathlib.Core.Path.{_≡_, _∙_, subst}
@@ -51,10 +50,11 @@ loop-less c = search needs
 loop-again : tie.Need-loop-again Inv-loop μ-loop
 loop-again c =
     let a = c .before .before .before .before .before .before .before .before .args in
-    let v = c .before .before .before .before .before .before .before .loop .inv in
-    (search needs,
-    c .store .ensures .sized ∙ v .1,
-    rows-more (a .kinds .now) (a .binders .now) (a .count) (c .before .before .before .before .before .before .before .loop .rows) _ _ (c .before .before .before .before .before .before .before .loop .i) (v .2) (c .before .before .before .gather .ensures .set) (c .store .ensures))
+    let v = c .before .before .before .before .before .before .before .loop .inv in (
+      search needs,
+      c .store .ensures .sized ∙ v .1,
+      rows-more (a .kinds .now) (a .binders .now) (a .count) (c .before .before .before .before .before .before .before .loop .rows) _ _ (c .before .before .before .before .before .before .before .loop .i) (v .2) (c .before .before .before .gather .ensures .set) (c .store .ensures),
+    )
 
 -- src/demands.rt:103:1
 returns : tie.Need-returns Inv-loop μ-loop

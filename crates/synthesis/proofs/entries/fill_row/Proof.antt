@@ -28,9 +28,12 @@ abbrev μ-loop : tie.MeasureT-loop
 loop-holds : tie.Need-loop-holds Inv-loop μ-loop
 loop-holds c =
     let a = c .before .args in
-    let z : a .state * a .events ≡ a .state * a .events + 0 = omega arith in
-    (search needs, search needs, (λ x h. refl),
-    λ old. subst (λ m. EntriesTo (state-value (meetOf (a .kind) (a .meet .now)) (a .top) (a .kinds .now) (a .firsts .now) (a .values .now) (a .count) (a .states .now)) (a .events) m (a .to .now)) z old)
+    let z : a .state * a .events ≡ a .state * a .events + 0 = omega arith in (
+      search needs,
+      search needs,
+      (λ x h. refl),
+      λ old. subst (λ m. EntriesTo (state-value (meetOf (a .kind) (a .meet .now)) (a .top) (a .kinds .now) (a .firsts .now) (a .values .now) (a .count) (a .states .now)) (a .events) m (a .to .now)) z old,
+    )
 
 -- src/entries.rt:45:13
 entry-at-requires : tie.Need-entry-at-requires Inv-loop μ-loop
@@ -65,20 +68,23 @@ loop-again : tie.Need-loop-again Inv-loop μ-loop
 loop-again c =
     let a = c .before .before .before .before .before .args in
     let l = c .before .before .before .loop in
-    let at : c .before .entry-at .result ≡ a .state * a .events + l .event = c .before .entry-at .ensures .0 in
-    (search needs,
-    length-set (l .to) (c .before .entry-at .result) (c .value-of .result) ∙ l .inv .1,
-    (λ x h. getD-set-other (l .to) (c .before .entry-at .result) x (c .value-of .result) 0 (λ e. omega (arith, e, at, h, c .before .before .loop-test .taken)) ∙ l .inv .2 x h),
-    λ old. entries-more (state-value (meetOf (a .kind) (a .meet .now)) (a .top) (a .kinds .now) (a .firsts .now) (a .values .now) (a .count) (a .states .now)) (a .events) (a .state) (l .event) (c .before .entry-at .result) (c .value-of .result) (l .to) (c .before .before .loop-test .taken) at (omega (arith, c .before .entry-at .ensures .1, l .inv .1)) (c .value-of .ensures) (l .inv .3 old))
+    let at : c .before .entry-at .result ≡ a .state * a .events + l .event = c .before .entry-at .ensures .0 in (
+      search needs,
+      length-set (l .to) (c .before .entry-at .result) (c .value-of .result) ∙ l .inv .1,
+      (λ x h. getD-set-other (l .to) (c .before .entry-at .result) x (c .value-of .result) 0 (λ e. omega (arith, e, at, h, c .before .before .loop-test .taken)) ∙ l .inv .2 x h),
+      λ old. entries-more (state-value (meetOf (a .kind) (a .meet .now)) (a .top) (a .kinds .now) (a .firsts .now) (a .values .now) (a .count) (a .states .now)) (a .events) (a .state) (l .event) (c .before .entry-at .result) (c .value-of .result) (l .to) (c .before .before .loop-test .taken) at (omega (arith, c .before .entry-at .ensures .1, l .inv .1)) (c .value-of .ensures) (l .inv .3 old),
+    )
 
 -- src/entries.rt:34:1
 returns : tie.Need-returns Inv-loop μ-loop
 returns c =
     let a = c .before .before .before .args in
     let l = c .before .loop in
-    let q : l .event ≡ a .events = omega arith in
-    (l .inv .1, l .inv .2,
-    λ old. subst (λ e. EntriesTo (state-value (meetOf (a .kind) (a .meet .now)) (a .top) (a .kinds .now) (a .firsts .now) (a .values .now) (a .count) (a .states .now)) (a .events) (a .state * a .events + e) (l .to)) q (l .inv .3 old))
+    let q : l .event ≡ a .events = omega arith in (
+      l .inv .1,
+      l .inv .2,
+      λ old. subst (λ e. EntriesTo (state-value (meetOf (a .kind) (a .meet .now)) (a .top) (a .kinds .now) (a .firsts .now) (a .values .now) (a .count) (a .states .now)) (a .events) (a .state * a .events + e) (l .to)) q (l .inv .3 old),
+    )
 
 pub fill-row-spec : {M : Type 1} → statement M
 fill-row-spec =

@@ -45,19 +45,23 @@ loop-again c =
     let a = c .before .before .before .before .before .args in
     let l = c .before .before .before .loop in
     let r = c .fill-row .ensures in
-    let z : l .state * a .events + a .events ≡ (l .state + 1) * a .events = omega (arith, add-mul (l .state) 1 (a .events)) in
-    (search needs, r .0,
-    (λ x h. r .1 x (omega (arith, h, z)) ∙ l .inv .2 x (omega (arith, h, z))),
-    subst (λ m. EntriesTo (state-value (meetOf (a .kind) (a .meet .now)) (a .top) (a .kinds .now) (a .firsts .now) (a .values .now) (a .count) (a .states .now)) (a .events) m _) z (r .2 (l .inv .3)))
+    let z : l .state * a .events + a .events ≡ (l .state + 1) * a .events = omega (arith, add-mul (l .state) 1 (a .events)) in (
+      search needs,
+      r .0,
+      (λ x h. r .1 x (omega (arith, h, z)) ∙ l .inv .2 x (omega (arith, h, z))),
+      λ x h. r .2 (l .inv .3) x (omega (arith, h, z)),
+    )
 
 -- src/entries.rt:53:1
 returns : tie.Need-returns Inv-loop μ-loop
 returns c =
     let a = c .before .before .before .args in
     let l = c .before .loop in
-    let q : l .state ≡ a .n = omega arith in
-    (l .inv .1, subst (λ m. Unchanged (m * a .events) (a .to .now) (l .to)) q (l .inv .2),
-    subst (λ m. EntriesTo (state-value (meetOf (a .kind) (a .meet .now)) (a .top) (a .kinds .now) (a .firsts .now) (a .values .now) (a .count) (a .states .now)) (a .events) (m * a .events) (l .to)) q (l .inv .3))
+    let q : l .state ≡ a .n = omega arith in (
+      l .inv .1,
+      subst (λ m. Unchanged (m * a .events) (a .to .now) (l .to)) q (l .inv .2),
+      subst (λ m. EntriesTo (state-value (meetOf (a .kind) (a .meet .now)) (a .top) (a .kinds .now) (a .firsts .now) (a .values .now) (a .count) (a .states .now)) (a .events) (m * a .events) (l .to)) q (l .inv .3),
+    )
 
 pub fill-values-spec : {M : Type 1} → statement M
 fill-values-spec =

@@ -54,9 +54,10 @@ loop-less c = search needs
 loop-again : tie.Need-loop-again Inv-loop μ-loop
 loop-again c =
     let a = c .before .before .before .before .before .before .before .args in
-    let l = c .before .before .before .before .before .loop in
-    (search needs,
-    take-node (meetOf (a .kind) (a .meet .now)) (a .top) (a .kinds .now) (a .firsts .now) (a .values .now) (set-at (a .states .now) (a .base)) (a .event) (a .count) (l .node) (l .value) (c .before .before .before .before .loop-test .taken) (l .inv .0) (l .inv .1) (c .meet-of .result) (sym (c .before .before .before .active .ensures) ∙ c .before .before .if1 .taken) (c .meet-of .ensures))
+    let l = c .before .before .before .before .before .loop in (
+      search needs,
+      take-node (meetOf (a .kind) (a .meet .now)) (a .top) (a .kinds .now) (a .firsts .now) (a .values .now) (set-at (a .states .now) (a .base)) (a .event) (a .count) (l .node) (l .value) (c .before .before .before .before .loop-test .taken) (l .inv .0) (l .inv .1) (c .meet-of .result) (sym (c .before .before .before .active .ensures) ∙ c .before .before .if1 .taken) (c .meet-of .ensures),
+    )
 
 -- src/entries.rt:24:5
 loop-less-2 : tie.Need-loop-less-2 Inv-loop μ-loop
@@ -66,9 +67,10 @@ loop-less-2 c = search needs
 loop-again-2 : tie.Need-loop-again-2 Inv-loop μ-loop
 loop-again-2 c =
     let a = c .before .before .before .before .before .args in
-    let l = c .before .before .before .loop in
-    (search needs,
-    pass-node (meetOf (a .kind) (a .meet .now)) (a .top) (a .kinds .now) (a .firsts .now) (a .values .now) (set-at (a .states .now) (a .base)) (a .event) (a .count) (l .node) (l .value) (c .before .before .loop-test .taken) (l .inv .0) (l .inv .1) (sym (c .before .active .ensures) ∙ c .if1 .left))
+    let l = c .before .before .before .loop in (
+      search needs,
+      pass-node (meetOf (a .kind) (a .meet .now)) (a .top) (a .kinds .now) (a .firsts .now) (a .values .now) (set-at (a .states .now) (a .base)) (a .event) (a .count) (l .node) (l .value) (c .before .before .loop-test .taken) (l .inv .0) (l .inv .1) (sym (c .before .active .ensures) ∙ c .if1 .left),
+    )
 
 -- src/entries.rt:16:1
 returns : tie.Need-returns Inv-loop μ-loop

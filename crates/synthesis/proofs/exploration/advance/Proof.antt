@@ -59,13 +59,17 @@ loop-again c =
     let v = c .before .before .before .loop .inv in
     let D = set-at (a .states .now) (a .base) in
     ⊎-elim
-    (λ w. (search needs,
-        ap length (w .3) ∙ w .2 .ensures .0,
-        ap (λ x. set-at x 0) (w .3) ∙ w .2 .ensures .1 ∙ ap (λ C. union C (row (a .rows .now) (m + 1))) (v .2)
-        ∙ sym (stepped-yes (a .kinds .now) (a .firsts .now) (a .rows .now) m D (a .event) (sym (c .before .active .ensures) ∙ w .0 .taken))))
-    (λ w. (search needs,
-        ap length (w .1) ∙ v .1,
-        ap (λ x. set-at x 0) (w .1) ∙ v .2 ∙ sym (stepped-no (a .kinds .now) (a .firsts .now) (a .rows .now) m D (a .event) (sym (c .before .active .ensures) ∙ w .0 .left))))
+    (λ w. (
+      search needs,
+      ap length (w .3) ∙ w .2 .ensures .0,
+      ap (λ x. set-at x 0) (w .3) ∙ w .2 .ensures .1 ∙ ap (λ C. union C (row (a .rows .now) (m + 1))) (v .2)
+          ∙ sym (stepped-yes (a .kinds .now) (a .firsts .now) (a .rows .now) m D (a .event) (sym (c .before .active .ensures) ∙ w .0 .taken)),
+    ))
+    (λ w. (
+      search needs,
+      ap length (w .1) ∙ v .1,
+      ap (λ x. set-at x 0) (w .1) ∙ v .2 ∙ sym (stepped-no (a .kinds .now) (a .firsts .now) (a .rows .now) m D (a .event) (sym (c .before .active .ensures) ∙ w .0 .left)),
+    ))
     (c .if1 .came)
 
 -- src/exploration.rt:35:1

@@ -35,9 +35,15 @@ abbrev μ-loop : tie.MeasureT-loop
 loop-holds : tie.Need-loop-holds Inv-loop μ-loop
 loop-holds c =
     let a = c .args in
-    let z : a .i * a .events ≡ a .i * a .events + 0 = omega arith in
-    (search needs, search needs, search needs, search needs, search needs, (λ x h. refl),
-    λ start P old. subst (λ m. Kept (next-bits (a .kinds .now) (a .firsts .now) (a .rows .now) (a .count)) start (a .events) P (a .n) m (a .states .now) (a .nexts .now)) z old)
+    let z : a .i * a .events ≡ a .i * a .events + 0 = omega arith in (
+      search needs,
+      search needs,
+      search needs,
+      search needs,
+      search needs,
+      (λ x h. refl),
+      λ start P old. subst (λ m. Kept (next-bits (a .kinds .now) (a .firsts .now) (a .rows .now) (a .count)) start (a .events) P (a .n) m (a .states .now) (a .nexts .now)) z old,
+    )
 
 -- src/exploration.rt:80:55
 mul-advance : tie.Need-mul-advance Inv-loop μ-loop
@@ -61,14 +67,21 @@ returns : tie.Need-returns Inv-loop μ-loop
 returns c =
     let a = c .before .before .before .before .before .before .before .before .before .before .args in
     let l = c .before .before .before .before .before .before .before .before .before .loop in
-    let v = l .inv in
-    (v .3, v .4, search needs, v .5,
-    λ start P old. record {
-      at-most = search needs;
-      all = λ h. absurd (omega (arith, h));
-      more = λ h. omega (arith, c .if2 .taken,
-        candidate-many (a .kinds .now) (a .firsts .now) (a .rows .now) (a .count) (a .events) (a .i) (a .n) (l .k) (l .event) (a .states .now) (a .nexts .now) (l .states) (l .nexts) _ (search needs) (v .1) (c .before .before .before .before .before .before .before .before .loop-test .taken) (c .before .before .before .before .before .advance .ensures .1) start P old (v .6 start P old) (c .before .before .find .result) (c .before .if1 .taken) (c .before .before .find .ensures));
-    })
+    let v = l .inv in (
+      v .3,
+      v .4,
+      search needs,
+      v .5,
+      λ start P old. record {
+        at-most = search needs;
+        all = λ h. absurd (omega (arith, h));
+        more = λ h. omega (
+          arith,
+          c .if2 .taken,
+          candidate-many (a .kinds .now) (a .firsts .now) (a .rows .now) (a .count) (a .events) (a .i) (a .n) (l .k) (l .event) (a .states .now) (a .nexts .now) (l .states) (l .nexts) _ (search needs) (v .1) (c .before .before .before .before .before .before .before .before .loop-test .taken) (c .before .before .before .before .before .advance .ensures .1) start P old (v .6 start P old) (c .before .before .find .result) (c .before .if1 .taken) (c .before .before .find .ensures),
+        );
+      },
+    )
 
 -- src/exploration.rt:86:27
 mul-store : tie.Need-mul-store Inv-loop μ-loop
@@ -112,18 +125,28 @@ loop-again c =
     let fits : c .before .entry-at .result < length (l .nexts) = omega (arith, c .before .entry-at .ensures .1, v .4) in
     let sized : length (set (l .nexts) (c .before .entry-at .result) (c .narrow .result)) ≡ 1024 = length-set (l .nexts) (c .before .entry-at .result) (c .narrow .result) ∙ v .4 in
     let kept : Unchanged (a .i * a .events + a .events) (a .nexts .now) (set (l .nexts) (c .before .entry-at .result) (c .narrow .result))
-      = λ x h. getD-set-other (l .nexts) (c .before .entry-at .result) x (c .narrow .result) 0 (λ e. omega (arith, e, at, h, c .before .before .before .before .before .before .before .before .before .loop-test .taken)) ∙ v .5 x h in
+    = λ x h. getD-set-other (l .nexts) (c .before .entry-at .result) x (c .narrow .result) 0 (λ e. omega (arith, e, at, h, c .before .before .before .before .before .before .before .before .before .loop-test .taken)) ∙ v .5 x h in
     ⊎-elim
-    (λ w. (search needs, search needs, search needs,
-        ap length (w .5) ∙ w .4 .ensures .sized ∙ v .3,
-        sized, kept,
-        λ start P old. rw (w .5, w .6)
-        (candidate-new (a .kinds .now) (a .firsts .now) (a .rows .now) (a .count) (a .events) (a .i) (a .n) (l .k) (l .event) (a .states .now) (a .nexts .now) (l .states) (l .nexts) _ (search needs) (v .1) (c .before .before .before .before .before .before .before .before .before .loop-test .taken) (c .before .before .before .before .before .before .advance .ensures .1) start P old (v .6 start P old) _ (c .before .before .before .find .result) (c .before .entry-at .result) (c .narrow .result) (w .0 .taken) (c .before .before .before .find .ensures) (w .4 .ensures) at (c .narrow .ensures) fits)))
-    (λ w. (search needs, search needs, search needs,
-        ap length (w .1) ∙ v .3,
-        sized, kept,
-        λ start P old. rw (w .1, w .2)
-        (candidate-old (a .kinds .now) (a .firsts .now) (a .rows .now) (a .count) (a .events) (a .i) (a .n) (l .k) (l .event) (a .states .now) (a .nexts .now) (l .states) (l .nexts) _ (search needs) (v .1) (c .before .before .before .before .before .before .before .before .before .loop-test .taken) (c .before .before .before .before .before .before .advance .ensures .1) start P old (v .6 start P old) (c .before .before .before .find .result) (c .before .entry-at .result) (c .narrow .result) (c .before .before .before .find .ensures) (below (c .before .before .before .find .ensures .low) (w .0 .left)) at (c .narrow .ensures) fits)))
+    (λ w. (
+      search needs,
+      search needs,
+      search needs,
+      ap length (w .5) ∙ w .4 .ensures .sized ∙ v .3,
+      sized,
+      kept,
+      λ start P old. rw (w .5, w .6)
+          (candidate-new (a .kinds .now) (a .firsts .now) (a .rows .now) (a .count) (a .events) (a .i) (a .n) (l .k) (l .event) (a .states .now) (a .nexts .now) (l .states) (l .nexts) _ (search needs) (v .1) (c .before .before .before .before .before .before .before .before .before .loop-test .taken) (c .before .before .before .before .before .before .advance .ensures .1) start P old (v .6 start P old) _ (c .before .before .before .find .result) (c .before .entry-at .result) (c .narrow .result) (w .0 .taken) (c .before .before .before .find .ensures) (w .4 .ensures) at (c .narrow .ensures) fits),
+    ))
+    (λ w. (
+      search needs,
+      search needs,
+      search needs,
+      ap length (w .1) ∙ v .3,
+      sized,
+      kept,
+      λ start P old. rw (w .1, w .2)
+          (candidate-old (a .kinds .now) (a .firsts .now) (a .rows .now) (a .count) (a .events) (a .i) (a .n) (l .k) (l .event) (a .states .now) (a .nexts .now) (l .states) (l .nexts) _ (search needs) (v .1) (c .before .before .before .before .before .before .before .before .before .loop-test .taken) (c .before .before .before .before .before .before .advance .ensures .1) start P old (v .6 start P old) (c .before .before .before .find .result) (c .before .entry-at .result) (c .narrow .result) (c .before .before .before .find .ensures) (below (c .before .before .before .find .ensures .low) (w .0 .left)) at (c .narrow .ensures) fits),
+    ))
     (c .before .before .if1 .came)
 
 -- src/exploration.rt:68:1
@@ -132,13 +155,17 @@ returns-2 c =
     let a = c .before .before .args in
     let l = c .before .loop in
     let v = l .inv in
-    let q : l .event ≡ a .events = omega arith in
-    (v .3, v .4, v .1, v .5,
-    λ start P old. record {
-      at-most = search needs;
-      all = λ h. subst (λ x. Kept (next-bits (a .kinds .now) (a .firsts .now) (a .rows .now) (a .count)) start (a .events) (events-to (next-bits (a .kinds .now) (a .firsts .now) (a .rows .now) (a .count)) start x P (getD P (a .i) [])) (l .k) (a .i * a .events + x) (l .states) (l .nexts)) q (v .6 start P old);
-      more = λ h. absurd (omega (arith, h));
-    })
+    let q : l .event ≡ a .events = omega arith in (
+      v .3,
+      v .4,
+      v .1,
+      v .5,
+      λ start P old. record {
+        at-most = search needs;
+        all = λ h. subst (λ x. Kept (next-bits (a .kinds .now) (a .firsts .now) (a .rows .now) (a .count)) start (a .events) (events-to (next-bits (a .kinds .now) (a .firsts .now) (a .rows .now) (a .count)) start x P (getD P (a .i) [])) (l .k) (a .i * a .events + x) (l .states) (l .nexts)) q (v .6 start P old);
+        more = λ h. absurd (omega (arith, h));
+      },
+    )
 
 pub expand-spec : {M : Type 1} → statement M
 expand-spec =

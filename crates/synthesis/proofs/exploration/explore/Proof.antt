@@ -25,9 +25,14 @@ abbrev μ-loop : tie.MeasureT-loop
 -- src/exploration.rt:109:5
 loop-holds : tie.Need-loop-holds Inv-loop μ-loop
 loop-holds c =
-    let a = c .args in
-    (search needs, search needs, search needs, search needs, (λ x h. refl),
-    kept-start (next-bits (a .kinds .now) (a .firsts .now) (a .rows .now) (a .count)) (a .states .now) (a .events) (a .nexts .now))
+    let a = c .args in (
+      search needs,
+      search needs,
+      search needs,
+      search needs,
+      (λ x h. refl),
+      kept-start (next-bits (a .kinds .now) (a .firsts .now) (a .rows .now) (a .count)) (a .states .now) (a .events) (a .nexts .now),
+    )
 
 -- src/exploration.rt:110:13
 expand-requires : tie.Need-expand-requires Inv-loop μ-loop
@@ -44,13 +49,16 @@ returns c =
     let l = c .before .before .before .before .before .loop in
     let v = l .inv in
     let x = c .before .expand .ensures in
-    let nb = next-bits (a .kinds .now) (a .firsts .now) (a .rows .now) (a .count) in
-    (x .0, x .1, (λ h. absurd (omega (arith, h))),
-    record {
-      at-most = search needs;
-      all = λ h. absurd (omega (arith, h));
-      more = λ h. row-over nb (a .states .now) (a .events) 64 (l .i) (l .n) (c .before .expand .result) (l .states) (l .nexts) _ _ (search needs) (v .5) (x .4) (omega (arith, c .if1 .taken, x .4 (bits-at (a .states .now) 0) (all-to nb (a .states .now) (a .events) (l .i)) (v .5) .at-most)) (search needs);
-    })
+    let nb = next-bits (a .kinds .now) (a .firsts .now) (a .rows .now) (a .count) in (
+      x .0,
+      x .1,
+      (λ h. absurd (omega (arith, h))),
+      record {
+        at-most = search needs;
+        all = λ h. absurd (omega (arith, h));
+        more = λ h. row-over nb (a .states .now) (a .events) 64 (l .i) (l .n) (c .before .expand .result) (l .states) (l .nexts) _ _ (search needs) (v .5) (x .4) (omega (arith, c .if1 .taken, x .4 (bits-at (a .states .now) 0) (all-to nb (a .states .now) (a .events) (l .i)) (v .5) .at-most)) (search needs);
+      },
+    )
 
 -- src/exploration.rt:115:9
 add-i : tie.Need-add-i Inv-loop μ-loop
@@ -67,10 +75,14 @@ loop-again c =
     let l = c .before .before .before .before .before .loop in
     let v = l .inv in
     let x = c .before .expand .ensures in
-    let nb = next-bits (a .kinds .now) (a .firsts .now) (a .rows .now) (a .count) in
-    (search needs, search needs, x .0, x .1,
-    (λ y h. x .3 y (omega (arith, h, add-mul (l .i) 1 (a .events))) ∙ v .4 y (omega (arith, h, add-mul (l .i) 1 (a .events)))),
-    row-kept nb (a .states .now) (a .events) 64 (l .i) (l .n) (c .before .expand .result) (l .states) (l .nexts) _ _ (search needs) (v .5) (x .4) (search needs))
+    let nb = next-bits (a .kinds .now) (a .firsts .now) (a .rows .now) (a .count) in (
+      search needs,
+      search needs,
+      x .0,
+      x .1,
+      (λ y h. x .3 y (omega (arith, h, add-mul (l .i) 1 (a .events))) ∙ v .4 y (omega (arith, h, add-mul (l .i) 1 (a .events)))),
+      row-kept nb (a .states .now) (a .events) 64 (l .i) (l .n) (c .before .expand .result) (l .states) (l .nexts) _ _ (search needs) (v .5) (x .4) (search needs),
+    )
 
 -- src/exploration.rt:98:1
 returns-2 : tie.Need-returns-2 Inv-loop μ-loop
@@ -79,13 +91,16 @@ returns-2 c =
     let l = c .before .loop in
     let v = l .inv in
     let q : l .n ≡ l .i = omega arith in
-    let nb = next-bits (a .kinds .now) (a .firsts .now) (a .rows .now) (a .count) in
-    (v .2, v .3, (λ h y u. v .4 y (subst (λ z. z * a .events ≤ y) q u)),
-    record {
-      at-most = search needs;
-      all = λ h. all-kept nb (a .states .now) (a .events) 64 (l .i) (l .n) (l .states) (l .nexts) q (search needs) (v .5);
-      more = λ h. absurd (omega (arith, h));
-    })
+    let nb = next-bits (a .kinds .now) (a .firsts .now) (a .rows .now) (a .count) in (
+      v .2,
+      v .3,
+      (λ h y u. v .4 y (subst (λ z. z * a .events ≤ y) q u)),
+      record {
+        at-most = search needs;
+        all = λ h. all-kept nb (a .states .now) (a .events) 64 (l .i) (l .n) (l .states) (l .nexts) q (search needs) (v .5);
+        more = λ h. absurd (omega (arith, h));
+      },
+    )
 
 pub explore-spec : {M : Type 1} → statement M
 explore-spec =

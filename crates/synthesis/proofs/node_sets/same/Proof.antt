@@ -60,11 +60,12 @@ returns c =
     let p = c .before .before .before .word .ensures in
     let q = c .before .word2 .ensures in
     let u : getD (a .rows .now) (a .base + i) 0 < 18446744073709551616 = subst (λ x. x < 18446744073709551616) (p .0) (p .1) in
-    let v : getD (a .set .now) i 0 < 18446744073709551616 = subst (λ x. x < 18446744073709551616) (q .0) (q .1) in
-    ((λ e. absurd (true≢false (sym e))),
-    λ e h. c .if1 .taken
-    (p .0 ∙ bits-words (a .rows .now) (a .set .now) (a .base) 0 h i (search needs) u (subst (λ x. getD (a .set .now) x 0 < 18446744073709551616) (sym z) v)
-    ∙ ap (λ x. getD (a .set .now) x 0) z ∙ sym (q .0)))
+    let v : getD (a .set .now) i 0 < 18446744073709551616 = subst (λ x. x < 18446744073709551616) (q .0) (q .1) in (
+      (λ e. absurd (true≢false (sym e))),
+      λ e h. c .if1 .taken
+          (p .0 ∙ bits-words (a .rows .now) (a .set .now) (a .base) 0 h i (search needs) u (subst (λ x. getD (a .set .now) x 0 < 18446744073709551616) (sym z) v)
+          ∙ ap (λ x. getD (a .set .now) x 0) z ∙ sym (q .0)),
+    )
 
 -- src/lib.rt:176:9
 add-i : tie.Need-add-i Inv-loop μ-loop
@@ -82,9 +83,10 @@ loop-again c =
 -- src/lib.rt:165:1
 returns-2 : tie.Need-returns-2 Inv-loop μ-loop
 returns-2 c =
-    let a = c .before .before .args in
-    ((λ e. bits-of (a .rows .now) (a .set .now) (a .base) 0 (set-same (a .rows .now) (a .set .now) (a .base) 0 (λ w h. let z : w ≡ 0 + w = omega arith in c .before .loop .inv .1 w (omega arith) ∙ ap (λ x. getD (a .set .now) x 0) z))),
-    λ e. absurd (true≢false e))
+    let a = c .before .before .args in (
+      (λ e. bits-of (a .rows .now) (a .set .now) (a .base) 0 (set-same (a .rows .now) (a .set .now) (a .base) 0 (λ w h. let z : w ≡ 0 + w = omega arith in c .before .loop .inv .1 w (omega arith) ∙ ap (λ x. getD (a .set .now) x 0) z))),
+      λ e. absurd (true≢false e),
+    )
 
 pub same-spec : {M : Type 1} → statement M
 same-spec =

@@ -59,14 +59,15 @@ loop-again c =
     let i = c .before .before .loop .i in
     let f = c .before .before .before .args .set .now in
     let at = c .before .before .before .args .base + i in
-    let v = getD f i 0 in
-    (search needs,
-    search needs,
-    below-more _ _
-    (λ w h. getD-set-other l at (c .before .before .before .args .base + w) v 0 (λ e. omega (arith, e)) ∙ c .before .before .loop .inv .2 w h)
-    (getD-set-same l at v 0 (search needs)),
-    (λ x h. getD-set-other l at x v 0 (λ e. omega (arith, e)) ∙ c .before .before .loop .inv .3 x h),
-    λ x h. getD-set-other l at x v 0 (λ e. omega (arith, e)) ∙ c .before .before .loop .inv .4 x (omega arith))
+    let v = getD f i 0 in (
+      search needs,
+      search needs,
+      below-more _ _
+          (λ w h. getD-set-other l at (c .before .before .before .args .base + w) v 0 (λ e. omega (arith, e)) ∙ c .before .before .loop .inv .2 w h)
+          (getD-set-same l at v 0 (search needs)),
+      (λ x h. getD-set-other l at x v 0 (λ e. omega (arith, e)) ∙ c .before .before .loop .inv .3 x h),
+      λ x h. getD-set-other l at x v 0 (λ e. omega (arith, e)) ∙ c .before .before .loop .inv .4 x (omega arith),
+    )
 
 -- src/lib.rt:100:1
 returns : tie.Need-returns Inv-loop μ-loop

@@ -66,19 +66,21 @@ loop-again : tie.Need-loop-again Inv-loop μ-loop
 loop-again c =
     let l = c .before .before .before .loop .set in
     let i = c .before .before .before .loop .i in
-    let v = bitOr (getD l i 0) (getD (c .before .before .before .before .args .rows .now) (c .before .before .before .before .args .base + i) 0) in
-    (search needs,
-    search needs,
-    below-more _ _
-    (λ w h. getD-set-other l i w v 0 (λ e. omega (arith, e)) ∙ c .before .before .before .loop .inv .2 w h)
-    (getD-set-same l i v 0 (search needs) ∙ ap (λ x. bitOr x (getD (c .before .before .before .before .args .rows .now) (c .before .before .before .before .args .base + i) 0)) (c .before .before .before .loop .inv .3 i (omega arith))),
-    λ w h. getD-set-other l i w v 0 (λ e. omega (arith, e)) ∙ c .before .before .before .loop .inv .3 w (omega arith))
+    let v = bitOr (getD l i 0) (getD (c .before .before .before .before .args .rows .now) (c .before .before .before .before .args .base + i) 0) in (
+      search needs,
+      search needs,
+      below-more _ _
+          (λ w h. getD-set-other l i w v 0 (λ e. omega (arith, e)) ∙ c .before .before .before .loop .inv .2 w h)
+          (getD-set-same l i v 0 (search needs) ∙ ap (λ x. bitOr x (getD (c .before .before .before .before .args .rows .now) (c .before .before .before .before .args .base + i) 0)) (c .before .before .before .loop .inv .3 i (omega arith))),
+      λ w h. getD-set-other l i w v 0 (λ e. omega (arith, e)) ∙ c .before .before .before .loop .inv .3 w (omega arith),
+    )
 
 -- src/lib.rt:49:1
 returns : tie.Need-returns Inv-loop μ-loop
-returns c =
-    (c .before .loop .inv .1,
-    set-unite (c .before .loop .set) (c .before .before .args .set .now) (c .before .before .args .rows .now) (c .before .before .args .base) (λ w h. c .before .loop .inv .2 w (omega arith)))
+returns c = (
+  c .before .loop .inv .1,
+  set-unite (c .before .loop .set) (c .before .before .args .set .now) (c .before .before .args .rows .now) (c .before .before .args .base) (λ w h. c .before .loop .inv .2 w (omega arith)),
+)
 
 pub unite-spec : {M : Type 1} → statement M
 unite-spec =
