@@ -7,3 +7,5 @@ pub mod RuleReading
 pub mod RuleRefusal
 pub mod NodeWalks
 pub mod NodeArrays
+-- The theorems as propositions.
+pub mod Claims

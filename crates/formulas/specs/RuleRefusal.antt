@@ -17,18 +17,23 @@ use Rattle.formulas.specs.RuleReading.{lowest-from, kind-of, fields-fit,
 unfoldable pub count-fits : ℕ → ℕ → ℕ → Bool
 count-fits width limit n = eqb (n % width) 0 && (ltb 0 (n / width) && leb (n / width) limit)
 
-module _ (kind first value : ℕ → ℕ) (fits : ℕ → Bool) (events count : ℕ) where
-  -- 6: the lowest node whose fields do not fit; `fits` says which values do.
-  unfoldable pub misfit-place : Option ℕ
-  misfit-place = lowest-from (λ i. not (fields-fit events (kind-of (kind i)) (first i) (value i) (fits (value i)))) count 0
+-- 8 and 9 for a formula: every variable is judged by 8 before any is by 9.
+unfoldable pub variables-refusal : {B : Type 0} → Formula B → Option Refusal
+variables-refusal φ = or-else (at-found (lowest-unbound 0 0 φ) 8) (at-found (lowest-closed closed-to-variable 0 φ) 9)
 
-  -- 6 to 9, in order.
-  unfoldable pub nodes-refusal : Option Refusal
-  nodes-refusal =
-      or-else (at-found misfit-place 6)
-      (or-else (at-found (end-fault kind 1 count 0) 7)
-      (or-else (at-found (lowest-unbound 0 0 (formula-read kind first value count)) 8)
-      (at-found (lowest-closed closed-to-variable 0 (formula-read kind first value count)) 9)))
+module _ (kind first value : ℕ → ℕ) (count : ℕ) where
+  -- 7 to 9.
+  unfoldable pub structure-refusal : Option Refusal
+  structure-refusal = or-else (at-found (end-fault kind 1 count 0) 7) (variables-refusal (formula-read kind first value count))
+
+  module _ (fits : ℕ → Bool) (events : ℕ) where
+    -- 6: the lowest node whose fields do not fit; `fits` says which values do.
+    unfoldable pub misfit-place : Option ℕ
+    misfit-place = lowest-from (λ i. not (fields-fit events (kind-of (kind i)) (first i) (value i) (fits (value i)))) count 0
+
+    -- 6 to 9.
+    unfoldable pub nodes-refusal : Option Refusal
+    nodes-refusal = or-else (at-found misfit-place 6) structure-refusal
 
 -- At most so many nodes, and the bytes of each.
 abbrev pub node-limit : ℕ
@@ -52,7 +57,7 @@ module _ (bytes : List ℕ) where
 unfoldable pub rule-refusal : ℕ → ℕ → List ℕ → Option Refusal
 rule-refusal events values bytes =
     or-else (plain-unless (count-fits node-width node-limit (length bytes)) 5)
-    (nodes-refusal (kind-at bytes) (first-at bytes) (second-at bytes) (λ v. ltb v values) events (length bytes / node-width))
+    (nodes-refusal (kind-at bytes) (first-at bytes) (second-at bytes) (length bytes / node-width) (λ v. ltb v values) events)
 
 -- The formula that accepted bytes are.
 unfoldable pub formula-of : List ℕ → Formula ℕ

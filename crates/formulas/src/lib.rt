@@ -7,11 +7,16 @@ ghost use lib.ListN.{length, getD};
 ghost use Rattle.refusal.specs.Refusal.{judgement};
 ghost use Rattle.formulas.specs.RuleConditions.{open-to-variable, closed-to-variable};
 ghost use Rattle.formulas.specs.RuleReading.{kind-of, fields-fit, awaited, end-fault, lowest-unbound, lowest-closed};
-ghost use Rattle.formulas.specs.RuleRefusal.{count-fits, misfit-place, nodes-refusal, rule-refusal};
-ghost use Rattle.formulas.specs.NodeWalks.{found, KindsWalked, FirstsWalked, field};
+ghost use Rattle.formulas.specs.RuleRefusal.{count-fits, misfit-place, structure-refusal, nodes-refusal, rule-refusal};
+ghost use Rattle.formulas.specs.NodeWalks.{found, KindsWalked, FirstsWalked, VariablesJudged, KnownKinds, field};
 ghost use Rattle.formulas.specs.NodeArrays.{decoded};
+use refusal::CLOSED_VARIABLE;
 use refusal::Judgement;
+use refusal::NODE_COUNT;
+use refusal::NODE_FIELDS;
+use refusal::NODE_TREE;
 use refusal::Refusal;
+use refusal::UNBOUND_VARIABLE;
 
 // At most so many nodes.
 pub const NODE_LIMIT: usize = 256;
@@ -134,7 +139,7 @@ fn lowest_misfit(
     count: usize,
 ) -> Found
     requires { ⌜ (count ≤ 256) × (length (now kinds) ≡ 256) × (length (now firsts) ≡ 256) × (length (now values) ≡ 256) ⌝ }
-    ensures { λ r. ⌜ r ≡ found (misfit-place (field (now (kinds .entry))) (field (now (firsts .entry))) (field (now (values .entry))) (λ v. ltb v limit) events count) ⌝ }
+    ensures { λ r. ⌜ r ≡ found (misfit-place (field (now (kinds .entry))) (field (now (firsts .entry))) (field (now (values .entry))) count (λ v. ltb v limit) events) ⌝ }
 {
     let mut i: usize = 0;
     while i < count {
@@ -272,4 +277,62 @@ fn open_position(kinds: &[u8; 256], at: usize, left: usize) -> Step
         return closed_position(kinds, at + 1, left - 1);
     }
     Step::Next(at + 1)
+}
+
+// 8, then 9: every variable has its binder, and no variable is in a closed position.
+fn check_variables(kinds: &[u8; 256], firsts: &[u8; 256], count: usize) -> Judgement
+    requires { ⌜ (count ≤ 256) × (length (now kinds) ≡ 256) × (length (now firsts) ≡ 256) ⌝ }
+    ensures { λ r. ⌜ VariablesJudged (field (now (kinds .entry))) (field (now (firsts .entry))) count r ⌝ }
+{
+    let bound = bound_position(kinds, firsts, 0, count, 0);
+    if let Step::Fault(p) = bound {
+        return Judgement::Refused(Refusal::At(UNBOUND_VARIABLE, p));
+    }
+    let placed = closed_position(kinds, 0, count);
+    if let Step::Fault(p) = placed {
+        return Judgement::Refused(Refusal::At(CLOSED_VARIABLE, p));
+    }
+    Judgement::Accepted
+}
+
+// 7, then 8 and 9.
+fn check_structure(nodes: Nodes) -> Judgement
+    requires { ⌜ (nodes .count ≤ 256) × KnownKinds (field (nodes .kinds)) (nodes .count) ⌝ }
+    ensures { λ r. ⌜ r ≡ judgement (structure-refusal (field (nodes .kinds)) (field (nodes .firsts)) (field (nodes .values)) (nodes .count)) ⌝ }
+{
+    let count = nodes.count;
+    let kinds = nodes.kinds;
+    let firsts = nodes.firsts;
+    let end = misplaced_end(&kinds, count);
+    if let Found::At(p) = end {
+        return Judgement::Refused(Refusal::At(NODE_TREE, p));
+    }
+    check_variables(&kinds, &firsts, count)
+}
+
+// 6, then 7 to 9.
+fn check_nodes(events: usize, limit: usize, nodes: Nodes) -> Judgement
+    requires { ⌜ nodes .count ≤ 256 ⌝ }
+    ensures { λ r. ⌜ r ≡ judgement (nodes-refusal (field (nodes .kinds)) (field (nodes .firsts)) (field (nodes .values)) (nodes .count) (λ v. ltb v limit) events) ⌝ }
+{
+    let count = nodes.count;
+    let kinds = nodes.kinds;
+    let firsts = nodes.firsts;
+    let values = nodes.values;
+    let misfit = lowest_misfit(events, limit, &kinds, &firsts, &values, count);
+    if let Found::At(p) = misfit {
+        return Judgement::Refused(Refusal::At(NODE_FIELDS, p));
+    }
+    check_structure(nodes)
+}
+
+// 5 to 9 for a rule in bytes, with the set-up's counts of events and values.
+pub fn check_rule(events: usize, values: usize, bytes: &[u8]) -> Judgement
+    ensures { λ r. ⌜ r ≡ judgement (rule-refusal events values (now (bytes .entry))) ⌝ }
+{
+    if !count_fits(bytes.len()) {
+        return Judgement::Refused(Refusal::Plain(NODE_COUNT));
+    }
+    let nodes = decode(bytes);
+    check_nodes(events, values, nodes)
 }
