@@ -1,20 +1,17 @@
 -- The answers of 6 to 9, one after the other, and that they depend on the nodes' fields alone.
 -- Assumes nothing.
-use mathlib.Core.Path.{_≡_, refl, sym, _∙_, ap, ap₂}
-use mathlib.Core.Bool.{Bool, true, false, not}
+use mathlib.Core.Path.{_≡_, refl, _∙_, ap, ap₂}
+use mathlib.Core.Bool.{Bool, true, not}
 use mathlib.Core.Option.{Option, none, some}
-use mathlib.Core.List.{List, [], _∷_}
+use mathlib.Core.List.{_∷_}
 use Prim.Native.Nat.{ℕ, zero, suc, _+_, _≤_, _<_}
 use native.Mathlib.Omega.{arith}
 use borrow.Author.Tests.{not-false}
 use Rattle.theory.specs.Formula.{Formula, size}
-use Rattle.theory.specs.PrefixCode.{Node}
-use Rattle.refusal.specs.Refusal.{or-else, plain-unless, at-found, judgement}
+use Rattle.refusal.specs.Refusal.{or-else, at-found}
 use Rattle.refusal.specs.declared.Refusal.{Refusal}
-use Rattle.refusal.specs.declared.Refusal.the-variants.{Plain, At}
-use Rattle.formulas.specs.declared.Step.{Step}
+use Rattle.refusal.specs.declared.Refusal.the-variants.{At}
 use Rattle.formulas.specs.declared.Step.the-variants.{Next, Fault}
-use Rattle.formulas.specs.declared.Found.{Found}
 use Rattle.formulas.specs.declared.Found.the-variants.{At as FoundAt, Nowhere}
 use Rattle.formulas.specs.RuleConditions.{closed-to-variable}
 use Rattle.formulas.specs.NodeReading.{Reads}
@@ -116,7 +113,7 @@ end-same kind other (suc left) (suc k) i h =
     ∙ ap (λ x. end-fault other (awaited (kind-of x) k) left (suc i)) (h i (omega arith) (omega arith))
 
 module _ (kind other first second value v : ℕ → ℕ) where
-  from-same :
+  pub from-same :
       (left i : ℕ) → ((j : ℕ) → i ≤ j → j < i + left → kind j ≡ other j) → ((j : ℕ) → i ≤ j → j < i + left → first j ≡ second j)
       → ((j : ℕ) → i ≤ j → j < i + left → value j ≡ v j) → nodes-from kind first value left i ≡ nodes-from other second v left i
   unfolding nodes-from

@@ -2,19 +2,19 @@
 -- first refusal that is met.
 -- Assumes nothing.
 use mathlib.Core.Path.{_≡_, refl, sym, _∙_, ap, ap₂, subst}
-use mathlib.Core.Logic.{_⊎_, inl, inr, _↔_}
+use mathlib.Core.Logic.{_⊎_, inl, inr}
 use mathlib.Core.Bool.{Bool, true, false, not, _&&_}
 use mathlib.Core.Option.{Option, none, some, Option·some-ne-none}
 use mathlib.Core.List.{List, [], _∷_, _++_, append-assoc, append-nil}
 use Prim.Native.Nat.{ℕ, zero, suc, _+_, _*_, _/_, _%_, _≤_, _<_}
 use native.Mathlib.Nat.{div-add-mod', add-zero, zero-mul, mul-div-cancel, mul-mod-left}
 use native.Mathlib.Omega.{arith}
-use lib.Dec.{eqb, ltb, leb}
+use lib.Dec.{leb}
 use lib.ListN.{length, take, drop}
 use borrow.Author.Tests.{eq-eqb, lt-ltb, le-leb, not-true, not-false}
-use Rattle.theory.specs.Formula.{Formula, truth, variable, transition, output, conjunction, greatest, size, Closed, ClosedPosition, Fits, Accepted}
-use Rattle.theory.specs.PrefixCode.{Node, truth-node, variable-node, transition-node, output-node, conjunction-node, greatest-node, nodes}
-use Rattle.refusal.specs.Refusal.{Condition, plain, Lowest, at-lowest, First, or-else, plain-unless, at-found}
+use Rattle.theory.specs.Formula.{Formula, truth, variable, transition, output, conjunction, greatest, size, Fits, Accepted}
+use Rattle.theory.specs.PrefixCode.{Node, nodes}
+use Rattle.refusal.specs.Refusal.{Condition, plain, at-lowest, First, or-else, plain-unless, at-found}
 use Rattle.refusal.specs.RefusalClaims.{Functional, AllFunctional, NoneMet}
 use Rattle.refusal.specs.declared.Refusal.{Refusal}
 use Rattle.refusal.specs.declared.Refusal.the-variants.{Plain, At}
@@ -25,9 +25,9 @@ use Rattle.formulas.specs.RuleReading.{lowest-from, kind-of, end-fault, 
 use Rattle.formulas.specs.RuleRefusal.{count-fits, variables-refusal}
 use Rattle.formulas.proofs.Search.{FoundFrom, lowest-clear, lowest-found}
 use Rattle.formulas.proofs.Walking.{size-positive}
-use Rattle.formulas.proofs.Prefix.{length-nodes, all-nodes, Outcome, whole, over, short, outcome, length-from, no-fault}
+use Rattle.formulas.proofs.Prefix.{length-nodes, Outcome, whole, over, short, outcome, length-from, no-fault}
 use Rattle.formulas.proofs.Decoding.{CountFits, count-facts}
-use Rattle.formulas.proofs.Encoding.{All, all-append, all-left, all-right, encode-append, encode-unique, formula-unique, formula-length, every-node, bytes-from}
+use Rattle.formulas.proofs.Encoding.{All, all-append, all-left, all-right, encode-append, formula-unique, formula-length, every-node, bytes-from}
 use Rattle.formulas.proofs.Variables.{Answered, unbound-answered, closed-answered, unbound-fault, fault-unbound, closed-fault, fault-closed, free-below, below-free, may-stand, stand-may}
 
 -- One condition more in front, answered before the others.
@@ -152,13 +152,22 @@ module _ {B : Type 0} (width : ℕ) (encode : Node B → List ℕ) (code : NodeC
 
   pub conditions-functional : AllFunctional (rule-conditions width encode limit events In bytes)
   unfolding AllFunctional
-  conditions-functional =
-      (plain-functional 5 (CountAtFault width encode limit events In bytes),
-      (at-lowest-functional 6 (NodeAtFault width encode limit events In bytes),
-      (end-functional,
-      (of-formula-functional (λ φ. at-lowest 8 (Unbound φ)) (λ φ. at-lowest-functional 8 (Unbound φ)),
-      (of-formula-functional (λ φ. at-lowest 9 (InClosedPosition φ)) (λ φ. at-lowest-functional 9 (InClosedPosition φ)),
-      tt)))))
+  conditions-functional = (
+    plain-functional 5 (CountAtFault width encode limit events In bytes),
+    (
+      at-lowest-functional 6 (NodeAtFault width encode limit events In bytes),
+      (
+        end-functional,
+        (
+          of-formula-functional (λ φ. at-lowest 8 (Unbound φ)) (λ φ. at-lowest-functional 8 (Unbound φ)),
+          (
+            of-formula-functional (λ φ. at-lowest 9 (InClosedPosition φ)) (λ φ. at-lowest-functional 9 (InClosedPosition φ)),
+            tt,
+          ),
+        ),
+      ),
+    ),
+  )
 
   -- A formula that is accepted, in bytes: none of the conditions is met.
   module _ (φ : Formula B) (written : bytes ≡ encode-formula encode φ) (accepted : Accepted limit events In φ) where
@@ -201,13 +210,22 @@ module _ {B : Type 0} (width : ℕ) (encode : Node B → List ℕ) (code : NodeC
 
     pub none-met : NoneMet (rule-conditions width encode limit events In bytes)
     unfolding NoneMet
-    none-met =
-        (λ r m. m .0 (counted .whole, counted .some-node, counted .within),
-        (λ r m. not-misfit (m .0) (m .1 .holds),
-        (end-unmet,
-        (not-of-formula (λ ψ. at-lowest 8 (Unbound ψ)) (λ r m. not-unbound (m .0) (m .1 .holds)),
-        (not-of-formula (λ ψ. at-lowest 9 (InClosedPosition ψ)) (λ r m. not-closed (m .0) (m .1 .holds)),
-        tt)))))
+    none-met = (
+      λ r m. m .0 (counted .whole, counted .some-node, counted .within),
+      (
+        λ r m. not-misfit (m .0) (m .1 .holds),
+        (
+          end-unmet,
+          (
+            not-of-formula (λ ψ. at-lowest 8 (Unbound ψ)) (λ r m. not-unbound (m .0) (m .1 .holds)),
+            (
+              not-of-formula (λ ψ. at-lowest 9 (InClosedPosition ψ)) (λ r m. not-closed (m .0) (m .1 .holds)),
+              tt,
+            ),
+          ),
+        ),
+      ),
+    )
       where
         end-unmet : (r : Refusal) → ¬ (RunOut width encode limit events In bytes r ⊎ LeftOver width encode limit events In bytes r)
         end-unmet r (inl x) = not-run-out φ written r x
@@ -215,9 +233,9 @@ module _ {B : Type 0} (width : ℕ) (encode : Node B → List ℕ) (code : NodeC
 
   -- Accessors for the nodes, and a test that decides which nodes are in order.
   module _
-    (kind first : ℕ → ℕ) (value : ℕ → B) (fit : ℕ → Bool)
-    (sound : (i : ℕ) → i < count → fit i ≡ true → (at i ≡ encode (node-of (kind-of (kind i)) (first i) (value i))) × NodeFits events In (node-of (kind-of (kind i)) (first i) (value i)))
-    (full : (i : ℕ) → i < count → fit i ≡ false → (n : Node B) → at i ≡ encode n → ¬ NodeFits events In n) where
+      (kind first : ℕ → ℕ) (value : ℕ → B) (fit : ℕ → Bool)
+      (sound : (i : ℕ) → i < count → fit i ≡ true → (at i ≡ encode (node-of (kind-of (kind i)) (first i) (value i))) × NodeFits events In (node-of (kind-of (kind i)) (first i) (value i)))
+      (full : (i : ℕ) → i < count → fit i ≡ false → (n : Node B) → at i ≡ encode n → ¬ NodeFits events In n) where
     abbrev ns : List (Node B)
     ns = nodes-from kind first value count 0
 
@@ -281,12 +299,15 @@ module _ {B : Type 0} (width : ℕ) (encode : Node B → List ℕ) (code : NodeC
       end-met _ (over (φ ∷ []) m ms q l d z) p e =
           let pq : q ≡ p = cc in
           let s : q ≡ size φ = z ∙ zero-plus (length (nodes φ ++ [])) ∙ ap length (append-nil (nodes φ)) ∙ length-nodes φ in
-          inr
-          (φ, m, ms,
-          nodes-there
-          ∙ ap (encode-all encode) (d ∙ ap (λ l. l ++ (m ∷ ms)) (append-nil (nodes φ)))
-          ∙ encode-append width encode code (nodes φ) (m ∷ ms),
-          ap (At 7) (sym pq ∙ s))
+          inr (
+            φ,
+            m,
+            ms,
+            nodes-there
+                ∙ ap (encode-all encode) (d ∙ ap (λ l. l ++ (m ∷ ms)) (append-nil (nodes φ)))
+                ∙ encode-append width encode code (nodes φ) (m ∷ ms),
+            ap (At 7) (sym pq ∙ s),
+          )
         where
           zero-plus : (n : ℕ) → 0 + n ≡ n
           zero-plus n = omega arith
@@ -295,12 +316,15 @@ module _ {B : Type 0} (width : ℕ) (encode : Node B → List ℕ) (code : NodeC
       end-met _ (short (φ ∷ []) m ms q l d z) p e =
           let pq : q ≡ p = cc in
           let s : q ≡ count = z ∙ zero-plus (length ns) ∙ length-from kind first value count 0 in
-          inl
-          (φ, m, ms,
-          ap (λ l. l ++ encode-all encode (m ∷ ms)) nodes-there
-          ∙ sym (encode-append width encode code ns (m ∷ ms))
-          ∙ ap (encode-all encode) (d ∙ append-nil (nodes φ)),
-          ap (At 7) (sym pq ∙ s))
+          inl (
+            φ,
+            m,
+            ms,
+            ap (λ l. l ++ encode-all encode (m ∷ ms)) nodes-there
+                ∙ sym (encode-append width encode code ns (m ∷ ms))
+                ∙ ap (encode-all encode) (d ∙ append-nil (nodes φ)),
+            ap (At 7) (sym pq ∙ s),
+          )
         where
           zero-plus : (n : ℕ) → 0 + n ≡ n
           zero-plus n = omega arith
@@ -330,13 +354,13 @@ module _ {B : Type 0} (width : ℕ) (encode : Node B → List ℕ) (code : NodeC
             (λ r e. (read, formula-there, answered-met (Unbound read) 8 (lowest-unbound 0 0 read) (unbound-answered read) r e))
             (λ e r m. answered-unmet (Unbound read) 8 (lowest-unbound 0 0 read) (unbound-answered read) e r (of-read (λ φ. at-lowest 8 (Unbound φ)) r m))
             (λ e.
-              first-last
-              (OfFormula width encode limit events In bytes (λ φ. at-lowest 9 (InClosedPosition φ)))
-              (at-found (lowest-closed closed-to-variable 0 read) 9)
-              (λ r d. (read, formula-there, answered-met (InClosedPosition read) 9 (lowest-closed closed-to-variable 0 read) (closed-answered read) r d))
-              (λ d r m.
-                answered-unmet (InClosedPosition read) 9 (lowest-closed closed-to-variable 0 read) (closed-answered read) d r
-                (of-read (λ φ. at-lowest 9 (InClosedPosition φ)) r m)))
+            first-last
+            (OfFormula width encode limit events In bytes (λ φ. at-lowest 9 (InClosedPosition φ)))
+            (at-found (lowest-closed closed-to-variable 0 read) 9)
+            (λ r d. (read, formula-there, answered-met (InClosedPosition read) 9 (lowest-closed closed-to-variable 0 read) (closed-answered read) r d))
+            (λ d r m.
+            answered-unmet (InClosedPosition read) 9 (lowest-closed closed-to-variable 0 read) (closed-answered read) d r
+            (of-read (λ φ. at-lowest 9 (InClosedPosition φ)) r m)))
 
         -- What is accepted.
         pub accepted-there : variables-refusal read ≡ none → Accepted limit events In read
@@ -347,13 +371,13 @@ module _ {B : Type 0} (width : ℕ) (encode : Node B → List ℕ) (code : NodeC
             record {
               within = subst (λ x. x ≤ limit) (sym s) (counted .within);
               closed =
-                free-below read 0 0 (λ j f. nowhere (Unbound read) (lowest-unbound 0 0 read) (unbound-answered read) (place-unmet (lowest-unbound 0 0 read) 8 (w .0)) j (fault-unbound read j f));
+                  free-below read 0 0 (λ j f. nowhere (Unbound read) (lowest-unbound 0 0 read) (unbound-answered read) (place-unmet (lowest-unbound 0 0 read) 8 (w .0)) j (fault-unbound read j f));
               position =
-                may-stand read closed-to-variable 0
-                (λ j f. nowhere (InClosedPosition read) (lowest-closed closed-to-variable 0 read) (closed-answered read) (place-unmet (lowest-closed closed-to-variable 0 read) 9 (w .1)) j (fault-closed read j f));
+                  may-stand read closed-to-variable 0
+                  (λ j f. nowhere (InClosedPosition read) (lowest-closed closed-to-variable 0 read) (closed-answered read) (place-unmet (lowest-closed closed-to-variable 0 read) 9 (w .1)) j (fault-closed read j f));
               fits =
-                fit-nodes events In read
-                (subst (All (NodeFits events In)) (no-fault kind first value count ended) (nodes-in count 0 (λ j l u. fits-there j (omega (arith, u))) (omega arith)));
+                  fit-nodes events In read
+                  (subst (All (NodeFits events In)) (no-fault kind first value count ended) (nodes-in count 0 (λ j l u. fits-there j (omega (arith, u))) (omega arith)));
             }
           where
             nowhere : (P : ℕ → Type 0) (o : Option ℕ) → Answered P o → o ≡ none → (j : ℕ) → ¬ P j
@@ -369,8 +393,8 @@ module _ {B : Type 0} (width : ℕ) (encode : Node B → List ℕ) (code : NodeC
         (plain-unless (count-fits width limit (length bytes)) 5)
         (or-else (at-found misfits 6) (or-else (at-found (end-fault kind 1 count 0) 7) (variables-refusal read)))
         (λ r e.
-          let w = plain-met (count-fits width limit (length bytes)) 5 r e in
-          (λ f. clash (sym (w .0) ∙ count-true width limit (length bytes) (record { whole = f .0; some-node = f .1; within = f .2 })), w .1))
+        let w = plain-met (count-fits width limit (length bytes)) 5 r e in
+        (λ f. clash (sym (w .0) ∙ count-true width limit (length bytes) (record { whole = f .0; some-node = f .1; within = f .2 })), w .1))
         (λ e r m. let f = count-facts width limit (length bytes) (plain-unmet (count-fits width limit (length bytes)) 5 e) in m .0 (f .whole, f .some-node, f .within))
         (λ e. first-later (count-facts width limit (length bytes) (plain-unmet (count-fits width limit (length bytes)) 5 e)))
       where
@@ -397,8 +421,8 @@ module _ {B : Type 0} (width : ℕ) (encode : Node B → List ℕ) (code : NodeC
             (at-found (end-fault kind 1 count 0) 7)
             (variables-refusal read)
             (λ r e.
-              let w = place-met (end-fault kind 1 count 0) 7 r e in
-              subst end (sym (w .2)) (end-met f m (end-fault kind 1 count 0) (outcome kind first value count 1 0) (w .0) (w .1)))
+            let w = place-met (end-fault kind 1 count 0) 7 r e in
+            subst end (sym (w .2)) (end-met f m (end-fault kind 1 count 0) (outcome kind first value count 1 0) (w .0) (w .1)))
             (λ e. unmet (formula-there f m (place-unmet (end-fault kind 1 count 0) 7 e)))
             (λ e. first-variables f m (place-unmet (end-fault kind 1 count 0) 7 e))
           where

@@ -1,17 +1,16 @@
 -- What is judged on the decoded fields is judged on the bytes.
 -- Assumes nothing.
-use mathlib.Core.Path.{_≡_, refl, sym, _∙_, ap, ap₂, subst}
-use mathlib.Core.Bool.{Bool, true, false, _&&_, cond}
-use mathlib.Core.Option.{Option, none, some}
+use mathlib.Core.Path.{_≡_, refl, sym, _∙_, ap}
+use mathlib.Core.Bool.{Bool, true, false, _&&_}
+use mathlib.Core.Option.{some}
 use mathlib.Core.List.{List}
 use Prim.Native.Nat.{ℕ, _/_, _%_, _≤_, _<_, min}
-use native.Mathlib.Nat.{min-le-left, min-le-right, min-eq-right}
+use native.Mathlib.Nat.{min-le-left, min-eq-right}
 use native.Mathlib.Omega.{arith}
 use lib.Dec.{eqb, ltb, leb}
 use lib.ListN.{length}
 use borrow.Author.Tests.{eqb-true, ltb-true, leb-true}
 use Rattle.refusal.specs.Refusal.{or-else, plain-unless}
-use Rattle.refusal.specs.declared.Refusal.{Refusal}
 use Rattle.refusal.specs.declared.Refusal.the-variants.{Plain}
 use Rattle.formulas.specs.RuleRefusal.{count-fits, nodes-refusal, kind-at, first-at, second-at, rule-refusal}
 use Rattle.formulas.specs.NodeWalks.{field}

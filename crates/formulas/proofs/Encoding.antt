@@ -6,7 +6,7 @@ use Prim.Native.Nat.{ℕ, zero, suc, _+_, _*_, _≤_, _<_}
 use native.Mathlib.Nat.{suc-mul, zero-mul, add-zero}
 use native.Mathlib.Omega.{arith}
 use lib.ListN.{length, getD, take, drop, length-append, List·getD-append, take-append-drop}
-use lib.Seq.{take-at, drop-at, drop-drop, drop-append-add, drop-length, take-all, getD-drop}
+use lib.Seq.{take-at, drop-at, drop-drop, drop-length, getD-drop}
 use Rattle.theory.specs.Formula.{Formula, size}
 use Rattle.theory.specs.PrefixCode.{Node, truth-node, variable-node, transition-node, output-node, conjunction-node, greatest-node, nodes}
 use Rattle.formulas.specs.NodeBytes.{kind-number, first-field, NodeCode, encode-all, encode-formula}
@@ -115,9 +115,9 @@ module _ {B : Type 0} where
 
       -- Nodes read through accessors are those whose bytes these are.
       module _
-        (kind first : ℕ → ℕ) (value : ℕ → B) (kinds : (i : ℕ) → kind i ≡ getD bytes (i * width) 0)
-        (firsts : (i : ℕ) → first i ≡ getD bytes (i * width + 1) 0)
-        (values : (i e : ℕ) (b : B) → take width (drop (i * width) bytes) ≡ encode (output-node e b) → value i ≡ b) where
+          (kind first : ℕ → ℕ) (value : ℕ → B) (kinds : (i : ℕ) → kind i ≡ getD bytes (i * width) 0)
+          (firsts : (i : ℕ) → first i ≡ getD bytes (i * width + 1) 0)
+          (values : (i e : ℕ) (b : B) → take width (drop (i * width) bytes) ≡ encode (output-node e b) → value i ≡ b) where
         byte-of : (i k : ℕ) (n : Node B) (ns : List (Node B)) → drop (i * width) bytes ≡ encode-all encode (n ∷ ns) → k < width → getD bytes (i * width + k) 0 ≡ getD (encode n) k 0
         byte-of i k n ns e h =
             sym (getD-drop (i * width) bytes k 0)

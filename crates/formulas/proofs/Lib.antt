@@ -21,3 +21,9 @@ pub mod Encoding
 pub mod Variables
 -- 5 to 9, however nodes lie in bytes.
 pub mod Conditions
+-- Three-byte nodes.
+pub mod ThreeBytes
+-- The claims.
+pub mod RuleClaims
+-- Cases, computed.
+pub mod RuleCases

@@ -9,7 +9,7 @@ use Prim.Native.Nat.{ℕ, zero, suc, _+_, _≤_, _<_}
 use native.Mathlib.Omega.{arith}
 use lib.Dec.{ltb}
 use lib.ListN.{length}
-use borrow.Author.Tests.{lt-ltb, le-ltb, ltb-true, ltb-false, not-true, not-false}
+use borrow.Author.Tests.{le-ltb, ltb-true, ltb-false, not-true}
 use Rattle.theory.specs.Formula.{Formula, truth, variable, transition, output, conjunction, greatest, size, FreeBelow, OpenPosition, ClosedPosition}
 use Rattle.theory.specs.PrefixCode.{Stands}
 use Rattle.theory.specs.PrefixCode.Stands.{root as stands-root, part-of-transition as stands-transition, left-part as stands-left, right-part as stands-right, part-of-greatest as stands-greatest}

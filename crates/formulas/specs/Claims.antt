@@ -4,7 +4,7 @@ use mathlib.Core.Path.{_≡_}
 use mathlib.Core.Logic.{_↔_}
 use mathlib.Core.Option.{Option, none}
 use mathlib.Core.List.{List, [], _∷_}
-use Prim.Native.Nat.{ℕ, _*_, _/_, _<_}
+use Prim.Native.Nat.{ℕ, _*_, _≤_}
 use lib.ListN.{length}
 use Rattle.theory.specs.Formula.{Formula, size, Accepted}
 use Rattle.theory.specs.PrefixCode.{Node}
@@ -15,6 +15,8 @@ use Rattle.refusal.specs.declared.Refusal.{Refusal}
 use Rattle.formulas.specs.NodeBytes.{NodeCode, encode-formula, three-bytes}
 use Rattle.formulas.specs.RuleConditions.{rule-conditions, NodeAtFault}
 use Rattle.formulas.specs.NodeReading.{Reads}
+use Rattle.formulas.specs.NodeWalks.{field}
+use Rattle.formulas.specs.NodeArrays.{decoded}
 use Rattle.formulas.specs.RuleRefusal.{node-width, node-limit, kind-at, first-at, second-at, rule-refusal, formula-of}
 
 -- Three bytes a node is a way to write nodes in bytes: equal bytes are of equal nodes.
@@ -57,6 +59,19 @@ AcceptedClaim =
 -- Bytes are the code of one formula at most, and that one is `formula-of`.
 abbrev pub FormulaOfClaim : Type 0
 FormulaOfClaim = (bytes : List ℕ) (φ : Formula ℕ) → bytes ≡ encode-formula three-bytes φ → φ ≡ formula-of bytes
+
+-- So accepted bytes are those of `formula-of`, which is accepted: what later promises speak of.
+abbrev pub AcceptedFormulaClaim : Type 0
+AcceptedFormulaClaim =
+    (events values : ℕ) (bytes : List ℕ) → rule-refusal events values bytes ≡ none → AcceptedFormula events values bytes (formula-of bytes)
+
+-- Its nodes are those of the decoded fields, through which walks reach them.
+pub record DecodedReads (bytes : List ℕ) (φ : Formula ℕ) : Type 0 where
+  pub counted : decoded bytes .count ≡ size φ
+  pub reads : Reads (field (decoded bytes .kinds)) (field (decoded bytes .firsts)) (field (decoded bytes .values)) 0 φ
+
+abbrev pub DecodedClaim : Type 0
+DecodedClaim = (bytes : List ℕ) (φ : Formula ℕ) → bytes ≡ encode-formula three-bytes φ → size φ ≤ node-limit → DecodedReads bytes φ
 
 -- Bytes are the code of a formula exactly if it reads through the accessors, up to the last node, and no node is at fault in itself.
 abbrev pub ReadsClaim : Type 0

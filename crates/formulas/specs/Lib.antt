@@ -9,3 +9,5 @@ pub mod NodeWalks
 pub mod NodeArrays
 -- The theorems as propositions.
 pub mod Claims
+-- Cases.
+pub mod RuleCases

@@ -7,7 +7,7 @@ ghost use lib.ListN.{length, getD};
 ghost use Rattle.refusal.specs.Refusal.{judgement};
 ghost use Rattle.formulas.specs.RuleConditions.{open-to-variable, closed-to-variable};
 ghost use Rattle.formulas.specs.RuleReading.{kind-of, fields-fit, awaited, end-fault, lowest-unbound, lowest-closed};
-ghost use Rattle.formulas.specs.RuleRefusal.{count-fits, misfit-place, structure-refusal, nodes-refusal, rule-refusal};
+ghost use Rattle.formulas.specs.RuleRefusal.{node-width, node-limit, count-fits, misfit-place, structure-refusal, nodes-refusal, rule-refusal};
 ghost use Rattle.formulas.specs.NodeWalks.{found, KindsWalked, FirstsWalked, VariablesJudged, KnownKinds, field};
 ghost use Rattle.formulas.specs.NodeArrays.{decoded};
 use refusal::CLOSED_VARIABLE;
@@ -50,7 +50,7 @@ fn wide(x: u8) -> usize
     x as usize
 }
 
-fn value(x: u8) -> u32
+fn value_of(x: u8) -> u32
     ensures { λ r. ⌜ r ≡ x ⌝ }
 {
     x as u32
@@ -58,7 +58,7 @@ fn value(x: u8) -> u32
 
 // 5: so many bytes are 1 to 256 whole nodes.
 fn count_fits(n: usize) -> bool
-    ensures { λ r. ⌜ r ≡ count-fits 3 256 n ⌝ }
+    ensures { λ r. ⌜ r ≡ count-fits node-width node-limit n ⌝ }
 {
     if n % NODE_WIDTH == 0 {
         let count = n / NODE_WIDTH;
@@ -71,7 +71,7 @@ fn count_fits(n: usize) -> bool
 
 // The whole nodes of these bytes, at most 256 of them.
 fn node_count(n: usize) -> usize
-    ensures { λ r. ⌜ r ≡ min 256 (n / 3) ⌝ }
+    ensures { λ r. ⌜ r ≡ min node-limit (n / node-width) ⌝ }
 {
     let count = n / NODE_WIDTH;
     if count < NODE_LIMIT {
@@ -93,7 +93,7 @@ pub fn decode(bytes: &[u8]) -> Nodes
     while i < count {
         kinds[i] = bytes[i * NODE_WIDTH];
         firsts[i] = bytes[i * NODE_WIDTH + 1];
-        values[i] = value(bytes[i * NODE_WIDTH + 2]);
+        values[i] = value_of(bytes[i * NODE_WIDTH + 2]);
         i += 1;
     }
     Nodes {

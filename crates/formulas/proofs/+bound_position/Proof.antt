@@ -1,15 +1,16 @@
-use mathlib.Core.Path.{_≡_, refl, sym, _∙_, ap}
+-- `bound_position` meets its contract: one step of the walk for each kind of node. The measure is the number of nodes left.
+-- Assumes nothing.
+use mathlib.Core.Path.{sym, ap}
 use mathlib.Core.Bool.{cond, not}
 use mathlib.Core.Option.{none, some}
-use Prim.Native.Nat.{suc, _+_}
+use Prim.Native.Nat.{ℕ, suc, _+_, _<_}
 use native.Mathlib.Numerals.{add-one}
 use native.Mathlib.Omega.{arith}
 use borrow.Author.Tests.{lt-ltb, le-ltb}
-use Rattle.formulas.specs.RuleReading.{unbound-below, lowest-unbound}
-use Rattle.formulas.specs.NodeWalks.{step, field, Judged}
+use Rattle.formulas.specs.RuleReading.{unbound-below}
+use Rattle.formulas.specs.NodeWalks.{step, field}
 use Rattle.formulas.proofs.Walking.{walk-none, walk-leaf, walk-variable, walk-transition, walk-greatest, walk-first, walk-second, within-part, within-second, within-next, within-here, within-fault}
 use borrow.Author.Needs.{needs}
-use Prim.Native.Nat.{ℕ, _<_}
 use borrow.Fn.Kinds.{In}
 use borrow.Fn.PlainCycle.{Measures, is, falls, and}
 use Rattle.formulas.proofs.bound_position.Reads as bound-position
@@ -38,7 +39,6 @@ bound-position-below t =
     (falls 2 bound-position-kinds.ps _<_ μ-bound-position t)
     bound-position.Pre
 
--- src/lib.rt:182:9
 bound-position-returns : (t : ℕ) → bound-position-lts.Need-returns (
   wide-reads.Asked,
   wide-reads.Learnt,
@@ -49,7 +49,6 @@ bound-position-returns t c =
     let a = c .before .args in
     record { within = within-here _ _ _ (omega arith) (omega arith); right = λ value. walk-none (field (a .kinds .now)) (field (a .firsts .now)) value unbound-below (λ d. d) suc (a .at) (a .left) (a .depth) _ (c .if1 .taken) }
 
--- src/lib.rt:184:16
 bound-position-element-copy-out-kind : (t : ℕ) → bound-position-lts.Need-element-copy-out-kind (
   wide-reads.Asked,
   wide-reads.Learnt,
@@ -58,7 +57,6 @@ bound-position-element-copy-out-kind : (t : ℕ) → bound-position-lts.Need-ele
 ) (bound-position-at t) bound-position.Post
 bound-position-element-copy-out-kind t c = search needs
 
--- src/lib.rt:186:17
 bound-position-element-copy-out-wide : (t : ℕ) → bound-position-lts.Need-element-copy-out-wide (
   wide-reads.Asked,
   wide-reads.Learnt,
@@ -67,7 +65,6 @@ bound-position-element-copy-out-wide : (t : ℕ) → bound-position-lts.Need-ele
 ) (bound-position-at t) bound-position.Post
 bound-position-element-copy-out-wide t c = search needs
 
--- src/lib.rt:186:12
 bound-position-wide-requires : (t : ℕ) → bound-position-lts.Need-wide-requires (
   wide-reads.Asked,
   wide-reads.Learnt,
@@ -76,7 +73,6 @@ bound-position-wide-requires : (t : ℕ) → bound-position-lts.Need-wide-requir
 ) (bound-position-at t) bound-position.Post
 bound-position-wide-requires t c κs = search needs
 
--- src/lib.rt:187:31
 bound-position-add-t18 : (t : ℕ) → bound-position-lts.Need-add-t18 (
   wide-reads.Asked,
   wide-reads.Learnt,
@@ -85,7 +81,6 @@ bound-position-add-t18 : (t : ℕ) → bound-position-lts.Need-add-t18 (
 ) (bound-position-at t) bound-position.Post
 bound-position-add-t18 t c = search needs
 
--- src/lib.rt:187:13
 bound-position-returns-2 : (t : ℕ) → bound-position-lts.Need-returns-2 (
   wide-reads.Asked,
   wide-reads.Learnt,
@@ -97,7 +92,6 @@ bound-position-returns-2 t c =
     let a = c .before .before .before .before .before .before .args in
     record { within = within-here _ _ _ (search needs) (search needs); right = λ value. walk-variable (field (a .kinds .now)) (field (a .firsts .now)) value unbound-below (λ d. d) suc (a .at) (a .left) (a .depth) _ (c .before .before .before .if2 .taken) (sym (ap (λ b. step (cond (not b) (some (a .at)) none) (a .at + 1)) (lt-ltb (field (a .firsts .now) (a .at)) (a .depth) (omega (arith, c .if3 .taken, c .before .wide .ensures .0))))) }
 
--- src/lib.rt:189:9
 bound-position-returns-3 : (t : ℕ) → bound-position-lts.Need-returns-3 (
   wide-reads.Asked,
   wide-reads.Learnt,
@@ -109,7 +103,6 @@ bound-position-returns-3 t c =
     let a = c .before .before .before .before .before .before .args in
     record { within = within-fault _ _ _; right = λ value. walk-variable (field (a .kinds .now)) (field (a .firsts .now)) value unbound-below (λ d. d) suc (a .at) (a .left) (a .depth) _ (c .before .before .before .if2 .taken) (sym (ap (λ b. step (cond (not b) (some (a .at)) none) (a .at + 1)) (le-ltb (field (a .firsts .now) (a .at)) (a .depth) (omega (arith, c .if3 .left, c .before .wide .ensures .0))))) }
 
--- src/lib.rt:192:46
 bound-position-add-bound-position : (t : ℕ) → bound-position-lts.Need-add-bound-position (
   wide-reads.Asked,
   wide-reads.Learnt,
@@ -118,7 +111,6 @@ bound-position-add-bound-position : (t : ℕ) → bound-position-lts.Need-add-bo
 ) (bound-position-at t) bound-position.Post
 bound-position-add-bound-position t c = search needs
 
--- src/lib.rt:192:54
 bound-position-sub-bound-position : (t : ℕ) → bound-position-lts.Need-sub-bound-position (
   wide-reads.Asked,
   wide-reads.Learnt,
@@ -127,7 +119,6 @@ bound-position-sub-bound-position : (t : ℕ) → bound-position-lts.Need-sub-bo
 ) (bound-position-at t) bound-position.Post
 bound-position-sub-bound-position t c = search needs
 
--- src/lib.rt:192:9
 bound-position-bound-position-requires : (t : ℕ) → bound-position-lts.Need-bound-position-requires (
   wide-reads.Asked,
   wide-reads.Learnt,
@@ -136,7 +127,6 @@ bound-position-bound-position-requires : (t : ℕ) → bound-position-lts.Need-b
 ) (bound-position-at t) bound-position.Post
 bound-position-bound-position-requires t c κs = search needs
 
--- src/lib.rt:192:9
 bound-position-returns-4 : (t : ℕ) → bound-position-lts.Need-returns-4 (
   wide-reads.Asked,
   wide-reads.Learnt,
@@ -147,7 +137,6 @@ bound-position-returns-4 t c =
     let a = c .before .before .before .before .before .args in
     record { within = within-part _ _ _ (c .before .before .before .before .if1 .left) (c .bound-position .ensures .within); right = λ value. walk-transition (field (a .kinds .now)) (field (a .firsts .now)) value unbound-below (λ d. d) suc (a .at) (a .left) (a .depth) _ (c .before .if4 .taken) (c .bound-position .ensures .right value) }
 
--- src/lib.rt:195:49
 bound-position-add-bound-position-2 : (t : ℕ) → bound-position-lts.Need-add-bound-position-2 (
   wide-reads.Asked,
   wide-reads.Learnt,
@@ -156,7 +145,6 @@ bound-position-add-bound-position-2 : (t : ℕ) → bound-position-lts.Need-add-
 ) (bound-position-at t) bound-position.Post
 bound-position-add-bound-position-2 t c = search needs
 
--- src/lib.rt:195:57
 bound-position-sub-bound-position-2 : (t : ℕ) → bound-position-lts.Need-sub-bound-position-2 (
   wide-reads.Asked,
   wide-reads.Learnt,
@@ -165,7 +153,6 @@ bound-position-sub-bound-position-2 : (t : ℕ) → bound-position-lts.Need-sub-
 ) (bound-position-at t) bound-position.Post
 bound-position-sub-bound-position-2 t c = search needs
 
--- src/lib.rt:195:13
 bound-position-bound-position-requires-2 :
     (t : ℕ) → bound-position-lts.Need-bound-position-requires-2 (
       wide-reads.Asked,
@@ -175,7 +162,6 @@ bound-position-bound-position-requires-2 :
     ) (bound-position-at t) bound-position.Post
 bound-position-bound-position-requires-2 t c κs = search needs
 
--- src/lib.rt:196:24
 bound-position-enum-known-one : (t : ℕ) → bound-position-lts.Need-enum-known-one (
   wide-reads.Asked,
   wide-reads.Learnt,
@@ -184,7 +170,6 @@ bound-position-enum-known-one : (t : ℕ) → bound-position-lts.Need-enum-known
 ) (bound-position-at t) bound-position.Post
 bound-position-enum-known-one t c = search needs
 
--- src/lib.rt:197:13
 bound-position-enum-told : (t : ℕ) → bound-position-lts.Need-enum-told (
   wide-reads.Asked,
   wide-reads.Learnt,
@@ -193,7 +178,6 @@ bound-position-enum-told : (t : ℕ) → bound-position-lts.Need-enum-told (
 ) (bound-position-at t) bound-position.Post
 bound-position-enum-told t c = search needs
 
--- src/lib.rt:197:13
 bound-position-returns-5 : (t : ℕ) → bound-position-lts.Need-returns-5 (
   wide-reads.Asked,
   wide-reads.Learnt,
@@ -204,7 +188,6 @@ bound-position-returns-5 t c =
     let a = c .before .before .before .before .before .before .before .before .args in
     record { within = within-part _ _ _ (c .before .before .before .before .before .before .before .if1 .left) (c .before .before .bound-position2 .ensures .within); right = λ value. walk-first (field (a .kinds .now)) (field (a .firsts .now)) value unbound-below (λ d. d) suc (a .at) (a .left) (a .depth) (c .before .before .before .if5 .taken) _ (c .before .before .bound-position2 .ensures .right value) _ (c .enum-told .given .1) }
 
--- src/lib.rt:199:49
 bound-position-add-bound-position-3 : (t : ℕ) → bound-position-lts.Need-add-bound-position-3 (
   wide-reads.Asked,
   wide-reads.Learnt,
@@ -213,7 +196,6 @@ bound-position-add-bound-position-3 : (t : ℕ) → bound-position-lts.Need-add-
 ) (bound-position-at t) bound-position.Post
 bound-position-add-bound-position-3 t c = search needs
 
--- src/lib.rt:199:49
 bound-position-sub-bound-position-3 : (t : ℕ) → bound-position-lts.Need-sub-bound-position-3 (
   wide-reads.Asked,
   wide-reads.Learnt,
@@ -224,7 +206,6 @@ bound-position-sub-bound-position-3 t c =
     let w = within-next _ _ _ (c .before .before .before .bound-position2 .result) (c .before .one .given .1) (c .before .before .before .bound-position2 .ensures .within) in
     omega (arith, w .0, w .1)
 
--- src/lib.rt:199:9
 bound-position-bound-position-requires-3 :
     (t : ℕ) → bound-position-lts.Need-bound-position-requires-3 (
       wide-reads.Asked,
@@ -236,7 +217,6 @@ bound-position-bound-position-requires-3 t c κs =
     let w = within-next _ _ _ (c .before .before .before .bound-position2 .result) (c .before .one .given .1) (c .before .before .before .bound-position2 .ensures .within) in
     (omega (arith, w .0, w .1), (omega (arith, w .0, w .1), omega (arith, w .0, w .1), search needs, search needs))
 
--- src/lib.rt:199:9
 bound-position-returns-6 : (t : ℕ) → bound-position-lts.Need-returns-6 (
   wide-reads.Asked,
   wide-reads.Learnt,
@@ -248,7 +228,6 @@ bound-position-returns-6 t c =
     let w = within-next _ _ _ (c .before .before .before .before .bound-position2 .result) (c .before .before .one .given .1) (c .before .before .before .before .bound-position2 .ensures .within) in
     record { within = within-second _ _ _ _ (omega (arith, w .0)) (omega (arith, w .1)) (c .bound-position3 .ensures .within); right = λ value. walk-second (field (a .kinds .now)) (field (a .firsts .now)) value unbound-below (λ d. d) suc (a .at) (a .left) (a .depth) (c .before .before .before .before .before .if5 .taken) (c .before .before .before .before .bound-position2 .result) (c .before .before .before .before .bound-position2 .ensures .right value) _ _ (c .before .before .one .given .1) (c .bound-position3 .ensures .right value) }
 
--- src/lib.rt:202:46
 bound-position-add-bound-position-4 : (t : ℕ) → bound-position-lts.Need-add-bound-position-4 (
   wide-reads.Asked,
   wide-reads.Learnt,
@@ -257,7 +236,6 @@ bound-position-add-bound-position-4 : (t : ℕ) → bound-position-lts.Need-add-
 ) (bound-position-at t) bound-position.Post
 bound-position-add-bound-position-4 t c = search needs
 
--- src/lib.rt:202:54
 bound-position-sub-bound-position-4 : (t : ℕ) → bound-position-lts.Need-sub-bound-position-4 (
   wide-reads.Asked,
   wide-reads.Learnt,
@@ -266,7 +244,6 @@ bound-position-sub-bound-position-4 : (t : ℕ) → bound-position-lts.Need-sub-
 ) (bound-position-at t) bound-position.Post
 bound-position-sub-bound-position-4 t c = search needs
 
--- src/lib.rt:202:64
 bound-position-add-bound-position-5 : (t : ℕ) → bound-position-lts.Need-add-bound-position-5 (
   wide-reads.Asked,
   wide-reads.Learnt,
@@ -275,7 +252,6 @@ bound-position-add-bound-position-5 : (t : ℕ) → bound-position-lts.Need-add-
 ) (bound-position-at t) bound-position.Post
 bound-position-add-bound-position-5 t c = search needs
 
--- src/lib.rt:202:9
 bound-position-bound-position-requires-4 :
     (t : ℕ) → bound-position-lts.Need-bound-position-requires-4 (
       wide-reads.Asked,
@@ -285,7 +261,6 @@ bound-position-bound-position-requires-4 :
     ) (bound-position-at t) bound-position.Post
 bound-position-bound-position-requires-4 t c κs = search needs
 
--- src/lib.rt:202:9
 bound-position-returns-7 : (t : ℕ) → bound-position-lts.Need-returns-7 (
   wide-reads.Asked,
   wide-reads.Learnt,
@@ -296,7 +271,6 @@ bound-position-returns-7 t c =
     let a = c .before .before .before .before .before .before .before .args in
     record { within = within-part _ _ _ (c .before .before .before .before .before .before .if1 .left) (c .bound-position4 .ensures .within); right = λ value. walk-greatest (field (a .kinds .now)) (field (a .firsts .now)) value unbound-below (λ d. d) suc (a .at) (a .left) (a .depth) _ (c .before .if6 .taken) (rw (← (add-one (a .depth))) (c .bound-position4 .ensures .right value)) }
 
--- src/lib.rt:204:16
 bound-position-add-t26 : (t : ℕ) → bound-position-lts.Need-add-t26 (
   wide-reads.Asked,
   wide-reads.Learnt,
@@ -305,7 +279,6 @@ bound-position-add-t26 : (t : ℕ) → bound-position-lts.Need-add-t26 (
 ) (bound-position-at t) bound-position.Post
 bound-position-add-t26 t c = search needs
 
--- src/lib.rt:177:1
 bound-position-returns-8 : (t : ℕ) → bound-position-lts.Need-returns-8 (
   wide-reads.Asked,
   wide-reads.Learnt,

@@ -1,9 +1,10 @@
-use mathlib.Core.Path.{_≡_, refl}
-use Prim.Native.Nat.{_+_}
+-- `closed_position` and `open_position` meet their contracts: one step of the walk for each kind of node. The measure is the number of nodes left.
+-- Assumes nothing.
+use mathlib.Core.Path.{refl}
 use native.Mathlib.Omega.{arith}
-use Rattle.formulas.specs.RuleConditions.{Position, open-to-variable, closed-to-variable}
-use Rattle.formulas.specs.RuleReading.{closed-there, lowest-closed}
-use Rattle.formulas.specs.NodeWalks.{step, field, Judged}
+use Rattle.formulas.specs.RuleConditions.{open-to-variable, closed-to-variable}
+use Rattle.formulas.specs.RuleReading.{closed-there}
+use Rattle.formulas.specs.NodeWalks.{step, field}
 use Rattle.formulas.proofs.Walking.{walk-none, walk-leaf, walk-variable, walk-transition, walk-greatest, walk-first, walk-second, within-part, within-second, within-next, within-here, within-fault}
 use borrow.Author.Needs.{needs}
 use Prim.Native.Nat.{ℕ, _<_}
@@ -52,7 +53,6 @@ open-position-below t =
     (falls 1 open-position-kinds.ps _<_ μ-open-position t)
     open-position.Pre
 
--- src/lib.rt:213:9
 closed-position-returns : (t : ℕ) → closed-position-lts.Need-returns (
   open-position-below t,
   open-position.Post,
@@ -63,7 +63,6 @@ closed-position-returns t c =
     let a = c .before .args in
     record { within = within-here _ _ _ (omega arith) (omega arith); right = λ first value. walk-none (field (a .kinds .now)) first value closed-there (λ p. open-to-variable) (λ p. closed-to-variable) (a .at) (a .left) closed-to-variable _ (c .if1 .taken) }
 
--- src/lib.rt:215:16
 closed-position-element-copy-out-kind : (t : ℕ) → closed-position-lts.Need-element-copy-out-kind (
   open-position-below t,
   open-position.Post,
@@ -72,7 +71,6 @@ closed-position-element-copy-out-kind : (t : ℕ) → closed-position-lts.Need-e
 ) (closed-position-at t) closed-position.Post
 closed-position-element-copy-out-kind t c = search needs
 
--- src/lib.rt:217:9
 closed-position-returns-2 : (t : ℕ) → closed-position-lts.Need-returns-2 (
   open-position-below t,
   open-position.Post,
@@ -84,7 +82,6 @@ closed-position-returns-2 t c =
     let a = c .before .before .before .args in
     record { within = within-fault _ _ _; right = λ first value. walk-variable (field (a .kinds .now)) first value closed-there (λ p. open-to-variable) (λ p. closed-to-variable) (a .at) (a .left) closed-to-variable _ (c .if2 .taken) refl }
 
--- src/lib.rt:220:37
 closed-position-add-open-position : (t : ℕ) → closed-position-lts.Need-add-open-position (
   open-position-below t,
   open-position.Post,
@@ -93,7 +90,6 @@ closed-position-add-open-position : (t : ℕ) → closed-position-lts.Need-add-o
 ) (closed-position-at t) closed-position.Post
 closed-position-add-open-position t c = search needs
 
--- src/lib.rt:220:45
 closed-position-sub-open-position : (t : ℕ) → closed-position-lts.Need-sub-open-position (
   open-position-below t,
   open-position.Post,
@@ -102,7 +98,6 @@ closed-position-sub-open-position : (t : ℕ) → closed-position-lts.Need-sub-o
 ) (closed-position-at t) closed-position.Post
 closed-position-sub-open-position t c = search needs
 
--- src/lib.rt:220:9
 closed-position-open-position-requires : (t : ℕ) → closed-position-lts.Need-open-position-requires (
   open-position-below t,
   open-position.Post,
@@ -111,7 +106,6 @@ closed-position-open-position-requires : (t : ℕ) → closed-position-lts.Need-
 ) (closed-position-at t) closed-position.Post
 closed-position-open-position-requires t c κs = search needs
 
--- src/lib.rt:220:9
 closed-position-returns-3 : (t : ℕ) → closed-position-lts.Need-returns-3 (
   open-position-below t,
   open-position.Post,
@@ -122,7 +116,6 @@ closed-position-returns-3 t c =
     let a = c .before .before .before .before .before .args in
     record { within = within-part _ _ _ (c .before .before .before .before .if1 .left) (c .open-position .ensures .within); right = λ first value. walk-transition (field (a .kinds .now)) first value closed-there (λ p. open-to-variable) (λ p. closed-to-variable) (a .at) (a .left) closed-to-variable _ (c .before .if3 .taken) (c .open-position .ensures .right first value) }
 
--- src/lib.rt:223:42
 closed-position-add-closed-position : (t : ℕ) → closed-position-lts.Need-add-closed-position (
   open-position-below t,
   open-position.Post,
@@ -131,7 +124,6 @@ closed-position-add-closed-position : (t : ℕ) → closed-position-lts.Need-add
 ) (closed-position-at t) closed-position.Post
 closed-position-add-closed-position t c = search needs
 
--- src/lib.rt:223:50
 closed-position-sub-closed-position : (t : ℕ) → closed-position-lts.Need-sub-closed-position (
   open-position-below t,
   open-position.Post,
@@ -140,7 +132,6 @@ closed-position-sub-closed-position : (t : ℕ) → closed-position-lts.Need-sub
 ) (closed-position-at t) closed-position.Post
 closed-position-sub-closed-position t c = search needs
 
--- src/lib.rt:223:13
 closed-position-closed-position-requires :
     (t : ℕ) → closed-position-lts.Need-closed-position-requires (
       open-position-below t,
@@ -150,7 +141,6 @@ closed-position-closed-position-requires :
     ) (closed-position-at t) closed-position.Post
 closed-position-closed-position-requires t c κs = search needs
 
--- src/lib.rt:224:24
 closed-position-enum-known-one : (t : ℕ) → closed-position-lts.Need-enum-known-one (
   open-position-below t,
   open-position.Post,
@@ -159,7 +149,6 @@ closed-position-enum-known-one : (t : ℕ) → closed-position-lts.Need-enum-kno
 ) (closed-position-at t) closed-position.Post
 closed-position-enum-known-one t c = search needs
 
--- src/lib.rt:225:13
 closed-position-enum-told : (t : ℕ) → closed-position-lts.Need-enum-told (
   open-position-below t,
   open-position.Post,
@@ -168,7 +157,6 @@ closed-position-enum-told : (t : ℕ) → closed-position-lts.Need-enum-told (
 ) (closed-position-at t) closed-position.Post
 closed-position-enum-told t c = search needs
 
--- src/lib.rt:225:13
 closed-position-returns-4 : (t : ℕ) → closed-position-lts.Need-returns-4 (
   open-position-below t,
   open-position.Post,
@@ -179,7 +167,6 @@ closed-position-returns-4 t c =
     let a = c .before .before .before .before .before .before .before .before .args in
     record { within = within-part _ _ _ (c .before .before .before .before .before .before .before .if1 .left) (c .before .before .closed-position .ensures .within); right = λ first value. walk-first (field (a .kinds .now)) first value closed-there (λ p. open-to-variable) (λ p. closed-to-variable) (a .at) (a .left) closed-to-variable (c .before .before .before .if4 .taken) _ (c .before .before .closed-position .ensures .right first value) _ (c .enum-told .given .1) }
 
--- src/lib.rt:227:42
 closed-position-add-closed-position-2 : (t : ℕ) → closed-position-lts.Need-add-closed-position-2 (
   open-position-below t,
   open-position.Post,
@@ -188,7 +175,6 @@ closed-position-add-closed-position-2 : (t : ℕ) → closed-position-lts.Need-a
 ) (closed-position-at t) closed-position.Post
 closed-position-add-closed-position-2 t c = search needs
 
--- src/lib.rt:227:42
 closed-position-sub-closed-position-2 : (t : ℕ) → closed-position-lts.Need-sub-closed-position-2 (
   open-position-below t,
   open-position.Post,
@@ -199,7 +185,6 @@ closed-position-sub-closed-position-2 t c =
     let w = within-next _ _ _ (c .before .before .before .closed-position .result) (c .before .one .given .1) (c .before .before .before .closed-position .ensures .within) in
     omega (arith, w .0, w .1)
 
--- src/lib.rt:227:9
 closed-position-closed-position-requires-2 :
     (t : ℕ) → closed-position-lts.Need-closed-position-requires-2 (
       open-position-below t,
@@ -211,7 +196,6 @@ closed-position-closed-position-requires-2 t c κs =
     let w = within-next _ _ _ (c .before .before .before .closed-position .result) (c .before .one .given .1) (c .before .before .before .closed-position .ensures .within) in
     (omega (arith, w .0, w .1), (omega (arith, w .0, w .1), search needs))
 
--- src/lib.rt:227:9
 closed-position-returns-5 : (t : ℕ) → closed-position-lts.Need-returns-5 (
   open-position-below t,
   open-position.Post,
@@ -223,7 +207,6 @@ closed-position-returns-5 t c =
     let w = within-next _ _ _ (c .before .before .before .before .closed-position .result) (c .before .before .one .given .1) (c .before .before .before .before .closed-position .ensures .within) in
     record { within = within-second _ _ _ _ (omega (arith, w .0)) (omega (arith, w .1)) (c .closed-position2 .ensures .within); right = λ first value. walk-second (field (a .kinds .now)) first value closed-there (λ p. open-to-variable) (λ p. closed-to-variable) (a .at) (a .left) closed-to-variable (c .before .before .before .before .before .if4 .taken) (c .before .before .before .before .closed-position .result) (c .before .before .before .before .closed-position .ensures .right first value) _ _ (c .before .before .one .given .1) (c .closed-position2 .ensures .right first value) }
 
--- src/lib.rt:230:39
 closed-position-add-closed-position-3 : (t : ℕ) → closed-position-lts.Need-add-closed-position-3 (
   open-position-below t,
   open-position.Post,
@@ -232,7 +215,6 @@ closed-position-add-closed-position-3 : (t : ℕ) → closed-position-lts.Need-a
 ) (closed-position-at t) closed-position.Post
 closed-position-add-closed-position-3 t c = search needs
 
--- src/lib.rt:230:47
 closed-position-sub-closed-position-3 : (t : ℕ) → closed-position-lts.Need-sub-closed-position-3 (
   open-position-below t,
   open-position.Post,
@@ -241,7 +223,6 @@ closed-position-sub-closed-position-3 : (t : ℕ) → closed-position-lts.Need-s
 ) (closed-position-at t) closed-position.Post
 closed-position-sub-closed-position-3 t c = search needs
 
--- src/lib.rt:230:9
 closed-position-closed-position-requires-3 :
     (t : ℕ) → closed-position-lts.Need-closed-position-requires-3 (
       open-position-below t,
@@ -251,7 +232,6 @@ closed-position-closed-position-requires-3 :
     ) (closed-position-at t) closed-position.Post
 closed-position-closed-position-requires-3 t c κs = search needs
 
--- src/lib.rt:230:9
 closed-position-returns-6 : (t : ℕ) → closed-position-lts.Need-returns-6 (
   open-position-below t,
   open-position.Post,
@@ -262,7 +242,6 @@ closed-position-returns-6 t c =
     let a = c .before .before .before .before .before .before .before .args in
     record { within = within-part _ _ _ (c .before .before .before .before .before .before .if1 .left) (c .closed-position3 .ensures .within); right = λ first value. walk-greatest (field (a .kinds .now)) first value closed-there (λ p. open-to-variable) (λ p. closed-to-variable) (a .at) (a .left) closed-to-variable _ (c .before .if5 .taken) (c .closed-position3 .ensures .right first value) }
 
--- src/lib.rt:232:16
 closed-position-add-t17 : (t : ℕ) → closed-position-lts.Need-add-t17 (
   open-position-below t,
   open-position.Post,
@@ -271,7 +250,6 @@ closed-position-add-t17 : (t : ℕ) → closed-position-lts.Need-add-t17 (
 ) (closed-position-at t) closed-position.Post
 closed-position-add-t17 t c = search needs
 
--- src/lib.rt:208:1
 closed-position-returns-7 : (t : ℕ) → closed-position-lts.Need-returns-7 (
   open-position-below t,
   open-position.Post,
@@ -282,7 +260,6 @@ closed-position-returns-7 t c =
     let a = c .before .before .before .before .before .before .args in
     record { within = within-here _ _ _ (search needs) (search needs); right = λ first value. walk-leaf (field (a .kinds .now)) first value closed-there (λ p. open-to-variable) (λ p. closed-to-variable) (a .at) (a .left) closed-to-variable (λ e. absurd (c .before .before .before .if2 .left e)) (c .before .before .if3 .left) (c .before .if4 .left) (c .if5 .left) }
 
--- src/lib.rt:241:9
 open-position-returns : (t : ℕ) → open-position-lts.Need-returns (
   open-position-below t,
   open-position.Post,
@@ -293,7 +270,6 @@ open-position-returns t c =
     let a = c .before .args in
     record { within = within-here _ _ _ (omega arith) (omega arith); right = λ first value. walk-none (field (a .kinds .now)) first value closed-there (λ p. open-to-variable) (λ p. closed-to-variable) (a .at) (a .left) open-to-variable _ (c .if1 .taken) }
 
--- src/lib.rt:243:16
 open-position-element-copy-out-kind : (t : ℕ) → open-position-lts.Need-element-copy-out-kind (
   open-position-below t,
   open-position.Post,
@@ -302,7 +278,6 @@ open-position-element-copy-out-kind : (t : ℕ) → open-position-lts.Need-eleme
 ) (open-position-at t) open-position.Post
 open-position-element-copy-out-kind t c = search needs
 
--- src/lib.rt:245:37
 open-position-add-open-position : (t : ℕ) → open-position-lts.Need-add-open-position (
   open-position-below t,
   open-position.Post,
@@ -311,7 +286,6 @@ open-position-add-open-position : (t : ℕ) → open-position-lts.Need-add-open-
 ) (open-position-at t) open-position.Post
 open-position-add-open-position t c = search needs
 
--- src/lib.rt:245:45
 open-position-sub-open-position : (t : ℕ) → open-position-lts.Need-sub-open-position (
   open-position-below t,
   open-position.Post,
@@ -320,7 +294,6 @@ open-position-sub-open-position : (t : ℕ) → open-position-lts.Need-sub-open-
 ) (open-position-at t) open-position.Post
 open-position-sub-open-position t c = search needs
 
--- src/lib.rt:245:9
 open-position-open-position-requires : (t : ℕ) → open-position-lts.Need-open-position-requires (
   open-position-below t,
   open-position.Post,
@@ -329,7 +302,6 @@ open-position-open-position-requires : (t : ℕ) → open-position-lts.Need-open
 ) (open-position-at t) open-position.Post
 open-position-open-position-requires t c κs = search needs
 
--- src/lib.rt:245:9
 open-position-returns-2 : (t : ℕ) → open-position-lts.Need-returns-2 (
   open-position-below t,
   open-position.Post,
@@ -340,7 +312,6 @@ open-position-returns-2 t c =
     let a = c .before .before .before .before .args in
     record { within = within-part _ _ _ (c .before .before .before .if1 .left) (c .open-position .ensures .within); right = λ first value. walk-transition (field (a .kinds .now)) first value closed-there (λ p. open-to-variable) (λ p. closed-to-variable) (a .at) (a .left) open-to-variable _ (c .before .if2 .taken) (c .open-position .ensures .right first value) }
 
--- src/lib.rt:248:40
 open-position-add-open-position-2 : (t : ℕ) → open-position-lts.Need-add-open-position-2 (
   open-position-below t,
   open-position.Post,
@@ -349,7 +320,6 @@ open-position-add-open-position-2 : (t : ℕ) → open-position-lts.Need-add-ope
 ) (open-position-at t) open-position.Post
 open-position-add-open-position-2 t c = search needs
 
--- src/lib.rt:248:48
 open-position-sub-open-position-2 : (t : ℕ) → open-position-lts.Need-sub-open-position-2 (
   open-position-below t,
   open-position.Post,
@@ -358,7 +328,6 @@ open-position-sub-open-position-2 : (t : ℕ) → open-position-lts.Need-sub-ope
 ) (open-position-at t) open-position.Post
 open-position-sub-open-position-2 t c = search needs
 
--- src/lib.rt:248:13
 open-position-open-position-requires-2 : (t : ℕ) → open-position-lts.Need-open-position-requires-2 (
   open-position-below t,
   open-position.Post,
@@ -367,7 +336,6 @@ open-position-open-position-requires-2 : (t : ℕ) → open-position-lts.Need-op
 ) (open-position-at t) open-position.Post
 open-position-open-position-requires-2 t c κs = search needs
 
--- src/lib.rt:249:24
 open-position-enum-known-one : (t : ℕ) → open-position-lts.Need-enum-known-one (
   open-position-below t,
   open-position.Post,
@@ -376,7 +344,6 @@ open-position-enum-known-one : (t : ℕ) → open-position-lts.Need-enum-known-o
 ) (open-position-at t) open-position.Post
 open-position-enum-known-one t c = search needs
 
--- src/lib.rt:250:13
 open-position-enum-told : (t : ℕ) → open-position-lts.Need-enum-told (
   open-position-below t,
   open-position.Post,
@@ -385,7 +352,6 @@ open-position-enum-told : (t : ℕ) → open-position-lts.Need-enum-told (
 ) (open-position-at t) open-position.Post
 open-position-enum-told t c = search needs
 
--- src/lib.rt:250:13
 open-position-returns-3 : (t : ℕ) → open-position-lts.Need-returns-3 (
   open-position-below t,
   open-position.Post,
@@ -396,7 +362,6 @@ open-position-returns-3 t c =
     let a = c .before .before .before .before .before .before .before .args in
     record { within = within-part _ _ _ (c .before .before .before .before .before .before .if1 .left) (c .before .before .open-position2 .ensures .within); right = λ first value. walk-first (field (a .kinds .now)) first value closed-there (λ p. open-to-variable) (λ p. closed-to-variable) (a .at) (a .left) open-to-variable (c .before .before .before .if3 .taken) _ (c .before .before .open-position2 .ensures .right first value) _ (c .enum-told .given .1) }
 
--- src/lib.rt:252:40
 open-position-add-open-position-3 : (t : ℕ) → open-position-lts.Need-add-open-position-3 (
   open-position-below t,
   open-position.Post,
@@ -405,7 +370,6 @@ open-position-add-open-position-3 : (t : ℕ) → open-position-lts.Need-add-ope
 ) (open-position-at t) open-position.Post
 open-position-add-open-position-3 t c = search needs
 
--- src/lib.rt:252:40
 open-position-sub-open-position-3 : (t : ℕ) → open-position-lts.Need-sub-open-position-3 (
   open-position-below t,
   open-position.Post,
@@ -416,7 +380,6 @@ open-position-sub-open-position-3 t c =
     let w = within-next _ _ _ (c .before .before .before .open-position2 .result) (c .before .one .given .1) (c .before .before .before .open-position2 .ensures .within) in
     omega (arith, w .0, w .1)
 
--- src/lib.rt:252:9
 open-position-open-position-requires-3 : (t : ℕ) → open-position-lts.Need-open-position-requires-3 (
   open-position-below t,
   open-position.Post,
@@ -427,7 +390,6 @@ open-position-open-position-requires-3 t c κs =
     let w = within-next _ _ _ (c .before .before .before .open-position2 .result) (c .before .one .given .1) (c .before .before .before .open-position2 .ensures .within) in
     (omega (arith, w .0, w .1), (omega (arith, w .0, w .1), search needs))
 
--- src/lib.rt:252:9
 open-position-returns-4 : (t : ℕ) → open-position-lts.Need-returns-4 (
   open-position-below t,
   open-position.Post,
@@ -439,7 +401,6 @@ open-position-returns-4 t c =
     let w = within-next _ _ _ (c .before .before .before .before .open-position2 .result) (c .before .before .one .given .1) (c .before .before .before .before .open-position2 .ensures .within) in
     record { within = within-second _ _ _ _ (omega (arith, w .0)) (omega (arith, w .1)) (c .open-position3 .ensures .within); right = λ first value. walk-second (field (a .kinds .now)) first value closed-there (λ p. open-to-variable) (λ p. closed-to-variable) (a .at) (a .left) open-to-variable (c .before .before .before .before .before .if3 .taken) (c .before .before .before .before .open-position2 .result) (c .before .before .before .before .open-position2 .ensures .right first value) _ _ (c .before .before .one .given .1) (c .open-position3 .ensures .right first value) }
 
--- src/lib.rt:255:39
 open-position-add-closed-position : (t : ℕ) → open-position-lts.Need-add-closed-position (
   open-position-below t,
   open-position.Post,
@@ -448,7 +409,6 @@ open-position-add-closed-position : (t : ℕ) → open-position-lts.Need-add-clo
 ) (open-position-at t) open-position.Post
 open-position-add-closed-position t c = search needs
 
--- src/lib.rt:255:47
 open-position-sub-closed-position : (t : ℕ) → open-position-lts.Need-sub-closed-position (
   open-position-below t,
   open-position.Post,
@@ -457,7 +417,6 @@ open-position-sub-closed-position : (t : ℕ) → open-position-lts.Need-sub-clo
 ) (open-position-at t) open-position.Post
 open-position-sub-closed-position t c = search needs
 
--- src/lib.rt:255:9
 open-position-closed-position-requires : (t : ℕ) → open-position-lts.Need-closed-position-requires (
   open-position-below t,
   open-position.Post,
@@ -466,7 +425,6 @@ open-position-closed-position-requires : (t : ℕ) → open-position-lts.Need-cl
 ) (open-position-at t) open-position.Post
 open-position-closed-position-requires t c κs = search needs
 
--- src/lib.rt:255:9
 open-position-returns-5 : (t : ℕ) → open-position-lts.Need-returns-5 (
   open-position-below t,
   open-position.Post,
@@ -477,7 +435,6 @@ open-position-returns-5 t c =
     let a = c .before .before .before .before .before .before .args in
     record { within = within-part _ _ _ (c .before .before .before .before .before .if1 .left) (c .closed-position .ensures .within); right = λ first value. walk-greatest (field (a .kinds .now)) first value closed-there (λ p. open-to-variable) (λ p. closed-to-variable) (a .at) (a .left) open-to-variable _ (c .before .if4 .taken) (c .closed-position .ensures .right first value) }
 
--- src/lib.rt:257:16
 open-position-add-t17 : (t : ℕ) → open-position-lts.Need-add-t17 (
   open-position-below t,
   open-position.Post,
@@ -486,7 +443,6 @@ open-position-add-t17 : (t : ℕ) → open-position-lts.Need-add-t17 (
 ) (open-position-at t) open-position.Post
 open-position-add-t17 t c = search needs
 
--- src/lib.rt:236:1
 open-position-returns-6 : (t : ℕ) → open-position-lts.Need-returns-6 (
   open-position-below t,
   open-position.Post,

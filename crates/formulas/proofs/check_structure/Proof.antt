@@ -1,32 +1,21 @@
-use mathlib.Core.Path.{_≡_, refl, sym, _∙_, ap, subst}
-use mathlib.Core.Option.{Option, none, some}
-use native.Mathlib.Omega.{arith}
-use Prim.Native.Nat.{ℕ, _+_, _<_}
-use lib.Dec.{ltb}
-use Rattle.theory.specs.Formula.{size}
-use Rattle.refusal.specs.Refusal.{at-found, judgement}
-use Rattle.formulas.specs.RuleConditions.{closed-to-variable}
-use Rattle.formulas.specs.RuleReading.{end-fault, formula-read, lowest-unbound, lowest-closed}
-use Rattle.formulas.specs.RuleRefusal.{variables-refusal, structure-refusal, misfit-place, nodes-refusal}
-use Rattle.formulas.specs.NodeWalks.{found, step, field, Judged, VariablesJudged}
-use Rattle.formulas.proofs.Answers.{found-at, found-nowhere, step-fault, step-next, answer-unbound, answer-closed, answer-end, answer-variables, formula-reads, answer-misfit, answer-structure, all-known}
+-- `check_structure` meets its contract: 7 is answered first, and past it the formula reads from the first node to the last.
+-- Assumes nothing.
+use mathlib.Core.Path.{_≡_, sym, _∙_, ap}
+use mathlib.Core.Option.{none}
+use Rattle.refusal.specs.Refusal.{judgement}
+use Rattle.formulas.specs.RuleReading.{end-fault, formula-read}
+use Rattle.formulas.specs.NodeWalks.{field, VariablesJudged}
+use Rattle.formulas.proofs.Answers.{found-at, found-nowhere, answer-end, answer-variables, formula-reads}
 use borrow.Author.Needs.{needs}
 use Rattle.formulas.proofs.check_structure.Statement.{statement}
 use Rattle.formulas.proofs.check_structure.Tie as tie
-use Rattle.formulas.proofs.check_structure.Reads as reads
-use Rattle.formulas.proofs.check_structure.Lts as lts
-use Rattle.formulas.proofs.check_variables.Reads as check-variables-reads
-use Rattle.formulas.proofs.misplaced_end.Reads as misplaced-end-reads
 
--- src/lib.rt:307:9
 misplaced-end-requires : tie.Need-misplaced-end-requires
 misplaced-end-requires c κs = search needs
 
--- src/lib.rt:308:22
 enum-known-end : tie.Need-enum-known-end
 enum-known-end c = search needs
 
--- src/lib.rt:309:9
 returns : tie.Need-returns
 unfolding judgement
 returns c =
@@ -36,11 +25,9 @@ returns c =
 enum-told : tie.Need-enum-told
 enum-told c = search needs
 
--- src/lib.rt:311:5
 check-variables-requires : tie.Need-check-variables-requires
 check-variables-requires c κs = search needs
 
--- src/lib.rt:300:1
 returns-2 : tie.Need-returns-2
 unfolding VariablesJudged
 returns-2 c =

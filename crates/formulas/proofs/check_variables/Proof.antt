@@ -1,32 +1,22 @@
-use mathlib.Core.Path.{_≡_, refl, sym, _∙_, ap, subst}
-use mathlib.Core.Option.{Option, none, some}
+-- `check_variables` meets its contract: 8's walk over the whole formula comes before 9's.
+-- Assumes nothing.
+use mathlib.Core.Path.{sym, _∙_, ap}
 use native.Mathlib.Omega.{arith}
-use Prim.Native.Nat.{ℕ, _+_, _<_}
-use lib.Dec.{ltb}
-use Rattle.theory.specs.Formula.{size}
 use Rattle.refusal.specs.Refusal.{at-found, judgement}
 use Rattle.formulas.specs.RuleConditions.{closed-to-variable}
-use Rattle.formulas.specs.RuleReading.{end-fault, formula-read, lowest-unbound, lowest-closed}
-use Rattle.formulas.specs.RuleRefusal.{variables-refusal, structure-refusal, misfit-place, nodes-refusal}
-use Rattle.formulas.specs.NodeWalks.{found, step, field, Judged, VariablesJudged}
-use Rattle.formulas.proofs.Answers.{found-at, found-nowhere, step-fault, step-next, answer-unbound, answer-closed, answer-end, answer-variables, formula-reads, answer-misfit, answer-structure, all-known}
+use Rattle.formulas.specs.RuleReading.{lowest-unbound, lowest-closed}
+use Rattle.formulas.specs.NodeWalks.{field, Judged, VariablesJudged}
+use Rattle.formulas.proofs.Answers.{step-fault, step-next, answer-unbound, answer-closed}
 use borrow.Author.Needs.{needs}
 use Rattle.formulas.proofs.check_variables.Statement.{statement}
 use Rattle.formulas.proofs.check_variables.Tie as tie
-use Rattle.formulas.proofs.check_variables.Reads as reads
-use Rattle.formulas.proofs.check_variables.Lts as lts
-use Rattle.formulas.proofs.bound_position.Reads as bound-position-reads
-use Rattle.formulas.proofs.closed_position.Reads as closed-position-reads
 
--- src/lib.rt:288:9
 bound-position-requires : tie.Need-bound-position-requires
 bound-position-requires c κs = search needs
 
--- src/lib.rt:289:24
 enum-known-bound : tie.Need-enum-known-bound
 enum-known-bound c = search needs
 
--- src/lib.rt:290:9
 returns : tie.Need-returns
 unfolding VariablesJudged Judged judgement
 returns c = λ value φ d e.
@@ -35,15 +25,12 @@ returns c = λ value φ d e.
 enum-told : tie.Need-enum-told
 enum-told c = search needs
 
--- src/lib.rt:292:9
 closed-position-requires : tie.Need-closed-position-requires
 closed-position-requires c κs = search needs
 
--- src/lib.rt:293:24
 enum-known-placed : tie.Need-enum-known-placed
 enum-known-placed c = search needs
 
--- src/lib.rt:294:9
 returns-2 : tie.Need-returns-2
 unfolding VariablesJudged Judged judgement at-found
 returns-2 c = λ value φ d e.
@@ -53,7 +40,6 @@ returns-2 c = λ value φ d e.
 enum-told-2 : tie.Need-enum-told-2
 enum-told-2 c = search needs
 
--- src/lib.rt:284:1
 returns-3 : tie.Need-returns-3
 unfolding VariablesJudged Judged judgement at-found
 returns-3 c = λ value φ d e.

@@ -1,20 +1,17 @@
+-- `decode` meets its contract. The loop's invariant: the arrays are filled in up to i.
+-- Assumes nothing.
 use Rattle.formulas.specs.declared.Nodes.{Nodes}
-use Prim.Native.Nat.{ℕ, _+_, _-_, _*_, _/_, _%_, _≤_, min}
-use mathlib.Core.Path.{_≡_, refl, sym, _∙_, ap, ap₂}
+use Prim.Native.Nat.{ℕ, _-_, _≤_}
+use mathlib.Core.Path.{_≡_, sym, _∙_, ap, ap₂}
 use mathlib.Core.List.{List}
-use native.Mathlib.Nat.{min-le-left, min-le-right, div-add-mod'}
 use native.Mathlib.Omega.{arith}
-use lib.ListN.{length, getD, set}
+use lib.ListN.{set}
 use Rattle.formulas.specs.RuleRefusal.{kind-at, first-at, second-at}
 use Rattle.formulas.specs.NodeArrays.{padded, decoded-count, decoded}
-use Rattle.formulas.proofs.Padding.{padded-none, padded-more, padded-length}
+use Rattle.formulas.proofs.Padding.{padded-none, padded-more}
 use borrow.Author.Needs.{needs}
 use Rattle.formulas.proofs.decode.Statement.{statement}
 use Rattle.formulas.proofs.decode.Tie as tie
-use Rattle.formulas.proofs.decode.Reads as reads
-use Rattle.formulas.proofs.decode.Lts as lts
-use Rattle.formulas.proofs.node_count.Reads as node-count-reads
-use Rattle.formulas.proofs.value.Reads as value-reads
 
 abbrev Inv-loop : tie.InvT-loop
 Inv-loop bytes count kinds₀ firsts₀ values₀ i₀ kinds firsts values i =
@@ -26,7 +23,6 @@ Inv-loop bytes count kinds₀ firsts₀ values₀ i₀ kinds firsts values i =
 abbrev μ-loop : tie.MeasureT-loop
 μ-loop bytes count kinds₀ firsts₀ values₀ i₀ kinds firsts values i = count - i
 
--- src/lib.rt:73:9
 node-count-requires : tie.Need-node-count-requires Inv-loop μ-loop
 node-count-requires c κs = search needs
 
@@ -35,73 +31,56 @@ same :
     → _≡_ {A = Nodes} (record { count = m; kinds = k; firsts = f; values = v }) (record { count = n; kinds = k2; firsts = f2; values = v2 })
 same a b c d = cc
 
--- src/lib.rt:78:5
 loop-holds : tie.Need-loop-holds Inv-loop μ-loop
 loop-holds c =
     let b = c .before .before .args .bytes .now in
     (omega arith, sym (padded-none (kind-at b) 256 0), sym (padded-none (first-at b) 256 0), sym (padded-none (second-at b) 256 0))
 
--- src/lib.rt:79:26
 mul-kinds : tie.Need-mul-kinds Inv-loop μ-loop
 mul-kinds c = search needs
 
--- src/lib.rt:79:20
 shared-slice-read-kinds : tie.Need-shared-slice-read-kinds Inv-loop μ-loop
 shared-slice-read-kinds c = search needs
 
--- src/lib.rt:79:9
 array-write-kinds : tie.Need-array-write-kinds Inv-loop μ-loop
 array-write-kinds c = search needs
 
--- src/lib.rt:80:27
 mul-firsts : tie.Need-mul-firsts Inv-loop μ-loop
 mul-firsts c = search needs
 
--- src/lib.rt:80:27
 add-firsts : tie.Need-add-firsts Inv-loop μ-loop
 add-firsts c = search needs
 
--- src/lib.rt:80:21
 shared-slice-read-firsts : tie.Need-shared-slice-read-firsts Inv-loop μ-loop
 shared-slice-read-firsts c = search needs
 
--- src/lib.rt:80:9
 array-write-firsts : tie.Need-array-write-firsts Inv-loop μ-loop
 array-write-firsts c = search needs
 
--- src/lib.rt:81:33
-mul-value : tie.Need-mul-value Inv-loop μ-loop
+mul-value : tie.Need-mul-value-of Inv-loop μ-loop
 mul-value c = search needs
 
--- src/lib.rt:81:33
-add-value : tie.Need-add-value Inv-loop μ-loop
+add-value : tie.Need-add-value-of Inv-loop μ-loop
 add-value c = search needs
 
--- src/lib.rt:81:27
-shared-slice-read-value : tie.Need-shared-slice-read-value Inv-loop μ-loop
+shared-slice-read-value : tie.Need-shared-slice-read-value-of Inv-loop μ-loop
 shared-slice-read-value c = search needs
 
--- src/lib.rt:81:21
-value-requires : tie.Need-value-requires Inv-loop μ-loop
-value-requires c κs = search needs
+value-of-requires : tie.Need-value-of-requires Inv-loop μ-loop
+value-of-requires c κs = search needs
 
--- src/lib.rt:81:9
 mul-values : tie.Need-mul-values Inv-loop μ-loop
 mul-values c = search needs
 
--- src/lib.rt:81:9
 array-write-values : tie.Need-array-write-values Inv-loop μ-loop
 array-write-values c = search needs
 
--- src/lib.rt:82:9
 add-i : tie.Need-add-i Inv-loop μ-loop
 add-i c = search needs
 
--- src/lib.rt:78:5
 loop-less : tie.Need-loop-less Inv-loop μ-loop
 loop-less c = search needs
 
--- src/lib.rt:78:5
 loop-again : tie.Need-loop-again Inv-loop μ-loop
 loop-again c =
     let b = c .before .before .before .before .before .before .before .before .args .bytes .now in
@@ -110,10 +89,9 @@ loop-again c =
       omega arith,
       ap (λ l. set l i (kind-at b i)) (v .1) ∙ padded-more (kind-at b) 256 i (omega (arith, c .before .before .before .before .before .before .node-count .ensures)),
       ap (λ l. set l i (first-at b i)) (v .2) ∙ padded-more (first-at b) 256 i (omega (arith, c .before .before .before .before .before .before .node-count .ensures)),
-      ap₂ (λ l x. set l i x) (v .3) (c .value .ensures) ∙ padded-more (second-at b) 256 i (omega (arith, c .before .before .before .before .before .before .node-count .ensures)),
+      ap₂ (λ l x. set l i x) (v .3) (c .value-of .ensures) ∙ padded-more (second-at b) 256 i (omega (arith, c .before .before .before .before .before .before .node-count .ensures)),
     )
 
--- src/lib.rt:70:1
 returns : tie.Need-returns Inv-loop μ-loop
 unfolding decoded decoded-count
 returns c =
@@ -145,7 +123,7 @@ decode-spec =
     mul-value
     add-value
     shared-slice-read-value
-    value-requires
+    value-of-requires
     mul-values
     array-write-values
     add-i

@@ -1,3 +1,5 @@
+-- `lowest_misfit` meets its contract. The loop's invariant: the search from i on finds what the search from 0 on does.
+-- Assumes nothing.
 use Rattle.formulas.proofs.Search.{lowest-here, lowest-next, lowest-end}
 use Rattle.formulas.specs.NodeWalks.{found}
 use Rattle.formulas.specs.RuleRefusal.{misfit-place}
@@ -5,18 +7,13 @@ use Rattle.formulas.specs.RuleReading.{kind-of, fields-fit, lowest-from}
 use lib.ListN.{getD}
 use lib.Dec.{ltb}
 use native.Mathlib.Omega.{arith}
-use mathlib.Core.Option.{none, some}
 use mathlib.Core.List.{List}
 use mathlib.Core.Bool.{Bool, true, false, not}
-use mathlib.Core.Path.{_≡_, refl, sym, _∙_, ap}
-use Prim.Native.Nat.{ℕ, _+_, _-_, _≤_}
+use mathlib.Core.Path.{_≡_, sym, _∙_, ap}
+use Prim.Native.Nat.{ℕ, _-_, _≤_}
 use borrow.Author.Needs.{needs}
 use Rattle.formulas.proofs.lowest_misfit.Statement.{statement}
 use Rattle.formulas.proofs.lowest_misfit.Tie as tie
-use Rattle.formulas.proofs.lowest_misfit.Reads as reads
-use Rattle.formulas.proofs.lowest_misfit.Lts as lts
-use Rattle.formulas.proofs.fields_fit.Reads as fields-fit-reads
-use Rattle.formulas.proofs.value_fits.Reads as value-fits-reads
 
 abbrev misfit : ℕ → ℕ → List ℕ → List ℕ → List ℕ → ℕ → Bool
 misfit events limit kinds firsts values i =
@@ -29,38 +26,30 @@ Inv-loop events limit kinds firsts values count i₀ i =
 abbrev μ-loop : tie.MeasureT-loop
 μ-loop events limit kinds firsts values count i₀ i = count - i
 
--- src/lib.rt:123:5
 loop-holds : tie.Need-loop-holds Inv-loop μ-loop
 loop-holds c =
     let a = c .args in
     let e : a .count - 0 ≡ a .count = omega arith in
     (omega arith, ap (λ n. lowest-from (misfit (a .events) (a .limit) (a .kinds .now) (a .firsts .now) (a .values .now)) n 0) e)
 
--- src/lib.rt:124:17
 mul-v : tie.Need-mul-v Inv-loop μ-loop
 mul-v c = search needs
 
--- src/lib.rt:124:17
 element-copy-out-v : tie.Need-element-copy-out-v Inv-loop μ-loop
 element-copy-out-v c = search needs
 
--- src/lib.rt:125:32
 element-copy-out-fields-fit : tie.Need-element-copy-out-fields-fit Inv-loop μ-loop
 element-copy-out-fields-fit c = search needs
 
--- src/lib.rt:125:42
 element-copy-out-fields-fit-2 : tie.Need-element-copy-out-fields-fit-2 Inv-loop μ-loop
 element-copy-out-fields-fit-2 c = search needs
 
--- src/lib.rt:125:56
 value-fits-requires : tie.Need-value-fits-requires Inv-loop μ-loop
 value-fits-requires c κs = search needs
 
--- src/lib.rt:125:13
 fields-fit-requires : tie.Need-fields-fit-requires Inv-loop μ-loop
 fields-fit-requires c κs = search needs
 
--- src/lib.rt:126:13
 returns : tie.Need-returns Inv-loop μ-loop
 unfolding found misfit-place
 returns c =
@@ -71,15 +60,12 @@ returns c =
     = ap not (sym (c .before .fields-fit .ensures ∙ ap (fields-fit (a .events) (kind-of (getD (a .kinds .now) i 0)) (getD (a .firsts .now) i 0) (getD (a .values .now) i 0)) (c .before .before .value-fits .ensures))) ∙ c .if1 .taken in
     sym (ap found (sym (c .before .before .before .before .before .before .before .loop .inv .1) ∙ lowest-here m (a .count) i (omega arith) fit))
 
--- src/lib.rt:128:9
 add-i : tie.Need-add-i Inv-loop μ-loop
 add-i c = search needs
 
--- src/lib.rt:123:5
 loop-less : tie.Need-loop-less Inv-loop μ-loop
 loop-less c = search needs
 
--- src/lib.rt:123:5
 loop-again : tie.Need-loop-again Inv-loop μ-loop
 loop-again c =
     let a = c .before .before .before .before .before .before .before .before .args in
@@ -89,7 +75,6 @@ loop-again c =
     = ap not (sym (c .before .fields-fit .ensures ∙ ap (fields-fit (a .events) (kind-of (getD (a .kinds .now) i 0)) (getD (a .firsts .now) i 0) (getD (a .values .now) i 0)) (c .before .before .value-fits .ensures))) ∙ c .if1 .left in
     (omega arith, sym (lowest-next m (a .count) i (omega arith) fit) ∙ c .before .before .before .before .before .before .before .loop .inv .1)
 
--- src/lib.rt:118:1
 returns-2 : tie.Need-returns-2 Inv-loop μ-loop
 unfolding found misfit-place
 returns-2 c =

@@ -1,17 +1,15 @@
+-- `misplaced_end` meets its contract. The loop's invariant: the walk from i on finds what the walk from 0 on does.
+-- Assumes nothing.
 use Rattle.formulas.specs.declared.Found.the-variants.{At}
-use Prim.Native.Nat.{ℕ, _+_, _-_, _≤_}
-use mathlib.Core.Path.{_≡_, refl, sym, _∙_, ap}
+use Prim.Native.Nat.{_+_, _-_, _≤_}
+use mathlib.Core.Path.{_≡_, sym, _∙_, ap}
 use native.Mathlib.Omega.{arith}
-use lib.ListN.{getD}
 use Rattle.formulas.specs.RuleReading.{kind-of, awaited, end-fault}
 use Rattle.formulas.specs.NodeWalks.{found, field}
 use Rattle.formulas.proofs.Ends.{awaited-few, end-step, end-over, end-short, end-none}
 use borrow.Author.Needs.{needs}
 use Rattle.formulas.proofs.misplaced_end.Statement.{statement}
 use Rattle.formulas.proofs.misplaced_end.Tie as tie
-use Rattle.formulas.proofs.misplaced_end.Reads as reads
-use Rattle.formulas.proofs.misplaced_end.Lts as lts
-use Rattle.formulas.proofs.awaited.Reads as awaited-reads
 
 abbrev Inv-loop : tie.InvT-loop
 Inv-loop kinds count parts₀ i₀ parts i =
@@ -20,13 +18,11 @@ Inv-loop kinds count parts₀ i₀ parts i =
 abbrev μ-loop : tie.MeasureT-loop
 μ-loop kinds count parts₀ i₀ parts i = count - i
 
--- src/lib.rt:163:5
 loop-holds : tie.Need-loop-holds Inv-loop μ-loop
 loop-holds c =
     let e : c .args .count - 0 ≡ c .args .count = omega arith in
     (omega arith, omega arith, ap (λ n. end-fault (field (c .args .kinds .now)) 1 n 0) e)
 
--- src/lib.rt:165:13
 returns : tie.Need-returns Inv-loop μ-loop
 unfolding found
 returns c =
@@ -34,27 +30,21 @@ returns c =
     let l = c .before .before .loop in
     sym (ap found (sym (l .inv .2) ∙ end-over k (l .parts) (c .before .before .before .args .count - l .i) (l .i) (c .if1 .taken) (omega arith)))
 
--- src/lib.rt:167:25
 element-copy-out-awaited : tie.Need-element-copy-out-awaited Inv-loop μ-loop
 element-copy-out-awaited c = search needs
 
--- src/lib.rt:167:35
 sub-awaited : tie.Need-sub-awaited Inv-loop μ-loop
 sub-awaited c = search needs
 
--- src/lib.rt:167:9
 awaited-requires : tie.Need-awaited-requires Inv-loop μ-loop
 awaited-requires c κs = search needs
 
--- src/lib.rt:168:9
 add-i : tie.Need-add-i Inv-loop μ-loop
 add-i c = search needs
 
--- src/lib.rt:163:5
 loop-less : tie.Need-loop-less Inv-loop μ-loop
 loop-less c = search needs
 
--- src/lib.rt:163:5
 loop-again : tie.Need-loop-again Inv-loop μ-loop
 loop-again c =
     let k = field (c .before .before .before .before .before .args .kinds .now) in
@@ -66,7 +56,6 @@ loop-again c =
       ap (λ p. end-fault k p (n - (l .i + 1)) (l .i + 1)) (c .awaited .ensures) ∙ sym (end-step k (l .parts) n (l .i) positive (omega arith)) ∙ l .inv .2,
     )
 
--- src/lib.rt:171:9
 returns-2 : tie.Need-returns-2 Inv-loop μ-loop
 unfolding found
 returns-2 c =
@@ -76,7 +65,6 @@ returns-2 c =
     let e : l .i ≡ n = omega arith in
     sym (ap found (sym (l .inv .2) ∙ end-short k (l .parts) (n - l .i) (l .i) (c .if2 .taken) (omega arith)) ∙ ap At e)
 
--- src/lib.rt:157:1
 returns-3 : tie.Need-returns-3 Inv-loop μ-loop
 unfolding found
 returns-3 c =
