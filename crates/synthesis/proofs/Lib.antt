@@ -9,3 +9,4 @@ pub mod Stepping
 pub mod Exploring
 pub mod TableEntries
 pub mod FormulaTable
+pub mod Compilation

@@ -71,13 +71,13 @@ compiled-within limit kind events top table rule =
     record {
       verdict = counted (compile-rule-refusal kind events top table rule limit) (rule-states kind events top table rule limit);
       values =
-        flat (rule-table kind events top table rule limit .value) events
-        (entry-count (compile-rule-refusal kind events top table rule limit) (rule-states kind events top table rule limit * events))
-        entry-limit;
+          flat (rule-table kind events top table rule limit .value) events
+          (entry-count (compile-rule-refusal kind events top table rule limit) (rule-states kind events top table rule limit * events))
+          entry-limit;
       nexts =
-        flat (rule-table kind events top table rule limit .next) events
-        (entry-count (compile-rule-refusal kind events top table rule limit) (rule-states kind events top table rule limit * events))
-        entry-limit;
+          flat (rule-table kind events top table rule limit .next) events
+          (entry-count (compile-rule-refusal kind events top table rule limit) (rule-states kind events top table rule limit * events))
+          entry-limit;
     }
 
 unfoldable pub compiled : ValueKind → ℕ → ℕ → List ℕ → List ℕ → Compiled

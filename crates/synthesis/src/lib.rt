@@ -86,7 +86,18 @@ pub fn compile_rule(kind: ValueKind, events: usize, top: u32, meet: &[u8], rule:
     let fields = nodes.values;
     let mut values = [0u32; 1024];
     let mut nexts = [0u8; 1024];
-    let n = table_of(kind, meet, top, &kinds, &firsts, &fields, count, events, &mut values, &mut nexts);
+    let n = table_of(
+        kind,
+        meet,
+        top,
+        &kinds,
+        &firsts,
+        &fields,
+        count,
+        events,
+        &mut values,
+        &mut nexts,
+    );
     if STATE_LIMIT < n {
         return refused(Refusal::Plain(STATE_COUNT));
     }
@@ -98,7 +109,14 @@ pub fn compile_rule(kind: ValueKind, events: usize, top: u32, meet: &[u8], rule:
 }
 
 // The table of a rule in lent bytes, two an entry by state and then event: 1 to 3, 5 to 10, 13.
-pub fn compile(events: usize, values: usize, top: usize, meet: &[u8], rule: &[u8], to: &mut [u8]) -> Counted
+pub fn compile(
+    events: usize,
+    values: usize,
+    top: usize,
+    meet: &[u8],
+    rule: &[u8],
+    to: &mut [u8],
+) -> Counted
     ensures answer { λ r. ⌜ r ≡ counted (compile-refusal 64 (setup events values top (now (meet .entry))) (now (rule .entry)) (now (to .entry)))
         (setup-states 64 (setup events values top (now (meet .entry))) (now (rule .entry)) (now (to .entry))) ⌝ }
     ensures contents { λ _. ⌜ now (to .exit) ≡ compile-contents 64 (setup events values top (now (meet .entry))) (now (rule .entry)) (now (to .entry)) ⌝ }
@@ -107,7 +125,13 @@ pub fn compile(events: usize, values: usize, top: usize, meet: &[u8], rule: &[u8
     if let Judgement::Refused(refusal) = judged {
         return Counted::Refused(refusal);
     }
-    let compiled = compile_rule(ValueKind::Numbered(values as u32), events, top as u32, meet, rule);
+    let compiled = compile_rule(
+        ValueKind::Numbered(values as u32),
+        events,
+        top as u32,
+        meet,
+        rule,
+    );
     let verdict = compiled.verdict;
     let Counted::Count(n) = verdict else {
         return verdict;

@@ -1,3 +1,7 @@
+use mathlib.Core.Path.{_≡_, sym, _∙_}
+use native.Mathlib.Omega.{arith}
+use Rattle.refusal.proofs.Refusals.{judgement-accepted}
+use Rattle.synthesis.proofs.Compilation.{judgement-refused, few, few-nodes, compiled-refused, compiled-many, compiled-table}
 use borrow.Author.Needs.{needs}
 use Rattle.synthesis.proofs.compile_rule.Statement.{statement}
 use Rattle.synthesis.proofs.compile_rule.Tie as tie
@@ -22,7 +26,10 @@ refused-requires c κs = search needs
 
 -- src/lib.rt:80:9
 returns : tie.Need-returns
-returns c = ?
+returns c =
+    let a = c .before .before .before .before .before .before .before .args in
+    c .refused .ensures
+    ∙ compiled-refused (a .kind) (a .events) (a .top) (a .meet .now) (a .rule .now) _ (judgement-refused _ _ (sym (c .before .before .before .before .judge-rule .ensures) ∙ c .before .before .judged .given .1))
 
 enum-told : tie.Need-enum-told
 enum-told c = search needs
@@ -33,7 +40,16 @@ decode-requires c κs = search needs
 
 -- src/lib.rt:89:9
 table-of-requires : tie.Need-table-of-requires
-table-of-requires c κs = ?
+table-of-requires c κs =
+    let a = c .before .before .before .before .before .before .before .before .before .before .before .before .before .before .args in (
+      few-nodes (a .rule .now) (c .before .before .before .before .before .before .before .before .decode .result) (c .before .before .before .before .before .before .before .before .decode .ensures),
+      few 64 (a .kind) (a .events) (a .top) (a .meet .now) (a .rule .now) (judgement-accepted _ (sym (c .before .before .before .before .before .before .before .before .before .before .before .judge-rule .ensures) ∙ c .before .before .before .before .before .before .before .before .before .enum-told .given .1)),
+      search needs,
+      search needs,
+      search needs,
+      search needs,
+      search needs,
+    )
 
 -- src/lib.rt:91:9
 refused-requires-2 : tie.Need-refused-requires-2
@@ -41,11 +57,16 @@ refused-requires-2 c κs = search needs
 
 -- src/lib.rt:91:9
 returns-2 : tie.Need-returns-2
-returns-2 c = ?
+returns-2 c =
+    let a = c .before .before .before .before .before .before .before .before .before .before .before .before .before .before .before .before .before .args in
+    c .refused2 .ensures
+    ∙ compiled-many (a .kind) (a .events) (a .top) (a .meet .now) (a .rule .now) (judgement-accepted _ (sym (c .before .before .before .before .before .before .before .before .before .before .before .before .before .before .judge-rule .ensures) ∙ c .before .before .before .before .before .before .before .before .before .before .before .before .enum-told .given .1)) (c .before .before .before .before .before .before .before .before .before .before .before .decode .result) (c .before .before .before .before .before .before .before .before .before .before .before .decode .ensures) _ _ (c .before .before .table-of .result) (c .before .before .table-of .ensures .2) (c .before .if1 .taken)
 
 -- src/lib.rt:75:1
 returns-3 : tie.Need-returns-3
-returns-3 c = ?
+returns-3 c =
+    let a = c .before .before .before .before .before .before .before .before .before .before .before .before .before .before .before .before .args in
+    compiled-table (a .kind) (a .events) (a .top) (a .meet .now) (a .rule .now) (judgement-accepted _ (sym (c .before .before .before .before .before .before .before .before .before .before .before .before .before .judge-rule .ensures) ∙ c .before .before .before .before .before .before .before .before .before .before .before .enum-told .given .1)) (c .before .before .before .before .before .before .before .before .before .before .decode .result) (c .before .before .before .before .before .before .before .before .before .before .decode .ensures) _ _ (c .before .table-of .result) (c .before .table-of .ensures .2) (omega (arith, c .if1 .left)) (c .before .table-of .ensures .0) (c .before .table-of .ensures .1)
 
 pub compile-rule-spec : {M : Type 1} → statement M
 compile-rule-spec =

@@ -1,3 +1,5 @@
+use mathlib.Core.Path.{refl}
+use Rattle.synthesis.specs.Compilation.{value-count}
 use borrow.Author.Needs.{needs}
 use Rattle.synthesis.proofs.value_count.Statement.{statement}
 use Rattle.synthesis.proofs.value_count.Tie as tie
@@ -18,11 +20,13 @@ enum-told c = search needs
 
 -- src/lib.rt:39:1
 returns : tie.Need-returns
-returns c = ?
+unfolding value-count
+returns c = rw (c .before .kind .given .1)
 
 -- src/lib.rt:39:1
 returns-2 : tie.Need-returns-2
-returns-2 c = ?
+unfolding value-count
+returns-2 c = rw (c .enum-told .given .1)
 
 pub value-count-spec : {M : Type 1} → statement M
 value-count-spec = tie.close (tie.spec enum-known-kind cast-result enum-told returns returns-2)
