@@ -75,6 +75,16 @@ flat-is f events entries size l n e u = ext-getD 0 l (padded g entries size 0) (
         ∙ ap (λ y. cond (ltb y entries) (g y) 0) (sym z)
         ∙ sym (padded-at g entries size 0 x (omega (arith, n)))
 
+pub flat-at :
+    (f : ℕ → ℕ → ℕ) (events entries size x : ℕ) → x < entries → x < size →
+    getD (flat f events entries size) x 0 ≡ f (x / events) (x % events)
+unfolding flat
+flat-at f events entries size x h l =
+    let z : 0 + x ≡ x = omega arith in
+    padded-at (λ y. f (y / events) (y % events)) entries size 0 x l
+    ∙ ap (λ y. cond (ltb y entries) (f (y / events) (y % events)) 0) z
+    ∙ ap (λ t. cond t (f (x / events) (x % events)) 0) (lt-ltb x entries h)
+
 flat-none : (f : ℕ → ℕ → ℕ) (events size : ℕ) → flat f events 0 size ≡ replicate size 0
 unfolding flat
 flat-none f events size = padded-none (λ x. f (x / events) (x % events)) size 0

@@ -10,3 +10,5 @@ pub mod Exploring
 pub mod TableEntries
 pub mod FormulaTable
 pub mod Compilation
+pub mod CompiledTable
+pub mod LentTable

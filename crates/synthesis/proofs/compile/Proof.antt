@@ -1,3 +1,7 @@
+use borrow.Author.Tests.{not-true, not-false}
+use mathlib.Core.Path.{_≡_, sym, _∙_}
+use native.Mathlib.Omega.{arith}
+use Rattle.synthesis.proofs.LentTable.{setup-case, in-limits, rule-case, entries-few, room-case, stored-case}
 use borrow.Author.Needs.{needs}
 use Rattle.synthesis.proofs.compile.Statement.{statement}
 use Rattle.synthesis.proofs.compile.Tie as tie
@@ -17,18 +21,25 @@ enum-known-judged c = search needs
 
 -- src/lib.rt:108:9
 returns : tie.Need-returns
-returns c = ?
+returns c =
+    let a = c .before .before .before .before .before .before .before .args in
+    setup-case (a .events) (a .values) (a .top) (a .meet .now) (a .rule .now) (a .to .now) _ (sym (c .before .before .before .check-setup .ensures) ∙ c .before .judged .given .1)
 
 enum-told : tie.Need-enum-told
 enum-told c = search needs
 
 -- src/lib.rt:110:53
 cast-t14 : tie.Need-cast-t14
-cast-t14 c = ?
+cast-t14 c =
+    let a = c .before .before .before .before .before .before .args in
+    omega (arith, in-limits (a .events) (a .values) (a .top) (a .meet .now) (a .rule .now) (a .to .now) (sym (c .before .before .check-setup .ensures) ∙ c .enum-told .given .1) .0)
 
 -- src/lib.rt:110:77
 cast-compile-rule : tie.Need-cast-compile-rule
-cast-compile-rule c = ?
+cast-compile-rule c =
+    let a = c .before .before .before .before .before .before .args in
+    let w = in-limits (a .events) (a .values) (a .top) (a .meet .now) (a .rule .now) (a .to .now) (sym (c .before .before .check-setup .ensures) ∙ c .enum-told .given .1) in
+    omega (arith, w .0, w .1)
 
 -- src/lib.rt:110:9
 compile-rule-requires : tie.Need-compile-rule-requires
@@ -44,7 +55,9 @@ enum-told-2 c = search needs
 
 -- src/lib.rt:113:9
 returns-2 : tie.Need-returns-2
-returns-2 c = ?
+returns-2 c =
+    let a = c .before .before .before .before .before .before .before .before .before .args in
+    rule-case (a .events) (a .values) (a .top) (a .meet .now) (a .rule .now) (a .to .now) (sym (c .before .before .before .before .before .check-setup .ensures) ∙ c .before .before .before .enum-told .given .1) (c .before .before .compile-rule .result) (c .before .before .compile-rule .ensures) _ (c .enum-told2 .given .1)
 
 -- src/lib.rt:117:23
 slice-aggregate-store-entries : tie.Need-slice-aggregate-store-entries
@@ -56,7 +69,9 @@ slice-aggregate-store-entries-2 c = search needs
 
 -- src/lib.rt:117:41
 mul-store-entries : tie.Need-mul-store-entries
-mul-store-entries c = ?
+mul-store-entries c =
+    let a = c .before .before .before .before .before .before .before .before .before .before .before .before .before .before .args in
+    omega (arith, entries-few (a .events) (a .values) (a .top) (a .meet .now) (a .rule .now) (a .to .now) (sym (c .before .before .before .before .before .before .before .before .before .before .check-setup .ensures) ∙ c .before .before .before .before .before .before .before .before .enum-told .given .1) (c .before .before .before .before .before .before .before .compile-rule .result) (c .before .before .before .before .before .before .before .compile-rule .ensures) _ (c .before .before .before .before .before .verdict .given .1))
 
 -- src/lib.rt:117:9
 store-entries-requires : tie.Need-store-entries-requires
@@ -68,7 +83,9 @@ same-length c = search needs
 
 -- src/lib.rt:118:9
 returns-3 : tie.Need-returns-3
-returns-3 c = ?
+returns-3 c =
+    let a = c .before .before .before .before .before .before .before .before .before .before .before .before .before .before .before .before .before .before .before .args in
+    room-case (a .events) (a .values) (a .top) (a .meet .now) (a .rule .now) (a .to .now) (sym (c .before .before .before .before .before .before .before .before .before .before .before .before .before .before .before .check-setup .ensures) ∙ c .before .before .before .before .before .before .before .before .before .before .before .before .before .enum-told .given .1) (c .before .before .before .before .before .before .before .before .before .before .before .before .compile-rule .result) (c .before .before .before .before .before .before .before .before .before .before .before .before .compile-rule .ensures) _ (c .before .before .before .before .before .before .before .before .before .before .verdict .given .1) _ (c .before .before .before .store-entries .result) (c .before .before .before .store-entries .ensures .0) (not-true _ (c .if1 .taken)) (c .before .before .before .store-entries .ensures .1)
 
 -- src/lib.rt:101:1
 same-length-2 : tie.Need-same-length-2
@@ -76,7 +93,9 @@ same-length-2 c = search needs
 
 -- src/lib.rt:101:1
 returns-4 : tie.Need-returns-4
-returns-4 c = ?
+returns-4 c =
+    let a = c .before .before .before .before .before .before .before .before .before .before .before .before .before .before .before .before .before .before .before .args in
+    stored-case (a .events) (a .values) (a .top) (a .meet .now) (a .rule .now) (a .to .now) (sym (c .before .before .before .before .before .before .before .before .before .before .before .before .before .before .before .check-setup .ensures) ∙ c .before .before .before .before .before .before .before .before .before .before .before .before .before .enum-told .given .1) (c .before .before .before .before .before .before .before .before .before .before .before .before .compile-rule .result) (c .before .before .before .before .before .before .before .before .before .before .before .before .compile-rule .ensures) _ (c .before .before .before .before .before .before .before .before .before .before .verdict .given .1) _ (c .before .before .before .store-entries .result) (c .before .before .before .store-entries .ensures .0) (not-false _ (c .if1 .left)) (c .before .before .before .store-entries .ensures .1)
 
 pub compile-spec : {M : Type 1} → statement M
 compile-spec =
