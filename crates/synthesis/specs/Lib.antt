@@ -2,6 +2,7 @@
 -- The table of a formula, and what the compilers answer.
 pub mod FormulaTable
 pub mod Compilation
+pub mod Claims
 -- What the private walks keep and answer: sets in words, binders, rows of demands, states, entries.
 pub mod NodeWords
 pub mod NodeWalks
