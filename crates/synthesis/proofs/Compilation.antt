@@ -89,7 +89,7 @@ flat-none : (f : ℕ → ℕ → ℕ) (events size : ℕ) → flat f events 0 si
 unfolding flat
 flat-none f events size = padded-none (λ x. f (x / events) (x % events)) size 0
 
-few-events : (events : ℕ) → events-test events ≡ true → events ≤ event-limit
+pub few-events : (events : ℕ) → events-test events ≡ true → events ≤ event-limit
 unfolding events-test
 few-events events h = leb-true events event-limit (right (leb 1 events) (leb events event-limit) h)
   where

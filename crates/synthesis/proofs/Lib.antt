@@ -12,3 +12,4 @@ pub mod FormulaTable
 pub mod Compilation
 pub mod CompiledTable
 pub mod LentTable
+pub mod CompileClaims
