@@ -1,15 +1,14 @@
 -- One step of the walk that binds, for each kind of node.
 -- Assumes nothing.
-use mathlib.Core.Path.{_≡_, refl, sym, _∙_, ap, subst}
-use mathlib.Core.List.{List, [], _∷_}
+use mathlib.Core.Path.{_≡_, sym, _∙_, ap, subst}
+use mathlib.Core.List.{List, _∷_}
 use Prim.Native.Nat.{ℕ, zero, suc, _+_, _-_, _≤_, _<_}
 use native.Mathlib.Numerals.{add-one}
 use native.Mathlib.Omega.{arith}
-use lib.ListN.{length, getD}
-use Rattle.theory.specs.Formula.{Formula, truth, variable, transition, output, conjunction, greatest, size, FreeBelow}
-use Rattle.formulas.specs.NodeReading.{Reads}
+use lib.ListN.{getD}
+use Rattle.theory.specs.Formula.{Formula, truth, variable, transition, output, conjunction, greatest, size}
 use Rattle.synthesis.specs.NodeWalks.{read, Ends, Binds}
-use Rattle.synthesis.specs.Binding.{Stack, AllBound}
+use Rattle.synthesis.specs.Binding.{AllBound}
 use Rattle.synthesis.proofs.NodeWalks.{size-pos, reads-at, binds-at}
 
 -- Only the nodes of the formula matter.

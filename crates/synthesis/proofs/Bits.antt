@@ -1,7 +1,7 @@
 -- Single bits of numbers: of a union, of a power of two, and that they determine the number.
 -- Assumes nothing.
 use mathlib.Core.Path.{_≡_, refl, sym, ap, ap₂, _∙_, subst}
-use mathlib.Core.Bool.{Bool, true, false, _||_}
+use mathlib.Core.Bool.{false, _||_}
 use mathlib.Core.Logic.{_⊎_, inl, inr}
 use Prim.Native.Nat.{ℕ, zero, suc, _+_, _-_, _*_, _/_, _%_, _^_, _≤_, _<_, max}
 use native.Mathlib.Nat.{mod-lt, zero-lt-suc, lt-of-le-of-lt, le-of-suc-le-suc, max-le, div-self, div-eq-of-lt, div-one, one-mul, add-comm, div-add-mod', zero-div, div-lt-iff-lt-mul, pow-suc}

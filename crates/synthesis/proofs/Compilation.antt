@@ -2,7 +2,7 @@
 -- Assumes nothing.
 use mathlib.Core.Path.{_≡_, refl, sym, _∙_, ap, ap₂, subst}
 use mathlib.Core.Bool.{Bool, true, false, _&&_, cond, and-false, false≢true}
-use mathlib.Core.List.{List, [], _∷_}
+use mathlib.Core.List.{List}
 use mathlib.Core.Option.{Option, none, some}
 use Prim.Native.Nat.{ℕ, zero, suc, _+_, _*_, _/_, _%_, _≤_, _<_}
 use native.Mathlib.Decide.{decLt}
@@ -11,13 +11,11 @@ use borrow.Author.Tests.{lt-ltb, le-ltb, le-leb, lt-leb, leb-true}
 use lib.Dec.{ltb, leb}
 use lib.ListN.{length, getD, replicate, getD-replicate}
 use lib.Seq.{ext-getD}
-use Rattle.theory.specs.Formula.{Formula, size, Closed, Guarded}
+use Rattle.theory.specs.Formula.{size}
 use Rattle.theory.specs.ValueSets.{Below}
-use Rattle.theory.specs.MealyMachine.{Machine}
 use Rattle.theory.proofs.Claims.{grammar}
 use Rattle.refusal.specs.declared.Refusal.{Refusal}
 use Rattle.refusal.specs.declared.Refusal.the-variants.{Plain}
-use Rattle.refusal.specs.declared.Counted.{Counted}
 use Rattle.refusal.specs.declared.Counted.the-variants.{Count, Refused}
 use Rattle.refusal.specs.declared.Judgement.{Judgement}
 use Rattle.refusal.specs.declared.Judgement.the-variants.{Refused as RefusedJudgement}
@@ -26,7 +24,6 @@ use Rattle.refusal.proofs.Refusals.{or-else-none, plain-none}
 use Rattle.values.specs.declared.ValueKind.{ValueKind}
 use Rattle.values.specs.ValueKind.{meetOf}
 use Rattle.values.specs.Setup.{events-test, event-limit}
-use Rattle.formulas.specs.NodeReading.{Reads}
 use Rattle.formulas.specs.NodeArrays.{padded, decoded}
 use Rattle.formulas.specs.RuleRefusal.{rule-refusal, formula-of}
 use Rattle.formulas.specs.declared.Nodes.{Nodes}
@@ -34,10 +31,9 @@ use Rattle.formulas.proofs.Padding.{padded-length, padded-none}
 use Rattle.formulas.proofs.Decoding.{decoded-limit}
 use Rattle.formulas.proofs.RuleClaims.{accepted-formula-of, decoded-reads}
 use Rattle.synthesis.specs.declared.Compiled.{Compiled}
-use Rattle.synthesis.specs.NodeWalks.{read}
 use Rattle.synthesis.specs.Exploring.{Unchanged}
 use Rattle.synthesis.specs.TableEntries.{EntriesTo}
-use Rattle.synthesis.specs.FormulaTable.{formula-states, formula-table, Tabled, Tables}
+use Rattle.synthesis.specs.FormulaTable.{Tabled, Tables}
 use Rattle.synthesis.specs.Compilation.{value-count, rule-states, rule-table, rule-table-refusal, compile-rule-refusal, entry-count, flat, refused, compiled-within, compiled}
 
 -- Entries and zeros after them.

@@ -1,11 +1,11 @@
 -- The claims on the compilers.
 -- Assumes nothing.
 use mathlib.Core.Path.{_≡_, refl, sym, _∙_, ap, ap₂, subst}
-use mathlib.Core.Logic.{_↔_, _⊎_, inl, inr}
+use mathlib.Core.Logic.{_↔_, inl, inr}
 use mathlib.Core.Bool.{Bool, true, false, _&&_}
 use mathlib.Core.Option.{Option, none, some, Option·some-ne-none}
 use mathlib.Core.List.{List, [], _∷_, _++_}
-use Prim.Native.Nat.{ℕ, zero, suc, _+_, _*_, _-_, _/_, _%_, _≤_, _<_}
+use Prim.Native.Nat.{ℕ, _+_, _*_, _-_, _≤_, _<_}
 use native.Mathlib.Nat.{mul-le-mul-left, mul-le-mul-right}
 use native.Mathlib.Omega.{arith}
 use borrow.Author.Tests.{leb-true, leb-false, le-leb}
@@ -15,23 +15,22 @@ use lib.Seq.{drop-append-seam}
 use Rattle.theory.specs.Semilattice.{MeetSemilattice}
 use Rattle.theory.specs.ValueSets.{Below, meetAt}
 use Rattle.theory.specs.Formula.{Formula, size, WellFormed}
-use Rattle.theory.specs.MealyMachine.{Machine, Runs, States}
+use Rattle.theory.specs.MealyMachine.{Machine}
 use Rattle.theory.specs.ReachableStates.{IsTable, IsTableOf, StatesAtMost}
 use Rattle.theory.specs.DemandSets.{set-machine, first-set}
 use Rattle.theory.proofs.Claims.{grammar, numbering, table-values}
 use Rattle.theory.proofs.SetMachine.{table-of-iff}
 use Rattle.refusal.specs.declared.Refusal.{Refusal}
 use Rattle.refusal.specs.declared.Refusal.the-variants.{Plain}
-use Rattle.refusal.specs.Refusal.{Condition, plain, First, HasNumber, HasNumbers, has-place, part-of, order, InOrder, or-else, plain-unless}
-use Rattle.refusal.specs.RefusalClaims.{Functional, AllFunctional}
+use Rattle.refusal.specs.Refusal.{Condition, plain, First, HasNumbers, has-place, part-of, order, InOrder, or-else, plain-unless}
+use Rattle.refusal.specs.RefusalClaims.{AllFunctional}
 use Rattle.refusal.proofs.Refusals.{plain-functional, plain-number, plain-first, first-unique, or-else-none, plain-none}
 use Rattle.values.specs.declared.ValueKind.{ValueKind}
 use Rattle.values.specs.declared.ValueKind.the-variants.{Numbered}
 use Rattle.values.specs.ValueKind.{meetOf}
 use Rattle.values.specs.Setup.{Setup, setup, EventsFault, ValuesFault, MeetFault, setup-conditions, setup-refusal, events-test, event-limit}
 use Rattle.values.proofs.Setups.{setup-correct}
-use Rattle.formulas.specs.NodeBytes.{three-bytes, encode-formula}
-use Rattle.formulas.specs.RuleConditions.{OfFormula, rule-conditions}
+use Rattle.formulas.specs.NodeBytes.{three-bytes}
 use Rattle.formulas.specs.RuleRefusal.{rule-refusal, formula-of}
 use Rattle.formulas.specs.Claims.{AcceptedFormula}
 use Rattle.formulas.proofs.ThreeBytes.{three-bytes-code}
@@ -44,7 +43,7 @@ use Rattle.machines.proofs.EntryIndex.{index-below, index-state, index-event}
 use Rattle.machines.proofs.TableRoundTrip.{read-back, two-bytes-length}
 use Rattle.synthesis.specs.FormulaTable.{formula-states, formula-table}
 use Rattle.synthesis.specs.Compilation.{value-count, rule-states, rule-table, rule-table-refusal, compile-rule-refusal, entry-count, flat, compiled-within, setup-states, setup-table, compile-refusal, contents-after, compile-contents}
-use Rattle.synthesis.specs.Claims.{states-condition, Short, buffer-condition, three-byte-conditions, compile-conditions, CompileRefusalClaim, RuleTable, CompiledBytes, CompileClaim, compile-rule-conditions, array-machine, CompiledArrays, CompileRuleClaim}
+use Rattle.synthesis.specs.Claims.{states-condition, buffer-condition, three-byte-conditions, compile-conditions, CompileRefusalClaim, RuleTable, CompiledBytes, CompileClaim, compile-rule-conditions, array-machine, CompiledArrays, CompileRuleClaim}
 use Rattle.synthesis.proofs.Compilation.{flat-at, few-events}
 use Rattle.synthesis.proofs.CompiledTable.{few-states, is-table}
 use Rattle.synthesis.proofs.LentTable.{laws, few}
@@ -93,10 +92,10 @@ table-agrees meet top events φ n t u a (m, first, of, k) = (m, first, of, moved
           count = k .count;
           values = λ l e hl he. a .values-agree l e hl he ∙ k .values l e hl he;
           nexts = λ l e hl he.
-            subst
-            (λ x. (x < n) × (Rattle.theory.specs.ReachableStates.state-at events m first (k .sequences) x
-            ≡ m .next (Rattle.theory.specs.ReachableStates.state-at events m first (k .sequences) l) e))
-            (sym (a .nexts-agree l e hl he)) (k .nexts l e hl he);
+              subst
+              (λ x. (x < n) × (Rattle.theory.specs.ReachableStates.state-at events m first (k .sequences) x
+              ≡ m .next (Rattle.theory.specs.ReachableStates.state-at events m first (k .sequences) l) e))
+              (sym (a .nexts-agree l e hl he)) (k .nexts l e hl he);
         }
 
 -- A rule that 5 to 9 let through, over values that obey the laws.
@@ -126,11 +125,12 @@ module _ (meet : ℕ → ℕ → ℕ) (top events values limit : ℕ) (rule : Li
     where
       go : (b : Bool) → leb states limit ≡ b → First (states-condition meet top events values limit rule ∷ []) (plain-unless b 10)
       go true e =
-          inr
-          ((λ r m. m .2 .0
-          (subst (λ χ. StatesAtMost meet top events χ limit) (sym (formula-of-only rule (m .0) (m .1)))
-          (at-most .0 (leb-true states limit e)))),
-          refl)
+          inr (
+            (λ r m. m .2 .0
+                (subst (λ χ. StatesAtMost meet top events χ limit) (sym (formula-of-only rule (m .0) (m .1)))
+                (at-most .0 (leb-true states limit e)))),
+            refl,
+          )
       go false e =
           inl (Plain 10, (φ₀, there .written, ((λ h. omega (arith, at-most .1 h, leb-false states limit e)), refl)), refl)
 
@@ -152,31 +152,39 @@ module _ (meet : ℕ → ℕ → ℕ) (top events values limit : ℕ) (rule : Li
           (b : Bool) → leb (states * events * 2) (length old) ≡ b →
           First (buffer-condition meet top events values limit rule old ∷ []) (plain-unless b 13)
       go true e =
-          inr
-          ((λ r m.
-          let q : m .2 .0 .states ≡ states
-          = table-one (m .2 .0 .states) (m .2 .0 .table) (formula-table meet top φ₀ events limit) states
-            (subst (λ χ. IsTableOf meet top events χ (m .2 .0 .states) (m .2 .0 .table)) (formula-of-only rule (m .0) (m .1)) (m .2 .0 .is-table)) it in
-          omega (arith, m .2 .0 .shorter, ap (λ x. x * events * 2) q, leb-true (states * events * 2) (length old) e)),
-          refl)
+          inr (
+            (λ r m.
+                let q : m .2 .0 .states ≡ states
+                = table-one (m .2 .0 .states) (m .2 .0 .table) (formula-table meet top φ₀ events limit) states
+                (subst (λ χ. IsTableOf meet top events χ (m .2 .0 .states) (m .2 .0 .table)) (formula-of-only rule (m .0) (m .1)) (m .2 .0 .is-table)) it in
+                omega (arith, m .2 .0 .shorter, ap (λ x. x * events * 2) q, leb-true (states * events * 2) (length old) e)),
+            refl,
+          )
       go false e =
-          inl
-          (Plain 13,
-          (φ₀, there .written,
-          (record {
-            states = states;
-            table = formula-table meet top φ₀ events limit;
-            is-table = it;
-            shorter = leb-false (states * events * 2) (length old) e;
-          }, refl)),
-          refl)
+          inl (
+            Plain 13,
+            (
+              φ₀,
+              there .written,
+              (
+                record {
+                  states = states;
+                  table = formula-table meet top φ₀ events limit;
+                  is-table = it;
+                  shorter = leb-false (states * events * 2) (length old) e;
+                },
+                refl,
+              ),
+            ),
+            refl,
+          )
 
   -- A table with the same entries is the rule's.
   rule-table-is : (u : Machine ℕ ℕ) → states ≤ limit → Agree events states u (formula-table meet top φ₀ events limit) → RuleTable meet top events values rule states u
   rule-table-is u h a =
       let it : IsTableOf meet top events φ₀ states u
       = table-agrees meet top events φ₀ states (formula-table meet top φ₀ events limit) u a
-        (is-table (Below values) meet top L events limit φ₀ well small h) in
+      (is-table (Below values) meet top L events limit φ₀ well small h) in
       record {
         formula = φ₀;
         code = there;
@@ -255,10 +263,10 @@ module _ (limit : ℕ) (s : Setup) (rule old : List ℕ) where
   compile-order =
       record {
         numbered =
-          numbers-append (1 ∷ 2 ∷ 3 ∷ []) (5 ∷ 6 ∷ 7 ∷ 8 ∷ 9 ∷ 10 ∷ 13 ∷ []) (setup-conditions s) (rule-list ++ last-conditions)
-          (setup-correct .ordered s .numbered)
-          (numbers-append (5 ∷ 6 ∷ 7 ∷ 8 ∷ 9 ∷ []) (10 ∷ 13 ∷ []) rule-list last-conditions
-          (in-order ℕ 3 three-bytes 256 (s .events) (Below (s .values)) rule .numbered) last-numbers);
+            numbers-append (1 ∷ 2 ∷ 3 ∷ []) (5 ∷ 6 ∷ 7 ∷ 8 ∷ 9 ∷ 10 ∷ 13 ∷ []) (setup-conditions s) (rule-list ++ last-conditions)
+            (setup-correct .ordered s .numbered)
+            (numbers-append (5 ∷ 6 ∷ 7 ∷ 8 ∷ 9 ∷ []) (10 ∷ 13 ∷ []) rule-list last-conditions
+            (in-order ℕ 3 three-bytes 256 (s .events) (Below (s .values)) rule .numbered) last-numbers);
         ordered = refl;
       }
 
@@ -267,8 +275,8 @@ compile-refusal-claim =
     record {
       first = compile-first;
       only = λ limit s rule old answer x.
-        first-unique (compile-conditions limit s rule old) (compile-functional limit s rule old) answer (compile-refusal limit s rule old) x
-        (compile-first limit s rule old);
+          first-unique (compile-conditions limit s rule old) (compile-functional limit s rule old) answer (compile-refusal limit s rule old) x
+          (compile-first limit s rule old);
       ordered = compile-order;
     }
 
@@ -318,11 +326,11 @@ module _ (limit : ℕ) (s : Setup) (rule old : List ℕ) (accepted : compile-ref
   agrees =
       record {
         values-agree = λ l e hl he.
-          byte-at ((l * s .events + e) * 2) (omega (arith, mul-le-mul-right 2 (index-below (s .events) n l e hl he)))
-          ∙ read-back (s .events) n t .values-agree l e hl he;
+            byte-at ((l * s .events + e) * 2) (omega (arith, mul-le-mul-right 2 (index-below (s .events) n l e hl he)))
+            ∙ read-back (s .events) n t .values-agree l e hl he;
         nexts-agree = λ l e hl he.
-          byte-at ((l * s .events + e) * 2 + 1) (omega (arith, mul-le-mul-right 2 (index-below (s .events) n l e hl he)))
-          ∙ read-back (s .events) n t .nexts-agree l e hl he;
+            byte-at ((l * s .events + e) * 2 + 1) (omega (arith, mul-le-mul-right 2 (index-below (s .events) n l e hl he)))
+            ∙ read-back (s .events) n t .nexts-agree l e hl he;
       }
 
   compiled-bytes : CompiledBytes limit s rule old n (compile-contents limit s rule old)
@@ -330,18 +338,18 @@ module _ (limit : ℕ) (s : Setup) (rule old : List ℕ) (accepted : compile-ref
       record {
         few = few s (none-of .0) limit rule (none-of .1);
         same-length =
-          ap length contents-are ∙ length-append output (drop (length output) old)
-          ∙ omega (arith, length-drop (length output) old, output-length, enough);
+            ap length contents-are ∙ length-append output (drop (length output) old)
+            ∙ omega (arith, length-drop (length output) old, output-length, enough);
         kept =
-          ap₂ drop (sym output-length) contents-are
-          ∙ drop-append-seam output (drop (length output) old)
-          ∙ ap (λ k. drop k old) output-length;
+            ap₂ drop (sym output-length) contents-are
+            ∙ drop-append-seam output (drop (length output) old)
+            ∙ ap (λ k. drop k old) output-length;
         table =
-          subst
-          (λ meet. RuleTable meet (s .top) (s .events) (s .values) rule n (machine-of (s .events) (compile-contents limit s rule old)))
-          (meet-is (s .values) (s .meet))
-          (rule-table-is (meetOf (Numbered (s .values)) (s .meet)) (s .top) (s .events) (s .values) limit rule (laws s (none-of .0)) rule-fine
-          (machine-of (s .events) (compile-contents limit s rule old)) (few s (none-of .0) limit rule (none-of .1)) agrees);
+            subst
+            (λ meet. RuleTable meet (s .top) (s .events) (s .values) rule n (machine-of (s .events) (compile-contents limit s rule old)))
+            (meet-is (s .values) (s .meet))
+            (rule-table-is (meetOf (Numbered (s .values)) (s .meet)) (s .top) (s .events) (s .values) limit rule (laws s (none-of .0)) rule-fine
+            (machine-of (s .events) (compile-contents limit s rule old)) (few s (none-of .0) limit rule (none-of .1)) agrees);
       }
 
 pub compile-claim : CompileClaim
@@ -428,12 +436,12 @@ module _ (limit : ℕ) (kind : ValueKind) (events top : ℕ) (table rule : List 
         record {
           few = parts .2;
           table-is =
-            rule-table-is (meetOf kind table) top events (value-count kind) limit rule L (parts .1) (array-machine limit kind events top table rule)
-            (parts .2)
-            (record {
-              values-agree = entry-there (rule-table kind events top table rule limit .value) (compiled-within limit kind events top table rule .values) values-are;
-              nexts-agree = entry-there (rule-table kind events top table rule limit .next) (compiled-within limit kind events top table rule .nexts) nexts-are;
-            });
+              rule-table-is (meetOf kind table) top events (value-count kind) limit rule L (parts .1) (array-machine limit kind events top table rule)
+              (parts .2)
+              (record {
+                values-agree = entry-there (rule-table kind events top table rule limit .value) (compiled-within limit kind events top table rule .values) values-are;
+                nexts-agree = entry-there (rule-table kind events top table rule limit .next) (compiled-within limit kind events top table rule .nexts) nexts-are;
+              });
         }
 
 pub compile-rule-claim : CompileRuleClaim

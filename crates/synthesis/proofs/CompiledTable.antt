@@ -1,13 +1,12 @@
 -- The computed table of a formula is the formula's, at any limit; its entries are values and states.
 -- Assumes nothing.
-use mathlib.Core.Path.{_≡_, refl, sym, _∙_, ap, subst}
 use mathlib.Core.Logic.{_↔_}
 use mathlib.Core.List.{List}
 use Prim.Native.Nat.{ℕ, zero, _≤_, _<_}
 use Rattle.theory.specs.Semilattice.{MeetSemilattice}
 use Rattle.theory.specs.Formula.{Formula, size, WellFormed}
 use Rattle.theory.specs.Semantics.{Answers}
-use Rattle.theory.specs.MealyMachine.{Machine, Word, after, Runs, States}
+use Rattle.theory.specs.MealyMachine.{Word, after, Runs, States}
 use Rattle.theory.specs.ReachableStates.{IsTableOf, StatesAtMost}
 use Rattle.theory.proofs.Claims.{table, table-values}
 use Rattle.synthesis.specs.FormulaTable.{formula-states, formula-table}

@@ -2,16 +2,15 @@
 -- Assumes nothing.
 use mathlib.Core.Path.{_≡_, refl, sym, _∙_, ap, ap₂, subst}
 use mathlib.Core.List.{List, [], _∷_, map}
-use Prim.Native.Nat.{ℕ, zero, suc, _+_, _*_, _-_, _≤_, _<_}
+use Prim.Native.Nat.{ℕ, _+_, _*_, _-_, _<_}
 use native.Mathlib.Decide.{ℕ-discrete}
 use native.Mathlib.Omega.{arith}
-use lib.ListN.{length, getD, replicate}
-use Rattle.theory.specs.Formula.{Formula, size, Guarded}
+use lib.ListN.{replicate}
 use Rattle.theory.specs.Demands.{NodeSet}
-use Rattle.theory.specs.DemandSets.{empty, union, demands}
+use Rattle.theory.specs.DemandSets.{union, demands}
 use Rattle.theory.proofs.NodeSets.{empty-union}
 use Rattle.formulas.specs.NodeReading.{Reads}
-use Rattle.synthesis.specs.NodeWords.{set-at, row, Stored}
+use Rattle.synthesis.specs.NodeWords.{row, Stored}
 use Rattle.synthesis.specs.NodeWalks.{read, Binds, Gathers}
 use Rattle.synthesis.specs.DemandRows.{AllBelow, RowsTo}
 use Rattle.synthesis.proofs.NodeWords.{no-members, stored-there, stored-else}

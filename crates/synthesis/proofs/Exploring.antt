@@ -16,7 +16,7 @@ use lib.Seq.{getD-append-seam, getD-set-same, getD-set-other}
 use Rattle.theory.specs.Exploration.{reached, has-state, add, add-events, explore, index, bits, same-bits}
 use Rattle.theory.proofs.BitSets.{same-bits-iff}
 use Rattle.synthesis.specs.NodeWords.{set-at, bits-at, Stored}
-use Rattle.synthesis.specs.Exploring.{stepped, next-bits, Found, Unchanged, state-of, events-to, Entry, Kept, Counted, Expanded, sequences}
+use Rattle.synthesis.specs.Exploring.{stepped, next-bits, Found, state-of, events-to, Entry, Kept, Expanded, sequences}
 use Rattle.synthesis.proofs.NodeWords.{member-bits-at, stored-there, stored-else, bits-of}
 
 same-true : (L K : List Bool) → L ≡ K → same-bits L K ≡ true

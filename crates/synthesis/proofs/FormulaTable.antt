@@ -3,13 +3,13 @@
 use mathlib.Core.Path.{_≡_, refl, sym, _∙_, ap, ap₂, subst, fun-ext}
 use mathlib.Core.Bool.{Bool}
 use mathlib.Core.List.{List, []}
-use Prim.Native.Nat.{ℕ, suc, _+_, _*_, _-_, _/_, _%_, _<_, _≤_}
+use Prim.Native.Nat.{ℕ, _*_, _-_, _/_, _%_, _<_, _≤_}
 use native.Mathlib.Omega.{arith}
-use lib.ListN.{length, getD}
+use lib.ListN.{length}
 use Rattle.theory.specs.Formula.{Formula, size, Closed, Guarded}
 use Rattle.theory.specs.MealyMachine.{Machine}
 use Rattle.theory.specs.Demands.{value-of-set}
-use Rattle.theory.specs.Exploration.{reached, explored, index, numbered, member, bits, same-bits, bit-machine, first-bits}
+use Rattle.theory.specs.Exploration.{explored, numbered, member, bits, same-bits, bit-machine, first-bits}
 use Rattle.formulas.specs.NodeReading.{Reads}
 use Rattle.synthesis.specs.NodeWords.{set-at, bits-at}
 use Rattle.synthesis.specs.NodeWalks.{read, Binds}

@@ -1,32 +1,30 @@
 -- The answer and the buffer's later contents of `compile`, case by case.
 -- Assumes nothing.
-use mathlib.Core.Path.{_≡_, refl, sym, _∙_, ap, ap₂, subst}
-use mathlib.Core.Bool.{Bool, true, false, cond}
+use mathlib.Core.Path.{_≡_, sym, _∙_, ap, subst}
+use mathlib.Core.Bool.{Bool, true, false}
 use mathlib.Core.List.{List}
 use mathlib.Core.Option.{Option, none, some}
-use Prim.Native.Nat.{ℕ, zero, suc, _+_, _*_, _/_, _%_, _≤_, _<_}
-use native.Mathlib.Nat.{mul-le-mul-left, mod-lt}
+use Prim.Native.Nat.{ℕ, _*_, _/_, _%_, _≤_, _<_}
+use native.Mathlib.Nat.{mul-le-mul-left}
 use native.Mathlib.Omega.{arith}
-use borrow.Author.Tests.{leb-true, lt-ltb}
-use lib.Dec.{ltb, leb}
+use borrow.Author.Tests.{leb-true}
+use lib.Dec.{leb}
 use lib.ListN.{length, getD}
-use Rattle.theory.specs.Formula.{Formula, size, WellFormed}
+use Rattle.theory.specs.Formula.{size, WellFormed}
 use Rattle.theory.specs.Semilattice.{MeetSemilattice}
 use Rattle.theory.specs.ValueSets.{Below}
-use Rattle.theory.specs.MealyMachine.{Machine, Runs, States}
+use Rattle.theory.specs.MealyMachine.{Runs, States}
 use Rattle.theory.proofs.Claims.{grammar}
 use Rattle.refusal.specs.declared.Refusal.{Refusal}
 use Rattle.refusal.specs.declared.Refusal.the-variants.{Plain}
-use Rattle.refusal.specs.declared.Judgement.{Judgement}
 use Rattle.refusal.specs.declared.Judgement.the-variants.{Accepted as AcceptedJudgement, Refused as RefusedJudgement}
-use Rattle.refusal.specs.declared.Counted.{Counted}
 use Rattle.refusal.specs.declared.Counted.the-variants.{Count, Refused}
 use Rattle.refusal.specs.Refusal.{or-else, plain-unless, judgement, counted}
 use Rattle.refusal.proofs.Refusals.{judgement-accepted, counted-accepted, or-else-none, plain-none}
 use Rattle.values.specs.declared.ValueKind.the-variants.{Numbered}
 use Rattle.values.specs.ValueKind.{meetOf}
 use Rattle.values.specs.Setup as S
-use Rattle.values.specs.Setup.{Setup, setup, setup-refusal, events-test, event-limit}
+use Rattle.values.specs.Setup.{Setup, setup, setup-refusal, events-test}
 use Rattle.values.proofs.Setups.{setup-accepted}
 use Rattle.values.proofs.ValueKinds.{value-kinds}
 use Rattle.formulas.specs.RuleRefusal.{rule-refusal, formula-of}

@@ -22,7 +22,6 @@ use Rattle.formulas.specs.RuleConditions.{OfFormula, rule-conditions}
 use Rattle.formulas.specs.RuleRefusal.{node-width, node-limit}
 use Rattle.formulas.specs.Claims.{AcceptedFormula}
 use Rattle.machines.specs.TableBytes.{entries, machine-of}
-use Rattle.synthesis.specs.declared.Compiled.{Compiled}
 use Rattle.synthesis.specs.Compilation.{value-count, rule-states, compile-rule-refusal, compiled-within, setup-states, compile-refusal, compile-contents}
 
 -- Conditions on the rule in these bytes, three a node, for a meet and top on values below `values`.

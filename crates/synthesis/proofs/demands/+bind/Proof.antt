@@ -1,5 +1,7 @@
+-- `bind` meets its contract. The nodes left fall.
+-- Assumes nothing.
 use borrow.Author.Needs.{needs}
-use Prim.Native.Nat.{_-_}
+use Prim.Native.Nat.{_-_, ℕ, _<_}
 use lib.Seq.{getD-set-same, getD-set-other}
 use lib.ListN.{getD, length, length-set}
 use mathlib.Core.Logic.{⊎-elim}
@@ -7,7 +9,6 @@ use mathlib.Core.Path.{refl, _∙_, ap}
 use native.Mathlib.Omega.{arith}
 use Rattle.synthesis.proofs.NodeWalks.{end-none, end-leaf, end-transition, end-greatest, end-conjunction}
 use Rattle.synthesis.proofs.Binding.{bound-none, bound-leaf, bound-variable, bound-transition, bound-greatest, bound-conjunction}
-use Prim.Native.Nat.{ℕ, _<_}
 use borrow.Fn.Kinds.{In}
 use borrow.Fn.PlainCycle.{Measures, is, falls, and}
 use Rattle.synthesis.proofs.demands.bind.Reads as bind
@@ -27,7 +28,6 @@ bind-at t = and 4 bind-kinds.ps (is 4 bind-kinds.ps μ-bind t) bind.Pre
 abbrev bind-below : ℕ → In 4 bind-kinds.ps
 bind-below t = and 4 bind-kinds.ps (falls 4 bind-kinds.ps _<_ μ-bind t) bind.Pre
 
--- src/demands.rt:45:9
 bind-returns : (t : ℕ) → bind-lts.Need-returns (
   wide-reads.Asked,
   wide-reads.Learnt,
@@ -48,7 +48,6 @@ bind-returns t c =
       bound = bound-none (a .kinds .now) (a .firsts .now) _ _ _ _ (c .if1 .taken) _;
     }
 
--- src/demands.rt:47:16
 bind-element-copy-out-kind : (t : ℕ) → bind-lts.Need-element-copy-out-kind (
   wide-reads.Asked,
   wide-reads.Learnt,
@@ -59,7 +58,6 @@ bind-element-copy-out-kind : (t : ℕ) → bind-lts.Need-element-copy-out-kind (
 ) (bind-at t) bind.Post
 bind-element-copy-out-kind t c = search needs
 
--- src/demands.rt:49:26
 bind-element-copy-out-wide : (t : ℕ) → bind-lts.Need-element-copy-out-wide (
   wide-reads.Asked,
   wide-reads.Learnt,
@@ -70,7 +68,6 @@ bind-element-copy-out-wide : (t : ℕ) → bind-lts.Need-element-copy-out-wide (
 ) (bind-at t) bind.Post
 bind-element-copy-out-wide t c = search needs
 
--- src/demands.rt:49:13
 bind-wide-requires : (t : ℕ) → bind-lts.Need-wide-requires (
   wide-reads.Asked,
   wide-reads.Learnt,
@@ -81,7 +78,6 @@ bind-wide-requires : (t : ℕ) → bind-lts.Need-wide-requires (
 ) (bind-at t) bind.Post
 bind-wide-requires t c κs = search needs
 
--- src/demands.rt:51:33
 bind-sub-binders : (t : ℕ) → bind-lts.Need-sub-binders (
   wide-reads.Asked,
   wide-reads.Learnt,
@@ -92,7 +88,6 @@ bind-sub-binders : (t : ℕ) → bind-lts.Need-sub-binders (
 ) (bind-at t) bind.Post
 bind-sub-binders t c = search needs
 
--- src/demands.rt:51:33
 bind-sub-binders-2 : (t : ℕ) → bind-lts.Need-sub-binders-2 (
   wide-reads.Asked,
   wide-reads.Learnt,
@@ -103,7 +98,6 @@ bind-sub-binders-2 : (t : ℕ) → bind-lts.Need-sub-binders-2 (
 ) (bind-at t) bind.Post
 bind-sub-binders-2 t c = search needs
 
--- src/demands.rt:51:27
 bind-element-copy-out-binders : (t : ℕ) → bind-lts.Need-element-copy-out-binders (
   wide-reads.Asked,
   wide-reads.Learnt,
@@ -114,7 +108,6 @@ bind-element-copy-out-binders : (t : ℕ) → bind-lts.Need-element-copy-out-bin
 ) (bind-at t) bind.Post
 bind-element-copy-out-binders t c = search needs
 
--- src/demands.rt:51:13
 bind-element-write-binders : (t : ℕ) → bind-lts.Need-element-write-binders (
   wide-reads.Asked,
   wide-reads.Learnt,
@@ -125,7 +118,6 @@ bind-element-write-binders : (t : ℕ) → bind-lts.Need-element-write-binders (
 ) (bind-at t) bind.Post
 bind-element-write-binders t c = search needs
 
--- src/demands.rt:53:16
 bind-add-result : (t : ℕ) → bind-lts.Need-add-result (
   wide-reads.Asked,
   wide-reads.Learnt,
@@ -136,7 +128,6 @@ bind-add-result : (t : ℕ) → bind-lts.Need-add-result (
 ) (bind-at t) bind.Post
 bind-add-result t c = search needs
 
--- src/demands.rt:53:9
 bind-returns-2 : (t : ℕ) → bind-lts.Need-returns-2 (
   wide-reads.Asked,
   wide-reads.Learnt,
@@ -161,7 +152,6 @@ bind-returns-2 t c =
           (c .if3 .came));
     }
 
--- src/demands.rt:56:36
 bind-add-bind : (t : ℕ) → bind-lts.Need-add-bind (
   wide-reads.Asked,
   wide-reads.Learnt,
@@ -172,7 +162,6 @@ bind-add-bind : (t : ℕ) → bind-lts.Need-add-bind (
 ) (bind-at t) bind.Post
 bind-add-bind t c = search needs
 
--- src/demands.rt:56:44
 bind-sub-bind : (t : ℕ) → bind-lts.Need-sub-bind (
   wide-reads.Asked,
   wide-reads.Learnt,
@@ -183,7 +172,6 @@ bind-sub-bind : (t : ℕ) → bind-lts.Need-sub-bind (
 ) (bind-at t) bind.Post
 bind-sub-bind t c = search needs
 
--- src/demands.rt:56:9
 bind-bind-requires : (t : ℕ) → bind-lts.Need-bind-requires (
   wide-reads.Asked,
   wide-reads.Learnt,
@@ -194,7 +182,6 @@ bind-bind-requires : (t : ℕ) → bind-lts.Need-bind-requires (
 ) (bind-at t) bind.Post
 bind-bind-requires t c κs = search needs
 
--- src/demands.rt:56:9
 bind-returns-3 : (t : ℕ) → bind-lts.Need-returns-3 (
   wide-reads.Asked,
   wide-reads.Learnt,
@@ -217,7 +204,6 @@ bind-returns-3 t c =
       bound = bound-transition (a .kinds .now) (a .firsts .now) _ _ _ (a .stack .now) _ k (r .bound);
     }
 
--- src/demands.rt:59:42
 bind-add-bind-2 : (t : ℕ) → bind-lts.Need-add-bind-2 (
   wide-reads.Asked,
   wide-reads.Learnt,
@@ -228,7 +214,6 @@ bind-add-bind-2 : (t : ℕ) → bind-lts.Need-add-bind-2 (
 ) (bind-at t) bind.Post
 bind-add-bind-2 t c = search needs
 
--- src/demands.rt:59:50
 bind-sub-bind-2 : (t : ℕ) → bind-lts.Need-sub-bind-2 (
   wide-reads.Asked,
   wide-reads.Learnt,
@@ -239,7 +224,6 @@ bind-sub-bind-2 : (t : ℕ) → bind-lts.Need-sub-bind-2 (
 ) (bind-at t) bind.Post
 bind-sub-bind-2 t c = search needs
 
--- src/demands.rt:59:13
 bind-bind-requires-2 : (t : ℕ) → bind-lts.Need-bind-requires-2 (
   wide-reads.Asked,
   wide-reads.Learnt,
@@ -250,7 +234,6 @@ bind-bind-requires-2 : (t : ℕ) → bind-lts.Need-bind-requires-2 (
 ) (bind-at t) bind.Post
 bind-bind-requires-2 t c κs = search needs
 
--- src/demands.rt:60:44
 bind-add-bind-3 : (t : ℕ) → bind-lts.Need-add-bind-3 (
   wide-reads.Asked,
   wide-reads.Learnt,
@@ -261,7 +244,6 @@ bind-add-bind-3 : (t : ℕ) → bind-lts.Need-add-bind-3 (
 ) (bind-at t) bind.Post
 bind-add-bind-3 t c = search needs
 
--- src/demands.rt:60:44
 bind-sub-bind-3 : (t : ℕ) → bind-lts.Need-sub-bind-3 (
   wide-reads.Asked,
   wide-reads.Learnt,
@@ -272,7 +254,6 @@ bind-sub-bind-3 : (t : ℕ) → bind-lts.Need-sub-bind-3 (
 ) (bind-at t) bind.Post
 bind-sub-bind-3 t c = search needs
 
--- src/demands.rt:60:9
 bind-bind-requires-3 : (t : ℕ) → bind-lts.Need-bind-requires-3 (
   wide-reads.Asked,
   wide-reads.Learnt,
@@ -283,7 +264,6 @@ bind-bind-requires-3 : (t : ℕ) → bind-lts.Need-bind-requires-3 (
 ) (bind-at t) bind.Post
 bind-bind-requires-3 t c κs = search needs
 
--- src/demands.rt:60:9
 bind-returns-4 : (t : ℕ) → bind-lts.Need-returns-4 (
   wide-reads.Asked,
   wide-reads.Learnt,
@@ -307,7 +287,6 @@ bind-returns-4 t c =
       bound = bound-conjunction (a .kinds .now) (a .firsts .now) _ _ _ (a .stack .now) _ _ _ (c .before .before .before .bind2 .result) k (r .end) (r .bound) (r .below) (q .earlier) (q .bound);
     }
 
--- src/demands.rt:63:24
 bind-narrow-requires : (t : ℕ) → bind-lts.Need-narrow-requires (
   wide-reads.Asked,
   wide-reads.Learnt,
@@ -318,7 +297,6 @@ bind-narrow-requires : (t : ℕ) → bind-lts.Need-narrow-requires (
 ) (bind-at t) bind.Post
 bind-narrow-requires t c κs = search needs
 
--- src/demands.rt:63:9
 bind-element-write-stack : (t : ℕ) → bind-lts.Need-element-write-stack (
   wide-reads.Asked,
   wide-reads.Learnt,
@@ -329,7 +307,6 @@ bind-element-write-stack : (t : ℕ) → bind-lts.Need-element-write-stack (
 ) (bind-at t) bind.Post
 bind-element-write-stack t c = search needs
 
--- src/demands.rt:64:36
 bind-add-bind-4 : (t : ℕ) → bind-lts.Need-add-bind-4 (
   wide-reads.Asked,
   wide-reads.Learnt,
@@ -340,7 +317,6 @@ bind-add-bind-4 : (t : ℕ) → bind-lts.Need-add-bind-4 (
 ) (bind-at t) bind.Post
 bind-add-bind-4 t c = search needs
 
--- src/demands.rt:64:44
 bind-sub-bind-4 : (t : ℕ) → bind-lts.Need-sub-bind-4 (
   wide-reads.Asked,
   wide-reads.Learnt,
@@ -351,7 +327,6 @@ bind-sub-bind-4 : (t : ℕ) → bind-lts.Need-sub-bind-4 (
 ) (bind-at t) bind.Post
 bind-sub-bind-4 t c = search needs
 
--- src/demands.rt:64:54
 bind-add-bind-5 : (t : ℕ) → bind-lts.Need-add-bind-5 (
   wide-reads.Asked,
   wide-reads.Learnt,
@@ -362,7 +337,6 @@ bind-add-bind-5 : (t : ℕ) → bind-lts.Need-add-bind-5 (
 ) (bind-at t) bind.Post
 bind-add-bind-5 t c = search needs
 
--- src/demands.rt:64:9
 bind-bind-requires-4 : (t : ℕ) → bind-lts.Need-bind-requires-4 (
   wide-reads.Asked,
   wide-reads.Learnt,
@@ -373,7 +347,6 @@ bind-bind-requires-4 : (t : ℕ) → bind-lts.Need-bind-requires-4 (
 ) (bind-at t) bind.Post
 bind-bind-requires-4 t c κs = (search needs, (search needs, search needs, search needs, search needs, simp length-set (search needs), search needs))
 
--- src/demands.rt:64:9
 bind-returns-5 : (t : ℕ) → bind-lts.Need-returns-5 (
   wide-reads.Asked,
   wide-reads.Learnt,
@@ -396,7 +369,6 @@ bind-returns-5 t c =
       bound = bound-greatest (a .kinds .now) (a .firsts .now) _ _ _ (a .stack .now) _ _ k (getD-set-same (a .stack .now) (a .depth) _ 0 (search needs) ∙ c .before .before .before .narrow .ensures) (λ i h. getD-set-other (a .stack .now) (a .depth) i _ 0 (λ e. omega (arith, e))) (r .bound);
     }
 
--- src/demands.rt:66:5
 bind-add-result-2 : (t : ℕ) → bind-lts.Need-add-result-2 (
   wide-reads.Asked,
   wide-reads.Learnt,
@@ -407,7 +379,6 @@ bind-add-result-2 : (t : ℕ) → bind-lts.Need-add-result-2 (
 ) (bind-at t) bind.Post
 bind-add-result-2 t c = search needs
 
--- src/demands.rt:38:1
 bind-returns-6 : (t : ℕ) → bind-lts.Need-returns-6 (
   wide-reads.Asked,
   wide-reads.Learnt,

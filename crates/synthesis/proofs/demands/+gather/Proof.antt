@@ -1,11 +1,12 @@
+-- `gather` meets its contract. The nodes left fall.
+-- Assumes nothing.
 use borrow.Author.Needs.{needs}
-use Prim.Native.Nat.{_*_}
+use Prim.Native.Nat.{_*_, ℕ, _<_}
 use mathlib.Core.Path.{_∙_, ap}
 use native.Mathlib.Omega.{arith}
 use Rattle.theory.specs.DemandSets.{union}
 use Rattle.synthesis.specs.NodeWords.{set-at}
 use Rattle.synthesis.proofs.NodeWalks.{end-none, end-leaf, end-transition, end-greatest, end-conjunction, gather-none, gather-truth, gather-variable, gather-transition, gather-output, gather-greatest, gather-conjunction}
-use Prim.Native.Nat.{ℕ, _<_}
 use borrow.Fn.Kinds.{In}
 use borrow.Fn.PlainCycle.{Measures, is, falls, and}
 use Rattle.synthesis.proofs.demands.gather.Reads as gather
@@ -27,7 +28,6 @@ gather-at t = and 4 gather-kinds.ps (is 4 gather-kinds.ps μ-gather t) gather.Pr
 abbrev gather-below : ℕ → In 4 gather-kinds.ps
 gather-below t = and 4 gather-kinds.ps (falls 4 gather-kinds.ps _<_ μ-gather t) gather.Pre
 
--- src/demands.rt:76:9
 gather-returns : (t : ℕ) → gather-lts.Need-returns (
   wide-reads.Asked,
   wide-reads.Learnt,
@@ -50,7 +50,6 @@ gather-returns t c =
       set = gather-none (a .kinds .now) (a .binders .now) (a .rows .now) _ _ (c .if1 .taken) _ _;
     }
 
--- src/demands.rt:78:16
 gather-element-copy-out-kind : (t : ℕ) → gather-lts.Need-element-copy-out-kind (
   wide-reads.Asked,
   wide-reads.Learnt,
@@ -65,7 +64,6 @@ gather-element-copy-out-kind : (t : ℕ) → gather-lts.Need-element-copy-out-ki
 ) (gather-at t) gather.Post
 gather-element-copy-out-kind t c = search needs
 
--- src/demands.rt:80:27
 gather-element-copy-out-wide : (t : ℕ) → gather-lts.Need-element-copy-out-wide (
   wide-reads.Asked,
   wide-reads.Learnt,
@@ -80,7 +78,6 @@ gather-element-copy-out-wide : (t : ℕ) → gather-lts.Need-element-copy-out-wi
 ) (gather-at t) gather.Post
 gather-element-copy-out-wide t c = search needs
 
--- src/demands.rt:80:13
 gather-wide-requires : (t : ℕ) → gather-lts.Need-wide-requires (
   wide-reads.Asked,
   wide-reads.Learnt,
@@ -95,7 +92,6 @@ gather-wide-requires : (t : ℕ) → gather-lts.Need-wide-requires (
 ) (gather-at t) gather.Post
 gather-wide-requires t c κs = search needs
 
--- src/demands.rt:81:26
 gather-mul-unite : (t : ℕ) → gather-lts.Need-mul-unite (
   wide-reads.Asked,
   wide-reads.Learnt,
@@ -110,7 +106,6 @@ gather-mul-unite : (t : ℕ) → gather-lts.Need-mul-unite (
 ) (gather-at t) gather.Post
 gather-mul-unite t c = search needs
 
--- src/demands.rt:81:9
 gather-unite-requires : (t : ℕ) → gather-lts.Need-unite-requires (
   wide-reads.Asked,
   wide-reads.Learnt,
@@ -125,7 +120,6 @@ gather-unite-requires : (t : ℕ) → gather-lts.Need-unite-requires (
 ) (gather-at t) gather.Post
 gather-unite-requires t c κs = search needs
 
--- src/demands.rt:82:16
 gather-add-result : (t : ℕ) → gather-lts.Need-add-result (
   wide-reads.Asked,
   wide-reads.Learnt,
@@ -140,7 +134,6 @@ gather-add-result : (t : ℕ) → gather-lts.Need-add-result (
 ) (gather-at t) gather.Post
 gather-add-result t c = search needs
 
--- src/demands.rt:82:9
 gather-returns-2 : (t : ℕ) → gather-lts.Need-returns-2 (
   wide-reads.Asked,
   wide-reads.Learnt,
@@ -164,7 +157,6 @@ gather-returns-2 t c =
       set = gather-variable (a .kinds .now) (a .binders .now) (a .rows .now) _ _ _ _ k (c .unite .ensures .1 ∙ ap (λ x. union (set-at (a .set .now) 0) (set-at (a .rows .now) (x * 4))) (c .before .before .wide .ensures .0));
     }
 
--- src/demands.rt:85:9
 gather-insert-requires : (t : ℕ) → gather-lts.Need-insert-requires (
   wide-reads.Asked,
   wide-reads.Learnt,
@@ -179,7 +171,6 @@ gather-insert-requires : (t : ℕ) → gather-lts.Need-insert-requires (
 ) (gather-at t) gather.Post
 gather-insert-requires t c κs = search needs
 
--- src/demands.rt:86:30
 gather-add-end-of : (t : ℕ) → gather-lts.Need-add-end-of (
   wide-reads.Asked,
   wide-reads.Learnt,
@@ -194,7 +185,6 @@ gather-add-end-of : (t : ℕ) → gather-lts.Need-add-end-of (
 ) (gather-at t) gather.Post
 gather-add-end-of t c = search needs
 
--- src/demands.rt:86:38
 gather-sub-end-of : (t : ℕ) → gather-lts.Need-sub-end-of (
   wide-reads.Asked,
   wide-reads.Learnt,
@@ -209,7 +199,6 @@ gather-sub-end-of : (t : ℕ) → gather-lts.Need-sub-end-of (
 ) (gather-at t) gather.Post
 gather-sub-end-of t c = search needs
 
--- src/demands.rt:86:9
 gather-end-of-requires : (t : ℕ) → gather-lts.Need-end-of-requires (
   wide-reads.Asked,
   wide-reads.Learnt,
@@ -224,7 +213,6 @@ gather-end-of-requires : (t : ℕ) → gather-lts.Need-end-of-requires (
 ) (gather-at t) gather.Post
 gather-end-of-requires t c κs = search needs
 
--- src/demands.rt:86:9
 gather-returns-3 : (t : ℕ) → gather-lts.Need-returns-3 (
   wide-reads.Asked,
   wide-reads.Learnt,
@@ -248,7 +236,6 @@ gather-returns-3 t c =
       set = gather-transition (a .kinds .now) (a .binders .now) (a .rows .now) _ _ _ _ k (c .before .insert .ensures .1);
     }
 
--- src/demands.rt:89:9
 gather-insert-requires-2 : (t : ℕ) → gather-lts.Need-insert-requires-2 (
   wide-reads.Asked,
   wide-reads.Learnt,
@@ -263,7 +250,6 @@ gather-insert-requires-2 : (t : ℕ) → gather-lts.Need-insert-requires-2 (
 ) (gather-at t) gather.Post
 gather-insert-requires-2 t c κs = search needs
 
--- src/demands.rt:90:16
 gather-add-result-2 : (t : ℕ) → gather-lts.Need-add-result-2 (
   wide-reads.Asked,
   wide-reads.Learnt,
@@ -278,7 +264,6 @@ gather-add-result-2 : (t : ℕ) → gather-lts.Need-add-result-2 (
 ) (gather-at t) gather.Post
 gather-add-result-2 t c = search needs
 
--- src/demands.rt:90:9
 gather-returns-4 : (t : ℕ) → gather-lts.Need-returns-4 (
   wide-reads.Asked,
   wide-reads.Learnt,
@@ -302,7 +287,6 @@ gather-returns-4 t c =
       set = gather-output (a .kinds .now) (a .binders .now) (a .rows .now) _ _ _ _ k (c .insert2 .ensures .1);
     }
 
--- src/demands.rt:93:51
 gather-add-gather : (t : ℕ) → gather-lts.Need-add-gather (
   wide-reads.Asked,
   wide-reads.Learnt,
@@ -317,7 +301,6 @@ gather-add-gather : (t : ℕ) → gather-lts.Need-add-gather (
 ) (gather-at t) gather.Post
 gather-add-gather t c = search needs
 
--- src/demands.rt:93:59
 gather-sub-gather : (t : ℕ) → gather-lts.Need-sub-gather (
   wide-reads.Asked,
   wide-reads.Learnt,
@@ -332,7 +315,6 @@ gather-sub-gather : (t : ℕ) → gather-lts.Need-sub-gather (
 ) (gather-at t) gather.Post
 gather-sub-gather t c = search needs
 
--- src/demands.rt:93:13
 gather-gather-requires : (t : ℕ) → gather-lts.Need-gather-requires (
   wide-reads.Asked,
   wide-reads.Learnt,
@@ -347,7 +329,6 @@ gather-gather-requires : (t : ℕ) → gather-lts.Need-gather-requires (
 ) (gather-at t) gather.Post
 gather-gather-requires t c κs = search needs
 
--- src/demands.rt:94:53
 gather-add-gather-2 : (t : ℕ) → gather-lts.Need-add-gather-2 (
   wide-reads.Asked,
   wide-reads.Learnt,
@@ -362,7 +343,6 @@ gather-add-gather-2 : (t : ℕ) → gather-lts.Need-add-gather-2 (
 ) (gather-at t) gather.Post
 gather-add-gather-2 t c = search needs
 
--- src/demands.rt:94:53
 gather-sub-gather-2 : (t : ℕ) → gather-lts.Need-sub-gather-2 (
   wide-reads.Asked,
   wide-reads.Learnt,
@@ -377,7 +357,6 @@ gather-sub-gather-2 : (t : ℕ) → gather-lts.Need-sub-gather-2 (
 ) (gather-at t) gather.Post
 gather-sub-gather-2 t c = search needs
 
--- src/demands.rt:94:9
 gather-gather-requires-2 : (t : ℕ) → gather-lts.Need-gather-requires-2 (
   wide-reads.Asked,
   wide-reads.Learnt,
@@ -392,7 +371,6 @@ gather-gather-requires-2 : (t : ℕ) → gather-lts.Need-gather-requires-2 (
 ) (gather-at t) gather.Post
 gather-gather-requires-2 t c κs = search needs
 
--- src/demands.rt:94:9
 gather-returns-5 : (t : ℕ) → gather-lts.Need-returns-5 (
   wide-reads.Asked,
   wide-reads.Learnt,
@@ -416,7 +394,6 @@ gather-returns-5 t c =
       set = gather-conjunction (a .kinds .now) (a .binders .now) (a .rows .now) _ _ _ _ _ (c .before .before .gather .result) k (c .before .before .gather .ensures .end) (c .before .before .gather .ensures .set) (c .gather2 .ensures .set);
     }
 
--- src/demands.rt:97:45
 gather-add-gather-3 : (t : ℕ) → gather-lts.Need-add-gather-3 (
   wide-reads.Asked,
   wide-reads.Learnt,
@@ -431,7 +408,6 @@ gather-add-gather-3 : (t : ℕ) → gather-lts.Need-add-gather-3 (
 ) (gather-at t) gather.Post
 gather-add-gather-3 t c = search needs
 
--- src/demands.rt:97:53
 gather-sub-gather-3 : (t : ℕ) → gather-lts.Need-sub-gather-3 (
   wide-reads.Asked,
   wide-reads.Learnt,
@@ -446,7 +422,6 @@ gather-sub-gather-3 : (t : ℕ) → gather-lts.Need-sub-gather-3 (
 ) (gather-at t) gather.Post
 gather-sub-gather-3 t c = search needs
 
--- src/demands.rt:97:9
 gather-gather-requires-3 : (t : ℕ) → gather-lts.Need-gather-requires-3 (
   wide-reads.Asked,
   wide-reads.Learnt,
@@ -461,7 +436,6 @@ gather-gather-requires-3 : (t : ℕ) → gather-lts.Need-gather-requires-3 (
 ) (gather-at t) gather.Post
 gather-gather-requires-3 t c κs = search needs
 
--- src/demands.rt:97:9
 gather-returns-6 : (t : ℕ) → gather-lts.Need-returns-6 (
   wide-reads.Asked,
   wide-reads.Learnt,
@@ -485,7 +459,6 @@ gather-returns-6 t c =
       set = gather-greatest (a .kinds .now) (a .binders .now) (a .rows .now) _ _ _ _ k (c .gather3 .ensures .set);
     }
 
--- src/demands.rt:99:5
 gather-add-result-3 : (t : ℕ) → gather-lts.Need-add-result-3 (
   wide-reads.Asked,
   wide-reads.Learnt,
@@ -500,7 +473,6 @@ gather-add-result-3 : (t : ℕ) → gather-lts.Need-add-result-3 (
 ) (gather-at t) gather.Post
 gather-add-result-3 t c = search needs
 
--- src/demands.rt:70:1
 gather-returns-7 : (t : ℕ) → gather-lts.Need-returns-7 (
   wide-reads.Asked,
   wide-reads.Learnt,

@@ -1,8 +1,10 @@
+-- `fill_row` meets its contract. The loop's invariant: the entries of the events passed are right.
+-- Assumes nothing.
 use borrow.Author.Needs.{needs}
-use Prim.Native.Nat.{ℕ, _≤_, _-_, _+_, _*_}
+use Prim.Native.Nat.{_≤_, _-_, _+_, _*_}
 use mathlib.Core.Path.{_≡_, refl, _∙_, subst}
 use native.Mathlib.Omega.{arith}
-use lib.ListN.{length, set, length-set}
+use lib.ListN.{length, length-set}
 use lib.Seq.{getD-set-other}
 use Rattle.values.specs.ValueKind.{meetOf}
 use Rattle.synthesis.specs.Exploring.{Unchanged}
@@ -10,10 +12,6 @@ use Rattle.synthesis.specs.TableEntries.{state-value, EntriesTo}
 use Rattle.synthesis.proofs.TableEntries.{entries-more}
 use Rattle.synthesis.proofs.entries.fill_row.Statement.{statement}
 use Rattle.synthesis.proofs.entries.fill_row.Tie as tie
-use Rattle.synthesis.proofs.entries.fill_row.Reads as reads
-use Rattle.synthesis.proofs.entries.fill_row.Lts as lts
-use Rattle.synthesis.proofs.entries.value_of.Reads as value-of-reads
-use Rattle.synthesis.proofs.numbers.entry_at.Reads as entry-at-reads
 
 abbrev Inv-loop : tie.InvT-loop
 Inv-loop kind meet top kinds firsts values count states state events to₀ event₀ to event =
@@ -24,7 +22,6 @@ Inv-loop kind meet top kinds firsts values count states state events to₀ event
 abbrev μ-loop : tie.MeasureT-loop
 μ-loop kind meet top kinds firsts values count states state events to₀ event₀ to event = events - event
 
--- src/entries.rt:44:5
 loop-holds : tie.Need-loop-holds Inv-loop μ-loop
 loop-holds c =
     let a = c .before .args in
@@ -35,35 +32,27 @@ loop-holds c =
       λ old. subst (λ m. EntriesTo (state-value (meetOf (a .kind) (a .meet .now)) (a .top) (a .kinds .now) (a .firsts .now) (a .values .now) (a .count) (a .states .now)) (a .events) m (a .to .now)) z old,
     )
 
--- src/entries.rt:45:13
 entry-at-requires : tie.Need-entry-at-requires Inv-loop μ-loop
 entry-at-requires c κs = search needs
 
--- src/entries.rt:46:85
 mul-value-of : tie.Need-mul-value-of Inv-loop μ-loop
 mul-value-of c = search needs
 
--- src/entries.rt:46:13
 value-of-requires : tie.Need-value-of-requires Inv-loop μ-loop
 value-of-requires c κs = search needs
 
--- src/entries.rt:47:9
 mul-to : tie.Need-mul-to Inv-loop μ-loop
 mul-to c = search needs
 
--- src/entries.rt:47:9
 element-write-to : tie.Need-element-write-to Inv-loop μ-loop
 element-write-to c = omega (arith, c .before .entry-at .ensures .1, c .before .before .before .loop .inv .1)
 
--- src/entries.rt:48:9
 add-event : tie.Need-add-event Inv-loop μ-loop
 add-event c = search needs
 
--- src/entries.rt:44:5
 loop-less : tie.Need-loop-less Inv-loop μ-loop
 loop-less c = search needs
 
--- src/entries.rt:44:5
 loop-again : tie.Need-loop-again Inv-loop μ-loop
 loop-again c =
     let a = c .before .before .before .before .before .args in
@@ -75,7 +64,6 @@ loop-again c =
       λ old. entries-more (state-value (meetOf (a .kind) (a .meet .now)) (a .top) (a .kinds .now) (a .firsts .now) (a .values .now) (a .count) (a .states .now)) (a .events) (a .state) (l .event) (c .before .entry-at .result) (c .value-of .result) (l .to) (c .before .before .loop-test .taken) at (omega (arith, c .before .entry-at .ensures .1, l .inv .1)) (c .value-of .ensures) (l .inv .3 old),
     )
 
--- src/entries.rt:34:1
 returns : tie.Need-returns Inv-loop μ-loop
 returns c =
     let a = c .before .before .before .args in

@@ -1,5 +1,7 @@
+-- `fill_values` meets its contract. The loop's invariant: the entries of the states passed are right.
+-- Assumes nothing.
 use borrow.Author.Needs.{needs}
-use Prim.Native.Nat.{ℕ, _≤_, _-_, _+_, _*_}
+use Prim.Native.Nat.{_≤_, _-_, _+_, _*_}
 use mathlib.Core.Path.{_≡_, refl, _∙_, subst}
 use native.Mathlib.Nat.{zero-mul, add-mul}
 use native.Mathlib.Omega.{arith}
@@ -9,9 +11,6 @@ use Rattle.synthesis.specs.Exploring.{Unchanged}
 use Rattle.synthesis.specs.TableEntries.{state-value, EntriesTo}
 use Rattle.synthesis.proofs.entries.fill_values.Statement.{statement}
 use Rattle.synthesis.proofs.entries.fill_values.Tie as tie
-use Rattle.synthesis.proofs.entries.fill_values.Reads as reads
-use Rattle.synthesis.proofs.entries.fill_values.Lts as lts
-use Rattle.synthesis.proofs.entries.fill_row.Reads as fill-row-reads
 
 abbrev Inv-loop : tie.InvT-loop
 Inv-loop kind meet top kinds firsts values count states n events to₀ state₀ to state =
@@ -21,25 +20,20 @@ Inv-loop kind meet top kinds firsts values count states n events to₀ state₀ 
 abbrev μ-loop : tie.MeasureT-loop
 μ-loop kind meet top kinds firsts values count states n events to₀ state₀ to state = n - state
 
--- src/entries.rt:61:5
 loop-holds : tie.Need-loop-holds Inv-loop μ-loop
 loop-holds c =
     let a = c .before .args in
     (search needs, search needs, (λ x h. refl), λ x h. absurd (omega (arith, h, zero-mul (a .events))))
 
--- src/entries.rt:62:9
 fill-row-requires : tie.Need-fill-row-requires Inv-loop μ-loop
 fill-row-requires c κs = search needs
 
--- src/entries.rt:63:9
 add-state : tie.Need-add-state Inv-loop μ-loop
 add-state c = search needs
 
--- src/entries.rt:61:5
 loop-less : tie.Need-loop-less Inv-loop μ-loop
 loop-less c = search needs
 
--- src/entries.rt:61:5
 loop-again : tie.Need-loop-again Inv-loop μ-loop
 loop-again c =
     let a = c .before .before .before .before .before .args in
@@ -52,7 +46,6 @@ loop-again c =
       λ x h. r .2 (l .inv .3) x (omega (arith, h, z)),
     )
 
--- src/entries.rt:53:1
 returns : tie.Need-returns Inv-loop μ-loop
 returns c =
     let a = c .before .before .before .args in

@@ -1,3 +1,5 @@
+-- `advance` meets its contract. The loop's invariant: the set is that of the nodes passed.
+-- Assumes nothing.
 use borrow.Author.Needs.{needs}
 use Prim.Native.Nat.{_≤_, _-_, _+_}
 use mathlib.Core.Path.{_≡_, sym, _∙_, ap, subst}
@@ -10,10 +12,6 @@ use Rattle.synthesis.specs.Exploring.{stepped}
 use Rattle.synthesis.proofs.Stepping.{stepped-none, stepped-yes, stepped-no}
 use Rattle.synthesis.proofs.exploration.advance.Statement.{statement}
 use Rattle.synthesis.proofs.exploration.advance.Tie as tie
-use Rattle.synthesis.proofs.exploration.advance.Reads as reads
-use Rattle.synthesis.proofs.exploration.advance.Lts as lts
-use Rattle.synthesis.proofs.node_sets.active.Reads as active-reads
-use Rattle.synthesis.proofs.node_sets.unite.Reads as unite-reads
 
 abbrev Inv-loop : tie.InvT-loop
 Inv-loop kinds firsts count rows states base event next₀ node₀ next node = (node ≤ count) × (length next ≡ 4) × (set-at next 0 ≡ stepped kinds firsts rows node (set-at states base) event)
@@ -21,37 +19,29 @@ Inv-loop kinds firsts count rows states base event next₀ node₀ next node = (
 abbrev μ-loop : tie.MeasureT-loop
 μ-loop kinds firsts count rows states base event next₀ node₀ next node = count - node
 
--- src/exploration.rt:43:5
 loop-holds : tie.Need-loop-holds Inv-loop μ-loop
 loop-holds c =
     let a = c .args in
     (search needs, search needs, c .pre .7 ∙ sym (stepped-none (a .kinds .now) (a .firsts .now) (a .rows .now) 0 (set-at (a .states .now) (a .base)) (a .event)))
 
--- src/exploration.rt:44:12
 active-requires : tie.Need-active-requires Inv-loop μ-loop
 active-requires c κs = search needs
 
--- src/exploration.rt:45:32
 add-unite : tie.Need-add-unite Inv-loop μ-loop
 add-unite c = search needs
 
--- src/exploration.rt:45:31
 mul-unite : tie.Need-mul-unite Inv-loop μ-loop
 mul-unite c = search needs
 
--- src/exploration.rt:45:13
 unite-requires : tie.Need-unite-requires Inv-loop μ-loop
 unite-requires c κs = search needs
 
--- src/exploration.rt:47:9
 add-node : tie.Need-add-node Inv-loop μ-loop
 add-node c = search needs
 
--- src/exploration.rt:43:5
 loop-less : tie.Need-loop-less Inv-loop μ-loop
 loop-less c = search needs
 
--- src/exploration.rt:43:5
 loop-again : tie.Need-loop-again Inv-loop μ-loop
 loop-again c =
     let a = c .before .before .before .before .args in
@@ -72,7 +62,6 @@ loop-again c =
     ))
     (c .if1 .came)
 
--- src/exploration.rt:35:1
 returns : tie.Need-returns Inv-loop μ-loop
 returns c =
     let a = c .before .before .args in

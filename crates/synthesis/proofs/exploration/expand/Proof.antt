@@ -1,6 +1,9 @@
+-- `expand` meets its contract. The loop's invariant, for every list of sequences that the states were kept for: they are kept
+-- for it with the events passed, and the entries passed are right.
+-- Assumes nothing.
 use borrow.Author.Needs.{needs}
 use Prim.Native.Nat.{ℕ, _≤_, _<_, _-_, _+_, _*_}
-use mathlib.Core.Path.{_≡_, refl, sym, _∙_, ap, subst}
+use mathlib.Core.Path.{_≡_, refl, _∙_, ap, subst}
 use mathlib.Core.Bool.{Bool}
 use mathlib.Core.Logic.{⊎-elim}
 use mathlib.Core.List.{List, []}
@@ -12,13 +15,6 @@ use Rattle.synthesis.proofs.NodeWords.{no-members}
 use Rattle.synthesis.proofs.Exploring.{candidate-old, candidate-new, candidate-many, below}
 use Rattle.synthesis.proofs.exploration.expand.Statement.{statement}
 use Rattle.synthesis.proofs.exploration.expand.Tie as tie
-use Rattle.synthesis.proofs.exploration.expand.Reads as reads
-use Rattle.synthesis.proofs.exploration.expand.Lts as lts
-use Rattle.synthesis.proofs.exploration.advance.Reads as advance-reads
-use Rattle.synthesis.proofs.exploration.find.Reads as find-reads
-use Rattle.synthesis.proofs.node_sets.store.Reads as store-reads
-use Rattle.synthesis.proofs.numbers.entry_at.Reads as entry-at-reads
-use Rattle.synthesis.proofs.numbers.narrow.Reads as narrow-reads
 
 abbrev Inv-loop : tie.InvT-loop
 Inv-loop kinds firsts count rows events i n states₀ nexts₀ k₀ event₀ states nexts k event =
@@ -31,7 +27,6 @@ Inv-loop kinds firsts count rows events i n states₀ nexts₀ k₀ event₀ sta
 abbrev μ-loop : tie.MeasureT-loop
 μ-loop kinds firsts count rows events i n states₀ nexts₀ k₀ event₀ states nexts k event = events - event
 
--- src/exploration.rt:78:5
 loop-holds : tie.Need-loop-holds Inv-loop μ-loop
 loop-holds c =
     let a = c .args in
@@ -45,24 +40,19 @@ loop-holds c =
       λ start P old. subst (λ m. Kept (next-bits (a .kinds .now) (a .firsts .now) (a .rows .now) (a .count)) start (a .events) P (a .n) m (a .states .now) (a .nexts .now)) z old,
     )
 
--- src/exploration.rt:80:55
 mul-advance : tie.Need-mul-advance Inv-loop μ-loop
 mul-advance c = search needs
 
--- src/exploration.rt:80:9
 advance-requires : tie.Need-advance-requires Inv-loop μ-loop
 advance-requires c κs =
     (search needs, search needs, search needs, search needs, search needs, search needs, search needs, no-members)
 
--- src/exploration.rt:81:13
 find-requires : tie.Need-find-requires Inv-loop μ-loop
 find-requires c κs = search needs
 
--- src/exploration.rt:84:24
 add-result : tie.Need-add-result Inv-loop μ-loop
 add-result c = search needs
 
--- src/exploration.rt:84:17
 returns : tie.Need-returns Inv-loop μ-loop
 returns c =
     let a = c .before .before .before .before .before .before .before .before .before .before .args in
@@ -83,39 +73,30 @@ returns c =
       },
     )
 
--- src/exploration.rt:86:27
 mul-store : tie.Need-mul-store Inv-loop μ-loop
 mul-store c = search needs
 
--- src/exploration.rt:86:13
 store-requires : tie.Need-store-requires Inv-loop μ-loop
 store-requires c κs = search needs
 
--- src/exploration.rt:87:13
 add-k : tie.Need-add-k Inv-loop μ-loop
 add-k c = search needs
 
--- src/exploration.rt:89:13
 entry-at-requires : tie.Need-entry-at-requires Inv-loop μ-loop
 entry-at-requires c κs = search needs
 
--- src/exploration.rt:90:21
 narrow-requires : tie.Need-narrow-requires Inv-loop μ-loop
 narrow-requires c κs = omega (arith, c .before .before .find .ensures .low, c .before .before .before .before .before .before .before .before .before .loop .inv .2)
 
--- src/exploration.rt:90:9
 element-write-nexts : tie.Need-element-write-nexts Inv-loop μ-loop
 element-write-nexts c = omega (arith, c .before .entry-at .ensures .1, c .before .before .before .before .before .before .before .before .before .before .loop .inv .4)
 
--- src/exploration.rt:91:9
 add-event : tie.Need-add-event Inv-loop μ-loop
 add-event c = search needs
 
--- src/exploration.rt:78:5
 loop-less : tie.Need-loop-less Inv-loop μ-loop
 loop-less c = search needs
 
--- src/exploration.rt:78:5
 loop-again : tie.Need-loop-again Inv-loop μ-loop
 loop-again c =
     let a = c .before .before .before .before .before .before .before .before .before .before .before .args in
@@ -149,7 +130,6 @@ loop-again c =
     ))
     (c .before .before .if1 .came)
 
--- src/exploration.rt:68:1
 returns-2 : tie.Need-returns-2 Inv-loop μ-loop
 returns-2 c =
     let a = c .before .before .args in

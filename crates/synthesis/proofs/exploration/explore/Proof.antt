@@ -1,5 +1,7 @@
+-- `explore` meets its contract. The loop's invariant: the states kept and the entries are those of the sequences explored so far.
+-- Assumes nothing.
 use borrow.Author.Needs.{needs}
-use Prim.Native.Nat.{ℕ, _≤_, _<_, _-_, _+_, _*_}
+use Prim.Native.Nat.{_≤_, _-_, _*_}
 use mathlib.Core.Path.{_≡_, refl, _∙_, subst}
 use native.Mathlib.Nat.{add-mul}
 use native.Mathlib.Omega.{arith}
@@ -9,9 +11,6 @@ use Rattle.synthesis.specs.Exploring.{next-bits, Unchanged, Kept}
 use Rattle.synthesis.proofs.Exploring.{all-to, kept-start, row-kept, row-over, all-kept}
 use Rattle.synthesis.proofs.exploration.explore.Statement.{statement}
 use Rattle.synthesis.proofs.exploration.explore.Tie as tie
-use Rattle.synthesis.proofs.exploration.explore.Reads as reads
-use Rattle.synthesis.proofs.exploration.explore.Lts as lts
-use Rattle.synthesis.proofs.exploration.expand.Reads as expand-reads
 
 abbrev Inv-loop : tie.InvT-loop
 Inv-loop kinds firsts count rows events states₀ nexts₀ n₀ i₀ states nexts n i =
@@ -22,7 +21,6 @@ Inv-loop kinds firsts count rows events states₀ nexts₀ n₀ i₀ states next
 abbrev μ-loop : tie.MeasureT-loop
 μ-loop kinds firsts count rows events states₀ nexts₀ n₀ i₀ states nexts n i = 64 - i
 
--- src/exploration.rt:109:5
 loop-holds : tie.Need-loop-holds Inv-loop μ-loop
 loop-holds c =
     let a = c .args in (
@@ -34,15 +32,12 @@ loop-holds c =
       kept-start (next-bits (a .kinds .now) (a .firsts .now) (a .rows .now) (a .count)) (a .states .now) (a .events) (a .nexts .now),
     )
 
--- src/exploration.rt:110:13
 expand-requires : tie.Need-expand-requires Inv-loop μ-loop
 expand-requires c κs = search needs
 
--- src/exploration.rt:112:20
 add-result : tie.Need-add-result Inv-loop μ-loop
 add-result c = search needs
 
--- src/exploration.rt:112:13
 returns : tie.Need-returns Inv-loop μ-loop
 returns c =
     let a = c .before .before .before .before .before .before .args in
@@ -60,15 +55,12 @@ returns c =
       },
     )
 
--- src/exploration.rt:115:9
 add-i : tie.Need-add-i Inv-loop μ-loop
 add-i c = search needs
 
--- src/exploration.rt:109:5
 loop-less : tie.Need-loop-less Inv-loop μ-loop
 loop-less c = search needs
 
--- src/exploration.rt:109:5
 loop-again : tie.Need-loop-again Inv-loop μ-loop
 loop-again c =
     let a = c .before .before .before .before .before .before .args in
@@ -84,7 +76,6 @@ loop-again c =
       row-kept nb (a .states .now) (a .events) 64 (l .i) (l .n) (c .before .expand .result) (l .states) (l .nexts) _ _ (search needs) (v .5) (x .4) (search needs),
     )
 
--- src/exploration.rt:98:1
 returns-2 : tie.Need-returns-2 Inv-loop μ-loop
 returns-2 c =
     let a = c .before .before .args in

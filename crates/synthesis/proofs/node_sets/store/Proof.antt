@@ -1,5 +1,7 @@
-use Prim.Native.Nat.{ℕ, _≤_, _<_, _-_, _+_, _*_}
-use mathlib.Core.Path.{_≡_, refl, sym, _∙_, ap}
+-- `store` meets its contract. The loop's invariant: the words passed are stored, all others as before.
+-- Assumes nothing.
+use Prim.Native.Nat.{ℕ, _≤_, _<_, _-_, _+_}
+use mathlib.Core.Path.{_≡_, _∙_}
 use native.Mathlib.Omega.{arith}
 use borrow.Author.Count.{below-more}
 use lib.ListN.{length, getD}
@@ -7,8 +9,6 @@ use lib.Seq.{getD-set-same, getD-set-other}
 use borrow.Author.Needs.{needs}
 use Rattle.synthesis.proofs.node_sets.store.Statement.{statement}
 use Rattle.synthesis.proofs.node_sets.store.Tie as tie
-use Rattle.synthesis.proofs.node_sets.store.Reads as reads
-use Rattle.synthesis.proofs.node_sets.store.Lts as lts
 
 abbrev Inv-loop : tie.InvT-loop
 Inv-loop rows₀ base set i₀ rows i =
@@ -20,39 +20,30 @@ Inv-loop rows₀ base set i₀ rows i =
 abbrev μ-loop : tie.MeasureT-loop
 μ-loop rows₀ base set i₀ rows i = 4 - i
 
--- src/lib.rt:105:5
 loop-holds : tie.Need-loop-holds Inv-loop μ-loop
 loop-holds c = search needs
 
--- src/lib.rt:106:24
 mul-rows : tie.Need-mul-rows Inv-loop μ-loop
 mul-rows c = search needs
 
--- src/lib.rt:106:24
 element-copy-out-rows : tie.Need-element-copy-out-rows Inv-loop μ-loop
 element-copy-out-rows c = search needs
 
--- src/lib.rt:106:12
 add-rows : tie.Need-add-rows Inv-loop μ-loop
 add-rows c = search needs
 
--- src/lib.rt:106:9
 mul-rows-2 : tie.Need-mul-rows-2 Inv-loop μ-loop
 mul-rows-2 c = search needs
 
--- src/lib.rt:106:9
 element-write-rows : tie.Need-element-write-rows Inv-loop μ-loop
 element-write-rows c = search needs
 
--- src/lib.rt:107:9
 add-i : tie.Need-add-i Inv-loop μ-loop
 add-i c = search needs
 
--- src/lib.rt:105:5
 loop-less : tie.Need-loop-less Inv-loop μ-loop
 loop-less c = search needs
 
--- src/lib.rt:105:5
 loop-again : tie.Need-loop-again Inv-loop μ-loop
 loop-again c =
     let l = c .before .before .loop .rows in
@@ -69,7 +60,6 @@ loop-again c =
       λ x h. getD-set-other l at x v 0 (λ e. omega (arith, e)) ∙ c .before .before .loop .inv .4 x (omega arith),
     )
 
--- src/lib.rt:100:1
 returns : tie.Need-returns Inv-loop μ-loop
 returns c =
     let v = c .before .loop .inv in

@@ -1,3 +1,5 @@
+-- `table_of` meets its contract, by what its parts answer.
+-- Assumes nothing.
 use mathlib.Core.Path.{refl}
 use native.Mathlib.Omega.{arith}
 use Rattle.values.specs.ValueKind.{meetOf}
@@ -5,26 +7,16 @@ use Rattle.synthesis.proofs.FormulaTable.{tables}
 use borrow.Author.Needs.{needs}
 use Rattle.synthesis.proofs.tables.table_of.Statement.{statement}
 use Rattle.synthesis.proofs.tables.table_of.Tie as tie
-use Rattle.synthesis.proofs.tables.table_of.Reads as reads
-use Rattle.synthesis.proofs.tables.table_of.Lts as lts
-use Rattle.synthesis.proofs.demands.bind.Reads as bind-reads
-use Rattle.synthesis.proofs.demands.fill_rows.Reads as fill-rows-reads
-use Rattle.synthesis.proofs.entries.fill_values.Reads as fill-values-reads
-use Rattle.synthesis.proofs.exploration.explore.Reads as explore-reads
 
--- src/tables.rt:24:5
 bind-requires : tie.Need-bind-requires
 bind-requires c κs = search needs
 
--- src/tables.rt:26:5
 fill-rows-requires : tie.Need-fill-rows-requires
 fill-rows-requires c κs = search needs
 
--- src/tables.rt:28:9
 explore-requires : tie.Need-explore-requires
 explore-requires c κs = search needs
 
--- src/tables.rt:30:9
 returns : tie.Need-returns
 returns c =
     let a = c .before .before .before .before .before .before .before .before .before .before .before .before .args in
@@ -35,11 +27,9 @@ returns c =
           (c .before .before .before .before .before .before .before .before .bind .ensures .bound) (c .before .before .before .before .before .fill-rows .ensures .1) (x .3) (λ h. absurd (omega (arith, h, c .if1 .taken))) (λ h y u. refl) (x .2),
     )
 
--- src/tables.rt:32:5
 fill-values-requires : tie.Need-fill-values-requires
 fill-values-requires c κs = search needs
 
--- src/tables.rt:15:1
 returns-2 : tie.Need-returns-2
 returns-2 c =
     let a = c .before .before .before .before .before .before .before .before .before .before .before .before .before .before .before .args in
