@@ -33,7 +33,7 @@ use Rattle.formulas.proofs.RuleClaims.{accepted-formula-of, decoded-reads}
 use Rattle.synthesis.specs.declared.Compiled.{Compiled}
 use Rattle.synthesis.specs.Exploring.{Unchanged}
 use Rattle.synthesis.specs.TableEntries.{EntriesTo}
-use Rattle.synthesis.specs.FormulaTable.{Tabled, Tables}
+use Rattle.synthesis.specs.MadeTable.{Tabled, Tables}
 use Rattle.synthesis.specs.Compilation.{value-count, rule-states, rule-table, rule-table-refusal, compile-rule-refusal, entry-count, flat, refused, compiled-within, compiled}
 
 -- Entries and zeros after them.

@@ -17,7 +17,8 @@ use Rattle.synthesis.specs.Binding.{AllBound}
 use Rattle.synthesis.specs.DemandRows.{RowsTo}
 use Rattle.synthesis.specs.Exploring.{next-bits, Unchanged, Kept, Counted, sequences}
 use Rattle.synthesis.specs.TableEntries.{state-value, EntriesTo}
-use Rattle.synthesis.specs.FormulaTable.{formula-states, formula-table, Tabled, Tables}
+use Rattle.synthesis.specs.FormulaTable.{formula-states, formula-table}
+use Rattle.synthesis.specs.MadeTable.{Tabled, Tables}
 use Rattle.synthesis.proofs.NodeWords.{member-bits-at}
 use Rattle.synthesis.proofs.NodeWalks.{size-pos}
 use Rattle.synthesis.proofs.Stepping.{stepped-moved}

@@ -1,5 +1,5 @@
 -- In reading order.
--- The table of a formula, and what the compilers answer.
+-- What the contracts of the compilers compute with, and what is claimed of it.
 pub mod FormulaTable
 pub mod Compilation
 pub mod Claims
@@ -10,3 +10,4 @@ pub mod Binding
 pub mod DemandRows
 pub mod Exploring
 pub mod TableEntries
+pub mod MadeTable

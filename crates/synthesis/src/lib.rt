@@ -25,7 +25,7 @@ ghost use mathlib.Core.Path.{_≡_};
 ghost use Rattle.refusal.specs.Refusal.{or-else, plain-unless, judgement, counted};
 ghost use Rattle.values.specs.Setup.{setup, events-test};
 ghost use Rattle.formulas.specs.RuleRefusal.{rule-refusal};
-ghost use Rattle.synthesis.specs.Compilation.{value-count, refused, compiled, compile-refusal, setup-states, compile-contents};
+ghost use Rattle.synthesis.specs.Compilation.{state-limit, value-count, refused, compiled, compile-refusal, setup-states, compile-contents};
 
 // A compiled rule: the number of states or a refusal; entries by state and then event, and zeros after them. Beside a refusal
 // all entries are 0.
@@ -35,13 +35,16 @@ pub struct Compiled {
     pub nexts: [u8; 1024],
 }
 
+// Every number of 32 bits is a register value.
+const REGISTER_VALUES: usize = 4294967296;
+
 // The values that a rule may name.
 fn value_count(kind: ValueKind) -> usize
     ensures { λ r. ⌜ r ≡ value-count kind ⌝ }
 {
     match kind {
         ValueKind::Numbered(n) => n as usize,
-        ValueKind::Register => 4294967296,
+        ValueKind::Register => REGISTER_VALUES,
     }
 }
 
@@ -117,9 +120,9 @@ pub fn compile(
     rule: &[u8],
     to: &mut [u8],
 ) -> Counted
-    ensures answer { λ r. ⌜ r ≡ counted (compile-refusal 64 (setup events values top (now (meet .entry))) (now (rule .entry)) (now (to .entry)))
-        (setup-states 64 (setup events values top (now (meet .entry))) (now (rule .entry)) (now (to .entry))) ⌝ }
-    ensures contents { λ _. ⌜ now (to .exit) ≡ compile-contents 64 (setup events values top (now (meet .entry))) (now (rule .entry)) (now (to .entry)) ⌝ }
+    ensures answer { λ r. ⌜ r ≡ counted (compile-refusal state-limit (setup events values top (now (meet .entry))) (now (rule .entry)) (now (to .entry)))
+        (setup-states state-limit (setup events values top (now (meet .entry))) (now (rule .entry)) (now (to .entry))) ⌝ }
+    ensures contents { λ _. ⌜ now (to .exit) ≡ compile-contents state-limit (setup events values top (now (meet .entry))) (now (rule .entry)) (now (to .entry)) ⌝ }
 {
     let judged = check_setup(events, values, top, meet);
     if let Judgement::Refused(refusal) = judged {

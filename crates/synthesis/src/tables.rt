@@ -9,7 +9,7 @@ ghost use mathlib.Core.Path.{_≡_};
 ghost use Prim.Native.Nat.{_≤_};
 ghost use lib.ListN.{length};
 ghost use Rattle.values.specs.ValueKind.{meetOf};
-ghost use Rattle.synthesis.specs.FormulaTable.{Tables};
+ghost use Rattle.synthesis.specs.MadeTable.{Tables};
 
 // The number of states, or the limit and one where there are more; the entries by state and then event.
 pub fn table_of(
