@@ -119,11 +119,11 @@ module _ (meet : ℕ → ℕ → ℕ) (top events values limit : ℕ) (rule : Li
   at-most : (states ≤ limit) ↔ StatesAtMost meet top events φ₀ limit
   at-most = few-states (Below values) meet top L events limit φ₀ well small
 
-  states-first : First (states-condition meet top events values limit rule ∷ []) (plain-unless (leb states limit) 10)
+  states-first : First (states-condition meet top events values rule limit ∷ []) (plain-unless (leb states limit) 10)
   unfolding First plain-unless
   states-first = go (leb states limit) refl
     where
-      go : (b : Bool) → leb states limit ≡ b → First (states-condition meet top events values limit rule ∷ []) (plain-unless b 10)
+      go : (b : Bool) → leb states limit ≡ b → First (states-condition meet top events values rule limit ∷ []) (plain-unless b 10)
       go true e =
           inr (
             (λ r m. m .2 .0
@@ -141,7 +141,7 @@ module _ (meet : ℕ → ℕ → ℕ) (top events values limit : ℕ) (rule : Li
 
   buffer-first :
       (old : List ℕ) → states ≤ limit →
-      First (buffer-condition meet top events values limit rule old ∷ []) (plain-unless (leb (states * events * 2) (length old)) 13)
+      First (buffer-condition meet top events values rule old ∷ []) (plain-unless (leb (states * events * 2) (length old)) 13)
   unfolding First plain-unless
   buffer-first old h = go (leb (states * events * 2) (length old)) refl
     where
@@ -150,7 +150,7 @@ module _ (meet : ℕ → ℕ → ℕ) (top events values limit : ℕ) (rule : Li
 
       go :
           (b : Bool) → leb (states * events * 2) (length old) ≡ b →
-          First (buffer-condition meet top events values limit rule old ∷ []) (plain-unless b 13)
+          First (buffer-condition meet top events values rule old ∷ []) (plain-unless b 13)
       go true e =
           inr (
             (λ r m.
@@ -198,15 +198,15 @@ ten-first :
     (meet : ℕ → ℕ → ℕ) (top events values limit : ℕ) (rule : List ℕ) → MeetSemilattice (Below values) meet top →
     (more : List Condition) (later : Option Refusal) →
     (rule-refusal events values rule ≡ none → formula-states meet top (formula-of rule) events limit ≤ limit → First more later) →
-    First (three-byte-conditions meet top events values limit rule ++ ((states-condition meet top events values limit rule ∷ []) ++ more))
+    First (three-byte-conditions events values rule ++ ((states-condition meet top events values rule limit ∷ []) ++ more))
     (or-else (or-else (rule-refusal events values rule) (plain-unless (leb (formula-states meet top (formula-of rule) events limit) limit) 10)) later)
 ten-first meet top events values limit rule L more later rest =
-    subst (First (three-byte-conditions meet top events values limit rule ++ ((states-condition meet top events values limit rule ∷ []) ++ more)))
+    subst (First (three-byte-conditions events values rule ++ ((states-condition meet top events values rule limit ∷ []) ++ more)))
     (or-else-assoc (rule-refusal events values rule) (plain-unless (leb (formula-states meet top (formula-of rule) events limit) limit) 10) later)
-    (first-then (three-byte-conditions meet top events values limit rule) ((states-condition meet top events values limit rule ∷ []) ++ more)
+    (first-then (three-byte-conditions events values rule) ((states-condition meet top events values rule limit ∷ []) ++ more)
     (rule-refusal events values rule) (or-else (plain-unless (leb (formula-states meet top (formula-of rule) events limit) limit) 10) later)
     (rule-refusal-first events values rule)
-    (λ ok. first-then (states-condition meet top events values limit rule ∷ []) more
+    (λ ok. first-then (states-condition meet top events values rule limit ∷ []) more
     (plain-unless (leb (formula-states meet top (formula-of rule) events limit) limit) 10) later
     (states-first meet top events values limit rule L ok)
     (λ e. rest ok (leb-true (formula-states meet top (formula-of rule) events limit) limit (plain-none (leb (formula-states meet top (formula-of rule) events limit) limit) 10 e)))))
@@ -219,9 +219,9 @@ module _ (limit : ℕ) (s : Setup) (rule old : List ℕ) where
   abbrev conditions-by : (ℕ → ℕ → ℕ) → List Condition
   conditions-by meet =
       setup-conditions s
-      ++ (three-byte-conditions meet (s .top) (s .events) (s .values) limit rule
-      ++ (states-condition meet (s .top) (s .events) (s .values) limit rule
-      ∷ buffer-condition meet (s .top) (s .events) (s .values) limit rule old
+      ++ (three-byte-conditions (s .events) (s .values) rule
+      ++ (states-condition meet (s .top) (s .events) (s .values) rule limit
+      ∷ buffer-condition meet (s .top) (s .events) (s .values) rule old
       ∷ []))
 
   compile-first : First (compile-conditions limit s rule old) (compile-refusal limit s rule old)
@@ -230,17 +230,17 @@ module _ (limit : ℕ) (s : Setup) (rule old : List ℕ) where
       subst (λ meet. First (conditions-by meet) (compile-refusal limit s rule old)) (meet-is (s .values) (s .meet))
       (first-then (setup-conditions s) _ (setup-refusal s) _ (setup-correct .first s)
       (λ ok. ten-first (meetOf (Numbered (s .values)) (s .meet)) (s .top) (s .events) (s .values) limit rule (laws s ok)
-      (buffer-condition (meetOf (Numbered (s .values)) (s .meet)) (s .top) (s .events) (s .values) limit rule old ∷ []) _
+      (buffer-condition (meetOf (Numbered (s .values)) (s .meet)) (s .top) (s .events) (s .values) rule old ∷ []) _
       (λ fine h. buffer-first (meetOf (Numbered (s .values)) (s .meet)) (s .top) (s .events) (s .values) limit rule (laws s ok) fine old h)))
 
   abbrev last-conditions : List Condition
   last-conditions =
-      states-condition (meetAt (s .values) (s .meet)) (s .top) (s .events) (s .values) limit rule
-      ∷ buffer-condition (meetAt (s .values) (s .meet)) (s .top) (s .events) (s .values) limit rule old
+      states-condition (meetAt (s .values) (s .meet)) (s .top) (s .events) (s .values) rule limit
+      ∷ buffer-condition (meetAt (s .values) (s .meet)) (s .top) (s .events) (s .values) rule old
       ∷ []
 
   abbrev rule-list : List Condition
-  rule-list = three-byte-conditions (meetAt (s .values) (s .meet)) (s .top) (s .events) (s .values) limit rule
+  rule-list = three-byte-conditions (s .events) (s .values) rule
 
   last-functional : AllFunctional last-conditions
   unfolding AllFunctional
@@ -352,8 +352,12 @@ module _ (limit : ℕ) (s : Setup) (rule old : List ℕ) (accepted : compile-ref
             (machine-of (s .events) (compile-contents limit s rule old)) (few s (none-of .0) limit rule (none-of .1)) agrees);
       }
 
+same-contents : (limit : ℕ) (s : Setup) (rule old : List ℕ) (r : Refusal) → compile-refusal limit s rule old ≡ some r → compile-contents limit s rule old ≡ old
+unfolding compile-contents contents-after
+same-contents limit s rule old r e = ap (contents-after limit s rule old) e
+
 pub compile-claim : CompileClaim
-compile-claim = compiled-bytes
+compile-claim = record { accepted = compiled-bytes; refused = same-contents }
 
 -- The compiler that answers by value.
 events-first :
@@ -388,14 +392,14 @@ module _ (limit : ℕ) (kind : ValueKind) (events top : ℕ) (table rule : List 
   unfolding compile-rule-refusal rule-table-refusal First
   rule-first =
       first-then (plain 1 (EventsFault (setup events (value-count kind) top table)) ∷ [])
-      (three-byte-conditions (meetOf kind table) top events (value-count kind) limit rule
-      ++ (states-condition (meetOf kind table) top events (value-count kind) limit rule ∷ []))
+      (three-byte-conditions events (value-count kind) rule
+      ++ (states-condition (meetOf kind table) top events (value-count kind) rule limit ∷ []))
       (plain-unless (events-test events) 1)
       (or-else (rule-refusal events (value-count kind) rule) (plain-unless (leb (rule-states kind events top table rule limit) limit) 10))
       (events-first events (value-count kind) top table)
       (λ e. subst
-      (First (three-byte-conditions (meetOf kind table) top events (value-count kind) limit rule
-      ++ (states-condition (meetOf kind table) top events (value-count kind) limit rule ∷ [])))
+      (First (three-byte-conditions events (value-count kind) rule
+      ++ (states-condition (meetOf kind table) top events (value-count kind) rule limit ∷ [])))
       (append-none (or-else (rule-refusal events (value-count kind) rule) (plain-unless (leb (rule-states kind events top table rule limit) limit) 10)))
       (ten-first (meetOf kind table) top events (value-count kind) limit rule L [] none (λ fine h. refl)))
 

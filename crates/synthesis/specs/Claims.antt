@@ -3,7 +3,7 @@
 -- Assumes nothing.
 use mathlib.Core.Path.{_≡_}
 use mathlib.Core.List.{List, [], _∷_, _++_}
-use mathlib.Core.Option.{Option, none}
+use mathlib.Core.Option.{Option, none, some}
 use Prim.Native.Nat.{ℕ, zero, _*_, _≤_, _<_}
 use lib.ListN.{length, getD, drop}
 use Rattle.theory.specs.Semilattice.{MeetSemilattice}
@@ -24,34 +24,36 @@ use Rattle.formulas.specs.Claims.{AcceptedFormula}
 use Rattle.machines.specs.TableBytes.{entries, machine-of}
 use Rattle.synthesis.specs.Compilation.{value-count, rule-states, compile-rule-refusal, compiled-within, setup-states, compile-refusal, compile-contents}
 
--- Conditions on the rule in these bytes, three a node, for a meet and top on values below `values`.
-module _ (meet : ℕ → ℕ → ℕ) (top events values limit : ℕ) (rule : List ℕ) where
-  -- 10: over the limit of states.
-  abbrev pub states-condition : Condition
-  states-condition =
-      OfFormula node-width three-bytes node-limit events (Below values) rule
-      (λ φ. plain 10 (¬ StatesAtMost meet top events φ limit))
+-- Conditions on a rule in bytes, three a node, for a set-up's counts of events and values: 5 to 9, and what is said of its formula.
+abbrev pub three-byte-conditions : ℕ → ℕ → List ℕ → List Condition
+three-byte-conditions events values rule = rule-conditions node-width three-bytes node-limit events (Below values) rule
 
-  -- 13: the lent buffer is shorter than the output, two bytes an entry of the formula's table.
+abbrev pub OfRule : ℕ → ℕ → List ℕ → (Formula ℕ → Condition) → Condition
+OfRule events values rule = OfFormula node-width three-bytes node-limit events (Below values) rule
+
+module _ (meet : ℕ → ℕ → ℕ) (top events : ℕ) where
+  -- The buffer is shorter than the output: two bytes an entry of the formula's table.
   pub record Short (φ : Formula ℕ) (old : List ℕ) : Type 0 where
     pub states : ℕ
     pub table : Machine ℕ ℕ
     pub is-table : IsTableOf meet top events φ states table
     pub shorter : length old < states * events * 2
 
-  abbrev pub buffer-condition : List ℕ → Condition
-  buffer-condition old = OfFormula node-width three-bytes node-limit events (Below values) rule (λ φ. plain 13 (Short φ old))
+  -- 10: over the limit of states.
+  abbrev pub states-condition : ℕ → List ℕ → ℕ → Condition
+  states-condition values rule limit = OfRule events values rule (λ φ. plain 10 (¬ StatesAtMost meet top events φ limit))
 
-  abbrev pub three-byte-conditions : List Condition
-  three-byte-conditions = rule-conditions node-width three-bytes node-limit events (Below values) rule
+  -- 13: lent buffer shorter than the output.
+  abbrev pub buffer-condition : ℕ → List ℕ → List ℕ → Condition
+  buffer-condition values rule old = OfRule events values rule (λ φ. plain 13 (Short φ old))
 
 -- The conditions of `compile`, in order: 1 to 3, 5 to 9, 10, 13.
 abbrev pub compile-conditions : ℕ → Setup → List ℕ → List ℕ → List Condition
 compile-conditions limit s rule old =
     setup-conditions s
-    ++ (three-byte-conditions (meetAt (s .values) (s .meet)) (s .top) (s .events) (s .values) limit rule
-    ++ (states-condition (meetAt (s .values) (s .meet)) (s .top) (s .events) (s .values) limit rule
-    ∷ buffer-condition (meetAt (s .values) (s .meet)) (s .top) (s .events) (s .values) limit rule old
+    ++ (three-byte-conditions (s .events) (s .values) rule
+    ++ (states-condition (meetAt (s .values) (s .meet)) (s .top) (s .events) (s .values) rule limit
+    ∷ buffer-condition (meetAt (s .values) (s .meet)) (s .top) (s .events) (s .values) rule old
     ∷ []))
 
 -- The computed answer is the first refusal that is met, or none, at every limit; there is no other answer; the conditions stand in
@@ -84,18 +86,22 @@ pub record CompiledBytes (limit : ℕ) (s : Setup) (rule old : List ℕ) (n : �
   pub table :
       RuleTable (meetAt (s .values) (s .meet)) (s .top) (s .events) (s .values) rule n (machine-of (s .events) contents)
 
-abbrev pub CompileClaim : Type 0
-CompileClaim =
-    (limit : ℕ) (s : Setup) (rule old : List ℕ) → compile-refusal limit s rule old ≡ none →
-    CompiledBytes limit s rule old (setup-states limit s rule old) (compile-contents limit s rule old)
+-- A refused one changes nothing.
+pub record CompileClaim : Type 0 where
+  pub accepted :
+      (limit : ℕ) (s : Setup) (rule old : List ℕ) → compile-refusal limit s rule old ≡ none →
+      CompiledBytes limit s rule old (setup-states limit s rule old) (compile-contents limit s rule old)
+  pub refused :
+      (limit : ℕ) (s : Setup) (rule old : List ℕ) (r : Refusal) → compile-refusal limit s rule old ≡ some r →
+      compile-contents limit s rule old ≡ old
 
 -- The same of `compile_rule`, whose values obey the laws: 1, then 5 to 9, then 10; and the arrays are the rule's table.
 module _ (limit : ℕ) (kind : ValueKind) (events top : ℕ) (table rule : List ℕ) where
   abbrev pub compile-rule-conditions : List Condition
   compile-rule-conditions =
       plain 1 (EventsFault (setup events (value-count kind) top table))
-      ∷ (three-byte-conditions (meetOf kind table) top events (value-count kind) limit rule
-      ++ (states-condition (meetOf kind table) top events (value-count kind) limit rule ∷ []))
+      ∷ (three-byte-conditions events (value-count kind) rule
+      ++ (states-condition (meetOf kind table) top events (value-count kind) rule limit ∷ []))
 
   abbrev pub array-machine : Machine ℕ ℕ
   array-machine =
