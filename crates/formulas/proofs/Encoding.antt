@@ -10,7 +10,6 @@ use lib.Seq.{take-at, drop-at, drop-drop, drop-length, getD-drop}
 use Rattle.theory.specs.Formula.{Formula, size}
 use Rattle.theory.specs.PrefixCode.{Node, truth-node, variable-node, transition-node, output-node, conjunction-node, greatest-node, nodes}
 use Rattle.formulas.specs.NodeBytes.{kind-number, first-field, NodeCode, encode-all, encode-formula}
-use Rattle.formulas.specs.RuleConditions.{node-at}
 use Rattle.formulas.specs.RuleReading.{kind-of, node-of, nodes-from}
 use Rattle.formulas.proofs.Prefix.{length-nodes, nodes-unique}
 
@@ -157,7 +156,7 @@ module _ {B : Type 0} where
       -- Bytes whose every node is the one that is read are those of the nodes read.
       pub bytes-from :
           (kind first : ℕ → ℕ) (value : ℕ → B) (left i : ℕ)
-          → ((j : ℕ) → i ≤ j → j < i + left → node-at width encode 0 0 (λ b. Unit {0}) bytes j ≡ encode (node-of (kind-of (kind j)) (first j) (value j)))
+          → ((j : ℕ) → i ≤ j → j < i + left → take width (drop (j * width) bytes) ≡ encode (node-of (kind-of (kind j)) (first j) (value j)))
           → length bytes ≡ (i + left) * width → drop (i * width) bytes ≡ encode-all encode (nodes-from kind first value left i)
       unfolding nodes-from
       bytes-from kind first value zero i h e =

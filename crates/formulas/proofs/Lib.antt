@@ -1,5 +1,6 @@
 -- What the fields of a node say.
 pub mod KindFacts
+pub mod NodeFields
 -- Lists that are filled in.
 pub mod Padding
 -- 7's walk, and 6's search.

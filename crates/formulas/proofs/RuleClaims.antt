@@ -10,6 +10,7 @@ use native.Mathlib.Nat.{min-le-left, min-eq-right, mul-div-cancel}
 use native.Mathlib.Omega.{arith}
 use lib.Dec.{ltb}
 use lib.ListN.{length, drop}
+use borrow.Author.Tests.{ltb-true, lt-ltb}
 use Rattle.theory.specs.Formula.{Formula, size, Accepted}
 use Rattle.theory.specs.PrefixCode.{Node, nodes}
 use Rattle.theory.specs.ValueSets.{Below}
@@ -31,7 +32,8 @@ use Rattle.formulas.proofs.Prefix.{length-nodes, first-is}
 use Rattle.formulas.proofs.Reading.{reads-nodes, reads-unique, whole-read}
 use Rattle.formulas.proofs.Encoding.{formula-length, read-back, known-back, bytes-from}
 use Rattle.formulas.proofs.Conditions.{conditions-functional, none-met, first-refusal, accepted-formula}
-use Rattle.formulas.proofs.ThreeBytes.{three-bytes-code, fields-sound, fields-full, node-bytes, value-byte}
+use Rattle.formulas.proofs.NodeFields.{fields-sound, fields-full}
+use Rattle.formulas.proofs.ThreeBytes.{three-bytes-code, fields-bytes, bytes-fields, node-bytes, value-byte}
 
 pub functional : FunctionalClaim
 functional B width encode code limit events In bytes = conditions-functional width encode code limit events In bytes
@@ -78,12 +80,17 @@ module _ (events values : ℕ) (bytes : List ℕ) where
 
   sound : (i : ℕ) → i < length bytes / 3 → fit i ≡ true → (at i ≡ three-bytes (node i)) × NodeFits events (Below values) (node i)
   sound i h e =
-      let w = fields-sound events values (kind-at bytes i) (first-at bytes i) (second-at bytes i) e in
-      (node-bytes bytes i h ∙ w .0, w .1)
+      let w =
+      fields-sound events (Below values) (λ v. ltb v values) (λ v. ltb-true v values) (kind-at bytes i) (first-at bytes i) (second-at bytes i) e in
+      (node-bytes bytes i h ∙ fields-bytes (node i) (kind-at bytes i) (first-at bytes i) (second-at bytes i) (w .0), w .1)
 
   full : (i : ℕ) → i < length bytes / 3 → fit i ≡ false → (n : Node ℕ) → at i ≡ three-bytes n → ¬ NodeFits events (Below values) n
   full i h e n d f =
-      clash (sym e ∙ fields-full events values n f (kind-at bytes i) (first-at bytes i) (second-at bytes i) (sym (node-bytes bytes i h) ∙ d))
+      clash
+      (sym e
+      ∙ fields-full events (Below values) (λ v. ltb v values) (λ v. lt-ltb v values) n (kind-at bytes i) (first-at bytes i) (second-at bytes i)
+      (bytes-fields n (kind-at bytes i) (first-at bytes i) (second-at bytes i) (sym (node-bytes bytes i h) ∙ d))
+      f)
     where
       clash : false ≡ true → ⊥
       clash x = let z : _≡_ {A = ℕ} 0 1 = cc in omega arith

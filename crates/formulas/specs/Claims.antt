@@ -23,12 +23,13 @@ use Rattle.formulas.specs.RuleRefusal.{node-width, node-limit, kind-at, 
 abbrev pub ThreeBytesClaim : Type 0
 ThreeBytesClaim = NodeCode node-width three-bytes
 
--- However nodes lie in bytes, each of 5 to 9 gives at most one refusal, of its number, and they stand in document 01's order.
+-- However nodes lie in bytes, each of 5 to 9 gives at most one refusal.
 abbrev pub FunctionalClaim : Type 1
 FunctionalClaim =
     (B : Type 0) (width : ℕ) (encode : Node B → List ℕ) → NodeCode width encode → (limit events : ℕ) (In : B → Type 0) (bytes : List ℕ)
     → AllFunctional (rule-conditions width encode limit events In bytes)
 
+-- They give refusals of these numbers, and stand in document 01's order.
 abbrev pub InOrderClaim : Type 1
 InOrderClaim =
     (B : Type 0) (width : ℕ) (encode : Node B → List ℕ) (limit events : ℕ) (In : B → Type 0) (bytes : List ℕ)

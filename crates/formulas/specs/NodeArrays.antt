@@ -17,6 +17,7 @@ padded f count (suc left) i = cond (ltb i count) (f i) 0 ∷ padded f count left
 unfoldable pub decoded-count : List ℕ → ℕ
 decoded-count bytes = min node-limit (length bytes / node-width)
 
+-- The fields of these nodes, and 0 beyond.
 unfoldable pub decoded : List ℕ → Nodes
 decoded bytes =
     record {

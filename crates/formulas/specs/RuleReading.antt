@@ -10,6 +10,11 @@ use Rattle.theory.specs.Formula.{Formula, truth, variable, transition, output, 
 use Rattle.theory.specs.PrefixCode.{Node, truth-node, variable-node, transition-node, output-node, conjunction-node, greatest-node}
 use Rattle.formulas.specs.RuleConditions.{Position, open-to-variable, closed-to-variable}
 
+-- The first of two answers that is a place.
+unfoldable pub first-of : Option ℕ → Option ℕ → Option ℕ
+first-of none later = later
+first-of (some i) later = some i
+
 -- The lowest of the places from i on, `left` of them, where a test is true.
 unfoldable pub lowest-from : (ℕ → Bool) → ℕ → ℕ → Option ℕ
 lowest-from test zero i = none
@@ -39,7 +44,7 @@ fields-fit events kind-A first value fits = eqb first 0 && eqb value 0
 fields-fit events kind-V first value fits = eqb first 0 && eqb value 0
 fields-fit events unknown-kind first value fits = false
 
--- How many parts are awaited after a node of a kind, where its own place was one of those awaited and k are the others.
+-- How many parts are awaited after a node of a kind, where k others were awaited beside it.
 unfoldable pub awaited : Kind → ℕ → ℕ
 awaited kind-T k = k
 awaited kind-X k = k
@@ -56,11 +61,6 @@ end-fault kind zero zero i = none
 end-fault kind zero (suc left) i = some i
 end-fault kind (suc k) zero i = some i
 end-fault kind (suc k) (suc left) i = end-fault kind (awaited (kind-of (kind i)) k) left (suc i)
-
--- The first of two answers that is a place.
-unfoldable pub first-of : Option ℕ → Option ℕ → Option ℕ
-first-of none later = later
-first-of (some i) later = some i
 
 module _ {B : Type 0} where
   -- The node with these fields. An unknown kind, which 6 refuses, is read as T.
@@ -91,7 +91,7 @@ module _ {B : Type 0} where
   with-parts greatest-node [] = []
   with-parts greatest-node (φ ∷ φs) = greatest φ ∷ φs
 
-  -- The formulas that nodes begin with, from right to left; whole nodes of formulas give those formulas.
+  -- Nodes read from right to left, each with its parts from the formulas already read.
   unfoldable pub formulas : List (Node B) → List (Formula B)
   formulas [] = []
   formulas (n ∷ ns) = with-parts n (formulas ns)

@@ -18,6 +18,19 @@ use refusal::NODE_TREE;
 use refusal::Refusal;
 use refusal::UNBOUND_VARIABLE;
 
+// The kinds of node.
+pub const TRUTH: u8 = 0;
+
+pub const VARIABLE: u8 = 1;
+
+pub const TRANSITION: u8 = 2;
+
+pub const OUTPUT: u8 = 3;
+
+pub const CONJUNCTION: u8 = 4;
+
+pub const GREATEST: u8 = 5;
+
 // At most so many nodes.
 pub const NODE_LIMIT: usize = 256;
 
@@ -27,9 +40,9 @@ pub const NODE_WIDTH: usize = 3;
 // The fields of nodes, however they lie in bytes: the first `count` of each array.
 pub struct Nodes {
     pub count: usize,
-    pub kinds: [u8; 256],
-    pub firsts: [u8; 256],
-    pub values: [u32; 256],
+    pub kinds: [u8; NODE_LIMIT],
+    pub firsts: [u8; NODE_LIMIT],
+    pub values: [u32; NODE_LIMIT],
 }
 
 // A place that was looked for.
@@ -86,9 +99,9 @@ pub fn decode(bytes: &[u8]) -> Nodes
     ensures { λ r. ⌜ r ≡ decoded (now (bytes .entry)) ⌝ }
 {
     let count = node_count(bytes.len());
-    let mut kinds = [0u8; 256];
-    let mut firsts = [0u8; 256];
-    let mut values = [0u32; 256];
+    let mut kinds = [0u8; NODE_LIMIT];
+    let mut firsts = [0u8; NODE_LIMIT];
+    let mut values = [0u32; NODE_LIMIT];
     let mut i: usize = 0;
     while i < count {
         kinds[i] = bytes[i * NODE_WIDTH];
@@ -108,16 +121,16 @@ pub fn decode(bytes: &[u8]) -> Nodes
 fn fields_fit(events: usize, kind: u8, first: u8, value: u32, fits: bool) -> bool
     ensures { λ r. ⌜ r ≡ fields-fit events (kind-of kind) first value fits ⌝ }
 {
-    if kind == 1 {
+    if kind == VARIABLE {
         return value == 0;
     }
-    if kind == 2 {
+    if kind == TRANSITION {
         return wide(first) < events && value == 0;
     }
-    if kind == 3 {
+    if kind == OUTPUT {
         return wide(first) < events && fits;
     }
-    if 5 < kind {
+    if GREATEST < kind {
         return false;
     }
     first == 0 && value == 0
@@ -133,9 +146,9 @@ fn value_fits(value: u32, values: usize) -> bool
 fn lowest_misfit(
     events: usize,
     limit: usize,
-    kinds: &[u8; 256],
-    firsts: &[u8; 256],
-    values: &[u32; 256],
+    kinds: &[u8; NODE_LIMIT],
+    firsts: &[u8; NODE_LIMIT],
+    values: &[u32; NODE_LIMIT],
     count: usize,
 ) -> Found
     requires { ⌜ (count ≤ 256) × (length (now kinds) ≡ 256) × (length (now firsts) ≡ 256) × (length (now values) ≡ 256) ⌝ }
@@ -152,25 +165,25 @@ fn lowest_misfit(
     Found::Nowhere
 }
 
-// How many parts are awaited after a node, of which there were so many others awaited before.
+// How many parts are awaited after a node of this kind, where so many others were awaited beside it.
 fn awaited(kind: u8, others: usize) -> usize
     requires { ⌜ others ≤ 256 ⌝ }
     ensures { λ r. ⌜ r ≡ awaited (kind-of kind) others ⌝ }
 {
-    if kind == 2 {
+    if kind == TRANSITION {
         return others + 1;
     }
-    if kind == 4 {
+    if kind == CONJUNCTION {
         return others + 2;
     }
-    if kind == 5 {
+    if kind == GREATEST {
         return others + 1;
     }
     others
 }
 
 // 7: where the nodes run out, or the first of those left over.
-fn misplaced_end(kinds: &[u8; 256], count: usize) -> Found
+fn misplaced_end(kinds: &[u8; NODE_LIMIT], count: usize) -> Found
     requires { ⌜ (count ≤ 256) × (length (now kinds) ≡ 256) ⌝ }
     ensures { λ r. ⌜ r ≡ found (end-fault (field (now (kinds .entry))) 1 count 0) ⌝ }
 {
@@ -191,8 +204,8 @@ fn misplaced_end(kinds: &[u8; 256], count: usize) -> Found
 
 // 8: looks for a variable without binder, below so many binders.
 fn bound_position(
-    kinds: &[u8; 256],
-    firsts: &[u8; 256],
+    kinds: &[u8; NODE_LIMIT],
+    firsts: &[u8; NODE_LIMIT],
     at: usize,
     left: usize,
     depth: usize,
@@ -204,30 +217,30 @@ fn bound_position(
         return Step::Next(at);
     }
     let kind = kinds[at];
-    if kind == 1 {
+    if kind == VARIABLE {
         if wide(firsts[at]) < depth {
             return Step::Next(at + 1);
         }
         return Step::Fault(at);
     }
-    if kind == 2 {
+    if kind == TRANSITION {
         return bound_position(kinds, firsts, at + 1, left - 1, depth);
     }
-    if kind == 4 {
+    if kind == CONJUNCTION {
         let one = bound_position(kinds, firsts, at + 1, left - 1, depth);
         let Step::Next(p) = one else {
             return one;
         };
         return bound_position(kinds, firsts, p, at + left - p, depth);
     }
-    if kind == 5 {
+    if kind == GREATEST {
         return bound_position(kinds, firsts, at + 1, left - 1, depth + 1);
     }
     Step::Next(at + 1)
 }
 
 // 9, at a closed position: looks for a variable in a closed position.
-fn closed_position(kinds: &[u8; 256], at: usize, left: usize) -> Step
+fn closed_position(kinds: &[u8; NODE_LIMIT], at: usize, left: usize) -> Step
     requires { ⌜ (at + left ≤ 256) × (length (now kinds) ≡ 256) ⌝ }
     ensures { λ r. ⌜ KindsWalked (field (now (kinds .entry))) (lowest-closed closed-to-variable) at left r ⌝ }
 {
@@ -235,27 +248,27 @@ fn closed_position(kinds: &[u8; 256], at: usize, left: usize) -> Step
         return Step::Next(at);
     }
     let kind = kinds[at];
-    if kind == 1 {
+    if kind == VARIABLE {
         return Step::Fault(at);
     }
-    if kind == 2 {
+    if kind == TRANSITION {
         return open_position(kinds, at + 1, left - 1);
     }
-    if kind == 4 {
+    if kind == CONJUNCTION {
         let one = closed_position(kinds, at + 1, left - 1);
         let Step::Next(p) = one else {
             return one;
         };
         return closed_position(kinds, p, at + left - p);
     }
-    if kind == 5 {
+    if kind == GREATEST {
         return closed_position(kinds, at + 1, left - 1);
     }
     Step::Next(at + 1)
 }
 
 // 9, at an open position.
-fn open_position(kinds: &[u8; 256], at: usize, left: usize) -> Step
+fn open_position(kinds: &[u8; NODE_LIMIT], at: usize, left: usize) -> Step
     requires { ⌜ (at + left ≤ 256) × (length (now kinds) ≡ 256) ⌝ }
     ensures { λ r. ⌜ KindsWalked (field (now (kinds .entry))) (lowest-closed open-to-variable) at left r ⌝ }
 {
@@ -263,24 +276,24 @@ fn open_position(kinds: &[u8; 256], at: usize, left: usize) -> Step
         return Step::Next(at);
     }
     let kind = kinds[at];
-    if kind == 2 {
+    if kind == TRANSITION {
         return open_position(kinds, at + 1, left - 1);
     }
-    if kind == 4 {
+    if kind == CONJUNCTION {
         let one = open_position(kinds, at + 1, left - 1);
         let Step::Next(p) = one else {
             return one;
         };
         return open_position(kinds, p, at + left - p);
     }
-    if kind == 5 {
+    if kind == GREATEST {
         return closed_position(kinds, at + 1, left - 1);
     }
     Step::Next(at + 1)
 }
 
 // 8, then 9: every variable has its binder, and no variable is in a closed position.
-fn check_variables(kinds: &[u8; 256], firsts: &[u8; 256], count: usize) -> Judgement
+fn check_variables(kinds: &[u8; NODE_LIMIT], firsts: &[u8; NODE_LIMIT], count: usize) -> Judgement
     requires { ⌜ (count ≤ 256) × (length (now kinds) ≡ 256) × (length (now firsts) ≡ 256) ⌝ }
     ensures { λ r. ⌜ VariablesJudged (field (now (kinds .entry))) (field (now (firsts .entry))) count r ⌝ }
 {

@@ -47,7 +47,10 @@ bound-position-returns : (t : ℕ) → bound-position-lts.Need-returns (
 ) (bound-position-at t) bound-position.Post
 bound-position-returns t c =
     let a = c .before .args in
-    record { within = within-here _ _ _ (omega arith) (omega arith); right = λ value. walk-none (field (a .kinds .now)) (field (a .firsts .now)) value unbound-below (λ d. d) suc (a .at) (a .left) (a .depth) _ (c .if1 .taken) }
+    record {
+      within = within-here _ _ _ (omega arith) (omega arith);
+      right = λ value. walk-none _ _ value unbound-below (λ d. d) suc _ _ (a .depth) _ (c .if1 .taken);
+    }
 
 bound-position-element-copy-out-kind : (t : ℕ) → bound-position-lts.Need-element-copy-out-kind (
   wide-reads.Asked,
@@ -90,7 +93,10 @@ bound-position-returns-2 : (t : ℕ) → bound-position-lts.Need-returns-2 (
 unfolding unbound-below step
 bound-position-returns-2 t c =
     let a = c .before .before .before .before .before .before .args in
-    record { within = within-here _ _ _ (search needs) (search needs); right = λ value. walk-variable (field (a .kinds .now)) (field (a .firsts .now)) value unbound-below (λ d. d) suc (a .at) (a .left) (a .depth) _ (c .before .before .before .if2 .taken) (sym (ap (λ b. step (cond (not b) (some (a .at)) none) (a .at + 1)) (lt-ltb (field (a .firsts .now) (a .at)) (a .depth) (omega (arith, c .if3 .taken, c .before .wide .ensures .0))))) }
+    record {
+      within = within-here _ _ _ (search needs) (search needs);
+      right = λ value. walk-variable _ _ value unbound-below (λ d. d) suc _ _ (a .depth) _ (c .before .before .before .if2 .taken) (sym (ap (λ b. step (cond (not b) (some (a .at)) none) (a .at + 1)) (lt-ltb (field (a .firsts .now) (a .at)) (a .depth) (omega (arith, c .if3 .taken, c .before .wide .ensures .0)))));
+    }
 
 bound-position-returns-3 : (t : ℕ) → bound-position-lts.Need-returns-3 (
   wide-reads.Asked,
@@ -101,7 +107,10 @@ bound-position-returns-3 : (t : ℕ) → bound-position-lts.Need-returns-3 (
 unfolding unbound-below step
 bound-position-returns-3 t c =
     let a = c .before .before .before .before .before .before .args in
-    record { within = within-fault _ _ _; right = λ value. walk-variable (field (a .kinds .now)) (field (a .firsts .now)) value unbound-below (λ d. d) suc (a .at) (a .left) (a .depth) _ (c .before .before .before .if2 .taken) (sym (ap (λ b. step (cond (not b) (some (a .at)) none) (a .at + 1)) (le-ltb (field (a .firsts .now) (a .at)) (a .depth) (omega (arith, c .if3 .left, c .before .wide .ensures .0))))) }
+    record {
+      within = within-fault _ _ _;
+      right = λ value. walk-variable _ _ value unbound-below (λ d. d) suc _ _ (a .depth) _ (c .before .before .before .if2 .taken) (sym (ap (λ b. step (cond (not b) (some (a .at)) none) (a .at + 1)) (le-ltb (field (a .firsts .now) (a .at)) (a .depth) (omega (arith, c .if3 .left, c .before .wide .ensures .0)))));
+    }
 
 bound-position-add-bound-position : (t : ℕ) → bound-position-lts.Need-add-bound-position (
   wide-reads.Asked,
@@ -135,7 +144,10 @@ bound-position-returns-4 : (t : ℕ) → bound-position-lts.Need-returns-4 (
 ) (bound-position-at t) bound-position.Post
 bound-position-returns-4 t c =
     let a = c .before .before .before .before .before .args in
-    record { within = within-part _ _ _ (c .before .before .before .before .if1 .left) (c .bound-position .ensures .within); right = λ value. walk-transition (field (a .kinds .now)) (field (a .firsts .now)) value unbound-below (λ d. d) suc (a .at) (a .left) (a .depth) _ (c .before .if4 .taken) (c .bound-position .ensures .right value) }
+    record {
+      within = within-part _ _ _ (c .before .before .before .before .if1 .left) (c .bound-position .ensures .within);
+      right = λ value. walk-transition _ _ value unbound-below (λ d. d) suc _ _ (a .depth) _ (c .before .if4 .taken) (c .bound-position .ensures .right value);
+    }
 
 bound-position-add-bound-position-2 : (t : ℕ) → bound-position-lts.Need-add-bound-position-2 (
   wide-reads.Asked,
@@ -186,7 +198,10 @@ bound-position-returns-5 : (t : ℕ) → bound-position-lts.Need-returns-5 (
 ) (bound-position-at t) bound-position.Post
 bound-position-returns-5 t c =
     let a = c .before .before .before .before .before .before .before .before .args in
-    record { within = within-part _ _ _ (c .before .before .before .before .before .before .before .if1 .left) (c .before .before .bound-position2 .ensures .within); right = λ value. walk-first (field (a .kinds .now)) (field (a .firsts .now)) value unbound-below (λ d. d) suc (a .at) (a .left) (a .depth) (c .before .before .before .if5 .taken) _ (c .before .before .bound-position2 .ensures .right value) _ (c .enum-told .given .1) }
+    record {
+      within = within-part _ _ _ (c .before .before .before .before .before .before .before .if1 .left) (c .before .before .bound-position2 .ensures .within);
+      right = λ value. walk-first _ _ value unbound-below (λ d. d) suc _ _ (a .depth) (c .before .before .before .if5 .taken) _ (c .before .before .bound-position2 .ensures .right value) _ (c .enum-told .given .1);
+    }
 
 bound-position-add-bound-position-3 : (t : ℕ) → bound-position-lts.Need-add-bound-position-3 (
   wide-reads.Asked,
@@ -226,7 +241,10 @@ bound-position-returns-6 : (t : ℕ) → bound-position-lts.Need-returns-6 (
 bound-position-returns-6 t c =
     let a = c .before .before .before .before .before .before .before .before .before .before .args in
     let w = within-next _ _ _ (c .before .before .before .before .bound-position2 .result) (c .before .before .one .given .1) (c .before .before .before .before .bound-position2 .ensures .within) in
-    record { within = within-second _ _ _ _ (omega (arith, w .0)) (omega (arith, w .1)) (c .bound-position3 .ensures .within); right = λ value. walk-second (field (a .kinds .now)) (field (a .firsts .now)) value unbound-below (λ d. d) suc (a .at) (a .left) (a .depth) (c .before .before .before .before .before .if5 .taken) (c .before .before .before .before .bound-position2 .result) (c .before .before .before .before .bound-position2 .ensures .right value) _ _ (c .before .before .one .given .1) (c .bound-position3 .ensures .right value) }
+    record {
+      within = within-second _ _ _ _ (omega (arith, w .0)) (omega (arith, w .1)) (c .bound-position3 .ensures .within);
+      right = λ value. walk-second _ _ value unbound-below (λ d. d) suc _ _ (a .depth) (c .before .before .before .before .before .if5 .taken) (c .before .before .before .before .bound-position2 .result) (c .before .before .before .before .bound-position2 .ensures .right value) _ _ (c .before .before .one .given .1) (c .bound-position3 .ensures .right value);
+    }
 
 bound-position-add-bound-position-4 : (t : ℕ) → bound-position-lts.Need-add-bound-position-4 (
   wide-reads.Asked,
@@ -269,7 +287,10 @@ bound-position-returns-7 : (t : ℕ) → bound-position-lts.Need-returns-7 (
 ) (bound-position-at t) bound-position.Post
 bound-position-returns-7 t c =
     let a = c .before .before .before .before .before .before .before .args in
-    record { within = within-part _ _ _ (c .before .before .before .before .before .before .if1 .left) (c .bound-position4 .ensures .within); right = λ value. walk-greatest (field (a .kinds .now)) (field (a .firsts .now)) value unbound-below (λ d. d) suc (a .at) (a .left) (a .depth) _ (c .before .if6 .taken) (rw (← (add-one (a .depth))) (c .bound-position4 .ensures .right value)) }
+    record {
+      within = within-part _ _ _ (c .before .before .before .before .before .before .if1 .left) (c .bound-position4 .ensures .within);
+      right = λ value. walk-greatest _ _ value unbound-below (λ d. d) suc _ _ (a .depth) _ (c .before .if6 .taken) (rw (← (add-one (a .depth))) (c .bound-position4 .ensures .right value));
+    }
 
 bound-position-add-t26 : (t : ℕ) → bound-position-lts.Need-add-t26 (
   wide-reads.Asked,
@@ -287,7 +308,10 @@ bound-position-returns-8 : (t : ℕ) → bound-position-lts.Need-returns-8 (
 ) (bound-position-at t) bound-position.Post
 bound-position-returns-8 t c =
     let a = c .before .before .before .before .before .before .args in
-    record { within = within-here _ _ _ (search needs) (search needs); right = λ value. walk-leaf (field (a .kinds .now)) (field (a .firsts .now)) value unbound-below (λ d. d) suc (a .at) (a .left) (a .depth) (λ e. absurd (c .before .before .before .if2 .left e)) (c .before .before .if4 .left) (c .before .if5 .left) (c .if6 .left) }
+    record {
+      within = within-here _ _ _ (search needs) (search needs);
+      right = λ value. walk-leaf _ _ value unbound-below (λ d. d) suc _ _ (a .depth) (λ e. absurd (c .before .before .before .if2 .left e)) (c .before .before .if4 .left) (c .before .if5 .left) (c .if6 .left);
+    }
 
 pub +bound-position-spec : {M : Type 1} → statement M
 +bound-position-spec = close μ-bound-position λ t. bound-position-lts.spec (

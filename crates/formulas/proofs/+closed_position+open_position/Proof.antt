@@ -4,7 +4,7 @@ use mathlib.Core.Path.{refl}
 use native.Mathlib.Omega.{arith}
 use Rattle.formulas.specs.RuleConditions.{open-to-variable, closed-to-variable}
 use Rattle.formulas.specs.RuleReading.{closed-there}
-use Rattle.formulas.specs.NodeWalks.{step, field}
+use Rattle.formulas.specs.NodeWalks.{step}
 use Rattle.formulas.proofs.Walking.{walk-none, walk-leaf, walk-variable, walk-transition, walk-greatest, walk-first, walk-second, within-part, within-second, within-next, within-here, within-fault}
 use borrow.Author.Needs.{needs}
 use Prim.Native.Nat.{ℕ, _<_}
@@ -61,7 +61,10 @@ closed-position-returns : (t : ℕ) → closed-position-lts.Need-returns (
 ) (closed-position-at t) closed-position.Post
 closed-position-returns t c =
     let a = c .before .args in
-    record { within = within-here _ _ _ (omega arith) (omega arith); right = λ first value. walk-none (field (a .kinds .now)) first value closed-there (λ p. open-to-variable) (λ p. closed-to-variable) (a .at) (a .left) closed-to-variable _ (c .if1 .taken) }
+    record {
+      within = within-here _ _ _ (omega arith) (omega arith);
+      right = λ first value. walk-none _ first value closed-there (λ p. open-to-variable) (λ p. closed-to-variable) _ _ closed-to-variable _ (c .if1 .taken);
+    }
 
 closed-position-element-copy-out-kind : (t : ℕ) → closed-position-lts.Need-element-copy-out-kind (
   open-position-below t,
@@ -80,7 +83,10 @@ closed-position-returns-2 : (t : ℕ) → closed-position-lts.Need-returns-2 (
 unfolding closed-there step
 closed-position-returns-2 t c =
     let a = c .before .before .before .args in
-    record { within = within-fault _ _ _; right = λ first value. walk-variable (field (a .kinds .now)) first value closed-there (λ p. open-to-variable) (λ p. closed-to-variable) (a .at) (a .left) closed-to-variable _ (c .if2 .taken) refl }
+    record {
+      within = within-fault _ _ _;
+      right = λ first value. walk-variable _ first value closed-there (λ p. open-to-variable) (λ p. closed-to-variable) _ _ closed-to-variable _ (c .if2 .taken) refl;
+    }
 
 closed-position-add-open-position : (t : ℕ) → closed-position-lts.Need-add-open-position (
   open-position-below t,
@@ -114,7 +120,10 @@ closed-position-returns-3 : (t : ℕ) → closed-position-lts.Need-returns-3 (
 ) (closed-position-at t) closed-position.Post
 closed-position-returns-3 t c =
     let a = c .before .before .before .before .before .args in
-    record { within = within-part _ _ _ (c .before .before .before .before .if1 .left) (c .open-position .ensures .within); right = λ first value. walk-transition (field (a .kinds .now)) first value closed-there (λ p. open-to-variable) (λ p. closed-to-variable) (a .at) (a .left) closed-to-variable _ (c .before .if3 .taken) (c .open-position .ensures .right first value) }
+    record {
+      within = within-part _ _ _ (c .before .before .before .before .if1 .left) (c .open-position .ensures .within);
+      right = λ first value. walk-transition _ first value closed-there (λ p. open-to-variable) (λ p. closed-to-variable) _ _ closed-to-variable _ (c .before .if3 .taken) (c .open-position .ensures .right first value);
+    }
 
 closed-position-add-closed-position : (t : ℕ) → closed-position-lts.Need-add-closed-position (
   open-position-below t,
@@ -165,7 +174,10 @@ closed-position-returns-4 : (t : ℕ) → closed-position-lts.Need-returns-4 (
 ) (closed-position-at t) closed-position.Post
 closed-position-returns-4 t c =
     let a = c .before .before .before .before .before .before .before .before .args in
-    record { within = within-part _ _ _ (c .before .before .before .before .before .before .before .if1 .left) (c .before .before .closed-position .ensures .within); right = λ first value. walk-first (field (a .kinds .now)) first value closed-there (λ p. open-to-variable) (λ p. closed-to-variable) (a .at) (a .left) closed-to-variable (c .before .before .before .if4 .taken) _ (c .before .before .closed-position .ensures .right first value) _ (c .enum-told .given .1) }
+    record {
+      within = within-part _ _ _ (c .before .before .before .before .before .before .before .if1 .left) (c .before .before .closed-position .ensures .within);
+      right = λ first value. walk-first _ first value closed-there (λ p. open-to-variable) (λ p. closed-to-variable) _ _ closed-to-variable (c .before .before .before .if4 .taken) _ (c .before .before .closed-position .ensures .right first value) _ (c .enum-told .given .1);
+    }
 
 closed-position-add-closed-position-2 : (t : ℕ) → closed-position-lts.Need-add-closed-position-2 (
   open-position-below t,
@@ -205,7 +217,10 @@ closed-position-returns-5 : (t : ℕ) → closed-position-lts.Need-returns-5 (
 closed-position-returns-5 t c =
     let a = c .before .before .before .before .before .before .before .before .before .before .args in
     let w = within-next _ _ _ (c .before .before .before .before .closed-position .result) (c .before .before .one .given .1) (c .before .before .before .before .closed-position .ensures .within) in
-    record { within = within-second _ _ _ _ (omega (arith, w .0)) (omega (arith, w .1)) (c .closed-position2 .ensures .within); right = λ first value. walk-second (field (a .kinds .now)) first value closed-there (λ p. open-to-variable) (λ p. closed-to-variable) (a .at) (a .left) closed-to-variable (c .before .before .before .before .before .if4 .taken) (c .before .before .before .before .closed-position .result) (c .before .before .before .before .closed-position .ensures .right first value) _ _ (c .before .before .one .given .1) (c .closed-position2 .ensures .right first value) }
+    record {
+      within = within-second _ _ _ _ (omega (arith, w .0)) (omega (arith, w .1)) (c .closed-position2 .ensures .within);
+      right = λ first value. walk-second _ first value closed-there (λ p. open-to-variable) (λ p. closed-to-variable) _ _ closed-to-variable (c .before .before .before .before .before .if4 .taken) (c .before .before .before .before .closed-position .result) (c .before .before .before .before .closed-position .ensures .right first value) _ _ (c .before .before .one .given .1) (c .closed-position2 .ensures .right first value);
+    }
 
 closed-position-add-closed-position-3 : (t : ℕ) → closed-position-lts.Need-add-closed-position-3 (
   open-position-below t,
@@ -240,7 +255,10 @@ closed-position-returns-6 : (t : ℕ) → closed-position-lts.Need-returns-6 (
 ) (closed-position-at t) closed-position.Post
 closed-position-returns-6 t c =
     let a = c .before .before .before .before .before .before .before .args in
-    record { within = within-part _ _ _ (c .before .before .before .before .before .before .if1 .left) (c .closed-position3 .ensures .within); right = λ first value. walk-greatest (field (a .kinds .now)) first value closed-there (λ p. open-to-variable) (λ p. closed-to-variable) (a .at) (a .left) closed-to-variable _ (c .before .if5 .taken) (c .closed-position3 .ensures .right first value) }
+    record {
+      within = within-part _ _ _ (c .before .before .before .before .before .before .if1 .left) (c .closed-position3 .ensures .within);
+      right = λ first value. walk-greatest _ first value closed-there (λ p. open-to-variable) (λ p. closed-to-variable) _ _ closed-to-variable _ (c .before .if5 .taken) (c .closed-position3 .ensures .right first value);
+    }
 
 closed-position-add-t17 : (t : ℕ) → closed-position-lts.Need-add-t17 (
   open-position-below t,
@@ -258,7 +276,10 @@ closed-position-returns-7 : (t : ℕ) → closed-position-lts.Need-returns-7 (
 ) (closed-position-at t) closed-position.Post
 closed-position-returns-7 t c =
     let a = c .before .before .before .before .before .before .args in
-    record { within = within-here _ _ _ (search needs) (search needs); right = λ first value. walk-leaf (field (a .kinds .now)) first value closed-there (λ p. open-to-variable) (λ p. closed-to-variable) (a .at) (a .left) closed-to-variable (λ e. absurd (c .before .before .before .if2 .left e)) (c .before .before .if3 .left) (c .before .if4 .left) (c .if5 .left) }
+    record {
+      within = within-here _ _ _ (search needs) (search needs);
+      right = λ first value. walk-leaf _ first value closed-there (λ p. open-to-variable) (λ p. closed-to-variable) _ _ closed-to-variable (λ e. absurd (c .before .before .before .if2 .left e)) (c .before .before .if3 .left) (c .before .if4 .left) (c .if5 .left);
+    }
 
 open-position-returns : (t : ℕ) → open-position-lts.Need-returns (
   open-position-below t,
@@ -268,7 +289,10 @@ open-position-returns : (t : ℕ) → open-position-lts.Need-returns (
 ) (open-position-at t) open-position.Post
 open-position-returns t c =
     let a = c .before .args in
-    record { within = within-here _ _ _ (omega arith) (omega arith); right = λ first value. walk-none (field (a .kinds .now)) first value closed-there (λ p. open-to-variable) (λ p. closed-to-variable) (a .at) (a .left) open-to-variable _ (c .if1 .taken) }
+    record {
+      within = within-here _ _ _ (omega arith) (omega arith);
+      right = λ first value. walk-none _ first value closed-there (λ p. open-to-variable) (λ p. closed-to-variable) _ _ open-to-variable _ (c .if1 .taken);
+    }
 
 open-position-element-copy-out-kind : (t : ℕ) → open-position-lts.Need-element-copy-out-kind (
   open-position-below t,
@@ -310,7 +334,10 @@ open-position-returns-2 : (t : ℕ) → open-position-lts.Need-returns-2 (
 ) (open-position-at t) open-position.Post
 open-position-returns-2 t c =
     let a = c .before .before .before .before .args in
-    record { within = within-part _ _ _ (c .before .before .before .if1 .left) (c .open-position .ensures .within); right = λ first value. walk-transition (field (a .kinds .now)) first value closed-there (λ p. open-to-variable) (λ p. closed-to-variable) (a .at) (a .left) open-to-variable _ (c .before .if2 .taken) (c .open-position .ensures .right first value) }
+    record {
+      within = within-part _ _ _ (c .before .before .before .if1 .left) (c .open-position .ensures .within);
+      right = λ first value. walk-transition _ first value closed-there (λ p. open-to-variable) (λ p. closed-to-variable) _ _ open-to-variable _ (c .before .if2 .taken) (c .open-position .ensures .right first value);
+    }
 
 open-position-add-open-position-2 : (t : ℕ) → open-position-lts.Need-add-open-position-2 (
   open-position-below t,
@@ -360,7 +387,10 @@ open-position-returns-3 : (t : ℕ) → open-position-lts.Need-returns-3 (
 ) (open-position-at t) open-position.Post
 open-position-returns-3 t c =
     let a = c .before .before .before .before .before .before .before .args in
-    record { within = within-part _ _ _ (c .before .before .before .before .before .before .if1 .left) (c .before .before .open-position2 .ensures .within); right = λ first value. walk-first (field (a .kinds .now)) first value closed-there (λ p. open-to-variable) (λ p. closed-to-variable) (a .at) (a .left) open-to-variable (c .before .before .before .if3 .taken) _ (c .before .before .open-position2 .ensures .right first value) _ (c .enum-told .given .1) }
+    record {
+      within = within-part _ _ _ (c .before .before .before .before .before .before .if1 .left) (c .before .before .open-position2 .ensures .within);
+      right = λ first value. walk-first _ first value closed-there (λ p. open-to-variable) (λ p. closed-to-variable) _ _ open-to-variable (c .before .before .before .if3 .taken) _ (c .before .before .open-position2 .ensures .right first value) _ (c .enum-told .given .1);
+    }
 
 open-position-add-open-position-3 : (t : ℕ) → open-position-lts.Need-add-open-position-3 (
   open-position-below t,
@@ -399,7 +429,10 @@ open-position-returns-4 : (t : ℕ) → open-position-lts.Need-returns-4 (
 open-position-returns-4 t c =
     let a = c .before .before .before .before .before .before .before .before .before .args in
     let w = within-next _ _ _ (c .before .before .before .before .open-position2 .result) (c .before .before .one .given .1) (c .before .before .before .before .open-position2 .ensures .within) in
-    record { within = within-second _ _ _ _ (omega (arith, w .0)) (omega (arith, w .1)) (c .open-position3 .ensures .within); right = λ first value. walk-second (field (a .kinds .now)) first value closed-there (λ p. open-to-variable) (λ p. closed-to-variable) (a .at) (a .left) open-to-variable (c .before .before .before .before .before .if3 .taken) (c .before .before .before .before .open-position2 .result) (c .before .before .before .before .open-position2 .ensures .right first value) _ _ (c .before .before .one .given .1) (c .open-position3 .ensures .right first value) }
+    record {
+      within = within-second _ _ _ _ (omega (arith, w .0)) (omega (arith, w .1)) (c .open-position3 .ensures .within);
+      right = λ first value. walk-second _ first value closed-there (λ p. open-to-variable) (λ p. closed-to-variable) _ _ open-to-variable (c .before .before .before .before .before .if3 .taken) (c .before .before .before .before .open-position2 .result) (c .before .before .before .before .open-position2 .ensures .right first value) _ _ (c .before .before .one .given .1) (c .open-position3 .ensures .right first value);
+    }
 
 open-position-add-closed-position : (t : ℕ) → open-position-lts.Need-add-closed-position (
   open-position-below t,
@@ -433,7 +466,10 @@ open-position-returns-5 : (t : ℕ) → open-position-lts.Need-returns-5 (
 ) (open-position-at t) open-position.Post
 open-position-returns-5 t c =
     let a = c .before .before .before .before .before .before .args in
-    record { within = within-part _ _ _ (c .before .before .before .before .before .if1 .left) (c .closed-position .ensures .within); right = λ first value. walk-greatest (field (a .kinds .now)) first value closed-there (λ p. open-to-variable) (λ p. closed-to-variable) (a .at) (a .left) open-to-variable _ (c .before .if4 .taken) (c .closed-position .ensures .right first value) }
+    record {
+      within = within-part _ _ _ (c .before .before .before .before .before .if1 .left) (c .closed-position .ensures .within);
+      right = λ first value. walk-greatest _ first value closed-there (λ p. open-to-variable) (λ p. closed-to-variable) _ _ open-to-variable _ (c .before .if4 .taken) (c .closed-position .ensures .right first value);
+    }
 
 open-position-add-t17 : (t : ℕ) → open-position-lts.Need-add-t17 (
   open-position-below t,
@@ -452,7 +488,10 @@ open-position-returns-6 : (t : ℕ) → open-position-lts.Need-returns-6 (
 unfolding closed-there
 open-position-returns-6 t c =
     let a = c .before .before .before .before .before .args in
-    record { within = within-here _ _ _ (search needs) (search needs); right = λ first value. walk-leaf (field (a .kinds .now)) first value closed-there (λ p. open-to-variable) (λ p. closed-to-variable) (a .at) (a .left) open-to-variable (λ e n. refl) (c .before .before .if2 .left) (c .before .if3 .left) (c .if4 .left) }
+    record {
+      within = within-here _ _ _ (search needs) (search needs);
+      right = λ first value. walk-leaf _ first value closed-there (λ p. open-to-variable) (λ p. closed-to-variable) _ _ open-to-variable (λ e n. refl) (c .before .before .if2 .left) (c .before .if3 .left) (c .if4 .left);
+    }
 
 pub +closed-position+open-position-spec : {M : Type 1} → statement M
 +closed-position+open-position-spec =
