@@ -14,8 +14,9 @@ use borrow.Author.Tests.{ltb-true, lt-ltb}
 use Rattle.theory.specs.Formula.{Formula, size, Accepted}
 use Rattle.theory.specs.PrefixCode.{Node, nodes}
 use Rattle.theory.specs.ValueSets.{Below}
-use Rattle.refusal.specs.Refusal.{number, Numbered, part-of, order}
+use Rattle.refusal.specs.Refusal.{HasNumber, HasNumbers, has-place, part-of, order}
 use Rattle.refusal.specs.declared.Refusal.{Refusal}
+use Rattle.refusal.specs.declared.Refusal.the-variants.{At}
 use Rattle.refusal.proofs.Refusals.{plain-number, at-lowest-number, first-unique, accepted-exactly}
 use Rattle.formulas.specs.NodeBytes.{encode-all, encode-formula, three-bytes}
 use Rattle.formulas.specs.RuleConditions.{Unbound, InClosedPosition, NodeFits, node-at, CountAtFault, NodeAtFault, RunOut, LeftOver, rule-conditions}
@@ -38,19 +39,19 @@ pub functional : FunctionalClaim
 functional B width encode code limit events In bytes = conditions-functional width encode code limit events In bytes
 
 pub in-order : InOrderClaim
-unfolding Numbered number part-of order
+unfolding HasNumbers has-place part-of order
 in-order B width encode limit events In bytes =
     record {
       numbered = (
-        plain-number 5 (CountAtFault width encode limit events In bytes),
+        plain-number 5 (CountAtFault width encode limit events In bytes) refl,
         (
-          at-lowest-number 6 (NodeAtFault width encode limit events In bytes),
+          at-lowest-number 6 (NodeAtFault width encode limit events In bytes) refl,
           (
             end-number,
             (
-              (λ r m. at-lowest-number 8 (Unbound (m .0)) r (m .2)),
+              (λ r m. at-lowest-number 8 (Unbound (m .0)) refl r (m .2)),
               (
-                (λ r m. at-lowest-number 9 (InClosedPosition (m .0)) r (m .2)),
+                (λ r m. at-lowest-number 9 (InClosedPosition (m .0)) refl r (m .2)),
                 tt,
               ),
             ),
@@ -60,9 +61,12 @@ in-order B width encode limit events In bytes =
       ordered = refl;
     }
   where
-    end-number : (r : Refusal) → RunOut width encode limit events In bytes r ⊎ LeftOver width encode limit events In bytes r → number r ≡ 7
-    end-number r (inl m) = ap number (m .4)
-    end-number r (inr m) = ap number (m .4)
+    at-place : (p : ℕ) (r : Refusal) → r ≡ At 7 p → HasNumber 7 r
+    at-place p r e = at-lowest-number 7 (λ i. i ≡ p) refl r (p, record { holds = refl; least = λ i h q. omega (arith, h, q) }, e)
+
+    end-number : (r : Refusal) → RunOut width encode limit events In bytes r ⊎ LeftOver width encode limit events In bytes r → HasNumber 7 r
+    end-number r (inl m) = at-place _ r (m .4)
+    end-number r (inr m) = at-place _ r (m .4)
 
 module _ (events values : ℕ) (bytes : List ℕ) where
   abbrev fit : ℕ → Bool

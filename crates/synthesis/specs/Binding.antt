@@ -6,7 +6,8 @@ use Prim.Native.Nat.{ℕ, _+_, _-_, _≤_, _<_}
 use lib.ListN.{length, getD}
 use Rattle.theory.specs.Formula.{Formula, size, FreeBelow}
 use Rattle.formulas.specs.NodeReading.{Reads}
-use Rattle.synthesis.specs.NodeWalks.{read, Ends, Binds}
+use Rattle.formulas.specs.NodeWalks.{field}
+use Rattle.synthesis.specs.NodeWalks.{Ends, Binds}
 
 -- The binders around, the innermost first, are the stack's first numbers, read down.
 pub record Stack (stack σ : List ℕ) (depth : ℕ) : Type 0 where
@@ -16,8 +17,8 @@ pub record Stack (stack σ : List ℕ) (depth : ℕ) : Type 0 where
 -- Every variable of the formula at a node has its binder in b.
 unfoldable pub AllBound : List ℕ → List ℕ → ℕ → ℕ → ℕ → List ℕ → List ℕ → Type 0
 AllBound kinds firsts at left depth stack b =
-    (value : ℕ → ℕ) (φ : Formula ℕ) (σ : List ℕ) → Reads (read kinds) (read firsts) value at φ → size φ ≤ left →
-    FreeBelow (length σ) φ → Stack stack σ depth → Binds (read b) σ at φ
+    (value : ℕ → ℕ) (φ : Formula ℕ) (σ : List ℕ) → Reads (field kinds) (field firsts) value at φ → size φ ≤ left →
+    FreeBelow (length σ) φ → Stack stack σ depth → Binds (field b) σ at φ
 
 pub record Bound (kinds firsts : List ℕ) (at left depth : ℕ) (stack b stack′ b′ : List ℕ) (r : ℕ) : Type 0 where
   pub low : at ≤ r

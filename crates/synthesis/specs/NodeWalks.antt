@@ -7,16 +7,13 @@ use lib.ListN.{length, getD}
 use Rattle.theory.specs.Formula.{Formula, truth, variable, transition, output, conjunction, greatest, size, Guarded}
 use Rattle.theory.specs.DemandSets.{demands, union}
 use Rattle.formulas.specs.NodeReading.{Reads}
+use Rattle.formulas.specs.NodeWalks.{field}
 use Rattle.synthesis.specs.NodeWords.{set-at, row}
-
--- An array as accessor.
-abbrev pub read : List ℕ → ℕ → ℕ
-read l i = getD l i 0
 
 -- r is the node after the formula at a node.
 abbrev pub Ends : List ℕ → ℕ → ℕ → ℕ → Type 0
 Ends kinds at left r =
-    (first value : ℕ → ℕ) (φ : Formula ℕ) → Reads (read kinds) first value at φ → size φ ≤ left → r ≡ at + size φ
+    (first value : ℕ → ℕ) (φ : Formula ℕ) → Reads (field kinds) first value at φ → size φ ≤ left → r ≡ at + size φ
 
 pub record Walked (kinds : List ℕ) (at left r : ℕ) : Type 0 where
   pub low : at ≤ r
@@ -36,8 +33,8 @@ module _ {B : Type 0} (b : ℕ → ℕ) where
 -- The demands of the formula at a node came into the set.
 abbrev pub Gathers : List ℕ → List ℕ → List ℕ → ℕ → ℕ → List ℕ → List ℕ → Type 0
 Gathers kinds b rows at left before after =
-    (first value : ℕ → ℕ) (φ : Formula ℕ) (σ : List ℕ) → Reads (read kinds) first value at φ → size φ ≤ left → Guarded φ →
-    Binds (read b) σ at φ → set-at after 0 ≡ union (set-at before 0) (demands (map (row rows) σ) at φ)
+    (first value : ℕ → ℕ) (φ : Formula ℕ) (σ : List ℕ) → Reads (field kinds) first value at φ → size φ ≤ left → Guarded φ →
+    Binds (field b) σ at φ → set-at after 0 ≡ union (set-at before 0) (demands (map (row rows) σ) at φ)
 
 pub record Gathered (kinds b rows : List ℕ) (at left : ℕ) (before after : List ℕ) (r : ℕ) : Type 0 where
   pub low : at ≤ r
