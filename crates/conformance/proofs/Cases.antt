@@ -1,7 +1,6 @@
 -- Case 12 of document 01, computed from the definitions.
 -- Assumes nothing.
 use mathlib.Core.Path.{_≡_, refl, _∙_, ap}
-use mathlib.Core.Bool.{true}
 use mathlib.Core.List.{List, [], _∷_}
 use mathlib.Core.Option.{Option, none, some}
 use Prim.Native.Nat.{ℕ, _≤_}
@@ -13,12 +12,12 @@ use Rattle.theory.specs.ValueSets.{four-value-meet, meetAt}
 use Rattle.theory.specs.DemandSets.{empty, only, union}
 use Rattle.refusal.specs.declared.Refusal.{Refusal}
 use Rattle.refusal.specs.Refusal.{or-else, plain-unless}
-use Rattle.values.specs.Setup.{setup, setup-refusal}
+use Rattle.values.specs.Setup.{setup}
 use Rattle.values.specs.ValueKind.{meetOf}
 use Rattle.values.proofs.Setups.{four-value-setup}
 use Rattle.machines.specs.TableRefusal.{table-refusal, table-test, entry-test, all-below}
 use Rattle.machines.specs.StoredEntries.{put}
-use Rattle.conformance.specs.Trial.{TrialInput, input, device-limit, table-limit, word-limit, trial-refusal, first-failure, outcome, shown, answer-unless, buffer-unless, trial-answer, trial-buffer}
+use Rattle.conformance.specs.Trial.{input, device-limit, table-limit, word-limit, trial-refusal, first-failure, outcome, shown, answer-unless, buffer-unless, trial-answer, trial-buffer}
 use Rattle.conformance.specs.Claims.{case-3-bytes, case-12-input, Case12Claim}
 
 device-3 : table-refusal 64 2 4 1 0 (3 ∷ 0 ∷ 3 ∷ 0 ∷ []) ≡ none

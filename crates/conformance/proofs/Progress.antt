@@ -2,28 +2,26 @@
 -- Assumes nothing.
 use mathlib.Core.Path.{_≡_, refl, sym, _∙_, ap, ap₂, subst, subst⁻¹}
 use mathlib.Core.Bool.{Bool, true, false, not, cond}
-use mathlib.Core.Logic.{_↔_, _⊎_, inl, inr}
-use mathlib.Core.List.{List, [], _∷_, _++_, reverse}
+use mathlib.Core.Logic.{_↔_}
+use mathlib.Core.List.{List, [], _∷_}
 use mathlib.Core.Option.{Option, none, some}
 use Prim.Native.Nat.{ℕ, zero, suc, _+_, _*_, _-_, _≤_, _<_}
 use native.Mathlib.Nat.{mul-le-mul-right, suc-mul}
 use native.Mathlib.Numerals.{add-one}
 use native.Mathlib.Omega.{arith}
 use borrow.Author.Tests.{eqb-true, eqb-false, lt-ltb, le-ltb}
-use lib.Dec.{T, ltb, eqb}
+use lib.Dec.{T, eqb}
 use lib.ListN.{length, getD, drop, drop-of-length-le}
 use lib.Seq.{drop-cons}
 use Rattle.theory.specs.MealyMachine.{Machine, Word}
-use Rattle.theory.specs.Exploration.{reached, has-state, add-events, explore, explored}
+use Rattle.theory.specs.Exploration.{reached, add-events, explore, explored}
 use Rattle.theory.specs.Conformance.{same-pair, bad-event, or-else, first-bad, bad-pair, in-play-order, counterexample}
 use Rattle.theory.proofs.Numbers.{digits-equal, pigeonhole}
 use Rattle.theory.proofs.Exploration.{Grows, Kept, explore-grows, invariant}
 use Rattle.values.specs.declared.ValueKind.the-variants.{Numbered}
 use Rattle.values.specs.ValueKind.{at-or-below}
 use Rattle.machines.specs.TableBytes.{machine-of}
-use Rattle.conformance.specs.declared.Failure.{Failure}
-use Rattle.conformance.specs.declared.Failure.the-variants.{Nowhere, At}
-use Rattle.conformance.specs.PairQueue.{Queue, Holds, pair-step, at-or-below-on, FirstBadEvent, Ready, successors, Expandable, Expanded, Reaches, FailsAt, Located, Searchable}
+use Rattle.conformance.specs.PairQueue.{Queue, Holds, pair-step, at-or-below-on, FirstBadEvent, Ready, successors, Expandable, Expanded, FailsAt, Searchable}
 use Rattle.conformance.proofs.Queues.{same-pair-self, same-pair-true}
 use Rattle.conformance.proofs.Successors.{part-grows}
 

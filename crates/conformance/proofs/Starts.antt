@@ -1,10 +1,10 @@
 -- The queue with the start's pair alone, and what the answer is when the search has ended.
 -- Assumes nothing.
 use mathlib.Core.Path.{_≡_, refl, sym, _∙_, ap, ap₂, subst, subst⁻¹}
-use mathlib.Core.Bool.{Bool, true, false, _||_}
+use mathlib.Core.Bool.{Bool, true, false}
 use mathlib.Core.List.{List, [], _∷_, reverse}
-use mathlib.Core.Option.{Option, none, some}
-use Prim.Native.Nat.{ℕ, zero, suc, _+_, _*_, _≤_, _<_}
+use mathlib.Core.Option.{Option, none}
+use Prim.Native.Nat.{ℕ, zero, _+_, _*_, _≤_, _<_}
 use native.Mathlib.Nat.{mul-le-mul-right, suc-mul}
 use native.Mathlib.Omega.{arith}
 use lib.ListN.{length, getD, set, replicate, length-set, length-reverse, length-replicate, getD-replicate}
@@ -16,12 +16,11 @@ use Rattle.values.specs.declared.ValueKind.the-variants.{Numbered}
 use Rattle.values.specs.ValueKind.{at-or-below}
 use Rattle.machines.specs.TableBytes.{machine-of}
 use Rattle.machines.specs.StoredEntries.{put}
-use Rattle.conformance.specs.declared.Verdict.{Verdict}
 use Rattle.conformance.specs.declared.Verdict.the-variants.{Pass, Fail}
 use Rattle.conformance.specs.declared.Failure.{Failure}
 use Rattle.conformance.specs.declared.Failure.the-variants.{Nowhere, At}
 use Rattle.conformance.specs.Trial.{outcome, shown}
-use Rattle.conformance.specs.PairQueue.{Queue, queue, Sized, Linked, Holds, flag, pair-step, Searchable, Searched, Located, Tried, Answers, FailsAt, Zeros}
+use Rattle.conformance.specs.PairQueue.{Queue, queue, Sized, flag, pair-step, Searchable, Searched, Located, Tried, Answers, FailsAt, Zeros}
 use Rattle.conformance.proofs.Queues.{same-pair-self, same-pair-true, or-false}
 use Rattle.conformance.proofs.Words.{short-word, put-last}
 

@@ -6,36 +6,32 @@ use mathlib.Core.Bool.{Bool, true, false}
 use mathlib.Core.Logic.{_↔_, Iff·trans}
 use mathlib.Core.List.{List, [], _∷_, _++_}
 use mathlib.Core.Option.{Option, none, some}
-use Prim.Native.Nat.{ℕ, zero, suc, _*_, _≤_, _<_}
+use Prim.Native.Nat.{ℕ, zero, _*_, _≤_, _<_}
 use native.Mathlib.Nat.{mul-le-mul-left, mul-le-mul-right}
 use native.Mathlib.Omega.{arith}
-use borrow.Author.Tests.{le-leb, leb-true, leb-false}
+use borrow.Author.Tests.{leb-true, leb-false}
 use lib.Dec.{T, leb}
 use lib.ListN.{length, take, drop}
 use lib.Seq.{take-append-seam, drop-append-seam}
 use Rattle.theory.specs.Semilattice.{MeetSemilattice, AtOrBelow}
-use Rattle.theory.specs.ValueSets.{Below, four-value-meet, meetAt}
-use Rattle.theory.specs.MealyMachine.{Runs, States, SimulatedTable}
-use Rattle.theory.specs.Conformance.{FirstCounterexample, counterexample}
+use Rattle.theory.specs.ValueSets.{Below}
+use Rattle.theory.specs.MealyMachine.{Runs, States}
+use Rattle.theory.specs.Conformance.{counterexample}
 use Rattle.theory.proofs.ConformanceClaims.{conformance-claim}
 use Rattle.theory.proofs.Trial.{trial-claim}
 use Rattle.refusal.specs.declared.Refusal.{Refusal}
-use Rattle.refusal.specs.Refusal.{Condition, plain, First, HasNumbers, or-else, plain-unless}
+use Rattle.refusal.specs.Refusal.{First, HasNumbers}
 use Rattle.refusal.specs.RefusalClaims.{AllFunctional}
 use Rattle.refusal.proofs.Refusals.{plain-first, plain-functional, plain-number, first-append, first-unique}
 use Rattle.values.specs.declared.ValueKind.the-variants.{Numbered}
-use Rattle.values.specs.Setup.{Setup, setup, setup-conditions, setup-refusal, EventsFault, ValuesFault, MeetFault}
-use Rattle.values.specs.ValueKind.{meetOf, at-or-below}
+use Rattle.values.specs.Setup.{setup-conditions}
 use Rattle.values.proofs.Setups.{setup-correct}
 use Rattle.values.proofs.ValueKinds.{value-kinds}
-use Rattle.machines.specs.TableBytes.{machine-of, TableInOrder}
-use Rattle.machines.specs.TableRefusal.{table-refusal, table-test, entry-test, all-below}
 use Rattle.machines.specs.StoredEntries.{put}
 use Rattle.machines.proofs.TableRefusals.{table-refusal-first}
-use Rattle.conformance.specs.declared.Verdict.{Verdict}
 use Rattle.conformance.specs.declared.Verdict.the-variants.{Pass, Fail, Refused}
-use Rattle.conformance.specs.Trial.{TrialInput, input, meet, below, device-machine, table-machine, device-limit, table-limit, word-limit, Passes, FirstFailure, trial-conditions, trial-refusal, first-failure, outcome, shown, answer-unless, buffer-unless, trial-answer, trial-buffer}
-use Rattle.conformance.specs.Claims.{TrialRefusalClaim, RefusedClaim, PassClaim, Failed, FailClaim, SatisfactionClaim, LowestPassesClaim}
+use Rattle.conformance.specs.Trial.{TrialInput, input, meet, below, device-machine, table-machine, Passes, FirstFailure, trial-conditions, trial-refusal, first-failure, outcome, shown, answer-unless, buffer-unless, trial-answer, trial-buffer}
+use Rattle.conformance.specs.Claims.{TrialRefusalClaim, RefusedClaim, PassClaim, FailClaim, SatisfactionClaim, LowestPassesClaim}
 use Rattle.conformance.proofs.Trials.{Sound, sound}
 
 -- Tests that decide.

@@ -1,7 +1,6 @@
 -- A trial's refusals one after the other, what an accepted input is, and the answer from the search's.
 -- Assumes nothing.
-use mathlib.Core.Path.{_≡_, refl, sym, _∙_, ap, ap₂, subst, subst⁻¹}
-use mathlib.Core.Bool.{Bool, true, false}
+use mathlib.Core.Path.{_≡_, refl, sym, _∙_, ap}
 use mathlib.Core.List.{List}
 use mathlib.Core.Option.{Option, none, some}
 use Prim.Native.Nat.{ℕ, zero, _*_, _≤_, _<_}
@@ -11,21 +10,20 @@ use borrow.Author.Tests.{le-leb, lt-leb, leb-true}
 use lib.ListN.{length}
 use lib.Dec.{leb}
 use Rattle.theory.specs.ValueSets.{Below}
-use Rattle.theory.specs.Conformance.{counterexample}
 use Rattle.refusal.specs.declared.Refusal.{Refusal}
 use Rattle.refusal.specs.declared.Refusal.the-variants.{Plain}
 use Rattle.refusal.specs.declared.Judgement.{Judgement}
 use Rattle.refusal.specs.declared.Judgement.the-variants.{Accepted, Refused}
 use Rattle.refusal.specs.Refusal.{or-else, plain-unless, judgement}
 use Rattle.refusal.proofs.Refusals.{judgement-accepted, or-else-none, plain-none}
-use Rattle.values.specs.Setup.{Setup, setup-refusal, WellFormed}
+use Rattle.values.specs.Setup.{setup-refusal, WellFormed}
 use Rattle.values.proofs.Setups.{setup-accepted}
-use Rattle.machines.specs.TableBytes.{machine-of, TableInOrder}
+use Rattle.machines.specs.TableBytes.{TableInOrder}
 use Rattle.machines.specs.TableRefusal.{table-refusal}
 use Rattle.machines.proofs.TableRefusals.{none-in-order}
 use Rattle.conformance.specs.declared.Verdict.{Verdict}
 use Rattle.conformance.specs.declared.Verdict.the-variants.{Refused as Rejected}
-use Rattle.conformance.specs.Trial.{TrialInput, below, device-machine, table-machine, trial-refusal, first-failure, outcome, shown, answer-unless, buffer-unless, trial-answer, trial-buffer}
+use Rattle.conformance.specs.Trial.{TrialInput, device-machine, table-machine, trial-refusal, first-failure, answer-unless, buffer-unless, trial-answer, trial-buffer}
 use Rattle.conformance.specs.PairQueue.{Ready, Tried, Answered}
 
 -- A check's refusal is the answer of all that follows; where it accepts, what follows decides.

@@ -1,6 +1,5 @@
 -- Trial (document 01, "Trial", and refusals 1 to 3, 11 and 13): a device judged against a rule's table, both in bytes.
 -- Assumes nothing.
-use mathlib.Core.Path.{_≡_}
 use mathlib.Core.Bool.{Bool}
 use mathlib.Core.Option.{Option, none, some}
 use mathlib.Core.List.{List, [], _∷_, _++_}
@@ -12,7 +11,6 @@ use Rattle.theory.specs.ValueSets.{Below}
 use Rattle.theory.specs.Conformance.{FirstCounterexample, counterexample}
 use Rattle.refusal.specs.declared.Refusal.{Refusal}
 use Rattle.refusal.specs.Refusal.{Condition, plain, or-else, plain-unless}
-use Rattle.values.specs.declared.ValueKind.{ValueKind}
 use Rattle.values.specs.declared.ValueKind.the-variants.{Numbered}
 use Rattle.values.specs.Setup.{Setup, setup-conditions, setup-refusal}
 use Rattle.values.specs.ValueKind.{meetOf, at-or-below}

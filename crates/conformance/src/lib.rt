@@ -4,11 +4,10 @@ use refusal::Refusal;
 use values::ValueKind;
 ghost use mathlib.Core.Path.{_≡_};
 ghost use mathlib.Core.Bool.{true};
-ghost use Prim.Native.Nat.{ℕ, _+_, _*_, _≤_, _<_};
-ghost use lib.ListN.{length};
+ghost use Prim.Native.Nat.{_≤_, _<_};
 ghost use Rattle.refusal.specs.Refusal.{judgement};
 ghost use Rattle.values.specs.Setup.{setup};
-ghost use Rattle.conformance.specs.Trial.{input, device-limit, table-limit, trial-refusal, trial-answer, trial-buffer};
+ghost use Rattle.conformance.specs.Trial.{input, device-limit, table-limit, word-limit, trial-refusal, trial-answer, trial-buffer};
 ghost use Rattle.conformance.specs.PairQueue.{at-or-below-on, FirstBadEvent, queue, Sized, is-new, pushed, pushed-count, Expandable, Expanded, Reaches, Deep, Writable, Written, Zeros, Searchable, Searched, Tried, Answered};
 
 // Document 01's limits: a device's states, a rule's table's states, and their product, the events of a word.
@@ -99,9 +98,9 @@ fn push_pair(
     last_events: &mut [u8; WORD_LIMIT],
     flags: &mut [u8; WORD_LIMIT],
 ) -> usize
-    requires { ⌜ Sized 4096 (queue (now «device_queue») (now «table_queue») (now parents) (now «last_events») (now flags))
-        × (place < 4096) × (s < 256) × (t < 256) × (parent < 4096) × (e < 256)
-        × (is-new (queue (now «device_queue») (now «table_queue») (now parents) (now «last_events») (now flags)) place ≡ true → count < 4096) ⌝ }
+    requires { ⌜ Sized word-limit (queue (now «device_queue») (now «table_queue») (now parents) (now «last_events») (now flags))
+        × (place < word-limit) × (s < 256) × (t < 256) × (parent < word-limit) × (e < 256)
+        × (is-new (queue (now «device_queue») (now «table_queue») (now parents) (now «last_events») (now flags)) place ≡ true → count < word-limit) ⌝ }
     ensures { λ r. ⌜ (r ≡ pushed-count (queue (now («device_queue» .entry)) (now («table_queue» .entry)) (now (parents .entry)) (now («last_events» .entry)) (now (flags .entry))) count place)
         × (queue (now («device_queue» .exit)) (now («table_queue» .exit)) (now (parents .exit)) (now («last_events» .exit)) (now (flags .exit))
         ≡ pushed (queue (now («device_queue» .entry)) (now («table_queue» .entry)) (now (parents .entry)) (now («last_events» .entry)) (now (flags .entry))) count place s t parent e) ⌝ }
@@ -131,10 +130,10 @@ fn push_successors(
     last_events: &mut [u8; WORD_LIMIT],
     flags: &mut [u8; WORD_LIMIT],
 ) -> usize
-    requires { ⌜ Sized 4096 (queue (now «device_queue») (now «table_queue») (now parents) (now «last_events») (now flags))
-        × Expandable 4096 events states (now device) (now table) i count (queue (now «device_queue») (now «table_queue») (now parents) (now «last_events») (now flags)) ⌝ }
-    ensures { λ r. ⌜ Sized 4096 (queue (now («device_queue» .exit)) (now («table_queue» .exit)) (now (parents .exit)) (now («last_events» .exit)) (now (flags .exit)))
-        × Expanded 4096 events states (now (device .entry)) (now (table .entry)) i count
+    requires { ⌜ Sized word-limit (queue (now «device_queue») (now «table_queue») (now parents) (now «last_events») (now flags))
+        × Expandable word-limit events states (now device) (now table) i count (queue (now «device_queue») (now «table_queue») (now parents) (now «last_events») (now flags)) ⌝ }
+    ensures { λ r. ⌜ Sized word-limit (queue (now («device_queue» .exit)) (now («table_queue» .exit)) (now (parents .exit)) (now («last_events» .exit)) (now (flags .exit)))
+        × Expanded word-limit events states (now (device .entry)) (now (table .entry)) i count
         (queue (now («device_queue» .entry)) (now («table_queue» .entry)) (now (parents .entry)) (now («last_events» .entry)) (now (flags .entry))) r (queue (now («device_queue» .exit)) (now («table_queue» .exit)) (now (parents .exit)) (now («last_events» .exit)) (now (flags .exit))) ⌝ }
 {
     let s = wide(device_queue[i]);
@@ -176,9 +175,9 @@ fn find_failure(
     last_events: &mut [u8; WORD_LIMIT],
     flags: &mut [u8; WORD_LIMIT],
 ) -> Failure
-    requires { ⌜ Sized 4096 (queue (now «device_queue») (now «table_queue») (now parents) (now «last_events») (now flags))
-        × Searchable 4096 events values states (now device) (now table) (queue (now «device_queue») (now «table_queue») (now parents) (now «last_events») (now flags)) ⌝ }
-    ensures { λ r. ⌜ Searched 4096 events values (now (meet .entry)) states (now (device .entry)) (now (table .entry))
+    requires { ⌜ Sized word-limit (queue (now «device_queue») (now «table_queue») (now parents) (now «last_events») (now flags))
+        × Searchable word-limit events values states (now device) (now table) (queue (now «device_queue») (now «table_queue») (now parents) (now «last_events») (now flags)) ⌝ }
+    ensures { λ r. ⌜ Searched word-limit events values (now (meet .entry)) states (now (device .entry)) (now (table .entry))
         (queue (now («device_queue» .entry)) (now («table_queue» .entry)) (now (parents .entry)) (now («last_events» .entry)) (now (flags .entry))) r (queue (now («device_queue» .exit)) (now («table_queue» .exit)) (now (parents .exit)) (now («last_events» .exit)) (now (flags .exit))) ⌝ }
 {
     let mut count: usize = 1;
@@ -210,8 +209,8 @@ fn find_failure(
 
 // How many events lead to a place of the queue.
 fn depth(parents: &[u16; WORD_LIMIT], last_events: &[u8; WORD_LIMIT], i: usize) -> usize
-    requires { ⌜ Reaches 4096 i (now parents) (now «last_events») ⌝ }
-    ensures { λ r. ⌜ Deep 4096 i (now (parents .entry)) (now («last_events» .entry)) r ⌝ }
+    requires { ⌜ Reaches word-limit i (now parents) (now «last_events») ⌝ }
+    ensures { λ r. ⌜ Deep word-limit i (now (parents .entry)) (now («last_events» .entry)) r ⌝ }
 {
     let mut n: usize = 0;
     let mut j = i;
@@ -230,8 +229,8 @@ fn write_path(
     n: usize,
     word: &mut [u8],
 )
-    requires { ⌜ Writable 4096 i n (now parents) (now «last_events») (now word) ⌝ }
-    ensures { λ r. ⌜ Written 4096 i n (now (parents .entry)) (now («last_events» .entry)) (now (word .entry)) (now (word .exit)) ⌝ }
+    requires { ⌜ Writable word-limit i n (now parents) (now «last_events») (now word) ⌝ }
+    ensures { λ r. ⌜ Written word-limit i n (now (parents .entry)) (now («last_events» .entry)) (now (word .entry)) (now (word .exit)) ⌝ }
 {
     let mut j = i;
     let mut at = n;
@@ -244,13 +243,13 @@ fn write_path(
 
 // An empty array.
 fn zeros() -> [u8; WORD_LIMIT]
-    ensures { λ r. ⌜ Zeros 4096 r ⌝ }
+    ensures { λ r. ⌜ Zeros word-limit r ⌝ }
 {
     [0u8; WORD_LIMIT]
 }
 
 fn zeros16() -> [u16; WORD_LIMIT]
-    ensures { λ r. ⌜ Zeros 4096 r ⌝ }
+    ensures { λ r. ⌜ Zeros word-limit r ⌝ }
 {
     [0u16; WORD_LIMIT]
 }
@@ -267,8 +266,8 @@ fn search(
     device: &[u8],
     word: &mut [u8],
 ) -> Verdict
-    requires { ⌜ Tried 4096 events values states (now table) «device_start» (now device) (now word) ⌝ }
-    ensures { λ r. ⌜ Answered 4096 events values (now (meet .entry)) states (now (table .entry)) «device_start» (now (device .entry)) (now (word .entry)) r (now (word .exit)) ⌝ }
+    requires { ⌜ Tried word-limit events values states (now table) «device_start» (now device) (now word) ⌝ }
+    ensures { λ r. ⌜ Answered word-limit events values (now (meet .entry)) states (now (table .entry)) «device_start» (now (device .entry)) (now (word .entry)) r (now (word .exit)) ⌝ }
 {
     let mut device_queue = zeros();
     let mut table_queue = zeros();

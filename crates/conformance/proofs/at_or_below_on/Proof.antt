@@ -9,44 +9,31 @@ use Rattle.conformance.proofs.Places.{entry-place}
 use borrow.Author.Needs.{needs}
 use Rattle.conformance.proofs.at_or_below_on.Statement.{statement}
 use Rattle.conformance.proofs.at_or_below_on.Tie as tie
-use Rattle.conformance.proofs.at_or_below_on.Reads as reads
-use Rattle.conformance.proofs.at_or_below_on.Lts as lts
-use Rattle.machines.proofs.value_at.Reads as value-at-reads
-use Rattle.values.proofs.at_or_below.Reads as at-or-below-reads
 
--- src/lib.rt:62:40
 mul-value-at : tie.Need-mul-value-at
 mul-value-at c = let a = c .before .before .before .args in omega (arith, entry-place (a .s) (a .events) (a .e) (search needs) (search needs) (search needs))
 
--- src/lib.rt:62:40
 add-value-at : tie.Need-add-value-at
 add-value-at c = let a = c .before .before .before .args in omega (arith, entry-place (a .s) (a .events) (a .e) (search needs) (search needs) (search needs))
 
--- src/lib.rt:62:9
 value-at-requires : tie.Need-value-at-requires
 value-at-requires c κs = search needs
 
--- src/lib.rt:63:39
 mul-value-at-2 : tie.Need-mul-value-at-2
 mul-value-at-2 c = let a = c .before .before .before .before .args in omega (arith, entry-place (a .t) (a .events) (a .e) (search needs) (search needs) (search needs))
 
--- src/lib.rt:63:39
 add-value-at-2 : tie.Need-add-value-at-2
 add-value-at-2 c = let a = c .before .before .before .before .args in omega (arith, entry-place (a .t) (a .events) (a .e) (search needs) (search needs) (search needs))
 
--- src/lib.rt:63:9
 value-at-requires-2 : tie.Need-value-at-requires-2
 value-at-requires-2 c κs = search needs
 
--- src/lib.rt:64:45
 cast-t13 : tie.Need-cast-t13
 cast-t13 c = search needs
 
--- src/lib.rt:64:5
 at-or-below-requires : tie.Need-at-or-below-requires
 at-or-below-requires c κs = search needs
 
--- src/lib.rt:49:1
 returns : tie.Need-returns
 unfolding at-or-below-on
 returns c = c .at-or-below .ensures ∙ ap₂ (at-or-below (Numbered (c .before .before .before .before .before .before .args .values)) (c .before .before .before .before .before .before .args .meet .now)) (c .before .before .value-at .ensures) (c .before .value-at2 .ensures)

@@ -10,9 +10,6 @@ use Rattle.conformance.proofs.Places.{one-more}
 use borrow.Author.Needs.{needs}
 use Rattle.conformance.proofs.bad_event.Statement.{statement}
 use Rattle.conformance.proofs.bad_event.Tie as tie
-use Rattle.conformance.proofs.bad_event.Reads as reads
-use Rattle.conformance.proofs.bad_event.Lts as lts
-use Rattle.conformance.proofs.at_or_below_on.Reads as at-or-below-on-reads
 
 abbrev Inv-loop : tie.InvT-loop
 Inv-loop events values meet device table s t e₀ e = (e ≤ events) × ((k : ℕ) → k < e → at-or-below-on events values meet device table s t k ≡ true)
@@ -20,15 +17,12 @@ Inv-loop events values meet device table s t e₀ e = (e ≤ events) × ((k : �
 abbrev μ-loop : tie.MeasureT-loop
 μ-loop events values meet device table s t e₀ e = events - e
 
--- src/lib.rt:81:5
 loop-holds : tie.Need-loop-holds Inv-loop μ-loop
 loop-holds c = (search needs, λ k h. absurd (omega arith))
 
--- src/lib.rt:82:13
 at-or-below-on-requires : tie.Need-at-or-below-on-requires Inv-loop μ-loop
 at-or-below-on-requires c κs = search needs
 
--- src/lib.rt:83:13
 returns : tie.Need-returns Inv-loop μ-loop
 returns c = record {
   at-most = search needs;
@@ -36,19 +30,15 @@ returns c = record {
   bad = λ h. sym (c .before .at-or-below-on .ensures) ∙ not-true _ (c .if1 .taken);
 }
 
--- src/lib.rt:85:9
 add-e : tie.Need-add-e Inv-loop μ-loop
 add-e c = search needs
 
--- src/lib.rt:81:5
 loop-less : tie.Need-loop-less Inv-loop μ-loop
 loop-less c = search needs
 
--- src/lib.rt:81:5
 loop-again : tie.Need-loop-again Inv-loop μ-loop
 loop-again c = (search needs, λ k h. one-more _ _ (c .before .before .before .loop .inv .1) (sym (c .before .at-or-below-on .ensures) ∙ not-false _ (c .if1 .left)) k h)
 
--- src/lib.rt:68:1
 returns-2 : tie.Need-returns-2 Inv-loop μ-loop
 returns-2 c = record { at-most = search needs; before = λ k h. c .before .loop .inv .1 k (omega arith); bad = λ h. absurd (omega arith) }
 

@@ -6,20 +6,13 @@ use Rattle.conformance.proofs.Trials.{setup-refused, device-refused, ta
 use borrow.Author.Needs.{needs}
 use Rattle.conformance.proofs.check_trial.Statement.{statement}
 use Rattle.conformance.proofs.check_trial.Tie as tie
-use Rattle.conformance.proofs.check_trial.Reads as reads
-use Rattle.conformance.proofs.check_trial.Lts as lts
-use Rattle.machines.proofs.check_table.Reads as check-table-reads
-use Rattle.values.proofs.check_setup.Reads as check-setup-reads
 
--- src/lib.rt:275:9
 check-setup-requires : tie.Need-check-setup-requires
 check-setup-requires c κs = search needs
 
--- src/lib.rt:277:9
 enum-told : tie.Need-enum-told
 enum-told c = search needs
 
--- src/lib.rt:277:9
 returns : tie.Need-returns
 unfolding input setup
 returns c = setup-refused _ _ _ _ _ _ (c .before .before .check-setup .ensures) (c .enum-told .given .1)
@@ -27,15 +20,12 @@ returns c = setup-refused _ _ _ _ _ _ (c .before .before .check-setup .ensures) 
 enum-told-2 : tie.Need-enum-told-2
 enum-told-2 c = search needs
 
--- src/lib.rt:279:9
 check-table-requires : tie.Need-check-table-requires
 check-table-requires c κs = search needs
 
--- src/lib.rt:281:9
 enum-told-3 : tie.Need-enum-told-3
 enum-told-3 c = search needs
 
--- src/lib.rt:281:9
 returns-2 : tie.Need-returns-2
 unfolding input setup
 returns-2 c = device-refused _ _ _ _ _ (c .before .before .before .before .before .check-setup .ensures) (c .before .before .before .enum-told2 .given .1) _ _ (c .before .before .check-table .ensures) (c .enum-told3 .given .1)
@@ -43,15 +33,12 @@ returns-2 c = device-refused _ _ _ _ _ (c .before .before .before .before .befor
 enum-told-4 : tie.Need-enum-told-4
 enum-told-4 c = search needs
 
--- src/lib.rt:283:9
 check-table-requires-2 : tie.Need-check-table-requires-2
 check-table-requires-2 c κs = search needs
 
--- src/lib.rt:285:9
 enum-told-5 : tie.Need-enum-told-5
 enum-told-5 c = search needs
 
--- src/lib.rt:285:9
 returns-3 : tie.Need-returns-3
 unfolding input setup
 returns-3 c = table-refused _ _ _ _ _ (c .before .before .before .before .before .before .before .before .check-setup .ensures) (c .before .before .before .before .before .before .enum-told2 .given .1) _ (c .before .before .before .before .before .check-table .ensures) (c .before .before .before .enum-told4 .given .1) _ _ (c .before .before .check-table2 .ensures) (c .enum-told5 .given .1)
@@ -59,12 +46,10 @@ returns-3 c = table-refused _ _ _ _ _ (c .before .before .before .before .before
 enum-told-6 : tie.Need-enum-told-6
 enum-told-6 c = search needs
 
--- src/lib.rt:288:9
 returns-4 : tie.Need-returns-4
 unfolding input setup
 returns-4 c = buffer-refused _ _ _ _ _ (c .before .before .before .before .before .before .before .before .before .check-setup .ensures) (c .before .before .before .before .before .before .before .enum-told2 .given .1) _ (c .before .before .before .before .before .before .check-table .ensures) (c .before .before .before .before .enum-told4 .given .1) _ (c .before .before .before .check-table2 .ensures) (c .before .enum-told6 .given .1) (c .if1 .taken)
 
--- src/lib.rt:260:1
 returns-5 : tie.Need-returns-5
 unfolding input setup
 returns-5 c = all-accepted _ _ _ _ _ (c .before .before .before .before .before .before .before .before .before .check-setup .ensures) (c .before .before .before .before .before .before .before .enum-told2 .given .1) _ (c .before .before .before .before .before .before .check-table .ensures) (c .before .before .before .before .enum-told4 .given .1) _ (c .before .before .before .check-table2 .ensures) (c .before .enum-told6 .given .1) (c .if1 .left)

@@ -1,54 +1,44 @@
 -- `conformance::depth` meets its contract. The loop's invariant: what is counted and the word of place j make up the word.
 -- Assumes nothing.
-use mathlib.Core.Path.{_≡_, sym, _∙_, ap}
+use mathlib.Core.Path.{_≡_, ap}
 use Prim.Native.Nat.{_+_, _<_}
 use native.Mathlib.Omega.{arith}
 use lib.ListN.{length, getD}
 use mathlib.Core.List.{[]}
+use Rattle.conformance.specs.Trial.{word-limit}
 use Rattle.conformance.specs.PairQueue.{Reaches}
 use Rattle.conformance.proofs.Words.{short-word, at-root, depth-less, depth-step}
 use borrow.Author.Needs.{needs}
 use Rattle.conformance.proofs.depth.Statement.{statement}
 use Rattle.conformance.proofs.depth.Tie as tie
-use Rattle.conformance.proofs.depth.Reads as reads
-use Rattle.conformance.proofs.depth.Lts as lts
-use Rattle.conformance.proofs.wide16.Reads as wide16-reads
 
 abbrev Inv-loop : tie.InvT-loop
-Inv-loop parents last-events i n₀ j₀ n j = (x : Reaches 4096 i parents last-events) → (j < length (x .words)) × (n + length (getD (x .words) j []) ≡ length (getD (x .words) i []))
+Inv-loop parents last-events i n₀ j₀ n j = (x : Reaches word-limit i parents last-events) → (j < length (x .words)) × (n + length (getD (x .words) j []) ≡ length (getD (x .words) i []))
 
 abbrev μ-loop : tie.MeasureT-loop
 μ-loop parents last-events i n₀ j₀ n j = j
 
--- src/lib.rt:194:5
 loop-holds : tie.Need-loop-holds Inv-loop μ-loop
 loop-holds c = λ x. (x .has, omega arith)
 
--- src/lib.rt:195:20
 mul-wide16 : tie.Need-mul-wide16 Inv-loop μ-loop
 mul-wide16 c = let r = c .before .before .pre in omega (arith, c .before .loop .inv r .0, r .few)
 
--- src/lib.rt:195:20
 element-copy-out-wide16 : tie.Need-element-copy-out-wide16 Inv-loop μ-loop
 element-copy-out-wide16 c = let r = c .before .before .pre in omega (arith, c .before .loop .inv r .0, r .few)
 
--- src/lib.rt:195:9
 wide16-requires : tie.Need-wide16-requires Inv-loop μ-loop
 wide16-requires c κs = search needs
 
--- src/lib.rt:196:9
 add-n : tie.Need-add-n Inv-loop μ-loop
 add-n c = let r = c .before .before .before .before .pre in omega (arith, c .before .before .before .loop .inv r .1, short-word _ _ _ (r .linked) _ (r .has), r .few, r .has)
 
--- src/lib.rt:194:5
 loop-less : tie.Need-loop-less Inv-loop μ-loop
 loop-less c = let r = c .before .before .before .before .pre in depth-less _ _ _ (r .linked) _ _ (c .before .before .before .loop .inv r .0) (c .wide16 .ensures) (c .before .before .loop-test .taken)
 
--- src/lib.rt:194:5
 loop-again : tie.Need-loop-again Inv-loop μ-loop
 loop-again c = λ x. depth-step _ _ _ (x .linked) _ _ (c .before .before .before .loop .inv x .0) (c .wide16 .ensures) _ _ (c .before .before .loop-test .taken) (c .before .before .before .loop .inv x .1)
 
--- src/lib.rt:188:1
 returns : tie.Need-returns Inv-loop μ-loop
 returns c = λ x. let v = c .before .loop .inv x in omega (arith, v .1, ap length (at-root _ _ _ (x .linked) _ (v .0) (c .loop-test .left)))
 

@@ -1,49 +1,38 @@
 -- `conformance::find_failure` meets its contract. The loop's invariant: the arrays hold the words found when i pairs have been taken,
 -- and none of these failed. Assumes nothing.
-use mathlib.Core.Path.{_≡_}
-use Prim.Native.Nat.{_≤_, _<_, _-_}
+use Prim.Native.Nat.{_-_}
 use native.Mathlib.Omega.{arith}
+use Rattle.conformance.specs.Trial.{word-limit}
 use Rattle.conformance.specs.PairQueue.{queue, Sized, Searchable, Located}
 use Rattle.conformance.proofs.Progress.{Progress, progress-start, taken-small, s-small, t-small, expandable, found-at, found-none, progress-next}
 use borrow.Author.Needs.{needs}
 use Rattle.conformance.proofs.find_failure.Statement.{statement}
 use Rattle.conformance.proofs.find_failure.Tie as tie
-use Rattle.conformance.proofs.find_failure.Reads as reads
-use Rattle.conformance.proofs.find_failure.Lts as lts
-use Rattle.conformance.proofs.bad_event.Reads as bad-event-reads
-use Rattle.conformance.proofs.push_successors.Reads as push-successors-reads
-use Rattle.conformance.proofs.wide.Reads as wide-reads
 
 abbrev Inv-loop : tie.InvT-loop
 Inv-loop events values meet states table device device-queue₀ table-queue₀ parents₀ last-events₀ flags₀ count₀ i₀ device-queue table-queue parents last-events flags count i =
-    Sized 4096 (queue device-queue table-queue parents last-events flags)
-    × ((x : Searchable 4096 events values states device table (queue device-queue₀ table-queue₀ parents₀ last-events₀ flags₀)) →
+    Sized word-limit (queue device-queue table-queue parents last-events flags)
+    × ((x : Searchable word-limit events values states device table (queue device-queue₀ table-queue₀ parents₀ last-events₀ flags₀)) →
     Progress meet x i count (queue device-queue table-queue parents last-events flags))
 
 abbrev μ-loop : tie.MeasureT-loop
-μ-loop events values meet states table device device-queue₀ table-queue₀ parents₀ last-events₀ flags₀ count₀ i₀ device-queue table-queue parents last-events flags count i = 4096 - i
+μ-loop events values meet states table device device-queue₀ table-queue₀ parents₀ last-events₀ flags₀ count₀ i₀ device-queue table-queue parents last-events flags count i = word-limit - i
 
--- src/lib.rt:174:5
 loop-holds : tie.Need-loop-holds Inv-loop μ-loop
 loop-holds c = (c .before .before .before .pre .0, λ x. progress-start _ x)
 
--- src/lib.rt:175:22
 element-copy-out-wide : tie.Need-element-copy-out-wide Inv-loop μ-loop
 element-copy-out-wide c = taken-small _ (c .before .before .before .before .before .pre .1) _ _ _ (c .before .loop .inv .1 (c .before .before .before .before .before .pre .1)) (c .loop-test .taken)
 
--- src/lib.rt:175:13
 wide-requires : tie.Need-wide-requires Inv-loop μ-loop
 wide-requires c κs = search needs
 
--- src/lib.rt:176:22
 element-copy-out-wide-2 : tie.Need-element-copy-out-wide-2 Inv-loop μ-loop
 element-copy-out-wide-2 c = taken-small _ (c .before .before .before .before .before .before .before .pre .1) _ _ _ (c .before .before .before .loop .inv .1 (c .before .before .before .before .before .before .before .pre .1)) (c .before .before .loop-test .taken)
 
--- src/lib.rt:176:13
 wide-requires-2 : tie.Need-wide-requires-2 Inv-loop μ-loop
 wide-requires-2 c κs = search needs
 
--- src/lib.rt:177:13
 bad-event-requires : tie.Need-bad-event-requires Inv-loop μ-loop
 bad-event-requires c κs = let x = c .before .before .before .before .before .before .before .before .before .pre .1 in
     let p = c .before .before .before .before .before .loop .inv .1 x in
@@ -54,35 +43,29 @@ bad-event-requires c κs = let x = c .before .before .before .before .before .be
       t-small _ x _ _ _ p h _ _ (c .before .before .wide .ensures) (c .wide2 .ensures),
     )
 
--- src/lib.rt:179:13
 returns : tie.Need-returns Inv-loop μ-loop
 unfolding Located
 returns c = λ x.
     found-at _ x _ _ _ (c .before .before .before .before .before .before .before .loop .inv .1 x) (c .before .before .before .before .before .before .loop-test .taken) _ _ (c .before .before .before .before .wide .ensures) (c .before .before .wide2 .ensures) _ (c .before .bad-event .ensures) (c .if1 .taken)
 
--- src/lib.rt:181:9
 push-successors-requires : tie.Need-push-successors-requires Inv-loop μ-loop
 push-successors-requires c κs = let x = c .before .before .before .before .before .before .before .before .before .before .before .before .before .before .before .before .pre .1 in
     (c .before .before .before .before .before .before .before .before .before .before .before .before .loop .inv .0, expandable _ x _ _ _ (c .before .before .before .before .before .before .before .before .before .before .before .before .loop .inv .1 x) (c .before .before .before .before .before .before .before .before .before .before .before .loop-test .taken))
 
--- src/lib.rt:182:9
 add-i : tie.Need-add-i Inv-loop μ-loop
 add-i c = let x = c .before .before .before .before .before .before .before .before .before .before .before .before .before .before .before .before .before .pre .1 in
     omega (arith, taken-small _ x _ _ _ (c .before .before .before .before .before .before .before .before .before .before .before .before .before .loop .inv .1 x) (c .before .before .before .before .before .before .before .before .before .before .before .before .loop-test .taken))
 
--- src/lib.rt:174:5
 loop-less : tie.Need-loop-less Inv-loop μ-loop
 loop-less c = let x = c .before .before .before .before .before .before .before .before .before .before .before .before .before .before .before .before .before .pre .1 in
     omega (arith, taken-small _ x _ _ _ (c .before .before .before .before .before .before .before .before .before .before .before .before .before .loop .inv .1 x) (c .before .before .before .before .before .before .before .before .before .before .before .before .loop-test .taken))
 
--- src/lib.rt:174:5
 loop-again : tie.Need-loop-again Inv-loop μ-loop
 loop-again c = (
   c .push-successors .ensures .0,
   λ x. progress-next _ x _ _ _ (c .before .before .before .before .before .before .before .before .before .before .before .before .before .loop .inv .1 x) (c .before .before .before .before .before .before .before .before .before .before .before .before .loop-test .taken) _ _ (c .before .before .before .before .before .before .before .before .before .before .wide .ensures) (c .before .before .before .before .before .before .before .before .wide2 .ensures) _ (c .before .before .before .before .before .before .before .bad-event .ensures) (c .before .before .before .before .before .before .if1 .left) _ _ (c .push-successors .ensures .1),
 )
 
--- src/lib.rt:154:1
 returns-2 : tie.Need-returns-2 Inv-loop μ-loop
 unfolding Located
 returns-2 c = λ x. found-none _ x _ _ _ (c .before .loop .inv .1 x) (c .loop-test .left)

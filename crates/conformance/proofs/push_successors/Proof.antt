@@ -1,8 +1,9 @@
 -- `conformance::push_successors` meets its contract. The loop's invariant: the arrays hold the words with those of the successors on
 -- the events before e. Assumes nothing.
-use mathlib.Core.Path.{_≡_, subst⁻¹}
-use Prim.Native.Nat.{_≤_, _<_, _-_}
+use mathlib.Core.Path.{subst⁻¹}
+use Prim.Native.Nat.{_≤_, _-_}
 use native.Mathlib.Omega.{arith}
+use Rattle.conformance.specs.Trial.{word-limit}
 use Rattle.conformance.specs.PairQueue.{queue, Sized, Expandable}
 use Rattle.conformance.proofs.Places.{entry-place}
 use Rattle.conformance.proofs.Queues.{sized-pushed}
@@ -10,86 +11,67 @@ use Rattle.conformance.proofs.Successors.{Turned, place-small, turned-s
 use borrow.Author.Needs.{needs}
 use Rattle.conformance.proofs.push_successors.Statement.{statement}
 use Rattle.conformance.proofs.push_successors.Tie as tie
-use Rattle.conformance.proofs.push_successors.Reads as reads
-use Rattle.conformance.proofs.push_successors.Lts as lts
-use Rattle.conformance.proofs.push_pair.Reads as push-pair-reads
-use Rattle.conformance.proofs.wide.Reads as wide-reads
-use Rattle.machines.proofs.next_at.Reads as next-at-reads
 
 abbrev Inv-loop : tie.InvT-loop
 Inv-loop events states device table i count device-queue₀ table-queue₀ parents₀ last-events₀ flags₀ s t n₀ e₀ device-queue table-queue parents last-events flags n e =
-    Sized 4096 (queue device-queue table-queue parents last-events flags) × (e ≤ events)
-    × ((x : Expandable 4096 events states device table i count (queue device-queue₀ table-queue₀ parents₀ last-events₀ flags₀)) →
+    Sized word-limit (queue device-queue table-queue parents last-events flags) × (e ≤ events)
+    × ((x : Expandable word-limit events states device table i count (queue device-queue₀ table-queue₀ parents₀ last-events₀ flags₀)) →
     Turned x s t e n (queue device-queue table-queue parents last-events flags))
 
 abbrev μ-loop : tie.MeasureT-loop
 μ-loop events states device table i count device-queue₀ table-queue₀ parents₀ last-events₀ flags₀ s t n₀ e₀ device-queue table-queue parents last-events flags n e = events - e
 
--- src/lib.rt:142:18
 element-copy-out-wide : tie.Need-element-copy-out-wide Inv-loop μ-loop
 element-copy-out-wide c = place-small (c .before .before .pre .1)
 
--- src/lib.rt:142:9
 wide-requires : tie.Need-wide-requires Inv-loop μ-loop
 wide-requires c κs = search needs
 
--- src/lib.rt:143:18
 element-copy-out-wide-2 : tie.Need-element-copy-out-wide-2 Inv-loop μ-loop
 element-copy-out-wide-2 c = place-small (c .before .before .before .before .pre .1)
 
--- src/lib.rt:143:9
 wide-requires-2 : tie.Need-wide-requires-2 Inv-loop μ-loop
 wide-requires-2 c κs = search needs
 
--- src/lib.rt:146:5
 loop-holds : tie.Need-loop-holds Inv-loop μ-loop
 loop-holds c = (c .before .before .before .before .before .before .pre .0, search needs, λ x. turned-start x _ _ (c .before .before .wide .ensures) (c .wide2 .ensures))
 
--- src/lib.rt:147:43
 mul-next-at : tie.Need-mul-next-at Inv-loop μ-loop
 mul-next-at c = let x = c .before .before .before .before .before .before .before .before .pre .1 in
     let h = c .before .loop .inv .2 x in
     omega (arith, entry-place _ _ _ (s-small x _ _ _ _ _ h) (x .ready .few-events) (c .loop-test .taken))
 
--- src/lib.rt:147:43
 add-next-at : tie.Need-add-next-at Inv-loop μ-loop
 add-next-at c = let x = c .before .before .before .before .before .before .before .before .pre .1 in
     let h = c .before .loop .inv .2 x in
     omega (arith, entry-place _ _ _ (s-small x _ _ _ _ _ h) (x .ready .few-events) (c .loop-test .taken))
 
--- src/lib.rt:147:13
 next-at-requires : tie.Need-next-at-requires Inv-loop μ-loop
 next-at-requires c κs = search needs
 
--- src/lib.rt:148:42
 mul-next-at-2 : tie.Need-mul-next-at-2 Inv-loop μ-loop
 mul-next-at-2 c = let x = c .before .before .before .before .before .before .before .before .before .pre .1 in
     let h = c .before .before .loop .inv .2 x in
     omega (arith, entry-place _ _ _ (t-small x _ _ _ _ _ h) (x .ready .few-events) (c .before .loop-test .taken))
 
--- src/lib.rt:148:42
 add-next-at-2 : tie.Need-add-next-at-2 Inv-loop μ-loop
 add-next-at-2 c = let x = c .before .before .before .before .before .before .before .before .before .pre .1 in
     let h = c .before .before .loop .inv .2 x in
     omega (arith, entry-place _ _ _ (t-small x _ _ _ _ _ h) (x .ready .few-events) (c .before .loop-test .taken))
 
--- src/lib.rt:148:13
 next-at-requires-2 : tie.Need-next-at-requires-2 Inv-loop μ-loop
 next-at-requires-2 c κs = search needs
 
--- src/lib.rt:149:23
 mul-push-pair : tie.Need-mul-push-pair Inv-loop μ-loop
 mul-push-pair c = let x = c .before .before .before .before .before .before .before .before .before .before .pre .1 in
     let h = c .before .before .before .loop .inv .2 x in
     omega (arith, next-place x _ _ _ _ _ h (c .before .before .loop-test .taken) _ _ (c .before .next-at .ensures) (c .next-at2 .ensures))
 
--- src/lib.rt:149:23
 add-push-pair : tie.Need-add-push-pair Inv-loop μ-loop
 add-push-pair c = let x = c .before .before .before .before .before .before .before .before .before .before .pre .1 in
     let h = c .before .before .before .loop .inv .2 x in
     omega (arith, next-place x _ _ _ _ _ h (c .before .before .loop-test .taken) _ _ (c .before .next-at .ensures) (c .next-at2 .ensures))
 
--- src/lib.rt:149:9
 push-pair-requires : tie.Need-push-pair-requires Inv-loop μ-loop
 push-pair-requires c κs = let x = c .before .before .before .before .before .before .before .before .before .before .before .before .before .before .before .pre .1 in
     let h = c .before .before .before .before .before .before .before .before .loop .inv .2 x in
@@ -106,24 +88,20 @@ push-pair-requires c κs = let x = c .before .before .before .before .before .be
       next-room x _ _ _ _ _ h l _ _ u v z,
     )
 
--- src/lib.rt:150:9
 add-e : tie.Need-add-e Inv-loop μ-loop
 add-e c = search needs
 
--- src/lib.rt:146:5
 loop-less : tie.Need-loop-less Inv-loop μ-loop
 loop-less c = search needs
 
--- src/lib.rt:146:5
 loop-again : tie.Need-loop-again Inv-loop μ-loop
 loop-again c = let z = c .before .before .before .before .before .before .before .before .before .loop .inv .0 in
     let p = c .push-pair .ensures in (
-      subst⁻¹ (Sized 4096) (p .1) (sized-pushed _ _ _ _ _ _ _ _ z),
+      subst⁻¹ (Sized word-limit) (p .1) (sized-pushed _ _ _ _ _ _ _ _ z),
       search needs,
       λ x. turned-next x _ _ _ _ _ (c .before .before .before .before .before .before .before .before .before .loop .inv .2 x) (c .before .before .before .before .before .before .before .before .loop-test .taken) _ _ (c .before .before .before .before .before .before .before .next-at .ensures) (c .before .before .before .before .before .before .next-at2 .ensures) z _ _ (p .1) (p .0),
     )
 
--- src/lib.rt:123:1
 returns : tie.Need-returns Inv-loop μ-loop
 returns c = (c .before .loop .inv .0, λ x. turned-end x _ _ _ _ _ (c .before .loop .inv .2 x) (omega arith))
 

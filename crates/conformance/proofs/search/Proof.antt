@@ -1,91 +1,67 @@
 -- `conformance::search` meets its contract: the arrays start with the start's pair, and the word of the place that failed is written.
 -- Assumes nothing.
-use mathlib.Core.Path.{_≡_, _∙_}
+use mathlib.Core.Path.{_∙_}
 use native.Mathlib.Omega.{arith}
 use lib.ListN.{length-set}
 use Rattle.conformance.proofs.Starts.{start-place, start-sized, start-searchable, found-nowhere, found-at-place, answer-none, word-fits, answer-some}
 use borrow.Author.Needs.{needs}
 use Rattle.conformance.proofs.search.Statement.{statement}
 use Rattle.conformance.proofs.search.Tie as tie
-use Rattle.conformance.proofs.search.Reads as reads
-use Rattle.conformance.proofs.search.Lts as lts
-use Rattle.conformance.proofs.depth.Reads as depth-reads
-use Rattle.conformance.proofs.find_failure.Reads as find-failure-reads
-use Rattle.conformance.proofs.write_path.Reads as write-path-reads
-use Rattle.conformance.proofs.zeros.Reads as zeros-reads
-use Rattle.conformance.proofs.zeros16.Reads as zeros16-reads
 
--- src/lib.rt:243:28
 zeros-requires : tie.Need-zeros-requires
 zeros-requires c κs = search needs
 
--- src/lib.rt:244:27
 zeros-requires-2 : tie.Need-zeros-requires-2
 zeros-requires-2 c κs = search needs
 
--- src/lib.rt:245:23
 zeros16-requires : tie.Need-zeros16-requires
 zeros16-requires c κs = search needs
 
--- src/lib.rt:246:27
 zeros-requires-3 : tie.Need-zeros-requires-3
 zeros-requires-3 c κs = search needs
 
--- src/lib.rt:247:21
 zeros-requires-4 : tie.Need-zeros-requires-4
 zeros-requires-4 c κs = search needs
 
--- src/lib.rt:248:23
 cast-device-queue : tie.Need-cast-device-queue
 cast-device-queue c = search needs
 
--- src/lib.rt:248:5
 array-write-device-queue : tie.Need-array-write-device-queue
 array-write-device-queue c = search needs
 
--- src/lib.rt:249:11
 mul-flags : tie.Need-mul-flags
 mul-flags c = let p = start-place (c .before .before .before .before .before .before .before .before .before .pre) in omega arith
 
--- src/lib.rt:249:5
 array-write-flags : tie.Need-array-write-flags
 array-write-flags c = start-place (c .before .before .before .before .before .before .before .before .before .pre)
 
--- src/lib.rt:250:9
 find-failure-requires : tie.Need-find-failure-requires
 find-failure-requires c κs = let x = c .before .before .before .before .before .before .before .before .before .before .before .before .before .before .pre in (start-sized x _ _ _ _ _ (c .before .before .before .before .before .before .before .before .before .zeros .ensures) (c .before .before .before .before .before .before .before .before .zeros2 .ensures) (c .before .before .before .before .before .before .before .zeros16 .ensures) (c .before .before .before .before .before .before .zeros3 .ensures) (c .before .before .before .before .before .zeros4 .ensures), start-searchable x _ _ _ _ _ (c .before .before .before .before .before .before .before .before .before .zeros .ensures) (c .before .before .before .before .before .before .before .before .zeros2 .ensures) (c .before .before .before .before .before .before .before .zeros16 .ensures) (c .before .before .before .before .before .before .zeros3 .ensures) (c .before .before .before .before .before .zeros4 .ensures))
 
--- src/lib.rt:263:21
 enum-known-failure : tie.Need-enum-known-failure
 enum-known-failure c = search needs
 
--- src/lib.rt:264:9
 enum-told : tie.Need-enum-told
 enum-told c = search needs
 
--- src/lib.rt:264:9
 returns : tie.Need-returns
 returns c = λ x. answer-none _ _ (found-nowhere x _ _ _ _ _ (c .before .before .before .before .before .before .before .before .before .before .before .before .zeros .ensures) (c .before .before .before .before .before .before .before .before .before .before .before .zeros2 .ensures) (c .before .before .before .before .before .before .before .before .before .before .zeros16 .ensures) (c .before .before .before .before .before .before .before .before .before .zeros3 .ensures) (c .before .before .before .before .before .before .before .before .zeros4 .ensures) _ _ _ (c .before .before .find-failure .ensures) (c .enum-told .given .1))
 
--- src/lib.rt:266:9
 depth-requires : tie.Need-depth-requires
 depth-requires c κs = let x = c .before .before .before .before .before .before .before .before .before .before .before .before .before .before .before .before .before .before .before .before .pre in
     let y = found-at-place x _ _ _ _ _ (c .before .before .before .before .before .before .before .before .before .before .before .before .before .before .before .zeros .ensures) (c .before .before .before .before .before .before .before .before .before .before .before .before .before .before .zeros2 .ensures) (c .before .before .before .before .before .before .before .before .before .before .before .before .before .zeros16 .ensures) (c .before .before .before .before .before .before .before .before .before .before .before .before .zeros3 .ensures) (c .before .before .before .before .before .before .before .before .before .before .before .zeros4 .ensures) _ _ _ (c .before .before .before .before .before .find-failure .ensures) _ _ (c .before .before .before .failure .given .1) in
     y .reaches
 
--- src/lib.rt:267:15
 cast-word : tie.Need-cast-word
 cast-word c = let x = c .before .before .before .before .before .before .before .before .before .before .before .before .before .before .before .before .before .before .before .before .before .pre in
     let y = found-at-place x _ _ _ _ _ (c .before .before .before .before .before .before .before .before .before .before .before .before .before .before .before .before .zeros .ensures) (c .before .before .before .before .before .before .before .before .before .before .before .before .before .before .before .zeros2 .ensures) (c .before .before .before .before .before .before .before .before .before .before .before .before .before .before .zeros16 .ensures) (c .before .before .before .before .before .before .before .before .before .before .before .before .before .zeros3 .ensures) (c .before .before .before .before .before .before .before .before .before .before .before .before .zeros4 .ensures) _ _ _ (c .before .before .before .before .before .before .find-failure .ensures) _ _ (c .before .before .before .before .failure .given .1) in
     omega (arith, y .event-in, x .ready .few-events)
 
--- src/lib.rt:267:5
 slice-write-word : tie.Need-slice-write-word
 slice-write-word c = let x = c .before .before .before .before .before .before .before .before .before .before .before .before .before .before .before .before .before .before .before .before .before .pre in
     let y = found-at-place x _ _ _ _ _ (c .before .before .before .before .before .before .before .before .before .before .before .before .before .before .before .before .zeros .ensures) (c .before .before .before .before .before .before .before .before .before .before .before .before .before .before .before .zeros2 .ensures) (c .before .before .before .before .before .before .before .before .before .before .before .before .before .before .zeros16 .ensures) (c .before .before .before .before .before .before .before .before .before .before .before .before .before .zeros3 .ensures) (c .before .before .before .before .before .before .before .before .before .before .before .before .zeros4 .ensures) _ _ _ (c .before .before .before .before .before .before .find-failure .ensures) _ _ (c .before .before .before .before .failure .given .1) in
     omega (arith, word-fits y _ (c .depth .ensures (y .reaches)), x .room)
 
--- src/lib.rt:268:5
 write-path-requires : tie.Need-write-path-requires
 write-path-requires c κs = let x = c .before .before .before .before .before .before .before .before .before .before .before .before .before .before .before .before .before .before .before .before .before .before .before .before .pre in
     let y = found-at-place x _ _ _ _ _ (c .before .before .before .before .before .before .before .before .before .before .before .before .before .before .before .before .before .before .before .zeros .ensures) (c .before .before .before .before .before .before .before .before .before .before .before .before .before .before .before .before .before .before .zeros2 .ensures) (c .before .before .before .before .before .before .before .before .before .before .before .before .before .before .before .before .before .zeros16 .ensures) (c .before .before .before .before .before .before .before .before .before .before .before .before .before .before .before .before .zeros3 .ensures) (c .before .before .before .before .before .before .before .before .before .before .before .before .before .before .before .zeros4 .ensures) _ _ _ (c .before .before .before .before .before .before .before .before .before .find-failure .ensures) _ _ (c .before .before .before .before .before .before .before .failure .given .1) in
@@ -95,17 +71,14 @@ write-path-requires c κs = let x = c .before .before .before .before .before .b
       room = simp length-set (omega (arith, word-fits y _ (c .before .before .before .depth .ensures (y .reaches)), x .room));
     }
 
--- src/lib.rt:269:19
 add-t23 : tie.Need-add-t23
 add-t23 c = let x = c .before .before .before .before .before .before .before .before .before .before .before .before .before .before .before .before .before .before .before .before .before .before .before .before .before .before .before .pre in
     let y = found-at-place x _ _ _ _ _ (c .before .before .before .before .before .before .before .before .before .before .before .before .before .before .before .before .before .before .before .before .before .before .zeros .ensures) (c .before .before .before .before .before .before .before .before .before .before .before .before .before .before .before .before .before .before .before .before .before .zeros2 .ensures) (c .before .before .before .before .before .before .before .before .before .before .before .before .before .before .before .before .before .before .before .before .zeros16 .ensures) (c .before .before .before .before .before .before .before .before .before .before .before .before .before .before .before .before .before .before .before .zeros3 .ensures) (c .before .before .before .before .before .before .before .before .before .before .before .before .before .before .before .before .before .before .zeros4 .ensures) _ _ _ (c .before .before .before .before .before .before .before .before .before .before .before .before .find-failure .ensures) _ _ (c .before .before .before .before .before .before .before .before .before .before .failure .given .1) in
     omega (arith, word-fits y _ (c .before .before .before .before .before .before .depth .ensures (y .reaches)))
 
--- src/lib.rt:230:1
 same-length : tie.Need-same-length
 same-length c = c .before .before .write-path .kept .1 .1 .1 .1 .0 ∙ simp length-set
 
--- src/lib.rt:230:1
 returns-2 : tie.Need-returns-2
 returns-2 c = λ x.
     let y = found-at-place x _ _ _ _ _ (c .before .before .before .before .before .before .before .before .before .before .before .before .before .before .before .before .before .before .before .before .before .before .zeros .ensures) (c .before .before .before .before .before .before .before .before .before .before .before .before .before .before .before .before .before .before .before .before .before .zeros2 .ensures) (c .before .before .before .before .before .before .before .before .before .before .before .before .before .before .before .before .before .before .before .before .zeros16 .ensures) (c .before .before .before .before .before .before .before .before .before .before .before .before .before .before .before .before .before .before .before .zeros3 .ensures) (c .before .before .before .before .before .before .before .before .before .before .before .before .before .before .before .before .before .before .zeros4 .ensures) _ _ _ (c .before .before .before .before .before .before .before .before .before .before .before .before .find-failure .ensures) _ _ (c .before .before .before .before .before .before .before .before .before .before .failure .given .1) in

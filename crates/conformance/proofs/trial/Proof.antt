@@ -7,41 +7,30 @@ use Rattle.conformance.proofs.Trials.{trial-refused, trial-accepted, so
 use borrow.Author.Needs.{needs}
 use Rattle.conformance.proofs.trial.Statement.{statement}
 use Rattle.conformance.proofs.trial.Tie as tie
-use Rattle.conformance.proofs.trial.Reads as reads
-use Rattle.conformance.proofs.trial.Lts as lts
-use Rattle.conformance.proofs.check_trial.Reads as check-trial-reads
-use Rattle.conformance.proofs.search.Reads as search-reads
 
--- src/lib.rt:312:9
 check-trial-requires : tie.Need-check-trial-requires
 check-trial-requires c κs = search needs
 
--- src/lib.rt:313:31
 enum-known-judged : tie.Need-enum-known-judged
 enum-known-judged c = search needs
 
--- src/lib.rt:314:9
 same-length : tie.Need-same-length
 same-length c = search needs
 
--- src/lib.rt:314:9
 returns : tie.Need-returns
 returns c = trial-refused _ _ _ _ _ (c .before .before .before .check-trial .ensures) _ (c .before .judged .given .1)
 
 enum-told : tie.Need-enum-told
 enum-told c = search needs
 
--- src/lib.rt:316:5
 search-requires : tie.Need-search-requires
 unfolding input setup
 search-requires c κs = let z = trial-accepted _ _ _ _ _ (c .before .before .before .check-trial .ensures) (c .before .enum-told .given .1) in
     tried device-limit table-limit _ _ (omega arith) (omega arith) (sound _ _ _ _ z)
 
--- src/lib.rt:295:1
 same-length-2 : tie.Need-same-length-2
 same-length-2 c = search needs
 
--- src/lib.rt:295:1
 returns-2 : tie.Need-returns-2
 unfolding input setup
 returns-2 c = let z = trial-accepted _ _ _ _ _ (c .before .before .before .before .before .before .check-trial .ensures) (c .before .before .before .before .enum-told .given .1) in
