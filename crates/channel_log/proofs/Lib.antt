@@ -1,0 +1,3 @@
+-- In the order in which they build on each other.
+pub mod Simulation
+pub mod Independence

@@ -1,0 +1,2 @@
+-- Laws of the first refusal, of the lowest place and of their computing twins.
+pub mod Refusals

@@ -1,0 +1,93 @@
+-- There is one first refusal and one lowest place; the computing twins yield them.
+-- Assumes nothing.
+use mathlib.Core.Path.{_≡_, refl, sym, _∙_, ap}
+use mathlib.Core.Logic.{_⊎_, inl, inr}
+use mathlib.Core.Bool.{Bool, true, false}
+use mathlib.Core.Option.{Option, none, some, Option·some-ne-none}
+use mathlib.Core.List.{List, [], _∷_, _++_}
+use Prim.Native.Nat.{ℕ, _<_}
+use native.Mathlib.Omega.{arith}
+use Rattle.refusal.specs.declared.Refusal.{Refusal}
+use Rattle.refusal.specs.declared.Refusal.the-variants.{Plain, At}
+use Rattle.refusal.specs.declared.Judgement.the-variants.{Accepted}
+use Rattle.refusal.specs.Refusal.{number, Condition, plain, Lowest, at-lowest, First, or-else, plain-unless, at-found, judgement}
+use Rattle.refusal.specs.RefusalClaims.{Functional, AllFunctional, LowestUniqueClaim, FirstUniqueClaim, FirstAppendClaim, NoneMet, AcceptedClaim}
+
+-- Conditions without a place: at most one refusal, of their number.
+pub plain-functional : (n : ℕ) (Met : Type 0) → Functional (plain n Met)
+plain-functional n Met r s met met2 = met .1 ∙ sym (met2 .1)
+
+pub plain-number : (n : ℕ) (Met : Type 0) (refusal : Refusal) → plain n Met refusal → number refusal ≡ n
+unfolding number
+plain-number n Met refusal met = ap number (met .1)
+
+-- Conditions with a place: the lowest place is one, so there is at most one refusal, of their number.
+pub lowest-unique : LowestUniqueClaim
+lowest-unique P p q l m =
+    let not-above : ¬ (q < p) = λ h. l .least q h (m .holds) in
+    let not-below : ¬ (p < q) = λ h. m .least p h (l .holds) in
+    omega arith
+
+pub at-lowest-functional : (n : ℕ) (Met : ℕ → Type 0) → Functional (at-lowest n Met)
+at-lowest-functional n Met r s (p, l, e) (q, m, d) = e ∙ ap (At n) (lowest-unique Met p q l m) ∙ sym d
+
+pub at-lowest-number : (n : ℕ) (Met : ℕ → Type 0) (refusal : Refusal) → at-lowest n Met refusal → number refusal ≡ n
+unfolding number
+at-lowest-number n Met refusal (p, l, e) = ap number e
+
+-- The twin of a condition without a place, from a test that decides it.
+pub plain-first : (n : ℕ) (Met : Type 0) (test : Bool) → (test ≡ false → Met) → (test ≡ true → ¬ Met) → First (plain n Met ∷ []) (plain-unless test n)
+unfolding First plain-unless
+plain-first n Met true met unmet = inr (λ r m. unmet refl (m .0), refl)
+plain-first n Met false met unmet = inl (Plain n, (met refl, refl), refl)
+
+-- The twin of a condition with a place, from a search that finds the lowest.
+pub at-first :
+    (n : ℕ) (Met : ℕ → Type 0) (found : Option ℕ) → ((p : ℕ) → found ≡ some p → Lowest Met p) → (found ≡ none → (i : ℕ) → ¬ Met i)
+    → First (at-lowest n Met ∷ []) (at-found found n)
+unfolding First at-found
+at-first n Met none lowest nowhere = inr (λ r m. nowhere refl (m .0) (m .1 .holds), refl)
+at-first n Met (some p) lowest nowhere = inl (At n p, (p, lowest p refl, refl), refl)
+
+pub first-unique : FirstUniqueClaim
+unfolding First AllFunctional
+first-unique [] f a b x y = x ∙ sym y
+first-unique (C ∷ cs) f a b (inl (r, x, d)) (inl (s, y, e)) = d ∙ ap some (f .0 r s x y) ∙ sym e
+first-unique (C ∷ cs) f a b (inl (r, x, d)) (inr (unmet, y)) = absurd (unmet r x)
+first-unique (C ∷ cs) f a b (inr (unmet, x)) (inl (s, y, e)) = absurd (unmet s y)
+first-unique (C ∷ cs) f a b (inr (unmet, x)) (inr (unmet2, y)) = first-unique cs (f .1) a b x y
+
+pub accepted-exactly : AcceptedClaim
+unfolding First NoneMet
+accepted-exactly [] a x = (λ e. tt, λ u. x)
+accepted-exactly (C ∷ cs) a (inl (r, x, d)) =
+    (λ e. absurd (Option·some-ne-none r (sym d ∙ e)), λ none-met. absurd (none-met .0 r x))
+accepted-exactly (C ∷ cs) a (inr (unmet, x)) =
+    (λ e. (unmet, accepted-exactly cs a x .0 e), λ none-met. accepted-exactly cs a x .1 (none-met .1))
+
+-- A check accepts exactly if there is no refusal.
+pub judgement-accepted : (a : Option Refusal) → judgement a ≡ Accepted → a ≡ none
+unfolding judgement
+judgement-accepted none e = refl
+judgement-accepted (some r) e = let z : _≡_ {A = ℕ} 0 1 = cc in absurd (omega arith)
+
+-- There is no refusal exactly if no part has one.
+pub or-else-none : (a b : Option Refusal) → or-else a b ≡ none → (a ≡ none) × (b ≡ none)
+unfolding or-else
+or-else-none none b e = (refl, e)
+or-else-none (some r) b e = absurd (Option·some-ne-none r e)
+
+pub plain-none : (test : Bool) (n : ℕ) → plain-unless test n ≡ none → test ≡ true
+unfolding plain-unless
+plain-none true n e = refl
+plain-none false n e = absurd (Option·some-ne-none (Plain n) e)
+
+pub first-append : FirstAppendClaim
+unfolding First or-else
+first-append [] ds a b x y = first-none a x
+  where
+    first-none : (a : Option Refusal) → a ≡ none → First ds (or-else a b)
+    first-none none e = y
+    first-none (some r) e = absurd (Option·some-ne-none r e)
+first-append (C ∷ cs) ds a b (inl (r, x, e)) y = inl (r, x, ap (λ o. or-else o b) e)
+first-append (C ∷ cs) ds a b (inr (unmet, x)) y = inr (unmet, first-append cs ds a b x y)

@@ -1,0 +1,61 @@
+// Document 01, "Who can cause a refusal": the product's one refusal type, and the answers that hold it.
+
+// A refusal's number in document 01's list; 4 and 6 to 9 also have a place.
+pub enum Refusal {
+    Plain(u8),
+    At(u8, usize),
+}
+
+// The answer of a check.
+pub enum Judgement {
+    Accepted,
+    Refused(Refusal),
+}
+
+// The answer of a call that makes something: how many states, nodes or bytes.
+pub enum Counted {
+    Count(usize),
+    Refused(Refusal),
+}
+
+// Set-up writer.
+// 1: events not 1 to 16.
+pub const SETUP_EVENTS: u8 = 1;
+// 2: values not 1 to 16, or top not below values.
+pub const SETUP_VALUES: u8 = 2;
+// 3: meet length wrong, an entry not below values, or a law broken.
+pub const SETUP_MEET: u8 = 3;
+
+// Rule writer.
+// 4: text not in the form; has a place.
+pub const TEXT_FORM: u8 = 4;
+// 5: no nodes, over 256, or bytes left over after the last whole node.
+pub const NODE_COUNT: u8 = 5;
+// 6: unknown kind, event or value too large, unused field not 0; has a place.
+pub const NODE_FIELDS: u8 = 6;
+// 7: nodes run out or are left over; has a place.
+pub const NODE_TREE: u8 = 7;
+// 8: variable without binder; has a place.
+pub const UNBOUND_VARIABLE: u8 = 8;
+// 9: variable in a closed position; has a place.
+pub const CLOSED_VARIABLE: u8 = 9;
+// 10: over 64 states, where the call makes a table.
+pub const STATE_COUNT: u8 = 10;
+
+// Device supplier.
+// 11: states, entry count, start, value or next state of a table handed in.
+pub const TABLE_LIMITS: u8 = 11;
+// 12: written rule over 256 nodes.
+pub const WRITTEN_SIZE: u8 = 12;
+
+// Calling program.
+// 13: lent buffer too short.
+pub const BUFFER_LENGTH: u8 = 13;
+// 14: channel above 7.
+pub const CHANNEL_NUMBER: u8 = 14;
+// 15: channel empty, on event or restart one.
+pub const CHANNEL_EMPTY: u8 = 15;
+// 16: event too large.
+pub const EVENT_NUMBER: u8 = 16;
+// 17: a tool whose set-up fails 1 to 3, or whose channel fails 11's limits.
+pub const TOOL_CONTENTS: u8 = 17;
