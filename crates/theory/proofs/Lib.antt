@@ -9,3 +9,11 @@ pub mod SatisfactionUpTo
 pub mod Satisfaction
 pub mod Counting
 pub mod TableSatisfaction
+pub mod PrefixCode
+pub mod NodeSets
+pub mod Binders
+pub mod Demands
+pub mod ReachedSets
+pub mod DemandValues
+pub mod SetMachine
+pub mod DemandClaims

@@ -13,7 +13,7 @@ use Rattle.theory.specs.Formula.{Formula, conjunction, size, binders, Cl
 use Rattle.theory.specs.Semantics.{Steps, Answers}
 use Rattle.theory.specs.MealyMachine.{Machine, Word, after, Runs, States, Simulated, SimulatedTable, BelowOnWords}
 use Rattle.theory.specs.Satisfaction.{Satisfies, TableSatisfies}
-use Rattle.theory.specs.Demands.{NodeSet, IsFirstSet, IsNextSet, value-of-set}
+use Rattle.theory.specs.Demands.{NodeSet, IsTransitionOrOutput, IsSetMachine}
 use Rattle.theory.specs.ReachableStates.{Numbering, IsTable, IsTableOf, StatesAtMost}
 use Rattle.theory.specs.CharacteristicFormula.{Writes, written}
 use Rattle.theory.specs.Conformance.{FirstCounterexample, counterexample}
@@ -89,18 +89,20 @@ module _ {B : Type 0} (In : B → Type 0) (meet : B → B → B) (top : B) (laws
       (n : ℕ) (m : Machine ℕ B) → Runs events In (States n) m → (φ : Formula B) → WellFormed events In φ →
       (s : ℕ) → s < n → TableSatisfies meet n m φ s ↔ Satisfies meet (States n) m φ s
 
-  -- The computed sets are document 01's demands.
+  -- The computed machine of sets is document 01's, and the only one; the sets that it reaches are sets of G and O nodes.
   abbrev pub DemandClaim : Type 0
   DemandClaim =
       (φ : Formula B) → WellFormed events In φ →
-      IsFirstSet φ (first-set φ)
-      × ((D : NodeSet) (e : ℕ) → IsNextSet φ D e (set-machine meet top φ .next D e))
+      IsSetMachine meet top φ (set-machine meet top φ) (first-set φ)
+      × ((m : Machine NodeSet B) (first : NodeSet) → IsSetMachine meet top φ m first →
+      (m ≡ set-machine meet top φ) × (first ≡ first-set φ))
+      × ((w : List ℕ) (d : ℕ) → T (after (set-machine meet top φ) (first-set φ) w d) → IsTransitionOrOutput φ d)
 
   -- The machine of demand sets has the formula's values on every event sequence.
   abbrev pub DemandValuesClaim : Type 0
   DemandValuesClaim =
-      (φ : Formula B) → WellFormed events In φ → (w : List ℕ) (e : ℕ) →
-      Answers meet top φ w e (value-of-set meet top φ (after (set-machine meet top φ) (first-set φ) w) e)
+      (φ : Formula B) → WellFormed events In φ → (m : Machine NodeSet B) (first : NodeSet) → IsSetMachine meet top φ m first →
+      (w : List ℕ) (e : ℕ) → Answers meet top φ w e (m .value (after m first w) e)
 
   -- The computed table is the formula's where at most `limit` states are reached, and the count tells where more are.
   abbrev pub TableClaim : Type 0

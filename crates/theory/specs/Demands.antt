@@ -1,12 +1,14 @@
 -- Demands, and the sets of nodes that are the states of a formula's table (document 01, "Table of a rule").
 -- Assumes nothing.
-use mathlib.Core.Logic.{_↔_}
+use mathlib.Core.Path.{_≡_}
+use mathlib.Core.Logic.{_↔_, _⊎_}
 use mathlib.Core.Bool.{Bool, _&&_, cond}
 use mathlib.Core.List.{List, [], _∷_}
 use Prim.Native.Nat.{ℕ, zero, suc, _+_, _<_}
 use lib.Dec.{T, eqb}
 use lib.ListN.{length, getD}
 use Rattle.theory.specs.Formula.{Formula, truth, variable, transition, output, conjunction, greatest, size}
+use Rattle.theory.specs.MealyMachine.{Machine}
 use Rattle.theory.specs.PrefixCode.{Node, truth-node, variable-node, transition-node, output-node, conjunction-node, greatest-node, nodes, Stands}
 
 -- A set of node numbers.
@@ -25,6 +27,12 @@ module _ {B : Type 0} (φ : Formula B) where
     of-greatest : {i d : ℕ} {bs : List ℕ} {ψ : Formula B} → Stands φ i bs (greatest ψ) → Demands (suc i) d → Demands i d
     of-variable :
         {i d n : ℕ} {bs : List ℕ} → Stands φ i bs (variable n) → n < length bs → Demands (getD bs n zero) d → Demands i d
+
+  -- Node d is a G or an O node. A state is a set of such node numbers.
+  abbrev pub IsTransitionOrOutput : ℕ → Type 0
+  IsTransitionOrOutput d =
+      ((bs : List ℕ) × (e : ℕ) × (ψ : Formula B) × Stands φ d bs (transition e ψ))
+      ⊎ ((bs : List ℕ) × (e : ℕ) × (b : B) × Stands φ d bs (output e b))
 
   -- State 0 is the root's demands.
   abbrev pub IsFirstSet : NodeSet → Type 0
@@ -57,3 +65,9 @@ module _ {B : Type 0} where
     -- On an event, the value of D is the meet of the O values for that event.
     abbrev pub value-of-set : Formula B → NodeSet → ℕ → B
     value-of-set φ D e = meet-all (outputs D e zero (nodes φ))
+
+    -- The machine whose states are sets of nodes, with its state 0.
+    pub record IsSetMachine (φ : Formula B) (m : Machine NodeSet B) (first : NodeSet) : Type 0 where
+      pub first-set : IsFirstSet φ first
+      pub next-set : (D : NodeSet) (e : ℕ) → IsNextSet φ D e (m .next D e)
+      pub value : (D : NodeSet) (e : ℕ) → m .value D e ≡ value-of-set φ D e

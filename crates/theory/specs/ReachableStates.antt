@@ -8,8 +8,7 @@ use lib.ListN.{length, getD}
 use Rattle.theory.specs.Formula.{Formula}
 use Rattle.theory.specs.MealyMachine.{Machine, Word, after}
 use Rattle.theory.specs.WordOrder.{Before, NoLater}
-use Rattle.theory.specs.Demands.{NodeSet}
-use Rattle.theory.specs.DemandSets.{set-machine, first-set}
+use Rattle.theory.specs.Demands.{NodeSet, IsSetMachine}
 
 module _ {S B : Type 0} (events : ℕ) (m : Machine S B) (start : S) where
   -- The state that entry l of the list reaches.
@@ -39,11 +38,12 @@ module _ {S B : Type 0} (events : ℕ) (m : Machine S B) (start : S) where
         (l e : ℕ) → l < n → e < events →
         (t .next l e < n) × (state-at sequences (t .next l e) ≡ m .next (state-at sequences l) e)
 
--- The table of a formula: its machine of node sets, from the root's demands.
+-- The table of a formula: of its machine of node sets, from the root's demands.
 module _ {B : Type 0} (meet : B → B → B) (top : B) (events : ℕ) (φ : Formula B) where
   abbrev pub IsTableOf : ℕ → Machine ℕ B → Type 0
-  IsTableOf n t = IsTable events (set-machine meet top φ) (first-set φ) n t
+  IsTableOf n t = (m : Machine NodeSet B) × (first : NodeSet) × IsSetMachine meet top φ m first × IsTable events m first n t
 
   -- Refusal 10 is given where this does not hold of the limit.
   abbrev pub StatesAtMost : ℕ → Type 0
-  StatesAtMost limit = ReachesAtMost events (set-machine meet top φ) (first-set φ) limit
+  StatesAtMost limit =
+      (m : Machine NodeSet B) × (first : NodeSet) × IsSetMachine meet top φ m first × ReachesAtMost events m first limit

@@ -1,0 +1,42 @@
+-- The claims about demands (specs/Claims).
+-- Assumes nothing.
+use mathlib.Core.Path.{_≡_, sym, _∙_, ap, ap₂, subst, subst⁻¹}
+use mathlib.Core.List.{List}
+use Prim.Native.Nat.{ℕ}
+use Rattle.theory.specs.Semilattice.{MeetSemilattice}
+use Rattle.theory.specs.Formula.{Formula, WellFormed}
+use Rattle.theory.specs.Semantics.{Answers}
+use Rattle.theory.specs.MealyMachine.{Machine, after}
+use Rattle.theory.specs.Demands.{NodeSet}
+use Rattle.theory.specs.DemandSets.{set-machine, first-set}
+use Rattle.theory.specs.Claims.{DemandClaim, DemandValuesClaim}
+use Rattle.theory.proofs.SemanticsEquality.{answers}
+use Rattle.theory.proofs.Demands.{shown-is-value}
+use Rattle.theory.proofs.ReachedSets.{reached-nodes}
+use Rattle.theory.proofs.DemandValues.{demand-values}
+use Rattle.theory.proofs.SetMachine.{set-machine-is, only-set-machine}
+
+module _ {B : Type 0} (In : B → Type 0) (meet : B → B → B) (top : B) (laws : MeetSemilattice In meet top) (events : ℕ) where
+  pub demand-claim : DemandClaim In meet top laws events
+  demand-claim φ w = (
+    set-machine-is meet top φ (w .guarded),
+    only-set-machine meet top φ (w .guarded),
+    reached-nodes φ meet top,
+  )
+
+  -- The value of the set that a sequence reaches is the formula's.
+  pub set-answers :
+      (φ : Formula B) → WellFormed events In φ → (w : List ℕ) (e : ℕ) →
+      Answers meet top φ w e (set-machine meet top φ .value (after (set-machine meet top φ) (first-set φ) w) e)
+  set-answers φ g w e =
+      subst (Answers meet top φ w e)
+      (demand-values φ In meet top laws events g w e
+      ∙ shown-is-value In meet top laws events φ (g .fits) (after (set-machine meet top φ) (first-set φ) w) e)
+      (answers In meet top events φ g w e)
+
+  pub demand-values-claim : DemandValuesClaim In meet top laws events
+  demand-values-claim φ g m first h w e =
+      let p = only-set-machine meet top φ (g .guarded) m first h in
+      subst⁻¹ (λ x. Answers meet top φ w e (x .value (after x first w) e)) (p .0)
+      (subst⁻¹ (λ x. Answers meet top φ w e (set-machine meet top φ .value (after (set-machine meet top φ) x w) e)) (p .1)
+      (set-answers φ g w e))
