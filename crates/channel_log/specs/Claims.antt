@@ -11,6 +11,7 @@ use Rattle.refusal.specs.declared.Refusal.{Refusal}
 use Rattle.refusal.specs.Refusal.{number}
 use Rattle.channel_log.specs.Calls.{Call, Reply, accepted, returned, refused, Channels, all-empty, Content, step, replies, final}
 use Rattle.channel_log.specs.Log.{History}
+use Rattle.channel_log.specs.Recorded.{Loaded}
 use Rattle.channel_log.specs.Independence.{struck, replies-on}
 
 -- No reply is refusal n.
@@ -19,12 +20,6 @@ Never n [] = Unit {0}
 Never n (accepted ∷ rs) = Never n rs
 Never n (returned v ∷ rs) = Never n rs
 Never n (refused r ∷ rs) = ¬ (number r ≡ n) × Never n rs
-
--- A loaded channel of a tool: a table of so many states, and a current state.
-pub record Loaded (B : Type 0) : Type 0 where
-  pub states : ℕ
-  pub table : Machine ℕ B
-  pub current : ℕ
 
 -- The channel is empty exactly where the log has nothing; elsewhere it has the table of the rule there and the state that the
 -- rule's events reach from state 0.
