@@ -40,7 +40,7 @@ module _ {X Input Output : Type 0} (K : Content X Input Output)
   abbrev Same : Call Input → Channels X → Channels X → Type 0
   Same call L N = (step K call L .0 ≡ step K call N .0) × (step K call L .1 c ≡ step K call N .1 c)
 
-  -- the same call-refusal, accepted-reply and effect
+  -- The same refusal, reply and effect.
   same-by : (call : Call Input) (L N : Channels X) → call-refusal K L call ≡ call-refusal K N call → accepted-reply K L call ≡ accepted-reply K N call → effect K L call c ≡ effect K N call c → L c ≡ N c → Same call L N
   same-by call L N o a e l =
       subst (λ p. (step K call L .0 ≡ settled K p (accepted-reply K N call) (effect K N call) N .0) × (step K call L .1 c ≡ settled K p (accepted-reply K N call) (effect K N call) N .1 c)) o
@@ -67,7 +67,7 @@ module _ {X Input Output : Type 0} (K : Content X Input Output)
       subst⁻¹ (λ d. Same (clear d) L N) (eqb-true d c e)
       (same-by (clear c) L N refl refl (put-both none none L N refl) l)
 
-  -- the replies that stay are those of the calls that stay, alone
+  -- The replies that stay are those of the calls that stay, alone.
   pub replies-struck :
       (calls : List (Call Input)) (L N : Channels X) → L c ≡ N c →
       (replies-on c calls (replies (step K) calls L) ≡ replies (step K) (struck c calls) N)

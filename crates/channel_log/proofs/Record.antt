@@ -13,8 +13,10 @@ use Rattle.theory.specs.Semilattice.{MeetSemilattice}
 use Rattle.theory.specs.Formula.{Formula, WellFormed}
 use Rattle.theory.specs.MealyMachine.{Machine, Word, after}
 use Rattle.theory.specs.ReachableStates.{IsTableOf}
-use Rattle.theory.specs.Claims.{TableValuesClaim}
 use Rattle.theory.proofs.SemanticsEquality.{only-answer}
+use Rattle.theory.proofs.WordOrder.{word-append}
+use Rattle.theory.proofs.ReachableStates.{after-append}
+use Rattle.theory.proofs.Claims.{table-values}
 use Rattle.refusal.specs.declared.Refusal.{Refusal}
 use Rattle.refusal.specs.declared.Refusal.the-variants.{Plain}
 use Rattle.refusal.specs.Refusal.{or-else, number}
@@ -25,15 +27,6 @@ use Rattle.channel_log.specs.Independence.{struck, replies-on}
 use Rattle.channel_log.specs.Claims.{Never, StandsAs, AsLogged, Independent, RecordClaim, IndependenceClaim}
 use Rattle.channel_log.proofs.Simulation.{run-related, Related, AllRelated, Matches, step-related}
 use Rattle.channel_log.proofs.Independence.{replies-struck}
-
-after-snoc :
-    {B : Type 0} (m : Machine ℕ B) (s : ℕ) (w : List ℕ) (e : ℕ) → after m s (w ++ (e ∷ [])) ≡ m .next (after m s w) e
-after-snoc m s [] e = refl
-after-snoc m s (a ∷ w) e = after-snoc m (m .next s a) w e
-
-word-snoc : (events : ℕ) (w : List ℕ) (e : ℕ) → Word events w → e < events → Word events (w ++ (e ∷ []))
-word-snoc events [] e p q = (q, tt)
-word-snoc events (a ∷ w) e p q = (p .0, word-snoc events w e (p .1) q)
 
 abbrev IsNone : {A : Type 0} → Option A → Type 0
 IsNone none = Unit {0}
@@ -62,7 +55,6 @@ first-not-17 none b p q = q
 first-not-17 (some r) b p q = p
 
 module _ {B : Type 0} (In : B → Type 0) (meet : B → B → B) (top : B) (laws : MeetSemilattice In meet top) (events : ℕ)
-    (values-claim : TableValuesClaim In meet top laws events)
     (judged : List ℕ → Option Refusal) (formula-of : List ℕ → Formula B) (table-of : List ℕ → Loaded B)
     (good : (r : List ℕ) → judged r ≡ none → WellFormed events In (formula-of r))
     (compiled : (r : List ℕ) → judged r ≡ none → IsTableOf meet top events (formula-of r) (table-of r .states) (table-of r .table))
@@ -86,7 +78,7 @@ module _ {B : Type 0} (In : B → Type 0) (meet : B → B → B) (top : B) (laws
   same-output h x e s l =
       sym (ap (λ q. x .table .value q e) (s .state)
       ∙ only-answer In meet top events (h .rule) (s .rule) (h .events) e (x .table .value (after (x .table) zero (h .events)) e)
-      (values-claim (h .rule) (s .rule) (x .states) (x .table) (s .table) .2 (h .events) (s .word) e l))
+      (table-values In meet top events laws (h .rule) (s .rule) (x .states) (x .table) (s .table) .2 (h .events) (s .word) e l))
 
   matches : Matches logged channel Stands
   matches =
@@ -98,9 +90,9 @@ module _ {B : Type 0} (In : B → Type 0) (meet : B → B → B) (top : B) (laws
         moved = λ h x e s a.
             record {
               rule = s .rule;
-              word = word-snoc events (h .events) e (s .word) (not-large events e a);
+              word = word-append events (h .events) (e ∷ []) (s .word) (not-large events e a, tt);
               table = s .table;
-              state = ap (λ q. x .table .next q e) (s .state) ∙ sym (after-snoc (x .table) zero (h .events) e);
+              state = ap (λ q. x .table .next q e) (s .state) ∙ sym (after-append (x .table) zero (h .events) (e ∷ []));
             };
         restarted = λ h x s. record { rule = s .rule; word = tt; table = s .table; state = refl };
       }

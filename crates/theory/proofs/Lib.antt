@@ -1,5 +1,6 @@
 -- In the order in which they build on each other.
 pub mod Order
+pub mod ValueSets
 pub mod Substitution
 pub mod Instantiation
 pub mod Equations
@@ -17,3 +18,22 @@ pub mod ReachedSets
 pub mod DemandValues
 pub mod SetMachine
 pub mod DemandClaims
+pub mod Numbers
+pub mod WordOrder
+pub mod Exploration
+pub mod ReachableStates
+pub mod Transport
+pub mod ExploredStates
+pub mod BitSets
+pub mod TableClaims
+pub mod FirstBad
+pub mod Conformance
+pub mod ConformanceClaims
+pub mod Trial
+pub mod DistinctLists
+pub mod CharacteristicFormula
+pub mod CharacteristicValues
+pub mod CharacteristicSets
+pub mod CharacteristicTable
+pub mod CharacteristicClaims
+pub mod Claims

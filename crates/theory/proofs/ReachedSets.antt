@@ -17,18 +17,6 @@ use Rattle.theory.proofs.PrefixCode.{stands-within}
 use Rattle.theory.proofs.NodeSets.{Agree}
 use Rattle.theory.proofs.Demands.{demands-sound, next-set-sound}
 
--- The set has no node from n on.
-abbrev pub Within : NodeSet → ℕ → Type 0
-Within D n = (j : ℕ) → n ≤ j → D j ≡ false
-
--- Sets within n nodes that agree on them are the same.
-pub within-agree : (n : ℕ) (C D : NodeSet) → Within C n → Within D n → Agree C D zero n → C ≡ D
-within-agree n C D f g h = fun-ext (λ j. go j (ltb j n) refl)
-  where
-    go : (j : ℕ) (b : Bool) → ltb j n ≡ b → C j ≡ D j
-    go j true e = h j zero-le (omega (arith, ltb-true j n e))
-    go j false e = f j (ltb-false j n e) ∙ sym (g j (ltb-false j n e))
-
 module _ {B : Type 0} (φ : Formula B) where
   pub demanded-node : {i d : ℕ} → Demands φ i d → IsTransitionOrOutput φ d
   demanded-node (of-transition {bs = bs} {e = e} {ψ = ψ} s) = inl (bs, e, ψ, s)
@@ -38,10 +26,6 @@ module _ {B : Type 0} (φ : Formula B) where
   demanded-node (of-greatest s h) = demanded-node h
   demanded-node (of-variable s l h) = demanded-node h
 
-  node-within : (d : ℕ) → IsTransitionOrOutput φ d → d < size φ
-  node-within d (inl (bs, e, ψ, s)) = omega (arith, stands-within φ s)
-  node-within d (inr (bs, e, b, s)) = omega (arith, stands-within φ s)
-
   module _ (meet : B → B → B) (top : B) where
     reached-from :
         (w : List ℕ) (D : NodeSet) → ((d : ℕ) → T (D d) → IsTransitionOrOutput φ d) →
@@ -50,15 +34,7 @@ module _ {B : Type 0} (φ : Formula B) where
     reached-from (e ∷ w) D f d h =
         reached-from w (moved D e [] zero φ) (λ j l. demanded-node (next-set-sound φ D e j l .5)) d h
 
-    -- Each set that a sequence reaches has only G and O nodes,
+    -- Each set that a sequence reaches has only G and O nodes.
     pub reached-nodes :
         (w : List ℕ) (d : ℕ) → T (after (set-machine meet top φ) (first-set φ) w d) → IsTransitionOrOutput φ d
     reached-nodes w d h = reached-from w (first-set φ) (λ j l. demanded-node (demands-sound φ root j l)) d h
-
-    -- so that it has none from the formula's size on.
-    pub reached-within : (w : List ℕ) → Within (after (set-machine meet top φ) (first-set φ) w) (size φ)
-    reached-within w j h = go (after (set-machine meet top φ) (first-set φ) w j) (reached-nodes w j)
-      where
-        go : (b : Bool) → (T b → IsTransitionOrOutput φ j) → b ≡ false
-        go true f = absurd (omega (arith, node-within j (f tt), h))
-        go false f = refl

@@ -8,24 +8,19 @@ use Rattle.theory.specs.Semilattice.{AtOrBelow}
 use Rattle.theory.specs.MealyMachine.{Machine, Word, after, Runs, IsSimulation, Simulated, BelowOnWords}
 use Rattle.theory.specs.Claims.{SimulationClaim}
 
--- The state that a word reaches is a state.
-module _ {B S : Type 0} (events : ℕ) (In : B → Type 0) (State : S → Type 0) (m : Machine S B) (runs : Runs events In State m) where
-  pub after-state : (w : List ℕ) (s : S) → State s → Word events w → State (after m s w)
-  after-state [] s h v = h
-  after-state (e ∷ w) s h v = after-state w (m .next s e) (runs .next-in s h e (v .0)) (v .1)
-
+-- A simulation that holds of two states has the first at or below the second on every word.
 module _ {B S Q : Type 0} (events : ℕ) (In : B → Type 0) (meet : B → B → B)
-    (StateS : S → Type 0) (m : Machine S B) (StateQ : Q → Type 0) (q : Machine Q B) where
-  simulation-below :
-      Runs events In StateS m → Runs events In StateQ q →
-      (R : S → Q → Type 0) → IsSimulation events meet StateS m StateQ q R →
-      (w : List ℕ) (s : S) (t : Q) → StateS s → StateQ t → R s t → Word events w → (e : ℕ) → e < events →
-      AtOrBelow meet (m .value (after m s w) e) (q .value (after q t w) e)
-  simulation-below rm rq R h [] s t hs ht r v e l = h s t hs ht r e l .0
-  simulation-below rm rq R h (a ∷ w) s t hs ht r v e l =
-      simulation-below rm rq R h w (m .next s a) (q .next t a) (rm .next-in s hs a (v .0)) (rq .next-in t ht a (v .0))
-      (h s t hs ht r a (v .0) .1) (v .1) e l
+    (StateS : S → Type 0) (m : Machine S B) (StateQ : Q → Type 0) (q : Machine Q B)
+    (runs-m : Runs events In StateS m) (runs-q : Runs events In StateQ q)
+    (R : S → Q → Type 0) (simulation : IsSimulation events meet StateS m StateQ q R) where
+  pub simulation-below : (s : S) (t : Q) → StateS s → StateQ t → R s t → BelowOnWords events meet m q s t
+  simulation-below s t hs ht r [] v e l = simulation s t hs ht r e l .0
+  simulation-below s t hs ht r (a ∷ w) v e l =
+      simulation-below (m .next s a) (q .next t a) (runs-m .next-in s hs a (v .0)) (runs-q .next-in t ht a (v .0))
+      (simulation s t hs ht r a (v .0) .1) w (v .1) e l
 
+module _ {B S Q : Type 0} (events : ℕ) (meet : B → B → B)
+    (StateS : S → Type 0) (m : Machine S B) (StateQ : Q → Type 0) (q : Machine Q B) where
   below-simulation :
       IsSimulation events meet StateS m StateQ q (BelowOnWords events meet m q)
   below-simulation s t hs ht r e l = (r [] tt e l, λ w v a k. r (e ∷ w) (l, v) a k)
@@ -54,6 +49,6 @@ module _ {B S Q : Type 0} (events : ℕ) (meet : B → B → B) (m : Machine S B
 module _ {B : Type 0} (In : B → Type 0) (meet : B → B → B) (top : B) (events : ℕ) where
   pub simulation-claim : SimulationClaim In meet top events
   simulation-claim S Q StateS m StateQ q rm rq s t hs ht = (
-    (λ h w v e l. simulation-below events In meet StateS m StateQ q rm rq (h .0) (h .1) w s t hs ht (h .2) v e l),
-    λ h. (BelowOnWords events meet m q, below-simulation events In meet StateS m StateQ q, h),
+    (λ h. simulation-below events In meet StateS m StateQ q rm rq (h .0) (h .1) s t hs ht (h .2)),
+    λ h. (BelowOnWords events meet m q, below-simulation events meet StateS m StateQ q, h),
   )

@@ -8,12 +8,13 @@ use Prim.Native.Nat.{ℕ, zero, suc, _+_, _≤_, _<_}
 use native.Mathlib.Omega.{arith}
 use native.Mathlib.Decide.{decLt}
 use lib.Dec.{T, ltb, lt→ltb, ltb→lt}
+use mir.Facts.{and-yes, yes-and}
 use Rattle.theory.specs.Semilattice.{MeetSemilattice, AtOrBelow}
 use Rattle.theory.specs.Formula.{Formula, truth, variable, transition, output, conjunction, greatest, Fits, WellFormed}
 use Rattle.theory.specs.MealyMachine.{Machine, Runs, States}
 use Rattle.theory.specs.Satisfaction.{extend, SatisfiesIn, TableSatisfiesIn}
 use Rattle.theory.specs.Claims.{TableSatisfactionClaim}
-use Rattle.theory.proofs.Counting.{and-left, and-right, and-both, count, count-le, Inside, inside-or-fewer}
+use Rattle.theory.proofs.Counting.{count, count-le, Inside, inside-or-fewer}
 
 -- All states below n, then again and again what a round keeps.
 abbrev rounds : ℕ → ((ℕ → Bool) → ℕ → Bool) → ℕ → ℕ → Bool
@@ -67,7 +68,7 @@ module _ (n : ℕ) (F : (ℕ → Bool) → ℕ → Bool) where
 
   -- The last round lies within what it is taken to.
   settled-inside : (t : ℕ) → T (rounds n F n t) → T (F (rounds n F n) t)
-  settled-inside t h = and-right (rounds n F n t) (F (rounds n F n) t) (subst⁻¹ (λ A. T (A t)) settled h)
+  settled-inside t h = and-yes (rounds n F n t) (F (rounds n F n) t) (subst⁻¹ (λ A. T (A t)) settled h) .1
 
 -- A set that each round keeps lies within every round.
 in-rounds :
@@ -76,7 +77,7 @@ in-rounds :
     (j t : ℕ) → t < n → A t → T (rounds n F j t)
 in-rounds n F A h zero t l i = lt→ltb t n l
 in-rounds n F A h (suc j) t l i =
-    and-both (rounds n F j t) (F (rounds n F j) t) (in-rounds n F A h j t l i) (h (rounds n F j) (in-rounds n F A h j) t l i)
+    yes-and (rounds n F j t) (F (rounds n F j) t) (in-rounds n F A h j t l i) (h (rounds n F j) (in-rounds n F A h j) t l i)
 
 module _ {B : Type 0} (meet : B → B → B)
     (at-or-below : B → B → Bool) (decides : (b c : B) → T (at-or-below b c) ↔ AtOrBelow meet b c)
@@ -97,8 +98,8 @@ module _ {B : Type 0} (meet : B → B → B)
   test-satisfies (transition e φ) η s h = test-satisfies φ η (m .next s e) h
   test-satisfies (output e b) η s h = decides (m .value s e) b .0 h
   test-satisfies (conjunction φ χ) η s h = (
-    test-satisfies φ η s (and-left (satisfies η φ s) (satisfies η χ s) h),
-    test-satisfies χ η s (and-right (satisfies η φ s) (satisfies η χ s) h),
+    test-satisfies φ η s (and-yes (satisfies η φ s) (satisfies η χ s) h .0),
+    test-satisfies χ η s (and-yes (satisfies η φ s) (satisfies η χ s) h .1),
   )
   test-satisfies (greatest φ) η s h =
       let F : (ℕ → Bool) → ℕ → Bool = λ A. satisfies (extend A η) φ in
@@ -142,7 +143,7 @@ module _ {B : Type 0} (meet : B → B → B)
         satisfies-test φ θ η (f .1) h (m .next s e) (runs .next-in s l e (f .0)) v
     satisfies-test (output e b) θ η f h s l v = decides (m .value s e) b .1 (v .lower)
     satisfies-test (conjunction φ χ) θ η f h s l v =
-        and-both (satisfies η φ s) (satisfies η χ s)
+        yes-and (satisfies η φ s) (satisfies η χ s)
         (satisfies-test φ θ η (f .0) h s l (v .0)) (satisfies-test χ θ η (f .1) h s l (v .1))
     satisfies-test (greatest φ) θ η f h s l v =
         in-rounds n (λ C. satisfies (extend C η) φ) (v .0)

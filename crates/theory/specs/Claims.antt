@@ -5,7 +5,7 @@ use mathlib.Core.Bool.{Bool}
 use mathlib.Core.Logic.{_↔_}
 use mathlib.Core.List.{List, []}
 use mathlib.Core.Option.{none, some}
-use Prim.Native.Nat.{ℕ, zero, suc, _*_, _≤_, _<_}
+use Prim.Native.Nat.{ℕ, zero, suc, _+_, _*_, _≤_, _<_}
 use lib.Dec.{T}
 use lib.ListN.{length}
 use Rattle.theory.specs.Semilattice.{MeetSemilattice, AtOrBelow}
@@ -27,7 +27,7 @@ GrammarClaim =
     (B : Type 0) (limit events : ℕ) (In : B → Type 0) (φ : Formula B) →
     Accepted limit events In φ → WellFormed events In φ
 
--- For any carrier with any meet and top: values, In, need no laws here.
+-- For any carrier, meet and top: no law of meet is needed here.
 module _ {B : Type 0} (In : B → Type 0) (meet : B → B → B) (top : B) (events : ℕ) where
   -- Each well-formed formula has one value and one follower on each event, which are the computed ones, and the follower is
   -- well-formed again.
@@ -119,8 +119,9 @@ module _ {B : Type 0} (In : B → Type 0) (meet : B → B → B) (top : B) (laws
       (0 < n) × Runs events In (States n) t
       × ((w : List ℕ) → Word events w → (e : ℕ) → e < events → Answers meet top φ w e (t .value (after t zero w) e))
 
-  -- A table of n states has one written formula for each start. It is closed, of the grammar and within the set-up, it has the
-  -- start's values on every event sequence, and its own table has one state for each V node.
+  -- A table of n states has one written formula for each start. It is closed, of the grammar and within the set-up, and it has the
+  -- start's values on every event sequence. Its size: each V node brings four nodes an event, itself counted in, and each part of
+  -- its G nodes is an inner V or an X; so size + binders is 1 + 5 × events × binders. Its own table has one state for each V node.
   abbrev pub CharacteristicClaim : Type 0
   CharacteristicClaim =
       (n last : ℕ) (m : Machine ℕ B) → events ≡ suc last → Runs events In (States n) m → (s : ℕ) → s < n →
@@ -129,6 +130,7 @@ module _ {B : Type 0} (In : B → Type 0) (meet : B → B → B) (top : B) (laws
       × Closed (written m n last s) × ClosedPosition (written m n last s) × Fits events In (written m n last s)
       × ((w : List ℕ) → Word events w → (e : ℕ) → e < events →
       Answers meet top (written m n last s) w e (m .value (after m s w) e))
+      × (size (written m n last s) + binders (written m n last s) ≡ suc (5 * (events * binders (written m n last s))))
       × ((k : ℕ) (t : Machine ℕ B) → IsTableOf meet top events (written m n last s) k t → k ≡ binders (written m n last s))
       × StatesAtMost meet top events (written m n last s) (binders (written m n last s))
 

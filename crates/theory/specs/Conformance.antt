@@ -26,15 +26,22 @@ module _ {B : Type 0} (events : ℕ) (meet : B → B → B) (m q : Machine ℕ B
     pub first : (other : List ℕ) → Counterexample other → NoLater word other
 
 -- The same computed: breadth first over pairs of states, each pair judged once, events rising.
+abbrev pub or-else : Option (List ℕ) → Option (List ℕ) → Option (List ℕ)
+or-else none o = o
+or-else (some w) o = some w
+
+abbrev pub same-pair : ℕ × ℕ → ℕ × ℕ → Bool
+same-pair x y = eqb (x .0) (y .0) && eqb (x .1) (y .1)
+
+abbrev pub in-play-order : Option (List ℕ) → Option (List ℕ)
+in-play-order none = none
+in-play-order (some w) = some (reverse w)
+
 module _ {S : Type 0} (next : S → ℕ → S) (start : S) (bad : S → ℕ → Bool) where
   -- Among the words w, then one of c events from e on. Words have their last event first.
   abbrev pub bad-event : ℕ → ℕ → List ℕ → Option (List ℕ)
   bad-event zero e w = none
   bad-event (suc c) e w = cond (bad (reached next start w) e) (some (e ∷ w)) (bad-event c (suc e) w)
-
-  abbrev pub or-else : Option (List ℕ) → Option (List ℕ) → Option (List ℕ)
-  or-else none o = o
-  or-else (some w) o = some w
 
   abbrev pub first-bad : ℕ → List (List ℕ) → Option (List ℕ)
   first-bad events [] = none
@@ -46,13 +53,6 @@ module _ {B : Type 0} (at-or-below : B → B → Bool) (m q : Machine ℕ B) whe
 
   abbrev pub bad-pair : ℕ × ℕ → ℕ → Bool
   bad-pair x e = not (at-or-below (m .value (x .0) e) (q .value (x .1) e))
-
-  abbrev pub same-pair : ℕ × ℕ → ℕ × ℕ → Bool
-  same-pair x y = eqb (x .0) (y .0) && eqb (x .1) (y .1)
-
-  abbrev pub in-play-order : Option (List ℕ) → Option (List ℕ)
-  in-play-order none = none
-  in-play-order (some w) = some (reverse w)
 
   -- The first word on which a table of n states fails against one of k states.
   abbrev pub counterexample : ℕ → ℕ → ℕ → ℕ → ℕ → Option (List ℕ)

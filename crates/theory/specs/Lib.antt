@@ -2,6 +2,8 @@
 -- Value sets and their order.
 pub mod Semilattice
 pub mod ValueSets
+-- What is claimed of the two kinds of values.
+pub mod ValueSetClaims
 -- Formulas and their meaning.
 pub mod Formula
 pub mod Semantics

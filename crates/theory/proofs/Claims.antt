@@ -1,0 +1,65 @@
+-- A proof of each proposition of specs/Claims.
+-- Assumes nothing.
+use Prim.Native.Nat.{ℕ}
+use Rattle.theory.specs.Semilattice.{MeetSemilattice}
+use Rattle.theory.specs.Claims.{GrammarClaim, SemanticsClaim, AnswersClaim, ConjunctionClaim, SimulationClaim, NumberingClaim, TableSimulationClaim, SatisfactionClaim, TableSatisfactionClaim, DemandClaim, DemandValuesClaim, TableClaim, TableValuesClaim, CharacteristicClaim, ConformanceClaim, TrialClaim}
+use Rattle.theory.proofs.Substitution.{accepted-well-formed}
+use Rattle.theory.proofs.SemanticsEquality.{semantics-claim, answers-claim, conjunction-claim}
+use Rattle.theory.proofs.Simulation.{simulation-claim}
+use Rattle.theory.proofs.Satisfaction.{satisfaction-claim}
+use Rattle.theory.proofs.TableSatisfaction.{table-satisfaction-claim}
+use Rattle.theory.proofs.DemandClaims.{demand-claim, demand-values-claim}
+use Rattle.theory.proofs.TableClaims.{numbering-claim, table-claim, table-values-claim}
+use Rattle.theory.proofs.CharacteristicClaims.{characteristic-claim}
+use Rattle.theory.proofs.ConformanceClaims.{table-simulation-claim, conformance-claim}
+use Rattle.theory.proofs.Trial.{trial-claim}
+
+pub grammar : GrammarClaim
+grammar B limit events In φ = accepted-well-formed limit events In φ
+
+module _ {B : Type 0} (In : B → Type 0) (meet : B → B → B) (top : B) (events : ℕ) where
+  pub semantics : SemanticsClaim In meet top events
+  semantics = semantics-claim In meet top events
+
+  pub answers : AnswersClaim In meet top events
+  answers = answers-claim In meet top events
+
+  pub conjunction : ConjunctionClaim In meet top events
+  conjunction = conjunction-claim In meet top events
+
+  pub simulation : SimulationClaim In meet top events
+  simulation = simulation-claim In meet top events
+
+  pub numbering : NumberingClaim In meet top events
+  numbering = numbering-claim In meet top events
+
+  module _ (laws : MeetSemilattice In meet top) where
+    pub table-simulation : TableSimulationClaim In meet top laws events
+    table-simulation = table-simulation-claim In meet top laws events
+
+    pub satisfaction : SatisfactionClaim In meet top laws events
+    satisfaction = satisfaction-claim In meet top laws events
+
+    pub table-satisfaction : TableSatisfactionClaim In meet top laws events
+    table-satisfaction = table-satisfaction-claim In meet top laws events
+
+    pub demands : DemandClaim In meet top laws events
+    demands = demand-claim In meet top laws events
+
+    pub demand-values : DemandValuesClaim In meet top laws events
+    demand-values = demand-values-claim In meet top laws events
+
+    pub table : TableClaim In meet top laws events
+    table = table-claim In meet top laws events
+
+    pub table-values : TableValuesClaim In meet top laws events
+    table-values = table-values-claim In meet top laws events
+
+    pub characteristic : CharacteristicClaim In meet top laws events
+    characteristic = characteristic-claim In meet top laws events
+
+    pub conformance : ConformanceClaim In meet top laws events
+    conformance = conformance-claim In meet top laws events
+
+    pub trial : TrialClaim In meet top laws events
+    trial = trial-claim In meet top laws events

@@ -1,0 +1,195 @@
+-- The check of one table against another: no word is found exactly where every value is at or below on every word, which is
+-- simulation; a word that is found is the first counterexample, of at least one and at most n × k events.
+-- Assumes nothing.
+use mathlib.Core.Path.{_≡_, refl, sym, _∙_, ap, subst, subst⁻¹}
+use mathlib.Core.Bool.{Bool, true, false, not}
+use mathlib.Core.Logic.{_↔_}
+use mathlib.Core.List.{List, [], _∷_, _++_, reverse, reverse-cons, reverse-reverse, reverse-append}
+use mathlib.Core.Option.{Option, none, some}
+use Prim.Native.Nat.{ℕ, _+_, _*_, _≤_, _<_}
+use native.Mathlib.Nat.{mul-le-mul-right, suc-mul}
+use native.Mathlib.Omega.{arith}
+use lib.Dec.{T, eqb, eqb→eq, eqb-refl, T-not, not-T}
+use lib.ListN.{length, length-reverse}
+use mir.Facts.{and-yes, yes-and}
+use Rattle.theory.specs.Semilattice.{AtOrBelow}
+use Rattle.theory.specs.MealyMachine.{Machine, Word, after, Runs, States, IsSimulation, BelowOnWords}
+use Rattle.theory.specs.WordOrder.{NoLater}
+use Rattle.theory.specs.Exploration.{reached, explored}
+use Rattle.theory.specs.Conformance.{Counterexample, FirstCounterexample, first-bad, next-pair, bad-pair, same-pair, in-play-order, counterexample}
+use Rattle.theory.proofs.Numbers.{digits-equal, pigeonhole}
+use Rattle.theory.proofs.WordOrder.{word-reverse, word-left, word-right, no-later-iff-number}
+use Rattle.theory.proofs.Exploration.{at, Kept, invariant}
+use Rattle.theory.proofs.ReachableStates.{reached-reverse}
+use Rattle.theory.proofs.FirstBad.{Answer, answer}
+
+module _ {B : Type 0} (In : B → Type 0) (meet : B → B → B) (at-or-below : B → B → Bool)
+    (decides : (b c : B) → T (at-or-below b c) ↔ AtOrBelow meet b c) (events n : ℕ) (m : Machine ℕ B) (k : ℕ) (q : Machine ℕ B)
+    (runs-m : Runs events In (States n) m) (runs-q : Runs events In (States k) q) where
+  not-below-iff : (b c : B) → T (not (at-or-below b c)) ↔ (¬ AtOrBelow meet b c)
+  not-below-iff b c = (
+    (λ x y. T-not (at-or-below b c) x (decides b c .1 y)),
+    λ f. not-T (at-or-below b c) (λ x. f (decides b c .0 x)),
+  )
+
+  below-if-not-not : (b c : B) → ¬ (¬ AtOrBelow meet b c) → AtOrBelow meet b c
+  below-if-not-not b c f = decides b c .0 (stable (at-or-below b c) (λ x. f (not-below-iff b c .0 x)))
+    where
+      stable : (b : Bool) → (T (not b) → ⊥) → T b
+      stable true f = tt
+      stable false f = f tt
+
+  same-pair-iff : (x y : ℕ × ℕ) → T (same-pair x y) ↔ (x ≡ y)
+  same-pair-iff x y = (
+    (λ h. λ i. (eqb→eq (x .0) (y .0) (both h .0) i, eqb→eq (x .1) (y .1) (both h .1) i)),
+    λ e. subst (λ z. T (same-pair x z)) e (self x),
+  )
+    where
+      both : T (same-pair x y) → T (eqb (x .0) (y .0)) × T (eqb (x .1) (y .1))
+      both h = and-yes (eqb (x .0) (y .0)) (eqb (x .1) (y .1)) h
+
+      self : (z : ℕ × ℕ) → T (same-pair z z)
+      self z = yes-and (eqb (z .0) (z .0)) (eqb (z .1) (z .1)) (eqb-refl (z .0)) (eqb-refl (z .1))
+
+  module _ (s t : ℕ) (s-in : s < n) (t-in : t < k) where
+    abbrev pair-after : List ℕ → ℕ × ℕ
+    pair-after w = reached (next-pair at-or-below m q) (s, t) w
+
+    abbrev left : List ℕ → ℕ
+    left w = reached (m .next) s w
+
+    abbrev right : List ℕ → ℕ
+    right w = reached (q .next) t w
+
+    pair-after-is : (w : List ℕ) → pair-after w ≡ (left w, right w)
+    pair-after-is [] = refl
+    pair-after-is (e ∷ w) = ap (λ x. next-pair at-or-below m q x e) (pair-after-is w)
+
+    pair-in : (w : List ℕ) → Word events w → (left w < n) × (right w < k)
+    pair-in [] v = (s-in, t-in)
+    pair-in (e ∷ w) v =
+        let r : (left w < n) × (right w < k) = pair-in w (v .1) in
+        (runs-m .next-in (left w) (r .0) e (v .0), runs-q .next-in (right w) (r .1) e (v .0))
+
+    abbrev P : List (List ℕ)
+    P = explored (same-pair) (next-pair at-or-below m q) (s, t) events (n * k)
+
+    -- There are no more pairs of states than n × k.
+    pair-number : ℕ → ℕ
+    pair-number l = left (at P l) * k + right (at P l)
+
+    few-pairs : length P ≤ n * k
+    unfolding pair-number
+    few-pairs = pigeonhole (n * k) (length P) pair-number in-range different
+      where
+        inv : Kept (same-pair) same-pair-iff (next-pair at-or-below m q) (s, t) events P
+        inv = invariant (same-pair) same-pair-iff (next-pair at-or-below m q) (s, t) events (n * k)
+
+        in-range : (l : ℕ) → l < length P → pair-number l < n * k
+        in-range l h =
+            let r : (left (at P l) < n) × (right (at P l) < k) = pair-in (at P l) (inv .1 .words l h) in
+            omega (arith, r .1, mul-le-mul-right k (r .0), suc-mul (left (at P l)) k)
+
+        different : (j l : ℕ) → j < l → l < length P → ¬ (pair-number j ≡ pair-number l)
+        different j l u h e =
+            let low-j : right (at P j) < k = pair-in (at P j) (inv .1 .words j (omega arith)) .1 in
+            let low-l : right (at P l) < k = pair-in (at P l) (inv .1 .words l h) .1 in
+            let d : (left (at P j) ≡ left (at P l)) × (right (at P j) ≡ right (at P l))
+            = digits-equal k (left (at P j)) (left (at P l)) (right (at P j)) (right (at P l)) low-j low-l e in
+            inv .1 .different j l u h (pair-after-is (at P j) ∙ (λ i. (d .0 i, d .1 i)) ∙ sym (pair-after-is (at P l)))
+
+    -- A word in order of play: the test strikes exactly where the value is not at or below.
+    abbrev BelowAfter : List ℕ → ℕ → Type 0
+    BelowAfter w e = AtOrBelow meet (m .value (after m s w) e) (q .value (after q t w) e)
+
+    pair-in-play-order : (w : List ℕ) → pair-after (reverse w) ≡ (after m s w, after q t w)
+    pair-in-play-order w = pair-after-is (reverse w) ∙ (λ i. (reached-reverse m s w i, reached-reverse q t w i))
+
+    bad-iff : (w : List ℕ) (e : ℕ) → T (bad-pair at-or-below m q (pair-after (reverse w)) e) ↔ (¬ BelowAfter w e)
+    bad-iff w e =
+        subst⁻¹ (λ x. T (bad-pair at-or-below m q x e) ↔ (¬ BelowAfter w e)) (pair-in-play-order w)
+        (not-below-iff (m .value (after m s w) e) (q .value (after q t w) e))
+
+    bad-iff-reversed : (w : List ℕ) (e : ℕ) → T (bad-pair at-or-below m q (pair-after w) e) ↔ (¬ BelowAfter (reverse w) e)
+    bad-iff-reversed w e =
+        subst (λ x. T (bad-pair at-or-below m q (pair-after x) e) ↔ (¬ BelowAfter (reverse w) e)) (reverse-reverse w) (bad-iff (reverse w) e)
+
+    abbrev PairAnswer : Option (List ℕ) → Type 0
+    PairAnswer o =
+        Answer (next-pair at-or-below m q) (s, t) (bad-pair at-or-below m q) events (same-pair) same-pair-iff (n * k) o
+
+    -- What each answer says.
+    abbrev Says : Option (List ℕ) → Type 0
+    Says o =
+        ((o ≡ none) ↔ BelowOnWords events meet m q s t)
+        × ((word : List ℕ) → o ≡ some word →
+        FirstCounterexample events meet m q s t word × (0 < length word) × (length word ≤ n * k))
+
+    says-none : PairAnswer none → Says none
+    unfolding Answer
+    says-none f = (
+      (
+        (λ e w v a l. below-if-not-not (m .value (after m s w) a) (q .value (after q t w) a)
+            (λ g. f (reverse w) a (word-reverse events w v) l (bad-iff w a .1 g))),
+        λ b. refl,
+      ),
+      λ word e. let z : _≡_ {A = ℕ} 0 1 = cc in absurd (omega arith),
+    )
+
+    says-some : (u : List ℕ) → PairAnswer (some u) → Says (some (reverse u))
+    unfolding Answer
+    says-some u f = (
+      (
+        (λ e. let z : _≡_ {A = ℕ} 0 1 = cc in absurd (omega arith)),
+        λ b. absurd (not-below (b (reverse w) (word-reverse events w (word .1)) a (word .0))),
+      ),
+      λ other e. let p : reverse u ≡ other = cc in
+          subst (λ x. FirstCounterexample events meet m q s t x × (0 < length x) × (length x ≤ n * k)) p (
+            record { fails = fails; first = first },
+            omega (arith, length-reverse u, ap length is),
+            omega (arith, length-reverse u, f .5, few-pairs),
+          ),
+    )
+      where
+        w : List ℕ
+        w = f .0
+
+        a : ℕ
+        a = f .1
+
+        is : u ≡ a ∷ w
+        is = f .2
+
+        word : Word events (a ∷ w)
+        word = subst (Word events) is (f .3)
+
+        not-below : ¬ BelowAfter (reverse w) a
+        not-below = bad-iff-reversed w a .0 (f .4)
+
+        fails : Counterexample events meet m q s t (reverse u)
+        fails =
+            record {
+              events-of = word-reverse events u (f .3);
+              before = reverse w;
+              last = a;
+              ends = ap reverse is ∙ reverse-cons a w;
+              not-below = not-below;
+            }
+
+        first : (other : List ℕ) → Counterexample events meet m q s t other → NoLater (reverse u) other
+        first other c =
+            let p : reverse other ≡ c .last ∷ reverse (c .before) = ap reverse (c .ends) ∙ reverse-append (c .before) (c .last ∷ []) in
+            let h : Word events (c .before ++ (c .last ∷ [])) = subst (Word events) (c .ends) (c .events-of) in
+            no-later-iff-number events (reverse u) other (word-reverse events u (f .3)) (c .events-of) .1
+            (rw (reverse-reverse u, p)
+            (f .6 (reverse (c .before)) (c .last) (word-reverse events (c .before) (word-left events (c .before) (c .last ∷ []) h))
+            (word-right events (c .before) (c .last ∷ []) h .0) (bad-iff (c .before) (c .last) .1 (c .not-below))))
+
+    pub conformance : Says (counterexample at-or-below m q events n k s t)
+    conformance =
+        go (first-bad (next-pair at-or-below m q) (s, t) (bad-pair at-or-below m q) events P)
+        (answer (next-pair at-or-below m q) (s, t) (bad-pair at-or-below m q) events (same-pair) same-pair-iff (n * k) few-pairs)
+      where
+        go : (o : Option (List ℕ)) → PairAnswer o → Says (in-play-order o)
+        go none f = says-none f
+        go (some u) f = says-some u f

@@ -1,0 +1,44 @@
+-- A device passes against the table of a formula exactly if its start satisfies the formula by the set definition.
+-- Assumes nothing.
+use mathlib.Core.Path.{_≡_, refl, subst, subst⁻¹}
+use mathlib.Core.Logic.{_↔_, Iff·trans, Iff·symm}
+use mathlib.Core.List.{List}
+use mathlib.Core.Option.{none}
+use Prim.Native.Nat.{ℕ, zero, _<_}
+use Rattle.theory.specs.Semilattice.{MeetSemilattice, AtOrBelow}
+use Rattle.theory.specs.Formula.{Formula, WellFormed}
+use Rattle.theory.specs.MealyMachine.{Machine, Word, after, Runs, States, BelowOnWords}
+use Rattle.theory.specs.Satisfaction.{Satisfies}
+use Rattle.theory.specs.Evaluation.{value, formulas}
+use Rattle.theory.specs.ReachableStates.{IsTableOf}
+use Rattle.theory.specs.Claims.{TrialClaim}
+use Rattle.theory.proofs.SemanticsEquality.{only-answer}
+use Rattle.theory.proofs.Satisfaction.{satisfies-iff}
+use Rattle.theory.proofs.TableSatisfaction.{table-satisfaction-claim}
+use Rattle.theory.proofs.TableClaims.{table-values-claim}
+use Rattle.theory.proofs.ConformanceClaims.{passes-iff}
+
+module _ {B : Type 0} (In : B → Type 0) (meet : B → B → B) (top : B) (laws : MeetSemilattice In meet top) (events : ℕ) where
+  -- Being at or below the table on every word is being so for the formula.
+  below-table-iff :
+      (φ : Formula B) → WellFormed events In φ → (k : ℕ) (q : Machine ℕ B) → IsTableOf meet top events φ k q →
+      (m : Machine ℕ B) (s : ℕ) → BelowOnWords events meet m q s zero ↔ BelowOnWords events meet m (formulas meet top) s φ
+  below-table-iff φ g k q h m s = (
+    (λ b w v e l. subst (AtOrBelow meet (m .value (after m s w) e)) (same w v e l) (b w v e l)),
+    λ b w v e l. subst⁻¹ (AtOrBelow meet (m .value (after m s w) e)) (same w v e l) (b w v e l),
+  )
+    where
+      same :
+          (w : List ℕ) → Word events w → (e : ℕ) → e < events →
+          q .value (after q zero w) e ≡ value meet top e (after (formulas meet top) φ w)
+      same w v e l =
+          only-answer In meet top events φ g w e (q .value (after q zero w) e)
+          (table-values-claim In meet top laws events φ g k q h .2 w v e l)
+
+  pub trial-claim : TrialClaim In meet top laws events
+  trial-claim at-or-below decides φ g k q h n m runs s hs =
+      let table = table-values-claim In meet top laws events φ g k q h in
+      Iff·trans (passes-iff In meet at-or-below decides events n m k q runs (table .1) s zero hs (table .0))
+      (Iff·trans (below-table-iff φ g k q h m s)
+      (Iff·trans (Iff·symm (satisfies-iff events In meet top laws (States n) m runs φ g (λ i t. ⊥) s hs))
+      (Iff·symm (table-satisfaction-claim In meet top laws events at-or-below decides n m runs φ g s hs))))

@@ -1,0 +1,143 @@
+-- `values::associative` meets its contract. The loops' invariants: the law holds at every triple before (a, b, c).
+-- Assumes nothing.
+use mathlib.Core.Path.{_≡_, sym, _∙_}
+use mathlib.Core.Bool.{true}
+use Prim.Native.Nat.{_≤_, _-_}
+use borrow.Author.Needs.{needs}
+use borrow.Author.Tests.{eq-eqb, ne-eqb}
+use lib.Dec.{eqb}
+use Rattle.theory.specs.ValueSets.{meetAt}
+use Rattle.theory.specs.ValueSetClaims.{every, associative-test}
+use Rattle.theory.proofs.ValueSets.{every-none, every-more, every-not, every-done}
+use Rattle.values.proofs.Setups.{meet-below, grouped}
+use Rattle.values.proofs.associative.Statement.{statement}
+use Rattle.values.proofs.associative.Tie as tie
+
+abbrev Inv-loop2 : tie.InvT-loop2
+Inv-loop2 meet values holds₀ a b c₀ holds c =
+    (c ≤ values) × (holds ≡ true) × (every c (λ k. eqb (meetAt values meet (meetAt values meet a b) k) (meetAt values meet a (meetAt values meet b k))) ≡ true)
+
+abbrev μ-loop2 : tie.MeasureT-loop2
+μ-loop2 meet values holds₀ a b c₀ holds c = values - c
+
+abbrev Inv-loop : tie.InvT-loop
+Inv-loop meet values holds₀ a b₀ holds b =
+    (b ≤ values) × (holds ≡ true) × (every b (λ j. every values (λ k. eqb (meetAt values meet (meetAt values meet a j) k) (meetAt values meet a (meetAt values meet j k)))) ≡ true)
+
+abbrev μ-loop : tie.MeasureT-loop
+μ-loop meet values holds₀ a b₀ holds b = values - b
+
+abbrev Inv-triples : tie.InvT-triples
+Inv-triples meet values holds₀ a₀ holds a =
+    (a ≤ values) × (holds ≡ true) × (every a (λ i. every values (λ j. every values (λ k. eqb (meetAt values meet (meetAt values meet i j) k) (meetAt values meet i (meetAt values meet j k))))) ≡ true)
+
+abbrev μ-triples : tie.MeasureT-triples
+μ-triples meet values holds₀ a₀ holds a = values - a
+
+triples-holds : tie.Need-triples-holds Inv-loop2 μ-loop2 Inv-loop μ-loop Inv-triples μ-triples
+triples-holds c = (search needs, search needs, every-none _)
+
+loop-holds : tie.Need-loop-holds Inv-loop2 μ-loop2 Inv-loop μ-loop Inv-triples μ-triples
+loop-holds c = (search needs, search needs, every-none _)
+
+loop2-holds : tie.Need-loop2-holds Inv-loop2 μ-loop2 Inv-loop μ-loop Inv-triples μ-triples
+loop2-holds c = (search needs, search needs, every-none _)
+
+meet-at-requires :
+    tie.Need-meet-at-requires Inv-loop2 μ-loop2 Inv-loop μ-loop Inv-triples μ-triples
+meet-at-requires c κs = search needs
+
+meet-at-requires-2 :
+    tie.Need-meet-at-requires-2 Inv-loop2 μ-loop2 Inv-loop μ-loop Inv-triples μ-triples
+meet-at-requires-2 c κs = (search needs, rw (c .meet-at .ensures) (meet-below _ _ (c .before .before .before .before .before .before .before .before .pre .0) (c .before .before .before .before .before .before .before .before .pre .1) (search needs) (search needs)), search needs)
+
+meet-at-requires-3 :
+    tie.Need-meet-at-requires-3 Inv-loop2 μ-loop2 Inv-loop μ-loop Inv-triples μ-triples
+meet-at-requires-3 c κs = search needs
+
+meet-at-requires-4 :
+    tie.Need-meet-at-requires-4 Inv-loop2 μ-loop2 Inv-loop μ-loop Inv-triples μ-triples
+meet-at-requires-4 c κs = (search needs, search needs, rw (c .meet-at3 .ensures) (meet-below _ _ (c .before .before .before .before .before .before .before .before .before .before .pre .0) (c .before .before .before .before .before .before .before .before .before .before .pre .1) (search needs) (search needs)))
+
+add-c : tie.Need-add-c Inv-loop2 μ-loop2 Inv-loop μ-loop Inv-triples μ-triples
+add-c c = search needs
+
+loop2-less : tie.Need-loop2-less Inv-loop2 μ-loop2 Inv-loop μ-loop Inv-triples μ-triples
+loop2-less c = search needs
+
+loop2-again : tie.Need-loop2-again Inv-loop2 μ-loop2 Inv-loop μ-loop Inv-triples μ-triples
+loop2-again c = (
+  search needs,
+  search needs,
+  every-more _ _ (c .before .before .before .before .before .before .loop2 .inv .2)
+      (eq-eqb _ _
+      (grouped _ _ _ _ _ (c .before .before .before .before .meet-at .ensures) (c .before .before .before .meet-at2 .ensures) (c .before .before .meet-at3 .ensures) (c .before .meet-at4 .ensures)
+      .0 (c .if1 .left))),
+)
+
+add-b : tie.Need-add-b Inv-loop2 μ-loop2 Inv-loop μ-loop Inv-triples μ-triples
+add-b c = search needs
+
+loop-less : tie.Need-loop-less Inv-loop2 μ-loop2 Inv-loop μ-loop Inv-triples μ-triples
+loop-less c = search needs
+
+loop-again : tie.Need-loop-again Inv-loop2 μ-loop2 Inv-loop μ-loop Inv-triples μ-triples
+loop-again c = (
+  search needs,
+  search needs,
+  every-more _ _ (c .before .before .before .loop .inv .2) (every-done _ _ _ (c .before .loop2 .inv .0) (search needs) (c .before .loop2 .inv .2)),
+)
+
+add-a : tie.Need-add-a Inv-loop2 μ-loop2 Inv-loop μ-loop Inv-triples μ-triples
+add-a c = search needs
+
+triples-less : tie.Need-triples-less Inv-loop2 μ-loop2 Inv-loop μ-loop Inv-triples μ-triples
+triples-less c = search needs
+
+triples-again : tie.Need-triples-again Inv-loop2 μ-loop2 Inv-loop μ-loop Inv-triples μ-triples
+triples-again c = (
+  search needs,
+  search needs,
+  every-more _ _ (c .before .before .before .triples .inv .2) (every-done _ _ _ (c .before .loop .inv .0) (search needs) (c .before .loop .inv .2)),
+)
+
+returns : tie.Need-returns Inv-loop2 μ-loop2 Inv-loop μ-loop Inv-triples μ-triples
+unfolding associative-test
+returns c = c .before .triples .inv .1 ∙ sym (every-done _ _ _ (c .before .triples .inv .0) (search needs) (c .before .triples .inv .2))
+
+returns-2 : tie.Need-returns-2 Inv-loop2 μ-loop2 Inv-loop μ-loop Inv-triples μ-triples
+unfolding associative-test
+returns-2 c = sym
+    (every-not _ _ (c .before .before .before .before .before .before .before .before .before .before .triples .a) (search needs)
+    (every-not _ _ (c .before .before .before .before .before .before .before .before .loop .b) (search needs)
+    (every-not _ _ (c .before .before .before .before .before .before .loop2 .c) (search needs)
+    (ne-eqb _ _ (λ e. c .if1 .taken (grouped _ _ _ _ _ (c .before .before .before .before .meet-at .ensures) (c .before .before .before .meet-at2 .ensures) (c .before .before .meet-at3 .ensures) (c .before .meet-at4 .ensures) .1 e))))))
+
+pub associative-spec : {M : Type 1} → statement M
+associative-spec =
+    tie.close
+    (tie.spec
+    Inv-loop2
+    μ-loop2
+    Inv-loop
+    μ-loop
+    Inv-triples
+    μ-triples
+    triples-holds
+    loop-holds
+    loop2-holds
+    meet-at-requires
+    meet-at-requires-2
+    meet-at-requires-3
+    meet-at-requires-4
+    add-c
+    loop2-less
+    loop2-again
+    add-b
+    loop-less
+    loop-again
+    add-a
+    triples-less
+    triples-again
+    returns
+    returns-2)

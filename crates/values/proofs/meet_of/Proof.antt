@@ -1,0 +1,51 @@
+-- `values::meet_of` meets its contract: the place of two 32-bit values fits 64 bits, and each arm is `meetOf`'s.
+-- Assumes nothing.
+use native.Mathlib.Omega.{arith}
+use borrow.Author.Needs.{needs}
+use Rattle.theory.specs.ValueSets.{meetAt}
+use Rattle.values.specs.ValueKind.{meetOf}
+use Rattle.values.proofs.Setups.{place-fits}
+use Rattle.values.proofs.meet_of.Statement.{statement}
+use Rattle.values.proofs.meet_of.Tie as tie
+
+enum-known-kind : tie.Need-enum-known-kind
+enum-known-kind c = search needs
+
+cast-entry : tie.Need-cast-entry
+cast-entry c = search needs
+
+mul-entry : tie.Need-mul-entry
+mul-entry c = omega
+    (arith, place-fits (c .before .before .before .before .args .a) (c .before .kind .given .0 .0) (c .before .before .before .before .args .b) (search needs) (search needs) (search needs))
+
+add-entry : tie.Need-add-entry
+add-entry c = record {
+  fits = place-fits (c .before .before .before .before .args .a) (c .before .kind .given .0 .0) (c .before .before .before .before .args .b) (search needs) (search needs) (search needs);
+}
+
+entry-requires : tie.Need-entry-requires
+entry-requires c κs = search needs
+
+enum-told : tie.Need-enum-told
+enum-told c = search needs
+
+returns : tie.Need-returns
+unfolding meetOf meetAt
+returns c = rw (c .before .before .kind .given .1) (c .entry .ensures)
+
+returns-2 : tie.Need-returns-2
+unfolding meetOf
+returns-2 c = rw (c .enum-told .given .1)
+
+pub meet-of-spec : {M : Type 1} → statement M
+meet-of-spec =
+    tie.close
+    (tie.spec
+    enum-known-kind
+    cast-entry
+    mul-entry
+    add-entry
+    entry-requires
+    enum-told
+    returns
+    returns-2)

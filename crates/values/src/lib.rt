@@ -1,0 +1,216 @@
+// Document 01, "Value sets": the check of a set-up, the four-value set, meet and "at or below".
+use refusal::Judgement;
+use refusal::Refusal;
+ghost use mathlib.Core.Path.{_≡_};
+ghost use mathlib.Core.Bool.{true};
+ghost use Prim.Native.Nat.{ℕ, _+_, _*_, _≤_, _<_};
+ghost use lib.ListN.{length, getD};
+ghost use Rattle.refusal.specs.Refusal.{judgement};
+ghost use Rattle.theory.specs.ValueSets.{meetAt, four-value-meet};
+ghost use Rattle.theory.specs.ValueSetClaims.{idempotent-test, commutative-test, associative-test, neutral-test};
+ghost use Rattle.values.specs.Setup.{setup, events-test, values-test, entries-test, meet-test, setup-refusal, Square};
+ghost use Rattle.values.specs.ValueKind.{meetOf, at-or-below};
+
+// Document 01's limits of a set-up.
+pub const EVENT_LIMIT: usize = 16;
+
+pub const VALUE_LIMIT: usize = 16;
+
+// What the values are: so many numbers with a meet table, or registers, whose value is low + 65536 * high.
+pub enum ValueKind {
+    Numbered(u32),
+    Register,
+}
+
+const FOUR_VALUE_MEET: [u8; 16] = [0, 0, 0, 0, 0, 1, 0, 1, 0, 0, 2, 2, 0, 1, 2, 3];
+
+// The four-value set: 0 is conflict, 1 low, 2 high, 3 top.
+pub fn four_values() -> [u8; 16]
+    ensures { λ r. ⌜ r ≡ four-value-meet ⌝ }
+{
+    FOUR_VALUE_MEET
+}
+
+fn wide(x: u8) -> usize
+    ensures { λ r. ⌜ r ≡ x ⌝ }
+{
+    x as usize
+}
+
+fn wide32(x: u8) -> u32
+    ensures { λ r. ⌜ r ≡ x ⌝ }
+{
+    x as u32
+}
+
+// The table's entry, or 0 outside it.
+fn entry(table: &[u8], at: usize) -> u32
+    ensures { λ r. ⌜ r ≡ getD (now (table .entry)) at 0 ⌝ }
+{
+    if at < table.len() {
+        wide32(table[at])
+    } else {
+        0
+    }
+}
+
+// The meet of two values.
+pub fn meet_of(kind: ValueKind, table: &[u8], a: u32, b: u32) -> u32
+    ensures { λ r. ⌜ r ≡ meetOf kind (now (table .entry)) a b ⌝ }
+{
+    match kind {
+        ValueKind::Numbered(n) => entry(table, (a as usize) * (n as usize) + (b as usize)),
+        ValueKind::Register => a & b,
+    }
+}
+
+// Whether b is at or below c: the meet of b and c is b.
+pub fn at_or_below(kind: ValueKind, table: &[u8], b: u32, c: u32) -> bool
+    ensures { λ r. ⌜ r ≡ at-or-below kind (now (table .entry)) b c ⌝ }
+{
+    meet_of(kind, table, b, c) == b
+}
+
+// The meet of two of so many values, in a table that is whole.
+fn meet_at(meet: &[u8], values: usize, a: usize, b: usize) -> usize
+    requires { ⌜ Square values (now meet) × (a < values) × (b < values) ⌝ }
+    ensures { λ r. ⌜ r ≡ meetAt values (now (meet .entry)) a b ⌝ }
+{
+    wide(meet[a * values + b])
+}
+
+// Whether every entry is below values.
+fn entries_below(meet: &[u8], values: usize) -> bool
+    ensures { λ r. ⌜ r ≡ entries-test values (now (meet .entry)) ⌝ }
+{
+    for i in 0..meet.len() {
+        if values <= wide(meet[i]) {
+            return false;
+        }
+    }
+    true
+}
+
+// Whether the meet of each value with itself is that value.
+fn idempotent(meet: &[u8], values: usize) -> bool
+    requires { ⌜ Square values (now meet) ⌝ }
+    ensures { λ r. ⌜ r ≡ idempotent-test values (now (meet .entry)) ⌝ }
+{
+    for a in 0..values {
+        if meet_at(meet, values, a, a) != a {
+            return false;
+        }
+    }
+    true
+}
+
+// Whether the order of every two values does not matter.
+fn commutative(meet: &[u8], values: usize) -> bool
+    requires { ⌜ Square values (now meet) ⌝ }
+    ensures { λ r. ⌜ r ≡ commutative-test values (now (meet .entry)) ⌝ }
+{
+    for a in 0..values {
+        for b in 0..values {
+            if meet_at(meet, values, a, b) != meet_at(meet, values, b, a) {
+                return false;
+            }
+        }
+    }
+    true
+}
+
+// Whether the grouping of every three values does not matter; left at the first triple that breaks the law.
+fn associative(meet: &[u8], values: usize) -> bool
+    requires { ⌜ Square values (now meet) × (entries-test values (now meet) ≡ true) ⌝ }
+    ensures { λ r. ⌜ r ≡ associative-test values (now (meet .entry)) ⌝ }
+{
+    let mut holds = true;
+    'triples: for a in 0..values {
+        for b in 0..values {
+            for c in 0..values {
+                if meet_at(meet, values, meet_at(meet, values, a, b), c)
+                    != meet_at(meet, values, a, meet_at(meet, values, b, c))
+                {
+                    holds = false;
+                    break 'triples;
+                }
+            }
+        }
+    }
+    holds
+}
+
+// Whether the meet of each value with top is that value.
+fn neutral(meet: &[u8], values: usize, top: usize) -> bool
+    requires { ⌜ Square values (now meet) × (top < values) ⌝ }
+    ensures { λ r. ⌜ r ≡ neutral-test values (now (meet .entry)) top ⌝ }
+{
+    for a in 0..values {
+        if meet_at(meet, values, a, top) != a {
+            return false;
+        }
+    }
+    true
+}
+
+// Whether the table is whole, its entries are values, and the laws hold.
+fn lawful_meet(values: usize, top: usize, meet: &[u8]) -> bool
+    requires { ⌜ values-test values top ≡ true ⌝ }
+    ensures { λ r. ⌜ r ≡ meet-test values top (now (meet .entry)) ⌝ }
+{
+    if meet.len() != values * values {
+        return false;
+    }
+    if !entries_below(meet, values) {
+        return false;
+    }
+    if !idempotent(meet, values) {
+        return false;
+    }
+    if !commutative(meet, values) {
+        return false;
+    }
+    if !associative(meet, values) {
+        return false;
+    }
+    neutral(meet, values, top)
+}
+
+// Whether events are 1 to 16.
+fn events_in_limits(events: usize) -> bool
+    ensures { λ r. ⌜ r ≡ events-test events ⌝ }
+{
+    if events < 1 {
+        return false;
+    }
+    events <= EVENT_LIMIT
+}
+
+// Whether values are 1 to 16 and top is below them.
+fn values_in_limits(values: usize, top: usize) -> bool
+    ensures { λ r. ⌜ r ≡ values-test values top ⌝ }
+{
+    if values < 1 {
+        return false;
+    }
+    if VALUE_LIMIT < values {
+        return false;
+    }
+    top < values
+}
+
+// The check of a set-up: refusals 1, 2 and 3, in this order.
+pub fn check_setup(events: usize, values: usize, top: usize, meet: &[u8]) -> Judgement
+    ensures { λ r. ⌜ r ≡ judgement (setup-refusal (setup events values top (now (meet .entry)))) ⌝ }
+{
+    if !events_in_limits(events) {
+        return Judgement::Refused(Refusal::Plain(refusal::SETUP_EVENTS));
+    }
+    if !values_in_limits(values, top) {
+        return Judgement::Refused(Refusal::Plain(refusal::SETUP_VALUES));
+    }
+    if !lawful_meet(values, top, meet) {
+        return Judgement::Refused(Refusal::Plain(refusal::SETUP_MEET));
+    }
+    Judgement::Accepted
+}
