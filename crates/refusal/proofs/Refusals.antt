@@ -1,25 +1,27 @@
 -- There is one first refusal and one lowest place; the computing twins yield them.
 -- Assumes nothing.
-use mathlib.Core.Path.{_≡_, refl, sym, _∙_, ap}
-use mathlib.Core.Logic.{_⊎_, inl, inr}
-use mathlib.Core.Bool.{Bool, true, false}
+use mathlib.Core.Path.{_≡_, refl, sym, _∙_, ap, subst}
+use mathlib.Core.Logic.{inl, inr}
+use mathlib.Core.Bool.{Bool, true, false, true≢false}
 use mathlib.Core.Option.{Option, none, some, Option·some-ne-none}
-use mathlib.Core.List.{List, [], _∷_, _++_}
+use mathlib.Core.List.{[], _∷_}
 use Prim.Native.Nat.{ℕ, _<_}
 use native.Mathlib.Omega.{arith}
 use Rattle.refusal.specs.declared.Refusal.{Refusal}
 use Rattle.refusal.specs.declared.Refusal.the-variants.{Plain, At}
 use Rattle.refusal.specs.declared.Judgement.the-variants.{Accepted}
-use Rattle.refusal.specs.Refusal.{number, Condition, plain, Lowest, at-lowest, First, or-else, plain-unless, at-found, judgement}
+use Rattle.refusal.specs.declared.Counted.the-variants.{Count}
+use Rattle.refusal.specs.Refusal.{number, place, has-place, HasNumber, plain, Lowest, at-lowest, First, or-else, plain-unless, at-found, judgement, counted}
 use Rattle.refusal.specs.RefusalClaims.{Functional, AllFunctional, LowestUniqueClaim, FirstUniqueClaim, FirstAppendClaim, NoneMet, AcceptedClaim}
 
 -- Conditions without a place: at most one refusal, of their number.
 pub plain-functional : (n : ℕ) (Met : Type 0) → Functional (plain n Met)
 plain-functional n Met r s met met2 = met .1 ∙ sym (met2 .1)
 
-pub plain-number : (n : ℕ) (Met : Type 0) (refusal : Refusal) → plain n Met refusal → number refusal ≡ n
-unfolding number
-plain-number n Met refusal met = ap number (met .1)
+pub plain-number : (n : ℕ) (Met : Type 0) → has-place n ≡ false → (refusal : Refusal) → plain n Met refusal → HasNumber n refusal
+unfolding number place
+plain-number n Met placeless refusal met =
+    subst (HasNumber n) (sym (met .1)) (record { number-is = refl; place-is = (λ e. refl, λ e. placeless) })
 
 -- Conditions with a place: the lowest place is one, so there is at most one refusal, of their number.
 pub lowest-unique : LowestUniqueClaim
@@ -31,9 +33,15 @@ lowest-unique P p q l m =
 pub at-lowest-functional : (n : ℕ) (Met : ℕ → Type 0) → Functional (at-lowest n Met)
 at-lowest-functional n Met r s (p, l, e) (q, m, d) = e ∙ ap (At n) (lowest-unique Met p q l m) ∙ sym d
 
-pub at-lowest-number : (n : ℕ) (Met : ℕ → Type 0) (refusal : Refusal) → at-lowest n Met refusal → number refusal ≡ n
-unfolding number
-at-lowest-number n Met refusal (p, l, e) = ap number e
+pub at-lowest-number :
+    (n : ℕ) (Met : ℕ → Type 0) → has-place n ≡ true → (refusal : Refusal) → at-lowest n Met refusal → HasNumber n refusal
+unfolding number place
+at-lowest-number n Met placed refusal (p, l, e) =
+    subst (HasNumber n) (sym e)
+    (record {
+      number-is = refl;
+      place-is = (λ f. absurd (true≢false (sym placed ∙ f)), λ f. absurd (Option·some-ne-none p f));
+    })
 
 -- The twin of a condition without a place, from a test that decides it.
 pub plain-first : (n : ℕ) (Met : Type 0) (test : Bool) → (test ≡ false → Met) → (test ≡ true → ¬ Met) → First (plain n Met ∷ []) (plain-unless test n)
@@ -70,6 +78,11 @@ pub judgement-accepted : (a : Option Refusal) → judgement a ≡ Accepted → a
 unfolding judgement
 judgement-accepted none e = refl
 judgement-accepted (some r) e = let z : _≡_ {A = ℕ} 0 1 = cc in absurd (omega arith)
+
+pub counted-accepted : (a : Option Refusal) (n m : ℕ) → counted a n ≡ Count m → (a ≡ none) × (n ≡ m)
+unfolding counted
+counted-accepted none n m e = (refl, cc)
+counted-accepted (some r) n m e = let z : _≡_ {A = ℕ} 0 1 = cc in absurd (omega arith)
 
 -- There is no refusal exactly if no part has one.
 pub or-else-none : (a b : Option Refusal) → or-else a b ≡ none → (a ≡ none) × (b ≡ none)

@@ -1,12 +1,12 @@
 -- Refusals (document 01, "Who can cause a refusal"): number and place, their order, and which one a call gives.
 -- Assumes nothing.
 use mathlib.Core.Path.{_≡_}
-use mathlib.Core.Logic.{_⊎_}
-use mathlib.Core.Bool.{Bool, true, false, cond}
+use mathlib.Core.Logic.{_⊎_, _↔_}
+use mathlib.Core.Bool.{Bool, true, false, cond, _&&_, _||_}
 use mathlib.Core.Option.{Option, none, some}
 use mathlib.Core.List.{List, [], _∷_}
 use Prim.Native.Nat.{ℕ, _<_}
-use lib.Dec.{eqb}
+use lib.Dec.{eqb, leb}
 use Rattle.refusal.specs.declared.Refusal.{Refusal}
 use Rattle.refusal.specs.declared.Refusal.the-variants.{Plain, At}
 use Rattle.refusal.specs.declared.Judgement.{Judgement}
@@ -23,6 +23,10 @@ number (At n p) = n
 unfoldable pub place : Refusal → Option ℕ
 place (Plain n) = none
 place (At n p) = some p
+
+-- "4 and 6 to 9 also a place".
+unfoldable pub has-place : ℕ → Bool
+has-place n = eqb n 4 || (leb 6 n && leb n 9)
 
 -- Document 01's order: 17, 14, 15, 16, then 4, then 1 to 3, 5 to 10, 11, 12, and 13 last.
 unfoldable pub order : List ℕ
@@ -52,12 +56,17 @@ First [] answer = answer ≡ none
 First (C ∷ cs) answer =
     ((refusal : Refusal) × C refusal × (answer ≡ some refusal)) ⊎ (((refusal : Refusal) → ¬ C refusal) × First cs answer)
 
+-- A refusal of number n, with a place exactly if that number has one.
+pub record HasNumber (n : ℕ) (refusal : Refusal) : Type 0 where
+  pub number-is : number refusal ≡ n
+  pub place-is : (has-place n ≡ false) ↔ (place refusal ≡ none)
+
 -- Each condition of a list gives only refusals of its number.
 unfoldable pub HasNumbers : List ℕ → List Condition → Type 0
 HasNumbers [] [] = Unit
 HasNumbers [] (C ∷ cs) = ⊥
 HasNumbers (n ∷ ns) [] = ⊥
-HasNumbers (n ∷ ns) (C ∷ cs) = ((refusal : Refusal) → C refusal → number refusal ≡ n) × HasNumbers ns cs
+HasNumbers (n ∷ ns) (C ∷ cs) = ((refusal : Refusal) → C refusal → HasNumber n refusal) × HasNumbers ns cs
 
 -- The first list is the second with some numbers left out.
 unfoldable pub part-of : List ℕ → List ℕ → Bool

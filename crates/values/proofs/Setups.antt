@@ -1,28 +1,26 @@
 -- The tests of a set-up decide refusals 1, 2 and 3; a set-up is accepted exactly if it is a meet-semilattice within the limits.
 -- Assumes nothing.
-use mathlib.Core.Path.{_≡_, refl, sym, _∙_, ap, subst}
+use mathlib.Core.Path.{_≡_, refl, subst}
 use mathlib.Core.Logic.{_↔_, ⊎-elim}
 use mathlib.Core.Bool.{Bool, true, false, _&&_}
-use mathlib.Core.Option.{Option, none}
+use mathlib.Core.Option.{none}
 use mathlib.Core.List.{List, [], _∷_}
 use Prim.Native.Nat.{ℕ, _+_, _*_, _/_, _%_, _^_, _≤_, _<_}
 use native.Mathlib.Nat.{div-add-mod', mod-lt, div-lt-iff-lt-mul, mul-le-mul, lt-of-lt-of-le}
 use native.Mathlib.Omega.{arith}
-use borrow.Author.Tests.{ltb-true, ltb-false, leb-true, leb-false, eqb-true, eqb-false, lt-ltb, le-leb, eq-eqb, ne-eqb}
+use borrow.Author.Tests.{ltb-true, leb-true, eqb-true, lt-ltb, le-leb, eq-eqb, ne-eqb}
 use lib.Arith.{digits-lt}
-use lib.Dec.{leb, ltb, eqb, lit≤}
+use lib.Dec.{leb, eqb, lit≤}
 use lib.ListN.{length, getD}
-use Rattle.refusal.specs.declared.Refusal.{Refusal}
 use Rattle.refusal.specs.declared.Refusal.the-variants.{Plain}
 use Rattle.refusal.specs.declared.Judgement.the-variants.{Accepted, Refused}
-use Rattle.refusal.specs.Refusal.{plain, First, plain-unless, or-else, number, order, part-of, HasNumbers, InOrder, judgement}
+use Rattle.refusal.specs.Refusal.{plain, First, plain-unless, or-else, has-place, order, part-of, HasNumbers, InOrder, judgement}
 use Rattle.refusal.specs.RefusalClaims.{AllFunctional}
 use Rattle.refusal.proofs.Refusals.{plain-first, plain-functional, plain-number, first-append, first-unique, or-else-none, plain-none}
-use Rattle.theory.specs.Semilattice.{MeetSemilattice}
-use Rattle.theory.specs.ValueSets.{Below, meetAt, four-value-meet}
-use Rattle.theory.specs.ValueSetClaims.{every, closed-test, idempotent-test, commutative-test, associative-test, neutral-test, lawful}
+use Rattle.theory.specs.ValueSets.{meetAt, four-value-meet}
+use Rattle.theory.specs.ValueSetClaims.{closed-test, idempotent-test, commutative-test, associative-test, neutral-test, lawful}
 use Rattle.theory.proofs.ValueSets.{and-left, and-right, and-both, and-cases, every-at, every-of, every-some, laws-of-test, test-of-laws, four-value-semilattice}
-use Rattle.values.specs.Setup.{Setup, setup, event-limit, value-limit, EventsFault, ValuesFault, values-out-of-limits, top-not-below, MeetFault, length-wrong, entry-not-below, law-broken, setup-conditions, WellFormed, events-test, values-test, entries-test, meet-test, setup-refusal, Square, SetupClaim, SetupAcceptedClaim, FourValueSetupClaim}
+use Rattle.values.specs.Setup.{Setup, setup, value-limit, EventsFault, ValuesFault, values-out-of-limits, top-not-below, MeetFault, length-wrong, entry-not-below, law-broken, setup-conditions, WellFormed, events-test, values-test, entries-test, meet-test, setup-refusal, Square, SetupClaim, SetupAcceptedClaim, FourValueSetupClaim}
 
 differ : {b : Bool} → b ≡ true → b ≡ false → ⊥
 differ p q = let z : _≡_ {A = ℕ} 0 1 = cc in omega arith
@@ -198,8 +196,8 @@ module _ (s : Setup) where
   setup-functional = (plain-functional 1 _, (plain-functional 2 _, (plain-functional 3 _, tt)))
 
   setup-order : InOrder (1 ∷ 2 ∷ 3 ∷ []) (setup-conditions s)
-  unfolding setup-conditions HasNumbers part-of order
-  setup-order = record { numbered = (plain-number 1 _, (plain-number 2 _, (plain-number 3 _, tt))); ordered = refl }
+  unfolding setup-conditions HasNumbers has-place part-of order
+  setup-order = record { numbered = (plain-number 1 _ refl, (plain-number 2 _ refl, (plain-number 3 _ refl, tt))); ordered = refl }
 
   -- A set-up that passes the tests is a meet-semilattice within the limits.
   tests-well-formed :

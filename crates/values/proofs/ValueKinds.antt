@@ -1,6 +1,5 @@
 -- Both kinds of values are meet-semilattices, and the test of "at or below" is their order.
 -- Assumes nothing.
-use mathlib.Core.Path.{_≡_}
 use borrow.Author.Tests.{eqb-true, eq-eqb}
 use Rattle.theory.proofs.ValueSets.{packed-semilattice}
 use Rattle.values.specs.ValueKind.{meetOf, ValueKindClaim}

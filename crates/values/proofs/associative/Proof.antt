@@ -1,9 +1,9 @@
 -- `values::associative` meets its contract. The loops' invariants: the law holds at every triple before (a, b, c).
 -- Assumes nothing.
-use mathlib.Core.Path.{_≡_, sym, _∙_}
+use mathlib.Core.Path.{_≡_, sym, _∙_, refl}
 use mathlib.Core.Bool.{true}
 use Prim.Native.Nat.{_≤_, _-_}
-use borrow.Author.Needs.{needs}
+use native.Mathlib.Omega.{arith}
 use borrow.Author.Tests.{eq-eqb, ne-eqb}
 use lib.Dec.{eqb}
 use Rattle.theory.specs.ValueSets.{meetAt}
@@ -35,40 +35,48 @@ abbrev μ-triples : tie.MeasureT-triples
 μ-triples meet values holds₀ a₀ holds a = values - a
 
 triples-holds : tie.Need-triples-holds Inv-loop2 μ-loop2 Inv-loop μ-loop Inv-triples μ-triples
-triples-holds c = (search needs, search needs, every-none _)
+triples-holds c = (omega arith, refl, every-none _)
 
 loop-holds : tie.Need-loop-holds Inv-loop2 μ-loop2 Inv-loop μ-loop Inv-triples μ-triples
-loop-holds c = (search needs, search needs, every-none _)
+loop-holds c = (omega arith, c .before .triples .inv .1, every-none _)
 
 loop2-holds : tie.Need-loop2-holds Inv-loop2 μ-loop2 Inv-loop μ-loop Inv-triples μ-triples
-loop2-holds c = (search needs, search needs, every-none _)
+loop2-holds c = (omega arith, c .before .loop .inv .1, every-none _)
 
 meet-at-requires :
     tie.Need-meet-at-requires Inv-loop2 μ-loop2 Inv-loop μ-loop Inv-triples μ-triples
-meet-at-requires c κs = search needs
+meet-at-requires c κs = (c .before .before .before .before .before .before .before .pre .0, c .before .before .before .before .triples-test .taken, c .before .before .loop-test .taken)
 
 meet-at-requires-2 :
     tie.Need-meet-at-requires-2 Inv-loop2 μ-loop2 Inv-loop μ-loop Inv-triples μ-triples
-meet-at-requires-2 c κs = (search needs, rw (c .meet-at .ensures) (meet-below _ _ (c .before .before .before .before .before .before .before .before .pre .0) (c .before .before .before .before .before .before .before .before .pre .1) (search needs) (search needs)), search needs)
+meet-at-requires-2 c κs = (
+  c .before .before .before .before .before .before .before .before .pre .0,
+  rw (c .meet-at .ensures) (meet-below _ _ (c .before .before .before .before .before .before .before .before .pre .0) (c .before .before .before .before .before .before .before .before .pre .1) (c .before .before .before .before .before .triples-test .taken) (c .before .before .before .loop-test .taken)),
+  c .before .loop2-test .taken,
+)
 
 meet-at-requires-3 :
     tie.Need-meet-at-requires-3 Inv-loop2 μ-loop2 Inv-loop μ-loop Inv-triples μ-triples
-meet-at-requires-3 c κs = search needs
+meet-at-requires-3 c κs = (c .before .before .before .before .before .before .before .before .before .pre .0, c .before .before .before .before .loop-test .taken, c .before .before .loop2-test .taken)
 
 meet-at-requires-4 :
     tie.Need-meet-at-requires-4 Inv-loop2 μ-loop2 Inv-loop μ-loop Inv-triples μ-triples
-meet-at-requires-4 c κs = (search needs, search needs, rw (c .meet-at3 .ensures) (meet-below _ _ (c .before .before .before .before .before .before .before .before .before .before .pre .0) (c .before .before .before .before .before .before .before .before .before .before .pre .1) (search needs) (search needs)))
+meet-at-requires-4 c κs = (
+  c .before .before .before .before .before .before .before .before .before .before .pre .0,
+  c .before .before .before .before .before .before .before .triples-test .taken,
+  rw (c .meet-at3 .ensures) (meet-below _ _ (c .before .before .before .before .before .before .before .before .before .before .pre .0) (c .before .before .before .before .before .before .before .before .before .before .pre .1) (c .before .before .before .before .before .loop-test .taken) (c .before .before .before .loop2-test .taken)),
+)
 
 add-c : tie.Need-add-c Inv-loop2 μ-loop2 Inv-loop μ-loop Inv-triples μ-triples
-add-c c = search needs
+add-c c = omega arith
 
 loop2-less : tie.Need-loop2-less Inv-loop2 μ-loop2 Inv-loop μ-loop Inv-triples μ-triples
-loop2-less c = search needs
+loop2-less c = omega arith
 
 loop2-again : tie.Need-loop2-again Inv-loop2 μ-loop2 Inv-loop μ-loop Inv-triples μ-triples
 loop2-again c = (
-  search needs,
-  search needs,
+  omega arith,
+  c .before .before .before .before .before .before .loop2 .inv .1,
   every-more _ _ (c .before .before .before .before .before .before .loop2 .inv .2)
       (eq-eqb _ _
       (grouped _ _ _ _ _ (c .before .before .before .before .meet-at .ensures) (c .before .before .before .meet-at2 .ensures) (c .before .before .meet-at3 .ensures) (c .before .meet-at4 .ensures)
@@ -76,41 +84,42 @@ loop2-again c = (
 )
 
 add-b : tie.Need-add-b Inv-loop2 μ-loop2 Inv-loop μ-loop Inv-triples μ-triples
-add-b c = search needs
+add-b c = omega arith
 
 loop-less : tie.Need-loop-less Inv-loop2 μ-loop2 Inv-loop μ-loop Inv-triples μ-triples
-loop-less c = search needs
+loop-less c = omega arith
 
 loop-again : tie.Need-loop-again Inv-loop2 μ-loop2 Inv-loop μ-loop Inv-triples μ-triples
 loop-again c = (
-  search needs,
-  search needs,
-  every-more _ _ (c .before .before .before .loop .inv .2) (every-done _ _ _ (c .before .loop2 .inv .0) (search needs) (c .before .loop2 .inv .2)),
+  omega arith,
+  c .before .loop2 .inv .1,
+  every-more _ _ (c .before .before .before .loop .inv .2) (every-done _ _ _ (c .before .loop2 .inv .0) (c .loop2-test .left) (c .before .loop2 .inv .2)),
 )
 
 add-a : tie.Need-add-a Inv-loop2 μ-loop2 Inv-loop μ-loop Inv-triples μ-triples
-add-a c = search needs
+add-a c = omega arith
 
 triples-less : tie.Need-triples-less Inv-loop2 μ-loop2 Inv-loop μ-loop Inv-triples μ-triples
-triples-less c = search needs
+triples-less c = omega arith
 
 triples-again : tie.Need-triples-again Inv-loop2 μ-loop2 Inv-loop μ-loop Inv-triples μ-triples
 triples-again c = (
-  search needs,
-  search needs,
-  every-more _ _ (c .before .before .before .triples .inv .2) (every-done _ _ _ (c .before .loop .inv .0) (search needs) (c .before .loop .inv .2)),
+  omega arith,
+  c .before .loop .inv .1,
+  every-more _ _ (c .before .before .before .triples .inv .2) (every-done _ _ _ (c .before .loop .inv .0) (c .loop-test .left) (c .before .loop .inv .2)),
 )
 
 returns : tie.Need-returns Inv-loop2 μ-loop2 Inv-loop μ-loop Inv-triples μ-triples
 unfolding associative-test
-returns c = c .before .triples .inv .1 ∙ sym (every-done _ _ _ (c .before .triples .inv .0) (search needs) (c .before .triples .inv .2))
+returns c = c .before .triples .inv .1
+    ∙ sym (every-done _ _ _ (c .before .triples .inv .0) (c .triples-test .left) (c .before .triples .inv .2))
 
 returns-2 : tie.Need-returns-2 Inv-loop2 μ-loop2 Inv-loop μ-loop Inv-triples μ-triples
 unfolding associative-test
 returns-2 c = sym
-    (every-not _ _ (c .before .before .before .before .before .before .before .before .before .before .triples .a) (search needs)
-    (every-not _ _ (c .before .before .before .before .before .before .before .before .loop .b) (search needs)
-    (every-not _ _ (c .before .before .before .before .before .before .loop2 .c) (search needs)
+    (every-not _ _ (c .before .before .before .before .before .before .before .before .before .before .triples .a) (c .before .before .before .before .before .before .before .before .before .triples-test .taken)
+    (every-not _ _ (c .before .before .before .before .before .before .before .before .loop .b) (c .before .before .before .before .before .before .before .loop-test .taken)
+    (every-not _ _ (c .before .before .before .before .before .before .loop2 .c) (c .before .before .before .before .before .loop2-test .taken)
     (ne-eqb _ _ (λ e. c .if1 .taken (grouped _ _ _ _ _ (c .before .before .before .before .meet-at .ensures) (c .before .before .before .meet-at2 .ensures) (c .before .before .meet-at3 .ensures) (c .before .meet-at4 .ensures) .1 e))))))
 
 pub associative-spec : {M : Type 1} → statement M

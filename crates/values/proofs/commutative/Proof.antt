@@ -3,7 +3,7 @@
 use mathlib.Core.Path.{_≡_, sym, _∙_}
 use mathlib.Core.Bool.{true}
 use Prim.Native.Nat.{_≤_, _-_}
-use borrow.Author.Needs.{needs}
+use native.Mathlib.Omega.{arith}
 use borrow.Author.Tests.{eq-eqb, ne-eqb}
 use lib.Dec.{eqb}
 use Rattle.theory.specs.ValueSets.{meetAt}
@@ -26,51 +26,51 @@ abbrev μ-loop : tie.MeasureT-loop
 μ-loop meet values a₀ a = values - a
 
 loop-holds : tie.Need-loop-holds Inv-loop2 μ-loop2 Inv-loop μ-loop
-loop-holds c = (search needs, every-none _)
+loop-holds c = (omega arith, every-none _)
 
 loop2-holds : tie.Need-loop2-holds Inv-loop2 μ-loop2 Inv-loop μ-loop
-loop2-holds c = (search needs, every-none _)
+loop2-holds c = (omega arith, every-none _)
 
 meet-at-requires : tie.Need-meet-at-requires Inv-loop2 μ-loop2 Inv-loop μ-loop
-meet-at-requires c κs = search needs
+meet-at-requires c κs = (c .before .before .before .before .before .pre, c .before .before .loop-test .taken, c .loop2-test .taken)
 
 meet-at-requires-2 : tie.Need-meet-at-requires-2 Inv-loop2 μ-loop2 Inv-loop μ-loop
-meet-at-requires-2 c κs = search needs
+meet-at-requires-2 c κs = (c .before .before .before .before .before .before .pre, c .before .loop2-test .taken, c .before .before .before .loop-test .taken)
 
 returns : tie.Need-returns Inv-loop2 μ-loop2 Inv-loop μ-loop
 unfolding commutative-test
 returns c = sym
-    (every-not _ _ (c .before .before .before .before .before .before .loop .a) (search needs)
-    (every-not _ _ (c .before .before .before .before .loop2 .b) (search needs)
+    (every-not _ _ (c .before .before .before .before .before .before .loop .a) (c .before .before .before .before .before .loop-test .taken)
+    (every-not _ _ (c .before .before .before .before .loop2 .b) (c .before .before .before .loop2-test .taken)
     (ne-eqb _ _ (λ e. c .if1 .taken (c .before .before .meet-at .ensures ∙ e ∙ sym (c .before .meet-at2 .ensures))))))
 
 add-b : tie.Need-add-b Inv-loop2 μ-loop2 Inv-loop μ-loop
-add-b c = search needs
+add-b c = omega arith
 
 loop2-less : tie.Need-loop2-less Inv-loop2 μ-loop2 Inv-loop μ-loop
-loop2-less c = search needs
+loop2-less c = omega arith
 
 loop2-again : tie.Need-loop2-again Inv-loop2 μ-loop2 Inv-loop μ-loop
 loop2-again c = (
-  search needs,
+  omega arith,
   every-more _ _ (c .before .before .before .before .loop2 .inv .1) (eq-eqb _ _ (sym (c .before .before .meet-at .ensures) ∙ c .if1 .left ∙ c .before .meet-at2 .ensures)),
 )
 
 add-a : tie.Need-add-a Inv-loop2 μ-loop2 Inv-loop μ-loop
-add-a c = search needs
+add-a c = omega arith
 
 loop-less : tie.Need-loop-less Inv-loop2 μ-loop2 Inv-loop μ-loop
-loop-less c = search needs
+loop-less c = omega arith
 
 loop-again : tie.Need-loop-again Inv-loop2 μ-loop2 Inv-loop μ-loop
 loop-again c = (
-  search needs,
-  every-more _ _ (c .before .before .before .loop .inv .1) (every-done _ _ _ (c .before .loop2 .inv .0) (search needs) (c .before .loop2 .inv .1)),
+  omega arith,
+  every-more _ _ (c .before .before .before .loop .inv .1) (every-done _ _ _ (c .before .loop2 .inv .0) (c .loop2-test .left) (c .before .loop2 .inv .1)),
 )
 
 returns-2 : tie.Need-returns-2 Inv-loop2 μ-loop2 Inv-loop μ-loop
 unfolding commutative-test
-returns-2 c = sym (every-done _ _ _ (c .before .loop .inv .0) (search needs) (c .before .loop .inv .1))
+returns-2 c = sym (every-done _ _ _ (c .before .loop .inv .0) (c .loop-test .left) (c .before .loop .inv .1))
 
 pub commutative-spec : {M : Type 1} → statement M
 commutative-spec =

@@ -1,8 +1,9 @@
 -- `values::entries_below` meets its contract. The loop's invariant: the test passes at every entry before i.
 -- Assumes nothing.
-use mathlib.Core.Path.{_≡_, sym}
+use mathlib.Core.Path.{_≡_, sym, refl}
 use mathlib.Core.Bool.{true}
 use Prim.Native.Nat.{_≤_, _-_}
+use native.Mathlib.Omega.{arith}
 use borrow.Author.Needs.{needs}
 use borrow.Author.Tests.{lt-ltb, le-ltb}
 use lib.Dec.{ltb}
@@ -20,10 +21,10 @@ abbrev μ-loop : tie.MeasureT-loop
 μ-loop meet values i₀ i-end i = i-end - i
 
 loop-holds : tie.Need-loop-holds Inv-loop μ-loop
-loop-holds c = (search needs, search needs, every-none _)
+loop-holds c = (refl, omega arith, every-none _)
 
 shared-slice-read-wide : tie.Need-shared-slice-read-wide Inv-loop μ-loop
-shared-slice-read-wide c = search needs
+shared-slice-read-wide c = omega arith
 
 wide-requires : tie.Need-wide-requires Inv-loop μ-loop
 wide-requires c κs = search needs
@@ -31,20 +32,20 @@ wide-requires c κs = search needs
 returns : tie.Need-returns Inv-loop μ-loop
 unfolding entries-test
 returns c = sym
-    (every-not _ _ (c .before .before .before .before .loop .i) (search needs) (le-ltb _ _ (rw (c .before .wide .ensures) at (c .if1 .taken))))
+    (every-not _ _ (c .before .before .before .before .loop .i) (omega arith) (le-ltb _ _ (rw (c .before .wide .ensures) at (c .if1 .taken))))
 
 add-i : tie.Need-add-i Inv-loop μ-loop
-add-i c = search needs
+add-i c = omega arith
 
 loop-less : tie.Need-loop-less Inv-loop μ-loop
-loop-less c = search needs
+loop-less c = omega arith
 
 loop-again : tie.Need-loop-again Inv-loop μ-loop
-loop-again c = (search needs, search needs, every-more _ _ (c .before .before .before .before .loop .inv .2) (lt-ltb _ _ (rw (c .before .wide .ensures) at (c .if1 .left))))
+loop-again c = (c .before .before .before .before .loop .inv .0, omega arith, every-more _ _ (c .before .before .before .before .loop .inv .2) (lt-ltb _ _ (rw (c .before .wide .ensures) at (c .if1 .left))))
 
 returns-2 : tie.Need-returns-2 Inv-loop μ-loop
 unfolding entries-test
-returns-2 c = sym (every-done _ _ _ (c .before .loop .inv .1) (search needs) (c .before .loop .inv .2))
+returns-2 c = sym (every-done _ _ _ (c .before .loop .inv .1) (omega arith) (c .before .loop .inv .2))
 
 pub entries-below-spec : {M : Type 1} → statement M
 entries-below-spec =

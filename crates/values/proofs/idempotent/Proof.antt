@@ -3,7 +3,7 @@
 use mathlib.Core.Path.{_≡_, sym, _∙_}
 use mathlib.Core.Bool.{true}
 use Prim.Native.Nat.{_≤_, _-_}
-use borrow.Author.Needs.{needs}
+use native.Mathlib.Omega.{arith}
 use borrow.Author.Tests.{eq-eqb, ne-eqb}
 use lib.Dec.{eqb}
 use Rattle.theory.specs.ValueSets.{meetAt}
@@ -19,27 +19,28 @@ abbrev μ-loop : tie.MeasureT-loop
 μ-loop meet values a₀ a = values - a
 
 loop-holds : tie.Need-loop-holds Inv-loop μ-loop
-loop-holds c = (search needs, every-none _)
+loop-holds c = (omega arith, every-none _)
 
 meet-at-requires : tie.Need-meet-at-requires Inv-loop μ-loop
-meet-at-requires c κs = search needs
+meet-at-requires c κs = (c .before .before .before .pre, c .loop-test .taken, c .loop-test .taken)
 
 returns : tie.Need-returns Inv-loop μ-loop
 unfolding idempotent-test
-returns c = sym (every-not _ _ (c .before .before .before .loop .a) (search needs) (ne-eqb _ _ (λ e. c .if1 .taken (c .before .meet-at .ensures ∙ e))))
+returns c = sym
+    (every-not _ _ (c .before .before .before .loop .a) (c .before .before .loop-test .taken) (ne-eqb _ _ (λ e. c .if1 .taken (c .before .meet-at .ensures ∙ e))))
 
 add-a : tie.Need-add-a Inv-loop μ-loop
-add-a c = search needs
+add-a c = omega arith
 
 loop-less : tie.Need-loop-less Inv-loop μ-loop
-loop-less c = search needs
+loop-less c = omega arith
 
 loop-again : tie.Need-loop-again Inv-loop μ-loop
-loop-again c = (search needs, every-more _ _ (c .before .before .before .loop .inv .1) (eq-eqb _ _ (sym (c .before .meet-at .ensures) ∙ c .if1 .left)))
+loop-again c = (omega arith, every-more _ _ (c .before .before .before .loop .inv .1) (eq-eqb _ _ (sym (c .before .meet-at .ensures) ∙ c .if1 .left)))
 
 returns-2 : tie.Need-returns-2 Inv-loop μ-loop
 unfolding idempotent-test
-returns-2 c = sym (every-done _ _ _ (c .before .loop .inv .0) (search needs) (c .before .loop .inv .1))
+returns-2 c = sym (every-done _ _ _ (c .before .loop .inv .0) (c .loop-test .left) (c .before .loop .inv .1))
 
 pub idempotent-spec : {M : Type 1} → statement M
 idempotent-spec =

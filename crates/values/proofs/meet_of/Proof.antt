@@ -16,11 +16,11 @@ cast-entry c = search needs
 
 mul-entry : tie.Need-mul-entry
 mul-entry c = omega
-    (arith, place-fits (c .before .before .before .before .args .a) (c .before .kind .given .0 .0) (c .before .before .before .before .args .b) (search needs) (search needs) (search needs))
+    (arith, place-fits (c .before .before .before .before .args .a) (c .before .kind .given .0 .0) (c .before .before .before .before .args .b) (omega arith) (omega arith) (omega arith))
 
 add-entry : tie.Need-add-entry
 add-entry c = record {
-  fits = place-fits (c .before .before .before .before .args .a) (c .before .kind .given .0 .0) (c .before .before .before .before .args .b) (search needs) (search needs) (search needs);
+  fits = place-fits (c .before .before .before .before .args .a) (c .before .kind .given .0 .0) (c .before .before .before .before .args .b) (omega arith) (omega arith) (omega arith);
 }
 
 entry-requires : tie.Need-entry-requires

@@ -1,0 +1,144 @@
+-- The answers of 6 to 9, one after the other, and that they depend on the nodes' fields alone.
+-- Assumes nothing.
+use mathlib.Core.Path.{_≡_, refl, _∙_, ap, ap₂}
+use mathlib.Core.Bool.{Bool, true, not}
+use mathlib.Core.Option.{Option, none, some}
+use mathlib.Core.List.{_∷_}
+use Prim.Native.Nat.{ℕ, zero, suc, _+_, _≤_, _<_}
+use native.Mathlib.Omega.{arith}
+use borrow.Author.Tests.{not-false}
+use Rattle.theory.specs.Formula.{Formula, size}
+use Rattle.refusal.specs.Refusal.{or-else, at-found}
+use Rattle.refusal.specs.declared.Refusal.{Refusal}
+use Rattle.refusal.specs.declared.Refusal.the-variants.{At}
+use Rattle.formulas.specs.declared.Step.the-variants.{Next, Fault}
+use Rattle.formulas.specs.declared.Found.the-variants.{At as FoundAt, Nowhere}
+use Rattle.formulas.specs.RuleConditions.{closed-to-variable}
+use Rattle.formulas.specs.NodeReading.{Reads}
+use Rattle.formulas.specs.RuleReading.{kind-of, fields-fit, awaited, end-fault, node-of, nodes-from, formulas, first-formula, formula-read, lowest-unbound, lowest-closed}
+use Rattle.formulas.specs.RuleRefusal.{variables-refusal, structure-refusal, misfit-place, nodes-refusal}
+use Rattle.formulas.specs.NodeWalks.{found, step, KnownKinds}
+use Rattle.formulas.proofs.KindFacts.{fit-known}
+use Rattle.formulas.proofs.Search.{lowest-clear, lowest-same}
+use Rattle.formulas.proofs.Prefix.{no-fault}
+use Rattle.formulas.proofs.Reading.{whole-read}
+
+-- An answer that was looked for, taken back to the place.
+pub found-at : (o : Option ℕ) (p : ℕ) → found o ≡ FoundAt p → o ≡ some p
+unfolding found
+found-at none p e = let z : _≡_ {A = ℕ} 0 1 = cc in absurd (omega arith)
+found-at (some i) p e = let q : i ≡ p = cc in ap some q
+
+pub found-nowhere : (o : Option ℕ) → found o ≡ Nowhere → o ≡ none
+unfolding found
+found-nowhere none e = refl
+found-nowhere (some i) e = let z : _≡_ {A = ℕ} 0 1 = cc in absurd (omega arith)
+
+pub step-fault : (o : Option ℕ) (p q : ℕ) → step o q ≡ Fault p → o ≡ some p
+unfolding step
+step-fault none p q e = let z : _≡_ {A = ℕ} 0 1 = cc in absurd (omega arith)
+step-fault (some i) p q e = let r : i ≡ p = cc in ap some r
+
+pub step-next : (o : Option ℕ) (p q : ℕ) → step o q ≡ Next p → o ≡ none
+unfolding step
+step-next none p q e = refl
+step-next (some i) p q e = let z : _≡_ {A = ℕ} 0 1 = cc in absurd (omega arith)
+
+-- The first of two answers.
+pub first-answer : (o : Option ℕ) (n p : ℕ) (later : Option Refusal) → o ≡ some p → or-else (at-found o n) later ≡ some (At n p)
+unfolding or-else at-found
+first-answer o n p later e = ap (λ x. or-else (at-found x n) later) e
+
+pub later-answer : (o : Option ℕ) (n : ℕ) (later : Option Refusal) → o ≡ none → or-else (at-found o n) later ≡ later
+unfolding or-else at-found
+later-answer o n later e = ap (λ x. or-else (at-found x n) later) e
+
+module _ (φ : Formula ℕ) where
+  pub answer-unbound : (p : ℕ) → lowest-unbound 0 0 φ ≡ some p → variables-refusal φ ≡ some (At 8 p)
+  unfolding variables-refusal
+  answer-unbound p e = first-answer (lowest-unbound 0 0 φ) 8 p (at-found (lowest-closed closed-to-variable 0 φ) 9) e
+
+  pub answer-closed : lowest-unbound 0 0 φ ≡ none → variables-refusal φ ≡ at-found (lowest-closed closed-to-variable 0 φ) 9
+  unfolding variables-refusal
+  answer-closed e = later-answer (lowest-unbound 0 0 φ) 8 (at-found (lowest-closed closed-to-variable 0 φ) 9) e
+
+module _ (kind first value : ℕ → ℕ) (count : ℕ) where
+  pub answer-end : (p : ℕ) → end-fault kind 1 count 0 ≡ some p → structure-refusal kind first value count ≡ some (At 7 p)
+  unfolding structure-refusal
+  answer-end p e = first-answer (end-fault kind 1 count 0) 7 p (variables-refusal (formula-read kind first value count)) e
+
+  pub answer-variables :
+      end-fault kind 1 count 0 ≡ none → structure-refusal kind first value count ≡ variables-refusal (formula-read kind first value count)
+  unfolding structure-refusal
+  answer-variables e = later-answer (end-fault kind 1 count 0) 7 (variables-refusal (formula-read kind first value count)) e
+
+  -- Where every kind is known and 7 is not met, the formula reads from node 0 on to the last node.
+  pub formula-reads :
+      KnownKinds kind count → end-fault kind 1 count 0 ≡ none
+      → Reads kind first value 0 (formula-read kind first value count) × (size (formula-read kind first value count) ≡ count)
+  formula-reads known e = whole-read kind first value (formula-read kind first value count) count known (no-fault kind first value count e)
+
+  module _ (fits : ℕ → Bool) (events : ℕ) where
+    pub answer-misfit :
+        (p : ℕ) → misfit-place kind first value count fits events ≡ some p → nodes-refusal kind first value count fits events ≡ some (At 6 p)
+    unfolding nodes-refusal
+    answer-misfit p e = first-answer (misfit-place kind first value count fits events) 6 p (structure-refusal kind first value count) e
+
+    pub answer-structure :
+        misfit-place kind first value count fits events ≡ none
+        → nodes-refusal kind first value count fits events ≡ structure-refusal kind first value count
+    unfolding nodes-refusal
+    answer-structure e = later-answer (misfit-place kind first value count fits events) 6 (structure-refusal kind first value count) e
+
+    abbrev fit : ℕ → Bool
+    fit i = fields-fit events (kind-of (kind i)) (first i) (value i) (fits (value i))
+
+    -- Where 6 is not met, the fields of every node fit.
+    pub all-fit : misfit-place kind first value count fits events ≡ none → (i : ℕ) → i < count → fit i ≡ true
+    unfolding misfit-place
+    all-fit e i h = not-false (fit i) (lowest-clear (λ j. not (fit j)) count 0 e i (omega arith) (omega arith))
+
+    pub all-known : misfit-place kind first value count fits events ≡ none → KnownKinds kind count
+    all-known e i h = fit-known events (first i) (value i) (fits (value i)) (kind i) (all-fit e i h)
+
+-- Accessors that agree on the nodes give the same answers.
+end-same :
+    (kind other : ℕ → ℕ) (left k i : ℕ) → ((j : ℕ) → i ≤ j → j < i + left → kind j ≡ other j) → end-fault kind k left i ≡ end-fault other k left i
+unfolding end-fault
+end-same kind other zero zero i h = refl
+end-same kind other zero (suc k) i h = refl
+end-same kind other (suc left) zero i h = refl
+end-same kind other (suc left) (suc k) i h =
+    end-same kind other left (awaited (kind-of (kind i)) k) (suc i) (λ j l u. h j (omega arith) (omega arith))
+    ∙ ap (λ x. end-fault other (awaited (kind-of x) k) left (suc i)) (h i (omega arith) (omega arith))
+
+module _ (kind other first second value v : ℕ → ℕ) where
+  pub from-same :
+      (left i : ℕ) → ((j : ℕ) → i ≤ j → j < i + left → kind j ≡ other j) → ((j : ℕ) → i ≤ j → j < i + left → first j ≡ second j)
+      → ((j : ℕ) → i ≤ j → j < i + left → value j ≡ v j) → nodes-from kind first value left i ≡ nodes-from other second v left i
+  unfolding nodes-from
+  from-same zero i h f g = refl
+  from-same (suc left) i h f g =
+      ap₂ (λ n l. n ∷ l)
+      (ap₂ (λ x y. node-of (kind-of x) y (value i)) (h i (omega arith) (omega arith)) (f i (omega arith) (omega arith))
+      ∙ ap (λ y. node-of (kind-of (other i)) (second i) y) (g i (omega arith) (omega arith)))
+      (from-same left (suc i) (λ j l u. h j (omega arith) (omega arith)) (λ j l u. f j (omega arith) (omega arith)) (λ j l u. g j (omega arith) (omega arith)))
+
+  pub refusal-same :
+      (count : ℕ) (fits : ℕ → Bool) (events : ℕ) → ((j : ℕ) → j < count → kind j ≡ other j) → ((j : ℕ) → j < count → first j ≡ second j)
+      → ((j : ℕ) → j < count → value j ≡ v j)
+      → nodes-refusal kind first value count fits events ≡ nodes-refusal other second v count fits events
+  unfolding nodes-refusal misfit-place structure-refusal formula-read
+  refusal-same count fits events h f g =
+      ap₂ (λ o l. or-else (at-found o 6) l)
+      (lowest-same
+      (λ j. not (fields-fit events (kind-of (kind j)) (first j) (value j) (fits (value j))))
+      (λ j. not (fields-fit events (kind-of (other j)) (second j) (v j) (fits (v j))))
+      count
+      0
+      (λ j l u.
+      ap₂ (λ x y. not (fields-fit events (kind-of x) y (value j) (fits (value j)))) (h j (omega arith)) (f j (omega arith))
+      ∙ ap (λ y. not (fields-fit events (kind-of (other j)) (second j) y (fits y))) (g j (omega arith))))
+      (ap₂ (λ o ns. or-else (at-found o 7) (variables-refusal (first-formula (formulas ns))))
+      (end-same kind other count 1 0 (λ j l u. h j (omega arith)))
+      (from-same count 0 (λ j l u. h j (omega arith)) (λ j l u. f j (omega arith)) (λ j l u. g j (omega arith))))

@@ -1,0 +1,275 @@
+-- The lowest variable at fault: what the search finds is the lowest place where 8's or 9's sentence holds.
+-- Assumes nothing.
+use mathlib.Core.Path.{_≡_, refl, sym, _∙_, ap, subst}
+use mathlib.Core.Logic.{_⊎_, inl, inr}
+use mathlib.Core.Bool.{Bool, true, false, cond, not}
+use mathlib.Core.Option.{Option, none, some}
+use mathlib.Core.List.{List, [], _∷_}
+use Prim.Native.Nat.{ℕ, zero, suc, _+_, _≤_, _<_}
+use native.Mathlib.Omega.{arith}
+use lib.Dec.{ltb}
+use lib.ListN.{length}
+use borrow.Author.Tests.{le-ltb, ltb-true, ltb-false, not-true}
+use Rattle.theory.specs.Formula.{Formula, truth, variable, transition, output, conjunction, greatest, size, FreeBelow, OpenPosition, ClosedPosition}
+use Rattle.theory.specs.PrefixCode.{Stands}
+use Rattle.theory.specs.PrefixCode.Stands.{root as stands-root, part-of-transition as stands-transition, left-part as stands-left, right-part as stands-right, part-of-greatest as stands-greatest}
+use Rattle.refusal.specs.Refusal.{Lowest}
+use Rattle.formulas.specs.RuleConditions.Placed.{root as placed-root, part-of-transition as placed-transition, left-part as placed-left, right-part as placed-right, part-of-greatest as placed-greatest}
+use Rattle.formulas.specs.RuleConditions.{Position, open-to-variable, closed-to-variable, Placed, Unbound, InClosedPosition}
+use Rattle.formulas.specs.RuleReading.{first-of, lowest-variable, unbound-below, closed-there, lowest-unbound, lowest-closed}
+
+-- The answer of a search for the lowest place where something holds.
+abbrev pub Answered : (ℕ → Type 0) → Option ℕ → Type 0
+Answered P none = (j : ℕ) → ¬ P j
+Answered P (some p) = Lowest P p
+
+pub answered-as : (P Q : ℕ → Type 0) → ((j : ℕ) → P j → Q j) → ((j : ℕ) → Q j → P j) → (o : Option ℕ) → Answered P o → Answered Q o
+answered-as P Q to from none w = λ j q. w j (from j q)
+answered-as P Q to from (some p) w = record { holds = to p (w .holds); least = λ j h q. w .least j h (from j q) }
+
+-- Places below m are looked at first, and then places from m on.
+answered-both :
+    (P Q : ℕ → Type 0) (m : ℕ) → ((j : ℕ) → P j → j < m) → ((j : ℕ) → Q j → m ≤ j) → (a b : Option ℕ) → Answered P a → Answered Q b
+    → Answered (λ j. P j ⊎ Q j) (first-of a b)
+unfolding first-of
+answered-both P Q m low high (some p) b w v = record { holds = inl (w .holds); least = earlier }
+  where
+    earlier : (j : ℕ) → j < p → ¬ (P j ⊎ Q j)
+    earlier j h (inl x) = w .least j h x
+    earlier j h (inr y) = omega (arith, low p (w .holds), high j y)
+answered-both P Q m low high none none w v = nowhere
+  where
+    nowhere : (j : ℕ) → ¬ (P j ⊎ Q j)
+    nowhere j (inl x) = w j x
+    nowhere j (inr y) = v j y
+answered-both P Q m low high none (some q) w v = record { holds = inr (v .holds); least = earlier }
+  where
+    earlier : (j : ℕ) → j < q → ¬ (P j ⊎ Q j)
+    earlier j h (inl x) = w j x
+    earlier j h (inr y) = v .least j h y
+
+module _ {B S : Type 0} (faulty : S → ℕ → Bool) (below-transition below-greatest : S → S) where
+  -- Node j is a variable at fault in the formula that stands at node i.
+  abbrev pub FaultIn : S → ℕ → Formula B → ℕ → Type 0
+  FaultIn s i truth j = ⊥
+  FaultIn s i (variable n) j = (j ≡ i) × (faulty s n ≡ true)
+  FaultIn s i (transition e φ) j = FaultIn (below-transition s) (suc i) φ j
+  FaultIn s i (output e b) j = ⊥
+  FaultIn s i (conjunction φ χ) j = FaultIn s (suc i) φ j ⊎ FaultIn s (suc i + size φ) χ j
+  FaultIn s i (greatest φ) j = FaultIn (below-greatest s) (suc i) φ j
+
+  fault-low : (s : S) (i : ℕ) (φ : Formula B) (j : ℕ) → FaultIn s i φ j → i ≤ j
+  fault-low s i truth j f = absurd f
+  fault-low s i (variable n) j f = omega (arith, f .0)
+  fault-low s i (transition e φ) j f = omega (arith, fault-low (below-transition s) (suc i) φ j f)
+  fault-low s i (output e b) j f = absurd f
+  fault-low s i (conjunction φ χ) j (inl f) = omega (arith, fault-low s (suc i) φ j f)
+  fault-low s i (conjunction φ χ) j (inr f) = omega (arith, fault-low s (suc i + size φ) χ j f)
+  fault-low s i (greatest φ) j f = omega (arith, fault-low (below-greatest s) (suc i) φ j f)
+
+  fault-high : (s : S) (i : ℕ) (φ : Formula B) (j : ℕ) → FaultIn s i φ j → j < i + size φ
+  fault-high s i truth j f = absurd f
+  fault-high s i (variable n) j f = omega (arith, f .0)
+  fault-high s i (transition e φ) j f = omega (arith, fault-high (below-transition s) (suc i) φ j f)
+  fault-high s i (output e b) j f = absurd f
+  fault-high s i (conjunction φ χ) j (inl f) = omega (arith, fault-high s (suc i) φ j f)
+  fault-high s i (conjunction φ χ) j (inr f) = omega (arith, fault-high s (suc i + size φ) χ j f)
+  fault-high s i (greatest φ) j f = omega (arith, fault-high (below-greatest s) (suc i) φ j f)
+
+  pub lowest-answered : (s : S) (i : ℕ) (φ : Formula B) → Answered (FaultIn s i φ) (lowest-variable faulty below-transition below-greatest s i φ)
+  unfolding lowest-variable
+  lowest-answered s i truth = λ j f. f
+  lowest-answered s i (variable n) = go (faulty s n) refl
+    where
+      go : (b : Bool) → faulty s n ≡ b → Answered (λ j. (j ≡ i) × (faulty s n ≡ true)) (cond b (some i) none)
+      go true e = record { holds = (refl, e); least = λ j h f. omega (arith, f .0) }
+      go false e = λ j f. clash (sym e ∙ f .1)
+        where
+          clash : false ≡ true → ⊥
+          clash x = let z : _≡_ {A = ℕ} 0 1 = cc in omega arith
+  lowest-answered s i (transition e φ) = lowest-answered (below-transition s) (suc i) φ
+  lowest-answered s i (output e b) = λ j f. f
+  lowest-answered s i (conjunction φ χ) =
+      answered-both (FaultIn s (suc i) φ) (FaultIn s (suc i + size φ) χ) (suc i + size φ) (fault-high s (suc i) φ) (fault-low s (suc i + size φ) χ)
+      (lowest-variable faulty below-transition below-greatest s (suc i) φ)
+      (lowest-variable faulty below-transition below-greatest s (suc i + size φ) χ)
+      (lowest-answered s (suc i) φ)
+      (lowest-answered s (suc i + size φ) χ)
+  lowest-answered s i (greatest φ) = lowest-answered (below-greatest s) (suc i) φ
+
+  -- `Reached i s ψ`: ψ stands at node i of φ, with the state s.
+  module _ (start : S) (φ : Formula B) where
+    pub data Reached : ℕ → S → Formula B → Type 0 where
+      root : Reached zero start φ
+      in-transition : {i : ℕ} {s : S} {e : ℕ} {ψ : Formula B} → Reached i s (transition e ψ) → Reached (suc i) (below-transition s) ψ
+      in-left : {i : ℕ} {s : S} {ψ χ : Formula B} → Reached i s (conjunction ψ χ) → Reached (suc i) s ψ
+      in-right : {i : ℕ} {s : S} {ψ χ : Formula B} → Reached i s (conjunction ψ χ) → Reached (suc i + size ψ) s χ
+      in-greatest : {i : ℕ} {s : S} {ψ : Formula B} → Reached i s (greatest ψ) → Reached (suc i) (below-greatest s) ψ
+
+    -- A fault in a part is one of the whole.
+    pub fault-up : {i : ℕ} {s : S} {ψ : Formula B} → Reached i s ψ → (j : ℕ) → FaultIn s i ψ j → FaultIn start 0 φ j
+    fault-up root j f = f
+    fault-up (in-transition r) j f = fault-up r j f
+    fault-up (in-left r) j f = fault-up r j (inl f)
+    fault-up (in-right r) j f = fault-up r j (inr f)
+    fault-up (in-greatest r) j f = fault-up r j f
+
+    -- A fault of the whole is at a variable that stands there.
+    pub fault-down :
+        (ψ : Formula B) {i : ℕ} {s : S} → Reached i s ψ → (j : ℕ) → FaultIn s i ψ j → (t : S) × (n : ℕ) × Reached j t (variable n) × (faulty t n ≡ true)
+    fault-down truth r j f = absurd f
+    fault-down (variable n) {i} {s} r j f = (s, n, subst (λ x. Reached x s (variable n)) (sym (f .0)) r, f .1)
+    fault-down (transition e ψ) r j f = fault-down ψ (in-transition r) j f
+    fault-down (output e b) r j f = absurd f
+    fault-down (conjunction ψ χ) r j (inl f) = fault-down ψ (in-left r) j f
+    fault-down (conjunction ψ χ) r j (inr f) = fault-down χ (in-right r) j f
+    fault-down (greatest ψ) r j f = fault-down ψ (in-greatest r) j f
+
+-- 8: the state is the number of binders above.
+module _ {B : Type 0} (φ : Formula B) where
+  abbrev BelowBinders : ℕ → ℕ → Formula B → Type 0
+  BelowBinders = Reached unbound-below (λ d. d) suc 0 φ
+
+  stands-below : {i : ℕ} {bs : List ℕ} {ψ : Formula B} → Stands φ i bs ψ → BelowBinders i (length bs) ψ
+  stands-below stands-root = root
+  stands-below (stands-transition r) = in-transition (stands-below r)
+  stands-below (stands-left r) = in-left (stands-below r)
+  stands-below (stands-right r) = in-right (stands-below r)
+  stands-below (stands-greatest r) = in-greatest (stands-below r)
+
+  below-stands : {i d : ℕ} {ψ : Formula B} → BelowBinders i d ψ → (bs : List ℕ) × (length bs ≡ d) × Stands φ i bs ψ
+  below-stands root = ([], refl, stands-root)
+  below-stands (in-transition r) = let w = below-stands r in (w .0, w .1, stands-transition (w .2))
+  below-stands (in-left r) = let w = below-stands r in (w .0, w .1, stands-left (w .2))
+  below-stands (in-right r) = let w = below-stands r in (w .0, w .1, stands-right (w .2))
+  below-stands (in-greatest {i} r) = let w = below-stands r in (i ∷ w .0, ap suc (w .1), stands-greatest (w .2))
+
+  pub unbound-fault : (j : ℕ) → Unbound φ j → FaultIn unbound-below (λ d. d) suc 0 0 φ j
+  unfolding unbound-below
+  unbound-fault j (bs, n, r, h) =
+      fault-up unbound-below (λ d. d) suc 0 φ (stands-below r) j (refl, ap not (le-ltb n (length bs) h))
+
+  pub fault-unbound : (j : ℕ) → FaultIn unbound-below (λ d. d) suc 0 0 φ j → Unbound φ j
+  unfolding unbound-below
+  fault-unbound j f =
+      let w = fault-down unbound-below (λ d. d) suc 0 φ φ root j f in
+      let v = below-stands (w .2) in
+      (v .0, w .1, v .2, subst (λ d. d ≤ w .1) (sym (v .1)) (ltb-false (w .1) (w .0) (not-true (ltb (w .1) (w .0)) (w .3))))
+
+  pub unbound-answered : Answered (Unbound φ) (lowest-unbound 0 0 φ)
+  unbound-answered =
+      answered-as (FaultIn unbound-below (λ d. d) suc 0 0 φ) (Unbound φ) fault-unbound unbound-fault (lowest-unbound 0 0 φ)
+      (lowest-answered unbound-below (λ d. d) suc 0 0 φ)
+
+-- 9: the state is the kind of position.
+module _ {B : Type 0} (φ : Formula B) where
+  abbrev AtPosition : ℕ → Position → Formula B → Type 0
+  AtPosition = Reached closed-there (λ p. open-to-variable) (λ p. closed-to-variable) closed-to-variable φ
+
+  abbrev ClosedFault : ℕ → Type 0
+  ClosedFault = FaultIn closed-there (λ p. open-to-variable) (λ p. closed-to-variable) closed-to-variable 0 φ
+
+  placed-at : {i : ℕ} {p : Position} {ψ : Formula B} → Placed φ i p ψ → AtPosition i p ψ
+  placed-at placed-root = root
+  placed-at (placed-transition r) = in-transition (placed-at r)
+  placed-at (placed-left r) = in-left (placed-at r)
+  placed-at (placed-right r) = in-right (placed-at r)
+  placed-at (placed-greatest r) = in-greatest (placed-at r)
+
+  at-placed : {i : ℕ} {p : Position} {ψ : Formula B} → AtPosition i p ψ → Placed φ i p ψ
+  at-placed root = placed-root
+  at-placed (in-transition r) = placed-transition (at-placed r)
+  at-placed (in-left r) = placed-left (at-placed r)
+  at-placed (in-right r) = placed-right (at-placed r)
+  at-placed (in-greatest r) = placed-greatest (at-placed r)
+
+  is-closed : (p : Position) (n : ℕ) → closed-there p n ≡ true → p ≡ closed-to-variable
+  unfolding closed-there
+  is-closed open-to-variable n e = let z : _≡_ {A = ℕ} 0 1 = cc in absurd (omega arith)
+  is-closed closed-to-variable n e = refl
+
+  pub closed-fault : (j : ℕ) → InClosedPosition φ j → ClosedFault j
+  unfolding closed-there
+  closed-fault j (n, r) =
+      fault-up closed-there (λ p. open-to-variable) (λ p. closed-to-variable) closed-to-variable φ (placed-at r) j (refl, refl)
+
+  pub fault-closed : (j : ℕ) → ClosedFault j → InClosedPosition φ j
+  fault-closed j f =
+      let w = fault-down closed-there (λ p. open-to-variable) (λ p. closed-to-variable) closed-to-variable φ φ root j f in
+      (w .1, subst (λ p. Placed φ j p (variable (w .1))) (is-closed (w .0) (w .1) (w .3)) (at-placed (w .2)))
+
+  pub closed-answered : Answered (InClosedPosition φ) (lowest-closed closed-to-variable 0 φ)
+  closed-answered =
+      answered-as ClosedFault (InClosedPosition φ) fault-closed closed-fault (lowest-closed closed-to-variable 0 φ)
+      (lowest-answered closed-there (λ p. open-to-variable) (λ p. closed-to-variable) closed-to-variable 0 φ)
+
+-- No variable is without binder exactly if the formula is closed.
+module _ {B : Type 0} where
+  abbrev NoUnbound : ℕ → ℕ → Formula B → Type 0
+  NoUnbound d i φ = (j : ℕ) → ¬ FaultIn unbound-below (λ x. x) suc d i φ j
+
+  pub free-below : (φ : Formula B) (d i : ℕ) → NoUnbound d i φ → FreeBelow d φ
+  unfolding unbound-below
+  free-below truth d i h = tt
+  free-below (variable n) d i h = go (ltb n d) refl
+    where
+      go : (b : Bool) → ltb n d ≡ b → n < d
+      go true e = ltb-true n d e
+      go false e = absurd (h i (refl, ap not e))
+  free-below (transition e φ) d i h = free-below φ d (suc i) h
+  free-below (output e b) d i h = tt
+  free-below (conjunction φ χ) d i h = (free-below φ d (suc i) (λ j f. h j (inl f)), free-below χ d (suc i + size φ) (λ j f. h j (inr f)))
+  free-below (greatest φ) d i h = free-below φ (suc d) (suc i) h
+
+  pub below-free : (φ : Formula B) (d i : ℕ) → FreeBelow d φ → NoUnbound d i φ
+  unfolding unbound-below
+  below-free truth d i h j f = f
+  below-free (variable n) d i h j f = omega (arith, h, ltb-false n d (not-true (ltb n d) (f .1)))
+  below-free (transition e φ) d i h j f = below-free φ d (suc i) h j f
+  below-free (output e b) d i h j f = f
+  below-free (conjunction φ χ) d i h j (inl f) = below-free φ d (suc i) (h .0) j f
+  below-free (conjunction φ χ) d i h j (inr f) = below-free χ d (suc i + size φ) (h .1) j f
+  below-free (greatest φ) d i h j f = below-free φ (suc d) (suc i) h j f
+
+  -- No variable is in a closed position exactly if the formula is of the grammar.
+  abbrev MayStand : Position → Formula B → Type 0
+  MayStand open-to-variable φ = OpenPosition φ
+  MayStand closed-to-variable φ = ClosedPosition φ
+
+  abbrev NoClosed : Position → ℕ → Formula B → Type 0
+  NoClosed p i φ = (j : ℕ) → ¬ FaultIn closed-there (λ x. open-to-variable) (λ x. closed-to-variable) p i φ j
+
+  pub may-stand : (φ : Formula B) (p : Position) (i : ℕ) → NoClosed p i φ → MayStand p φ
+  unfolding closed-there
+  may-stand truth open-to-variable i h = tt
+  may-stand truth closed-to-variable i h = tt
+  may-stand (variable n) open-to-variable i h = tt
+  may-stand (variable n) closed-to-variable i h = h i (refl, refl)
+  may-stand (transition e φ) open-to-variable i h = may-stand φ open-to-variable (suc i) h
+  may-stand (transition e φ) closed-to-variable i h = may-stand φ open-to-variable (suc i) h
+  may-stand (output e b) open-to-variable i h = tt
+  may-stand (output e b) closed-to-variable i h = tt
+  may-stand (conjunction φ χ) open-to-variable i h =
+      (may-stand φ open-to-variable (suc i) (λ j f. h j (inl f)), may-stand χ open-to-variable (suc i + size φ) (λ j f. h j (inr f)))
+  may-stand (conjunction φ χ) closed-to-variable i h =
+      (may-stand φ closed-to-variable (suc i) (λ j f. h j (inl f)), may-stand χ closed-to-variable (suc i + size φ) (λ j f. h j (inr f)))
+  may-stand (greatest φ) open-to-variable i h = may-stand φ closed-to-variable (suc i) h
+  may-stand (greatest φ) closed-to-variable i h = may-stand φ closed-to-variable (suc i) h
+
+  pub stand-may : (φ : Formula B) (p : Position) (i : ℕ) → MayStand p φ → NoClosed p i φ
+  unfolding closed-there
+  stand-may truth p i h j f = f
+  stand-may (variable n) open-to-variable i h j f = let z : _≡_ {A = ℕ} 0 1 = clash (f .1) in omega arith
+    where
+      clash : false ≡ true → _≡_ {A = ℕ} 0 1
+      clash e = cc
+  stand-may (variable n) closed-to-variable i h j f = h
+  stand-may (transition e φ) open-to-variable i h j f = stand-may φ open-to-variable (suc i) h j f
+  stand-may (transition e φ) closed-to-variable i h j f = stand-may φ open-to-variable (suc i) h j f
+  stand-may (output e b) p i h j f = f
+  stand-may (conjunction φ χ) open-to-variable i h j (inl f) = stand-may φ open-to-variable (suc i) (h .0) j f
+  stand-may (conjunction φ χ) open-to-variable i h j (inr f) = stand-may χ open-to-variable (suc i + size φ) (h .1) j f
+  stand-may (conjunction φ χ) closed-to-variable i h j (inl f) = stand-may φ closed-to-variable (suc i) (h .0) j f
+  stand-may (conjunction φ χ) closed-to-variable i h j (inr f) = stand-may χ closed-to-variable (suc i + size φ) (h .1) j f
+  stand-may (greatest φ) open-to-variable i h j f = stand-may φ closed-to-variable (suc i) h j f
+  stand-may (greatest φ) closed-to-variable i h j f = stand-may φ closed-to-variable (suc i) h j f

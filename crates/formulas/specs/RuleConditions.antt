@@ -1,0 +1,87 @@
+-- Refusals 5 to 9 (document 01, "Who can cause a refusal", rule writer), for any way in which nodes lie in bytes.
+-- Assumes nothing.
+use mathlib.Core.Path.{_≡_}
+use mathlib.Core.Logic.{_⊎_}
+use mathlib.Core.List.{List, [], _∷_, _++_}
+use Prim.Native.Nat.{ℕ, zero, suc, _+_, _*_, _/_, _%_, _≤_, _<_}
+use lib.ListN.{length, take, drop}
+use Rattle.theory.specs.Formula.{Formula, variable, transition, conjunction, greatest, size}
+use Rattle.theory.specs.PrefixCode.{Node, truth-node, variable-node, transition-node, output-node, conjunction-node, greatest-node, nodes, Stands}
+use Rattle.refusal.specs.Refusal.{Condition, plain, at-lowest}
+use Rattle.refusal.specs.declared.Refusal.{Refusal}
+use Rattle.refusal.specs.declared.Refusal.the-variants.{At}
+use Rattle.formulas.specs.NodeBytes.{encode-all, encode-formula}
+
+-- The grammar's two kinds of position (source 000, definition 3).
+pub data Position : Type 0 where
+  open-to-variable closed-to-variable : Position
+
+-- `Placed i p ψ`: the part ψ stands at node i, in a position of kind p. The root and the part of V are closed; the part of G is
+-- open; the parts of A are as A is.
+module _ {B : Type 0} (φ : Formula B) where
+  pub data Placed : ℕ → Position → Formula B → Type 0 where
+    root : Placed zero closed-to-variable φ
+    part-of-transition :
+        {i : ℕ} {p : Position} {e : ℕ} {ψ : Formula B} → Placed i p (transition e ψ) → Placed (suc i) open-to-variable ψ
+    left-part : {i : ℕ} {p : Position} {ψ χ : Formula B} → Placed i p (conjunction ψ χ) → Placed (suc i) p ψ
+    right-part : {i : ℕ} {p : Position} {ψ χ : Formula B} → Placed i p (conjunction ψ χ) → Placed (suc i + size ψ) p χ
+    part-of-greatest : {i : ℕ} {p : Position} {ψ : Formula B} → Placed i p (greatest ψ) → Placed (suc i) closed-to-variable ψ
+
+  -- Node i is a variable without binder.
+  abbrev pub Unbound : ℕ → Type 0
+  Unbound i = (bs : List ℕ) × (n : ℕ) × Stands φ i bs (variable n) × (length bs ≤ n)
+
+  -- Node i is a variable in a closed position.
+  abbrev pub InClosedPosition : ℕ → Type 0
+  InClosedPosition i = (n : ℕ) × Placed i closed-to-variable (variable n)
+
+-- The events and values of a node are those of the set-up.
+abbrev pub NodeFits : {B : Type 0} → ℕ → (B → Type 0) → Node B → Type 0
+NodeFits events In truth-node = Unit {0}
+NodeFits events In (variable-node n) = Unit {0}
+NodeFits events In (transition-node e) = e < events
+NodeFits events In (output-node e b) = (e < events) × In b
+NodeFits events In conjunction-node = Unit {0}
+NodeFits events In greatest-node = Unit {0}
+
+module _ {B : Type 0} (width : ℕ) (encode : Node B → List ℕ) (limit events : ℕ) (In : B → Type 0) (bytes : List ℕ) where
+  abbrev pub node-count : ℕ
+  node-count = length bytes / width
+
+  -- The bytes of node i.
+  abbrev pub node-at : ℕ → List ℕ
+  node-at i = take width (drop (i * width) bytes)
+
+  -- 5: no nodes, over the limit, or bytes left over after the last whole node.
+  abbrev pub CountAtFault : Type 0
+  CountAtFault = ¬ ((length bytes % width ≡ 0) × (0 < node-count) × (node-count ≤ limit))
+
+  -- 6: unknown kind, event or value too large, unused field not 0: the bytes of node i are those of no node that fits.
+  abbrev pub NodeAtFault : ℕ → Type 0
+  NodeAtFault i = (i < node-count) × ((n : Node B) → node-at i ≡ encode n → ¬ NodeFits events In n)
+
+  -- 7: the nodes run out: they begin the nodes of a formula and stop short of its end; place = node count.
+  abbrev pub RunOut : Refusal → Type 0
+  RunOut r =
+      (φ : Formula B) × (n : Node B) × (ns : List (Node B)) × (bytes ++ encode-all encode (n ∷ ns) ≡ encode-formula encode φ)
+      × (r ≡ At 7 node-count)
+
+  -- 7: nodes are left over after a whole formula; place = first of them.
+  abbrev pub LeftOver : Refusal → Type 0
+  LeftOver r =
+      (φ : Formula B) × (n : Node B) × (ns : List (Node B)) × (bytes ≡ encode-formula encode φ ++ encode-all encode (n ∷ ns))
+      × (r ≡ At 7 (size φ))
+
+  -- 8 and 9 speak of the formula whose bytes these are.
+  abbrev pub OfFormula : (Formula B → Condition) → Condition
+  OfFormula C r = (φ : Formula B) × (bytes ≡ encode-formula encode φ) × C φ r
+
+  -- The conditions, in order.
+  abbrev pub rule-conditions : List Condition
+  rule-conditions =
+      plain 5 CountAtFault
+      ∷ at-lowest 6 NodeAtFault
+      ∷ (λ r. RunOut r ⊎ LeftOver r)
+      ∷ OfFormula (λ φ. at-lowest 8 (Unbound φ))
+      ∷ OfFormula (λ φ. at-lowest 9 (InClosedPosition φ))
+      ∷ []

@@ -1,0 +1,64 @@
+-- Which of refusals 5 to 9 a rule in bytes meets, computed: the twin of `First rule-conditions`. Each is answered over the whole
+-- input before the next.
+-- Assumes nothing.
+use mathlib.Core.Bool.{Bool, not, _&&_}
+use mathlib.Core.Option.{Option}
+use mathlib.Core.List.{List}
+use Prim.Native.Nat.{ℕ, _+_, _*_, _/_, _%_}
+use lib.Dec.{eqb, ltb, leb}
+use lib.ListN.{length, getD}
+use Rattle.theory.specs.Formula.{Formula}
+use Rattle.refusal.specs.Refusal.{or-else, plain-unless, at-found}
+use Rattle.refusal.specs.declared.Refusal.{Refusal}
+use Rattle.formulas.specs.RuleConditions.{closed-to-variable}
+use Rattle.formulas.specs.RuleReading.{lowest-from, kind-of, fields-fit, end-fault, formula-read, lowest-unbound, lowest-closed}
+
+-- Of 5: so many bytes are 1 to `limit` whole nodes.
+unfoldable pub count-fits : ℕ → ℕ → ℕ → Bool
+count-fits width limit n = eqb (n % width) 0 && (ltb 0 (n / width) && leb (n / width) limit)
+
+-- 8 and 9 for a formula: every variable is judged by 8 before any is by 9.
+unfoldable pub variables-refusal : {B : Type 0} → Formula B → Option Refusal
+variables-refusal φ = or-else (at-found (lowest-unbound 0 0 φ) 8) (at-found (lowest-closed closed-to-variable 0 φ) 9)
+
+module _ (kind first value : ℕ → ℕ) (count : ℕ) where
+  -- 7 to 9.
+  unfoldable pub structure-refusal : Option Refusal
+  structure-refusal = or-else (at-found (end-fault kind 1 count 0) 7) (variables-refusal (formula-read kind first value count))
+
+  module _ (fits : ℕ → Bool) (events : ℕ) where
+    -- 6: the lowest node whose fields do not fit; `fits` says which values do.
+    unfoldable pub misfit-place : Option ℕ
+    misfit-place = lowest-from (λ i. not (fields-fit events (kind-of (kind i)) (first i) (value i) (fits (value i)))) count 0
+
+    -- 6 to 9.
+    unfoldable pub nodes-refusal : Option Refusal
+    nodes-refusal = or-else (at-found misfit-place 6) structure-refusal
+
+-- At most so many nodes, and the bytes of each.
+abbrev pub node-limit : ℕ
+node-limit = 256
+
+abbrev pub node-width : ℕ
+node-width = 3
+
+-- The fields of node i, in nodes of three bytes.
+module _ (bytes : List ℕ) where
+  abbrev pub kind-at : ℕ → ℕ
+  kind-at i = getD bytes (i * node-width) 0
+
+  abbrev pub first-at : ℕ → ℕ
+  first-at i = getD bytes (i * node-width + 1) 0
+
+  abbrev pub second-at : ℕ → ℕ
+  second-at i = getD bytes (i * node-width + 2) 0
+
+-- 5 to 9 for a set-up's counts of events and values, and nodes of three bytes.
+unfoldable pub rule-refusal : ℕ → ℕ → List ℕ → Option Refusal
+rule-refusal events values bytes =
+    or-else (plain-unless (count-fits node-width node-limit (length bytes)) 5)
+    (nodes-refusal (kind-at bytes) (first-at bytes) (second-at bytes) (length bytes / node-width) (λ v. ltb v values) events)
+
+-- The formula that accepted bytes are.
+unfoldable pub formula-of : List ℕ → Formula ℕ
+formula-of bytes = formula-read (kind-at bytes) (first-at bytes) (second-at bytes) (length bytes / node-width)

@@ -1,0 +1,20 @@
+-- `machines::is_table_length` meets its contract: an even number whose half is states × events.
+-- Assumes nothing.
+use mathlib.Core.Path.{sym, _∙_}
+use native.Mathlib.Omega.{arith}
+use borrow.Author.Needs.{needs}
+use Rattle.machines.proofs.Products.{product-remainder, product-quotient}
+use Rattle.machines.proofs.is_table_length.Statement.{statement}
+use Rattle.machines.proofs.is_table_length.Tie as tie
+
+returns : tie.Need-returns
+returns c = sym (product-remainder _ _ 2 (c .if1 .taken))
+
+is-product-requires : tie.Need-is-product-requires
+is-product-requires c κs = search needs
+
+returns-2 : tie.Need-returns-2
+returns-2 c = c .is-product .ensures ∙ product-quotient _ _ 2 (omega arith) (c .before .if1 .left)
+
+pub is-table-length-spec : {M : Type 1} → statement M
+is-table-length-spec = tie.close (tie.spec returns is-product-requires returns-2)

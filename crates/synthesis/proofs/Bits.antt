@@ -1,0 +1,111 @@
+-- Single bits of numbers: of a union, of a power of two, and that they determine the number.
+-- Assumes nothing.
+use mathlib.Core.Path.{_≡_, refl, sym, ap, ap₂, _∙_, subst}
+use mathlib.Core.Bool.{Bool, true, false, _||_}
+use mathlib.Core.Logic.{_⊎_, inl, inr}
+use Prim.Native.Nat.{ℕ, zero, suc, _+_, _-_, _*_, _/_, _%_, _^_, _≤_, _<_, max}
+use native.Mathlib.Nat.{mod-lt, zero-lt-suc, lt-of-le-of-lt, le-of-suc-le-suc, max-le, div-self, div-eq-of-lt, div-one, one-mul, add-comm, div-add-mod', zero-div, div-lt-iff-lt-mul, pow-suc}
+use native.Mathlib.Decide.{decLt}
+use native.Mathlib.Omega.{arith}
+use borrow.Author.Tests.{eq-eqb, ne-eqb, eqb-true}
+use lib.Bits.{bitOr, or-step, or-shr, shifted-even}
+use lib.Pow.{pow-add, shl-shr, shr-shr, pow-pos, pow-lt}
+use lib.Dec.{eqb, lit<}
+use lib.Arith.{digits-mod}
+use Rattle.synthesis.specs.NodeWords.{bit-at}
+
+pub bit-small : (a k : ℕ) → bit-at a k < 2
+unfolding bit-at
+bit-small a k = mod-lt (a / 2 ^ k) (zero-lt-suc 1)
+
+zero-or-one : (x : ℕ) → x < 2 → (x ≡ 0) ⊎ (x ≡ 1)
+zero-or-one zero h = inl refl
+zero-or-one (suc zero) h = inr refl
+zero-or-one (suc (suc x)) h = absurd (omega arith)
+
+or-odd : (a b : ℕ) → bitOr a b % 2 ≡ max (a % 2) (b % 2)
+or-odd a b =
+    ap (λ (x : ℕ). x % 2) (or-step a b)
+    ∙ digits-mod (bitOr (a / 2) (b / 2)) (lt-of-le-of-lt (max-le (at-most-one a) (at-most-one b)) (lit< tt))
+  where
+    at-most-one : (x : ℕ) → x % 2 ≤ 1
+    at-most-one x = le-of-suc-le-suc (mod-lt x (zero-lt-suc 1))
+
+max-or : (x y : ℕ) → x < 2 → y < 2 → eqb (max x y) 1 ≡ eqb x 1 || eqb y 1
+max-or x y h k = go (zero-or-one x h) (zero-or-one y k)
+  where
+    go : (x ≡ 0) ⊎ (x ≡ 1) → (y ≡ 0) ⊎ (y ≡ 1) → eqb (max x y) 1 ≡ eqb x 1 || eqb y 1
+    go (inl p) (inl q) = rw (p, q)
+    go (inl p) (inr q) = rw (p, q)
+    go (inr p) (inl q) = rw (p, q)
+    go (inr p) (inr q) = rw (p, q)
+
+-- A bit of the bitwise or.
+pub or-bit : (x y k : ℕ) → eqb (bit-at (bitOr x y) k) 1 ≡ eqb (bit-at x k) 1 || eqb (bit-at y k) 1
+unfolding bit-at
+or-bit x y k =
+    ap (λ n. eqb n 1) (ap (λ (n : ℕ). n % 2) (or-shr x y k) ∙ or-odd (x / 2 ^ k) (y / 2 ^ k))
+    ∙ max-or (bit-at x k) (bit-at y k) (bit-small x k) (bit-small y k)
+
+-- The bits of a power of two.
+pub power-bit : (m n : ℕ) → eqb (bit-at (2 ^ m) n) 1 ≡ eqb m n
+unfolding bit-at
+power-bit m n = go (decLt m n)
+  where
+    up : (d : ℕ) → m ≡ n + d → eqb (2 ^ m / 2 ^ n % 2) 1 ≡ eqb m n
+    up zero e =
+        let p : m ≡ n = omega (arith, e) in
+        ap (λ x. eqb (2 ^ x / 2 ^ n % 2) 1) p
+        ∙ ap (λ x. eqb (x % 2) 1) (div-self (pow-pos n))
+        ∙ sym (eq-eqb m n p)
+    up (suc d) e =
+        ap (λ x. eqb (2 ^ x / 2 ^ n % 2) 1) (e ∙ add-comm n (suc d))
+        ∙ ap (λ x. eqb (x / 2 ^ n % 2) 1) (pow-add 2 (suc d) n)
+        ∙ ap (λ x. eqb (x % 2) 1) (shl-shr (2 ^ suc d) n)
+        ∙ ap (λ x. eqb (x % 2) 1) (sym (one-mul (2 ^ suc d)))
+        ∙ ap (λ x. eqb x 1) (shifted-even 1 d)
+        ∙ sym (ne-eqb m n (λ q. omega (arith, e, q)))
+
+    go : Dec (m < n) → eqb (2 ^ m / 2 ^ n % 2) 1 ≡ eqb m n
+    go (yes h) =
+        ap (λ x. eqb (x % 2) 1) (div-eq-of-lt (pow-lt h))
+        ∙ sym (ne-eqb m n (λ q. omega (arith, h, q)))
+    go (no h) = up (m - n) (omega arith)
+
+pub zero-bit : (k : ℕ) → eqb (bit-at 0 k) 1 ≡ false
+unfolding bit-at
+zero-bit k = ap (λ x. eqb (x % 2) 1) (zero-div (2 ^ k))
+
+same-bit : (x y : ℕ) → x < 2 → y < 2 → eqb x 1 ≡ eqb y 1 → x ≡ y
+same-bit x y h k e = go (zero-or-one x h) (zero-or-one y k)
+  where
+    go : (x ≡ 0) ⊎ (x ≡ 1) → (y ≡ 0) ⊎ (y ≡ 1) → x ≡ y
+    go (inl p) (inl q) = p ∙ sym q
+    go (inl p) (inr q) = absurd (omega (arith, p, eqb-true x 1 (e ∙ eq-eqb y 1 q)))
+    go (inr p) (inl q) = absurd (omega (arith, q, eqb-true y 1 (sym e ∙ eq-eqb x 1 p)))
+    go (inr p) (inr q) = p ∙ sym q
+
+half-bit : (x k : ℕ) → bit-at (x / 2) k ≡ bit-at x (suc k)
+unfolding bit-at
+half-bit x k =
+    let z : 1 + k ≡ suc k = omega arith in
+    ap (λ y. y % 2) (shr-shr x 1 k ∙ ap (λ j. x / 2 ^ j) z)
+
+low-bit : (x : ℕ) → bit-at x 0 ≡ x % 2
+unfolding bit-at
+low-bit x = ap (λ y. y % 2) (div-one x)
+
+-- Numbers below 2 ^ n with the same n bits are equal.
+pub same-number :
+    (n x y : ℕ) → x < 2 ^ n → y < 2 ^ n → ((k : ℕ) → k < n → eqb (bit-at x k) 1 ≡ eqb (bit-at y k) 1) → x ≡ y
+same-number zero x y h l f = omega (arith, h, l)
+same-number (suc n) x y h l f =
+    let ih : x / 2 ≡ y / 2
+    = same-number n (x / 2) (y / 2) (half x h) (half y l)
+    (λ k u. ap (λ b. eqb b 1) (half-bit x k) ∙ f (suc k) (omega arith) ∙ ap (λ b. eqb b 1) (sym (half-bit y k))) in
+    let d : x % 2 ≡ y % 2
+    = sym (low-bit x) ∙ same-bit (bit-at x 0) (bit-at y 0) (bit-small x 0) (bit-small y 0) (f 0 (omega arith)) ∙ low-bit y in
+    sym (div-add-mod' x 2) ∙ ap₂ (λ a b. a * 2 + b) ih d ∙ div-add-mod' y 2
+  where
+    half : (z : ℕ) → z < 2 ^ suc n → z / 2 < 2 ^ n
+    half z u = div-lt-iff-lt-mul (zero-lt-suc 1) .1 (subst (λ y. z < y) (pow-suc 2 n) u)

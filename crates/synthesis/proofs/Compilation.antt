@@ -1,0 +1,268 @@
+-- The answers of the compilers, case by case.
+-- Assumes nothing.
+use mathlib.Core.Path.{_≡_, refl, sym, _∙_, ap, ap₂, subst}
+use mathlib.Core.Bool.{Bool, true, false, _&&_, cond, and-false, false≢true}
+use mathlib.Core.List.{List, [], _∷_}
+use mathlib.Core.Option.{Option, none, some}
+use Prim.Native.Nat.{ℕ, zero, suc, _+_, _*_, _/_, _%_, _≤_, _<_}
+use native.Mathlib.Decide.{decLt}
+use native.Mathlib.Omega.{arith}
+use borrow.Author.Tests.{lt-ltb, le-ltb, le-leb, lt-leb, leb-true}
+use lib.Dec.{ltb, leb}
+use lib.ListN.{length, getD, replicate, getD-replicate}
+use lib.Seq.{ext-getD}
+use Rattle.theory.specs.Formula.{Formula, size, Closed, Guarded}
+use Rattle.theory.specs.ValueSets.{Below}
+use Rattle.theory.specs.MealyMachine.{Machine}
+use Rattle.theory.proofs.Claims.{grammar}
+use Rattle.refusal.specs.declared.Refusal.{Refusal}
+use Rattle.refusal.specs.declared.Refusal.the-variants.{Plain}
+use Rattle.refusal.specs.declared.Counted.{Counted}
+use Rattle.refusal.specs.declared.Counted.the-variants.{Count, Refused}
+use Rattle.refusal.specs.declared.Judgement.{Judgement}
+use Rattle.refusal.specs.declared.Judgement.the-variants.{Refused as RefusedJudgement}
+use Rattle.refusal.specs.Refusal.{or-else, plain-unless, judgement, counted}
+use Rattle.refusal.proofs.Refusals.{or-else-none, plain-none}
+use Rattle.values.specs.declared.ValueKind.{ValueKind}
+use Rattle.values.specs.ValueKind.{meetOf}
+use Rattle.values.specs.Setup.{events-test, event-limit}
+use Rattle.formulas.specs.NodeReading.{Reads}
+use Rattle.formulas.specs.NodeArrays.{padded, decoded}
+use Rattle.formulas.specs.RuleRefusal.{rule-refusal, formula-of}
+use Rattle.formulas.specs.declared.Nodes.{Nodes}
+use Rattle.formulas.proofs.Padding.{padded-length, padded-none}
+use Rattle.formulas.proofs.Decoding.{decoded-limit}
+use Rattle.formulas.proofs.RuleClaims.{accepted-formula-of, decoded-reads}
+use Rattle.synthesis.specs.declared.Compiled.{Compiled}
+use Rattle.synthesis.specs.NodeWalks.{read}
+use Rattle.synthesis.specs.Exploring.{Unchanged}
+use Rattle.synthesis.specs.TableEntries.{EntriesTo}
+use Rattle.synthesis.specs.FormulaTable.{formula-states, formula-table, Tabled, Tables}
+use Rattle.synthesis.specs.Compilation.{value-count, rule-states, rule-table, rule-table-refusal, compile-rule-refusal, entry-count, flat, refused, compiled-within, compiled}
+
+-- Entries and zeros after them.
+padded-at :
+    (f : ℕ → ℕ) (count left i j : ℕ) → j < left → getD (padded f count left i) j 0 ≡ cond (ltb (i + j) count) (f (i + j)) 0
+unfolding padded
+padded-at f count zero i j h = absurd (omega arith)
+padded-at f count (suc left) i zero h =
+    let z : i ≡ i + 0 = omega arith in
+    ap (λ x. cond (ltb x count) (f x) 0) z
+padded-at f count (suc left) i (suc j) h =
+    let z : suc i + j ≡ i + suc j = omega arith in
+    padded-at f count left (suc i) j (omega arith) ∙ ap (λ x. cond (ltb x count) (f x) 0) z
+
+pub flat-is :
+    (f : ℕ → ℕ → ℕ) (events entries size : ℕ) (l : List ℕ) → length l ≡ size → EntriesTo f events entries l →
+    Unchanged entries (replicate size 0) l → l ≡ flat f events entries size
+unfolding flat
+flat-is f events entries size l n e u = ext-getD 0 l (padded g entries size 0) (n ∙ sym (padded-length g entries size 0)) at
+  where
+    g : ℕ → ℕ
+    g x = f (x / events) (x % events)
+
+    go : (x : ℕ) → x < size → Dec (x < entries) → getD l x 0 ≡ cond (ltb x entries) (f (x / events) (x % events)) 0
+    go x h (yes c) = e x c ∙ ap (λ t. cond t (f (x / events) (x % events)) 0) (sym (lt-ltb x entries c))
+    go x h (no c) =
+        u x (omega arith)
+        ∙ getD-replicate size x 0 0 h
+        ∙ ap (λ t. cond t (f (x / events) (x % events)) 0) (sym (le-ltb x entries (omega arith)))
+
+    at : (x : ℕ) → x < length l → getD l x 0 ≡ getD (padded g entries size 0) x 0
+    at x h =
+        let z : 0 + x ≡ x = omega arith in
+        go x (omega (arith, n)) (decLt x entries)
+        ∙ ap (λ y. cond (ltb y entries) (g y) 0) (sym z)
+        ∙ sym (padded-at g entries size 0 x (omega (arith, n)))
+
+pub flat-at :
+    (f : ℕ → ℕ → ℕ) (events entries size x : ℕ) → x < entries → x < size →
+    getD (flat f events entries size) x 0 ≡ f (x / events) (x % events)
+unfolding flat
+flat-at f events entries size x h l =
+    let z : 0 + x ≡ x = omega arith in
+    padded-at (λ y. f (y / events) (y % events)) entries size 0 x l
+    ∙ ap (λ y. cond (ltb y entries) (f (y / events) (y % events)) 0) z
+    ∙ ap (λ t. cond t (f (x / events) (x % events)) 0) (lt-ltb x entries h)
+
+flat-none : (f : ℕ → ℕ → ℕ) (events size : ℕ) → flat f events 0 size ≡ replicate size 0
+unfolding flat
+flat-none f events size = padded-none (λ x. f (x / events) (x % events)) size 0
+
+few-events : (events : ℕ) → events-test events ≡ true → events ≤ event-limit
+unfolding events-test
+few-events events h = leb-true events event-limit (right (leb 1 events) (leb events event-limit) h)
+  where
+    right : (a b : Bool) → a && b ≡ true → b ≡ true
+    right true b h = h
+    right false b h = absurd (false≢true h)
+
+-- What a judgement was made from.
+pub judgement-refused : (a : Option Refusal) (r : Refusal) → judgement a ≡ RefusedJudgement r → a ≡ some r
+unfolding judgement
+judgement-refused none r e = let z : _≡_ {A = ℕ} 0 1 = cc in absurd (omega arith)
+judgement-refused (some s) r e = cc
+
+-- 1, then 5 to 9, as the code judges them.
+module _ (kind : ValueKind) (events : ℕ) (rule : List ℕ) where
+  abbrev first-answer : Judgement
+  first-answer = judgement (or-else (plain-unless (events-test events) 1) (rule-refusal events (value-count kind) rule))
+
+  off : events-test events ≡ false → RefusedJudgement (Plain 1) ≡ first-answer
+  unfolding judgement or-else plain-unless
+  off h = sym (ap (λ b. judgement (or-else (plain-unless b 1) (rule-refusal events (value-count kind) rule))) h)
+
+  on : events-test events ≡ true → judgement (rule-refusal events (value-count kind) rule) ≡ first-answer
+  unfolding judgement or-else plain-unless
+  on h = sym (ap (λ b. judgement (or-else (plain-unless b 1) (rule-refusal events (value-count kind) rule))) h)
+
+  pub judged-few : events < 1 → RefusedJudgement (Plain 1) ≡ first-answer
+  unfolding events-test
+  judged-few h = off (ap (λ b. b && leb events event-limit) (lt-leb 1 events h))
+
+  pub judged-many : event-limit < events → RefusedJudgement (Plain 1) ≡ first-answer
+  unfolding events-test
+  judged-many h = off (ap (λ b. leb 1 events && b) (lt-leb events event-limit h) ∙ and-false (leb 1 events))
+
+  pub judged-rule :
+      (values : ℕ) → 1 ≤ events → events ≤ event-limit → values ≡ value-count kind →
+      judgement (rule-refusal events values rule) ≡ first-answer
+  unfolding events-test
+  judged-rule values h l q =
+      ap (λ v. judgement (rule-refusal events v rule)) q
+      ∙ on (ap₂ (λ a b. a && b) (le-leb 1 events h) (le-leb events event-limit l))
+
+module _ (limit : ℕ) (kind : ValueKind) (events top : ℕ) (table rule : List ℕ) where
+  abbrev judged : Option Refusal
+  judged = or-else (plain-unless (events-test events) 1) (rule-refusal events (value-count kind) rule)
+
+  abbrev states : ℕ
+  states = rule-states kind events top table rule limit
+
+  or-assoc : (a b c : Option Refusal) → or-else a (or-else b c) ≡ or-else (or-else a b) c
+  unfolding or-else
+  or-assoc none b c = refl
+  or-assoc (some r) b c = refl
+
+  refusal-is : compile-rule-refusal kind events top table rule limit ≡ or-else judged (plain-unless (leb states limit) 10)
+  unfolding compile-rule-refusal rule-table-refusal
+  refusal-is =
+      or-assoc (plain-unless (events-test events) 1) (rule-refusal events (value-count kind) rule)
+      (plain-unless (leb states limit) 10)
+
+  -- By the refusal.
+  abbrev answer : Option Refusal → Compiled
+  answer r =
+      record {
+        verdict = counted r states;
+        values = flat (rule-table kind events top table rule limit .value) events (entry-count r (states * events)) 1024;
+        nexts = flat (rule-table kind events top table rule limit .next) events (entry-count r (states * events)) 1024;
+      }
+
+  answer-is : compiled-within limit kind events top table rule ≡ answer (or-else judged (plain-unless (leb states limit) 10))
+  unfolding compiled-within
+  answer-is = ap answer refusal-is
+
+  answer-refused : (r : Refusal) → answer (some r) ≡ refused r
+  unfolding counted entry-count refused
+  answer-refused r =
+      ap₂ (λ v n. record { verdict = Refused r; values = v; nexts = n })
+      (flat-none (rule-table kind events top table rule limit .value) events 1024)
+      (flat-none (rule-table kind events top table rule limit .next) events 1024)
+
+  pub within-refused : (r : Refusal) → judged ≡ some r → refused r ≡ compiled-within limit kind events top table rule
+  unfolding or-else
+  within-refused r e =
+      sym
+      (answer-is ∙ ap (λ j. answer (or-else j (plain-unless (leb states limit) 10))) e ∙ answer-refused r)
+
+  module _ (e : judged ≡ none) where
+    pub few : events ≤ event-limit
+    few = few-events events (plain-none (events-test events) 1 (or-else-none (plain-unless (events-test events) 1) (rule-refusal events (value-count kind) rule) e .0))
+
+    rule-accepted : rule-refusal events (value-count kind) rule ≡ none
+    rule-accepted = or-else-none (plain-unless (events-test events) 1) (rule-refusal events (value-count kind) rule) e .1
+
+    open-answer : compiled-within limit kind events top table rule ≡ answer (plain-unless (leb states limit) 10)
+    unfolding or-else
+    open-answer = answer-is ∙ ap (λ j. answer (or-else j (plain-unless (leb states limit) 10))) e
+
+    module _ (values nexts : List ℕ) (n : ℕ)
+        (t : Tables (decoded rule .kinds) (decoded rule .firsts) (decoded rule .values) (decoded rule .count) (meetOf kind table) top events
+        limit (replicate 1024 0) (replicate 1024 0) values nexts n) where
+      tabled : Tabled (meetOf kind table) top (formula-of rule) events limit (replicate 1024 0) (replicate 1024 0) values nexts n
+      tabled =
+          let a = accepted-formula-of events (value-count kind) rule rule-accepted in
+          let d = decoded-reads rule (formula-of rule) (a .written) (a .accepted .within) in
+          let w = grammar ℕ 256 events (Below (value-count kind)) (formula-of rule) (a .accepted) in
+          t (formula-of rule) (d .reads) (sym (d .counted)) (w .closed) (w .guarded)
+
+      pub within-many : limit < n → refused (Plain 10) ≡ compiled-within limit kind events top table rule
+      unfolding plain-unless
+      within-many h =
+          sym
+          (open-answer
+          ∙ ap (λ b. answer (plain-unless b 10)) (lt-leb states limit (tabled .more (omega (arith, tabled .at-most, h))))
+          ∙ answer-refused (Plain 10))
+
+      pub within-table :
+          n ≤ limit → length values ≡ 1024 → length nexts ≡ 1024 →
+          record { verdict = Count n; values = values; nexts = nexts } ≡ compiled-within limit kind events top table rule
+      unfolding plain-unless counted entry-count
+      within-table h v x =
+          let s : states ≡ n = tabled .states h in
+          let few-states : leb states limit ≡ true = le-leb states limit (omega (arith, s)) in
+          let k : n * events ≡ states * events = ap (λ y. y * events) (sym s) in
+          sym
+          (open-answer
+          ∙ ap (λ b. answer (plain-unless b 10)) few-states
+          ∙ ap (λ y. made y (flat (rule-table kind events top table rule limit .value) events (states * events) 1024)
+          (flat (rule-table kind events top table rule limit .next) events (states * events) 1024)) s
+          ∙ ap₂ (made n)
+          (sym (flat-is (rule-table kind events top table rule limit .value) events (states * events) 1024 values v
+          (subst (λ y. EntriesTo (rule-table kind events top table rule limit .value) events y values) k (tabled .values-are h))
+          (subst (λ y. Unchanged y (replicate 1024 0) values) k (tabled .values-after h))))
+          (sym (flat-is (rule-table kind events top table rule limit .next) events (states * events) 1024 nexts x
+          (subst (λ y. EntriesTo (rule-table kind events top table rule limit .next) events y nexts) k (tabled .nexts-are h))
+          (subst (λ y. Unchanged y (replicate 1024 0) nexts) k (tabled .nexts-after h)))))
+        where
+          made : ℕ → List ℕ → List ℕ → Compiled
+          made y a b = record { verdict = Count y; values = a; nexts = b }
+
+-- The decoded nodes, of those that were decoded so.
+tables-of :
+    (limit : ℕ) (kind : ValueKind) (events top : ℕ) (table rule : List ℕ) (nodes : Nodes) (values nexts : List ℕ) (n : ℕ) →
+    nodes ≡ decoded rule →
+    Tables (nodes .kinds) (nodes .firsts) (nodes .values) (nodes .count) (meetOf kind table) top events limit (replicate 1024 0)
+    (replicate 1024 0) values nexts n →
+    Tables (decoded rule .kinds) (decoded rule .firsts) (decoded rule .values) (decoded rule .count) (meetOf kind table) top events limit
+    (replicate 1024 0) (replicate 1024 0) values nexts n
+tables-of limit kind events top table rule nodes values nexts n e t =
+    subst
+    (λ d. Tables (d .kinds) (d .firsts) (d .values) (d .count) (meetOf kind table) top events limit (replicate 1024 0) (replicate 1024 0)
+    values nexts n) e t
+
+pub few-nodes : (rule : List ℕ) (nodes : Nodes) → nodes ≡ decoded rule → nodes .count ≤ 256
+few-nodes rule nodes e = subst (λ d. d .count ≤ 256) (sym e) (decoded-limit rule)
+
+-- At document 01's limit.
+module _ (kind : ValueKind) (events top : ℕ) (table rule : List ℕ) where
+  pub compiled-refused :
+      (r : Refusal) → or-else (plain-unless (events-test events) 1) (rule-refusal events (value-count kind) rule) ≡ some r →
+      refused r ≡ compiled kind events top table rule
+  unfolding compiled
+  compiled-refused r e = within-refused 64 kind events top table rule r e
+
+  module _ (e : or-else (plain-unless (events-test events) 1) (rule-refusal events (value-count kind) rule) ≡ none)
+      (nodes : Nodes) (d : nodes ≡ decoded rule) (values nexts : List ℕ) (n : ℕ)
+      (t : Tables (nodes .kinds) (nodes .firsts) (nodes .values) (nodes .count) (meetOf kind table) top events
+      64 (replicate 1024 0) (replicate 1024 0) values nexts n) where
+    pub compiled-many : 64 < n → refused (Plain 10) ≡ compiled kind events top table rule
+    unfolding compiled
+    compiled-many h = within-many 64 kind events top table rule e values nexts n (tables-of 64 kind events top table rule nodes values nexts n d t) h
+
+    pub compiled-table :
+        n ≤ 64 → length values ≡ 1024 → length nexts ≡ 1024 →
+        record { verdict = Count n; values = values; nexts = nexts } ≡ compiled kind events top table rule
+    unfolding compiled
+    compiled-table h v x = within-table 64 kind events top table rule e values nexts n (tables-of 64 kind events top table rule nodes values nexts n d t) h v x

@@ -1,0 +1,117 @@
+-- From what the walks and loops answer to the formula's table.
+-- Assumes nothing.
+use mathlib.Core.Path.{_≡_, refl, sym, _∙_, ap, ap₂, subst, fun-ext}
+use mathlib.Core.Bool.{Bool}
+use mathlib.Core.List.{List, []}
+use Prim.Native.Nat.{ℕ, suc, _+_, _*_, _-_, _/_, _%_, _<_, _≤_}
+use native.Mathlib.Omega.{arith}
+use lib.ListN.{length, getD}
+use Rattle.theory.specs.Formula.{Formula, size, Closed, Guarded}
+use Rattle.theory.specs.MealyMachine.{Machine}
+use Rattle.theory.specs.Demands.{value-of-set}
+use Rattle.theory.specs.Exploration.{reached, explored, index, numbered, member, bits, same-bits, bit-machine, first-bits}
+use Rattle.formulas.specs.NodeReading.{Reads}
+use Rattle.synthesis.specs.NodeWords.{set-at, bits-at}
+use Rattle.synthesis.specs.NodeWalks.{read, Binds}
+use Rattle.synthesis.specs.Binding.{AllBound}
+use Rattle.synthesis.specs.DemandRows.{RowsTo}
+use Rattle.synthesis.specs.Exploring.{next-bits, Unchanged, Kept, Counted, sequences}
+use Rattle.synthesis.specs.TableEntries.{state-value, EntriesTo}
+use Rattle.synthesis.specs.FormulaTable.{formula-states, formula-table, Tabled, Tables}
+use Rattle.synthesis.proofs.NodeWords.{member-bits-at}
+use Rattle.synthesis.proofs.NodeWalks.{size-pos}
+use Rattle.synthesis.proofs.Stepping.{stepped-moved}
+use Rattle.synthesis.proofs.TableEntries.{value-from}
+
+-- What the parts of the code answer, for some count of nodes.
+pub record Parts (kinds firsts fields stack b rows states : List ℕ) (meet : ℕ → ℕ → ℕ) (top events limit n : ℕ)
+    (values nexts values′ nexts′ : List ℕ) (count : ℕ) : Type 0 where
+  pub bound : AllBound kinds firsts 0 count 0 stack b
+  pub filled : RowsTo kinds b count rows count
+  pub counted :
+      Counted (next-bits kinds firsts rows count) (bits-at rows 0) events limit
+      (sequences (next-bits kinds firsts rows count) (bits-at rows 0) events limit) n (n * events) states nexts′
+  pub valued : n ≤ limit → EntriesTo (state-value meet top kinds firsts fields count states) events (n * events) values′
+  pub values-kept : n ≤ limit → Unchanged (n * events) values values′
+  pub nexts-kept : n ≤ limit → Unchanged (n * events) nexts nexts′
+
+module _ (kinds firsts fields stack b rows states : List ℕ) (meet : ℕ → ℕ → ℕ) (top events limit n : ℕ)
+    (values nexts values′ nexts′ : List ℕ) (φ : Formula ℕ) (d : Reads (read kinds) (read firsts) (read fields) 0 φ)
+    (closed : Closed φ) (guarded : Guarded φ)
+    (p : Parts kinds firsts fields stack b rows states meet top events limit n values nexts values′ nexts′ (size φ)) where
+  binds : Binds (read b) [] 0 φ
+  unfolding AllBound
+  binds = p .bound (read fields) φ [] d (omega arith) closed (record { deep = refl; at = λ k h. absurd (omega arith) })
+
+  abbrev next : List Bool → ℕ → List Bool
+  next = next-bits kinds firsts rows (size φ)
+
+  abbrev start : List Bool
+  start = bits-at rows 0
+
+  next-is : next ≡ bit-machine 256 meet top φ .next
+  unfolding next-bits
+  next-is =
+      fun-ext λ L. fun-ext λ e.
+      ap (bits 256 0) (stepped-moved kinds firsts b rows (read fields) φ (p .filled) d guarded binds (member L) e)
+
+  start-is : start ≡ first-bits 256 meet top φ
+  unfolding bits-at
+  start-is = ap (bits 256 0) (p .filled 0 (size-pos φ) (read firsts) (read fields) φ [] d (omega arith) guarded binds tt)
+
+  abbrev m : Machine (List Bool) ℕ
+  m = record { value = bit-machine 256 meet top φ .value; next = next }
+
+  table-is : numbered same-bits m start (sequences next start events limit) ≡ formula-table meet top φ events limit
+  unfolding sequences formula-table
+  table-is =
+      ap₂ (λ (h : List Bool → ℕ → List Bool) (x : List Bool).
+      numbered same-bits (record { value = bit-machine 256 meet top φ .value; next = h }) x (explored same-bits h x events limit))
+      next-is start-is
+
+  length-is : length (sequences next start events limit) ≡ formula-states meet top φ events limit
+  unfolding sequences formula-states
+  length-is =
+      ap₂ (λ (h : List Bool → ℕ → List Bool) (x : List Bool). length (explored same-bits h x events limit)) next-is start-is
+
+  module _ (small : n ≤ limit) where
+    k : Kept next start events (sequences next start events limit) n (n * events) states nexts′
+    k = p .counted .all small
+
+    value-at : EntriesTo (formula-table meet top φ events limit .value) events (n * events) values′
+    value-at x h =
+        let l : x / events < n = k .entry x h .of-state in
+        p .valued small x h
+        ∙ value-from meet top kinds firsts fields (set-at states (x / events * 4)) (x % events) φ d
+        ∙ ap (λ D. value-of-set meet top φ D (x % events))
+        (sym (member-bits-at states (x / events * 4)) ∙ ap member (k .state (x / events) l))
+        ∙ ap (λ T. T .value (x / events) (x % events)) table-is
+
+    next-at : EntriesTo (formula-table meet top φ events limit .next) events (n * events) nexts′
+    next-at x h = sym (k .entry x h .number) ∙ ap (λ T. T .next (x / events) (x % events)) table-is
+
+  tabled : Tabled meet top φ events limit values nexts values′ nexts′ n
+  tabled =
+      record {
+        at-most = p .counted .at-most;
+        states = λ h. sym length-is ∙ p .counted .all h .count;
+        more = λ h. subst (λ x. limit < x) length-is (p .counted .more h);
+        values-are = value-at;
+        nexts-are = next-at;
+        values-after = p .values-kept;
+        nexts-after = p .nexts-kept;
+      }
+
+pub tables :
+    (kinds firsts fields stack b rows states : List ℕ) (meet : ℕ → ℕ → ℕ) (top events limit n count : ℕ)
+    (values nexts values′ nexts′ : List ℕ) →
+    AllBound kinds firsts 0 count 0 stack b → RowsTo kinds b count rows count →
+    Counted (next-bits kinds firsts rows count) (bits-at rows 0) events limit
+    (sequences (next-bits kinds firsts rows count) (bits-at rows 0) events limit) n (n * events) states nexts′ →
+    (n ≤ limit → EntriesTo (state-value meet top kinds firsts fields count states) events (n * events) values′) →
+    (n ≤ limit → Unchanged (n * events) values values′) → (n ≤ limit → Unchanged (n * events) nexts nexts′) →
+    Tables kinds firsts fields count meet top events limit values nexts values′ nexts′ n
+tables kinds firsts fields stack b rows states meet top events limit n count values nexts values′ nexts′ bo fi co va vk nk φ d q closed guarded =
+    tabled kinds firsts fields stack b rows states meet top events limit n values nexts values′ nexts′ φ d closed guarded
+    (subst (Parts kinds firsts fields stack b rows states meet top events limit n values nexts values′ nexts′) (sym q)
+    (record { bound = bo; filled = fi; counted = co; valued = va; values-kept = vk; nexts-kept = nk }))

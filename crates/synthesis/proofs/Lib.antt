@@ -1,0 +1,14 @@
+-- In the order in which they build on each other.
+pub mod Bits
+pub mod NodeWords
+pub mod NodeSetLaws
+pub mod NodeWalks
+pub mod Binding
+pub mod DemandRows
+pub mod Stepping
+pub mod Exploring
+pub mod TableEntries
+pub mod FormulaTable
+pub mod Compilation
+pub mod CompiledTable
+pub mod LentTable

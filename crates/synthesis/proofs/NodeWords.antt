@@ -1,0 +1,154 @@
+-- Sets of nodes in words: what a store, an inserted node and a union make of them, and that equal sets have equal words.
+-- Assumes nothing.
+use mathlib.Core.Path.{_≡_, refl, sym, _∙_, ap, ap₂, subst, fun-ext}
+use mathlib.Core.Bool.{Bool, true, false, _||_, _&&_, or-false}
+use mathlib.Core.List.{List}
+use Prim.Native.Nat.{ℕ, zero, suc, _+_, _*_, _-_, _/_, _%_, _^_, _≤_, _<_}
+use native.Mathlib.Nat.{div-add-mod'}
+use native.Mathlib.Decide.{decLt, ℕ-discrete}
+use native.Mathlib.Omega.{arith}
+use borrow.Author.Tests.{lt-ltb, le-ltb, eq-eqb, ne-eqb}
+use lib.Arith.{digits-div, digits-mod}
+use lib.Bits.{bitOr}
+use lib.Dec.{ltb, eqb}
+use lib.ListN.{length, getD, set, replicate, getD-replicate}
+use lib.Seq.{getD-set-same, getD-set-other}
+use Rattle.theory.specs.Demands.{NodeSet}
+use Rattle.theory.specs.DemandSets.{empty, union, only}
+use Rattle.theory.specs.Exploration.{member, bits}
+use Rattle.theory.proofs.BitSets.{member-bits}
+use Rattle.synthesis.specs.NodeWords.{bit-at, set-at, row, bits-at, Stored}
+use Rattle.synthesis.proofs.Bits.{or-bit, power-bit, zero-bit, same-number}
+
+pub in-words : (l : List ℕ) (b j : ℕ) → j < 256 → set-at l b j ≡ eqb (bit-at (getD l (b + j / 64) 0) (j % 64)) 1
+unfolding set-at
+in-words l b j h = ap (λ t. t && eqb (bit-at (getD l (b + j / 64) 0) (j % 64)) 1) (lt-ltb j 256 h)
+
+pub past-words : (l : List ℕ) (b j : ℕ) → 256 ≤ j → set-at l b j ≡ false
+unfolding set-at
+past-words l b j h = ap (λ t. t && eqb (bit-at (getD l (b + j / 64) 0) (j % 64)) 1) (le-ltb j 256 h)
+
+-- A node's bit is set in its word.
+pub set-insert :
+    (l : List ℕ) (k : ℕ) → k < 256 → length l ≡ 4 →
+    set-at (set l (k / 64) (bitOr (getD l (k / 64) 0) (2 ^ (k % 64)))) 0 ≡ union (set-at l 0) (only k)
+unfolding union only
+set-insert l k h n = fun-ext λ j. go j (decLt j 256)
+  where
+    l′ : List ℕ
+    l′ = set l (k / 64) (bitOr (getD l (k / 64) 0) (2 ^ (k % 64)))
+
+    inside : (j : ℕ) → j < 256 → Dec (j / 64 ≡ k / 64) → set-at l′ 0 j ≡ set-at l 0 j || eqb k j
+    inside j u (yes e) =
+        let z : 0 + j / 64 ≡ k / 64 = omega (arith, e) in
+        in-words l′ 0 j u
+        ∙ ap (λ x. eqb (bit-at x (j % 64)) 1)
+        (ap (λ x. getD l′ x 0) z ∙ getD-set-same l (k / 64) (bitOr (getD l (k / 64) 0) (2 ^ (k % 64))) 0 (omega arith))
+        ∙ or-bit (getD l (k / 64) 0) (2 ^ (k % 64)) (j % 64)
+        ∙ ap₂ (λ a b. a || b)
+        (ap (λ x. eqb (bit-at (getD l x 0) (j % 64)) 1) (sym z) ∙ sym (in-words l 0 j u))
+        (power-bit (k % 64) (j % 64) ∙ digit (ℕ-discrete k j))
+      where
+        digit : Dec (k ≡ j) → eqb (k % 64) (j % 64) ≡ eqb k j
+        digit (yes q) = eq-eqb (k % 64) (j % 64) (ap (λ x. x % 64) q) ∙ sym (eq-eqb k j q)
+        digit (no q) =
+            ne-eqb (k % 64) (j % 64)
+            (λ t. q (sym (div-add-mod' k 64) ∙ ap₂ (λ a b. a * 64 + b) (sym e) t ∙ div-add-mod' j 64))
+            ∙ sym (ne-eqb k j q)
+    inside j u (no e) =
+        in-words l′ 0 j u
+        ∙ ap (λ x. eqb (bit-at x (j % 64)) 1)
+        (getD-set-other l (k / 64) (0 + j / 64) (bitOr (getD l (k / 64) 0) (2 ^ (k % 64))) 0 (λ q. e (omega (arith, q))))
+        ∙ sym (in-words l 0 j u)
+        ∙ sym (or-false (set-at l 0 j))
+        ∙ ap (λ b. set-at l 0 j || b) (sym (ne-eqb k j (λ q. e (ap (λ x. x / 64) (sym q)))))
+
+    go : (j : ℕ) → Dec (j < 256) → set-at l′ 0 j ≡ set-at l 0 j || eqb k j
+    go j (yes u) = inside j u (ℕ-discrete (j / 64) (k / 64))
+    go j (no u) =
+        past-words l′ 0 j (omega arith)
+        ∙ sym (ap₂ (λ a b. a || b) (past-words l 0 j (omega arith)) (ne-eqb k j (λ e. omega (arith, e))))
+
+-- The bitwise or of the words is the union.
+pub set-unite :
+    (after before rows : List ℕ) (base : ℕ) →
+    ((w : ℕ) → w < 4 → getD after w 0 ≡ bitOr (getD before w 0) (getD rows (base + w) 0)) →
+    set-at after 0 ≡ union (set-at before 0) (set-at rows base)
+unfolding union
+set-unite after before rows base f = fun-ext λ j. go j (decLt j 256)
+  where
+    go : (j : ℕ) → Dec (j < 256) → set-at after 0 j ≡ set-at before 0 j || set-at rows base j
+    go j (yes u) =
+        let z : 0 + j / 64 ≡ j / 64 = omega arith in
+        in-words after 0 j u
+        ∙ ap (λ x. eqb (bit-at x (j % 64)) 1)
+        (ap (λ x. getD after x 0) z ∙ f (j / 64) (omega arith)
+        ∙ ap (λ x. bitOr (getD before x 0) (getD rows (base + j / 64) 0)) (sym z))
+        ∙ or-bit (getD before (0 + j / 64) 0) (getD rows (base + j / 64) 0) (j % 64)
+        ∙ sym (ap₂ (λ a b. a || b) (in-words before 0 j u) (in-words rows base j u))
+    go j (no u) =
+        past-words after 0 j (omega arith)
+        ∙ sym (ap₂ (λ a b. a || b) (past-words before 0 j (omega arith)) (past-words rows base j (omega arith)))
+
+-- Equal words, equal sets.
+pub set-same :
+    (l m : List ℕ) (b c : ℕ) → ((w : ℕ) → w < 4 → getD l (b + w) 0 ≡ getD m (c + w) 0) → set-at l b ≡ set-at m c
+set-same l m b c f = fun-ext λ j. go j (decLt j 256)
+  where
+    go : (j : ℕ) → Dec (j < 256) → set-at l b j ≡ set-at m c j
+    go j (yes u) =
+        in-words l b j u ∙ ap (λ x. eqb (bit-at x (j % 64)) 1) (f (j / 64) (omega arith)) ∙ sym (in-words m c j u)
+    go j (no u) = past-words l b j (omega arith) ∙ sym (past-words m c j (omega arith))
+
+-- Words of zeros are the empty set.
+pub no-members : set-at (replicate 4 0) 0 ≡ empty
+unfolding empty
+no-members = fun-ext λ j. go j (decLt j 256)
+  where
+    go : (j : ℕ) → Dec (j < 256) → set-at (replicate 4 0) 0 j ≡ false
+    go j (yes u) =
+        in-words (replicate 4 0) 0 j u
+        ∙ ap (λ x. eqb (bit-at x (j % 64)) 1) (getD-replicate 4 (0 + j / 64) 0 0 (omega arith))
+        ∙ zero-bit (j % 64)
+    go j (no u) = past-words (replicate 4 0) 0 j (omega arith)
+
+-- What is stored is read there, and elsewhere what was.
+pub stored-there : (before after from : List ℕ) (base : ℕ) → Stored before after base from → set-at after base ≡ set-at from 0
+stored-there before after from base h =
+    set-same after from base 0 (λ w l. h .there w l ∙ ap (λ x. getD from x 0) (omega arith))
+
+pub stored-else :
+    (before after from : List ℕ) (i j : ℕ) → Stored before after (i * 4) from → ¬ (j ≡ i) → row after j ≡ row before j
+stored-else before after from i j h d = set-same after before (j * 4) (j * 4) (λ w l. go w l (decLt (j * 4 + w) (i * 4)))
+  where
+    go : (w : ℕ) → w < 4 → Dec (j * 4 + w < i * 4) → getD after (j * 4 + w) 0 ≡ getD before (j * 4 + w) 0
+    go w l (yes u) = h .below (j * 4 + w) u
+    go w l (no u) = h .above (j * 4 + w) (far (decLt i j))
+      where
+        far : Dec (i < j) → i * 4 + 4 ≤ j * 4 + w
+        far (yes x) = omega arith
+        far (no x) = absurd (d (omega arith))
+
+-- The members of the bits are the set's.
+pub member-bits-at : (words : List ℕ) (base : ℕ) → member (bits-at words base) ≡ set-at words base
+unfolding bits-at
+member-bits-at words base = member-bits 256 (set-at words base) (λ j h. past-words words base j h)
+
+-- Equal sets, equal bits; equal bits, equal words.
+pub bits-of : (l m : List ℕ) (b c : ℕ) → set-at l b ≡ set-at m c → bits-at l b ≡ bits-at m c
+unfolding bits-at
+bits-of l m b c e = ap (bits 256 0) e
+
+pub bits-words :
+    (l m : List ℕ) (b c : ℕ) → bits-at l b ≡ bits-at m c → (w : ℕ) → w < 4 → getD l (b + w) 0 < 2 ^ 64 →
+    getD m (c + w) 0 < 2 ^ 64 → getD l (b + w) 0 ≡ getD m (c + w) 0
+bits-words l m b c e w h u v =
+    same-number 64 (getD l (b + w) 0) (getD m (c + w) 0) u v
+    (λ k q. sym (at l b k q)
+    ∙ ap (λ D. D (w * 64 + k)) (sym (member-bits-at l b) ∙ ap member e ∙ member-bits-at m c)
+    ∙ at m c k q)
+  where
+    at : (l : List ℕ) (b k : ℕ) → k < 64 → set-at l b (w * 64 + k) ≡ eqb (bit-at (getD l (b + w) 0) k) 1
+    at l b k q =
+        in-words l b (w * 64 + k) (omega arith)
+        ∙ ap₂ (λ x y. eqb (bit-at (getD l (b + x) 0) y) 1) (digits-div w q) (digits-mod w q)

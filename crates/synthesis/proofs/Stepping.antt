@@ -1,0 +1,144 @@
+-- The next set, node by node from the rows, is the next set of the formula's machine.
+-- Assumes nothing.
+use mathlib.Core.Path.{_≡_, refl, sym, _∙_, ap, ap₂, fun-ext}
+use mathlib.Core.Bool.{Bool, true, false, _||_, _&&_, cond, or-false, or-assoc, and-true, and-false}
+use mathlib.Core.List.{List, [], _∷_, map}
+use Prim.Native.Nat.{ℕ, zero, suc, _+_, _*_, _-_, _≤_, _<_}
+use native.Mathlib.Numerals.{add-one}
+use native.Mathlib.Omega.{arith}
+use borrow.Author.Tests.{eq-eqb, ne-eqb}
+use lib.Dec.{eqb}
+use lib.ListN.{length, getD}
+use Rattle.theory.specs.Formula.{Formula, truth, variable, transition, output, conjunction, greatest, size, Guarded}
+use Rattle.theory.specs.Demands.{NodeSet}
+use Rattle.theory.specs.DemandSets.{empty, union, demands, moved}
+use Rattle.formulas.specs.NodeReading.{Reads}
+use Rattle.synthesis.specs.NodeWords.{row}
+use Rattle.synthesis.specs.NodeWalks.{read, Binds}
+use Rattle.synthesis.specs.DemandRows.{AllBelow, RowsTo}
+use Rattle.synthesis.specs.Exploring.{some-in, for-event, brings, stepped}
+use Rattle.synthesis.proofs.NodeWalks.{size-pos}
+
+some-split : (p : ℕ → Bool) (i n m : ℕ) → some-in p i (n + m) ≡ some-in p i n || some-in p (i + n) m
+some-split p i zero m =
+    let a : zero + m ≡ m = omega arith in
+    let c : i ≡ i + zero = omega arith in
+    ap (some-in p i) a ∙ ap (λ x. some-in p x m) c
+some-split p i (suc n) m =
+    let a : suc n + m ≡ suc (n + m) = omega arith in
+    ap (some-in p i) a
+    ∙ ap (λ x. p i || x) (some-split p (suc i) n m ∙ ap (λ x. some-in p (suc i) n || some-in p x m) (omega arith))
+    ∙ sym (or-assoc (p i) (some-in p (suc i) n) (some-in p (i + suc n) m))
+
+some-last : (p : ℕ → Bool) (n : ℕ) → some-in p 0 (n + 1) ≡ some-in p 0 n || p n
+some-last p n = some-split p 0 n 1 ∙ ap (λ x. some-in p 0 n || x) (or-false (p (0 + n)) ∙ ap p (omega arith))
+
+-- One more node.
+module _ (kinds firsts rows : List ℕ) (n : ℕ) (D : NodeSet) (e : ℕ) where
+  pub stepped-none : stepped kinds firsts rows 0 D e ≡ empty
+  unfolding stepped empty
+  stepped-none = refl
+
+  pub stepped-yes :
+      D n && for-event kinds firsts 2 e n ≡ true →
+      stepped kinds firsts rows (n + 1) D e ≡ union (stepped kinds firsts rows n D e) (row rows (n + 1))
+  unfolding stepped union
+  stepped-yes h =
+      fun-ext λ k. some-last (brings kinds firsts rows D e k) n
+      ∙ ap (λ x. some-in (brings kinds firsts rows D e k) 0 n || x)
+      (ap (λ t. t && row rows (suc n) k) h ∙ ap (λ m. row rows m k) (sym (add-one n)))
+
+  pub stepped-no :
+      D n && for-event kinds firsts 2 e n ≡ false → stepped kinds firsts rows (n + 1) D e ≡ stepped kinds firsts rows n D e
+  unfolding stepped
+  stepped-no h =
+      fun-ext λ k. some-last (brings kinds firsts rows D e k) n
+      ∙ ap (λ x. some-in (brings kinds firsts rows D e k) 0 n || x) (ap (λ t. t && row rows (suc n) k) h)
+      ∙ or-false (some-in (brings kinds firsts rows D e k) 0 n)
+
+-- A node of one kind for one event, as the code tests it.
+module _ (kinds firsts : List ℕ) (k e i : ℕ) (x : Bool) where
+  pub test-kind : ¬ (read kinds i ≡ k) → false ≡ x && for-event kinds firsts k e i
+  unfolding for-event
+  test-kind h = sym (ap (λ t. x && (t && eqb (read firsts i) e)) (ne-eqb (read kinds i) k h) ∙ and-false x)
+
+  pub test-event : ¬ (read firsts i ≡ e) → false ≡ x && for-event kinds firsts k e i
+  unfolding for-event
+  test-event h =
+      sym
+      (ap (λ t. x && (eqb (read kinds i) k && t)) (ne-eqb (read firsts i) e h)
+      ∙ ap (λ t. x && t) (and-false (eqb (read kinds i) k))
+      ∙ and-false x)
+
+  pub test-both : read kinds i ≡ k → read firsts i ≡ e → x ≡ x && for-event kinds firsts k e i
+  unfolding for-event
+  test-both h q =
+      sym (ap (λ t. x && t) (ap₂ (λ a b. a && b) (eq-eqb (read kinds i) k h) (eq-eqb (read firsts i) e q)) ∙ and-true x)
+
+below-more : (i : ℕ) (σ : List ℕ) → AllBelow i σ → AllBelow (suc i) σ
+below-more i [] u = tt
+below-more i (x ∷ σ) u = (omega (arith, u .0), below-more i σ (u .1))
+
+below-far : (i n : ℕ) (σ : List ℕ) → AllBelow i σ → AllBelow (i + n) σ
+below-far i n [] u = tt
+below-far i n (x ∷ σ) u = (omega (arith, u .0), below-far i n σ (u .1))
+
+-- A node of another kind, and a node of the kind.
+module _ (kinds firsts : List ℕ) (k e i : ℕ) where
+  pub other-kind : ¬ (read kinds i ≡ k) → for-event kinds firsts k e i ≡ false
+  unfolding for-event
+  other-kind h = ap (λ t. t && eqb (read firsts i) e) (ne-eqb (read kinds i) k h)
+
+  pub same-kind : read kinds i ≡ k → for-event kinds firsts k e i ≡ eqb (read firsts i) e
+  unfolding for-event
+  same-kind h = ap (λ t. t && eqb (read firsts i) e) (eq-eqb (read kinds i) k h)
+
+module _ (kinds firsts b : List ℕ) (total : ℕ) (rows : List ℕ) (ok : RowsTo kinds b total rows total) (value : ℕ → ℕ)
+    (D : NodeSet) (e : ℕ) where
+  brings-not : (i k : ℕ) → ¬ (read kinds i ≡ 2) → brings kinds firsts rows D e k i ≡ false
+  brings-not i k h =
+      ap (λ t. t && row rows (suc i) k) (ap (λ t. D i && t) (other-kind kinds firsts 2 e i h) ∙ and-false (D i))
+
+  cond-at : (t : Bool) (C : NodeSet) (k : ℕ) → cond t C empty k ≡ t && C k
+  unfolding empty
+  cond-at true C k = refl
+  cond-at false C k = refl
+
+  moved-rows :
+      (φ : Formula ℕ) (σ : List ℕ) (i : ℕ) → Reads (read kinds) (read firsts) value i φ → i + size φ ≤ total → Guarded φ →
+      Binds (read b) σ i φ → AllBelow i σ → (k : ℕ) →
+      moved D e (map (row rows) σ) i φ k ≡ some-in (brings kinds firsts rows D e k) i (size φ)
+  unfolding empty union
+  moved-rows truth σ i d h w n u k = sym (ap (λ t. t || false) (brings-not i k (λ q. omega (arith, q, d))))
+  moved-rows (variable m) σ i d h w n u k = sym (ap (λ t. t || false) (brings-not i k (λ q. omega (arith, q, d .0))))
+  moved-rows (transition a φ) σ i d h w n u k =
+      ap₂ (λ x y. x || y)
+      (cond-at (D i && eqb a e) (demands (map (row rows) σ) (suc i) φ) k
+      ∙ ap₂ (λ x y. x && y)
+      (ap (λ t. D i && t) (sym (same-kind kinds firsts 2 e i (d .0) ∙ ap (λ x. eqb x e) (d .1))))
+      (ap (λ C. C k)
+      (sym (ok (suc i) (omega (arith, h, size-pos φ)) (read firsts) value φ σ (d .2) (omega arith) w n (below-more i σ u)))))
+      (moved-rows φ σ (suc i) (d .2) (omega arith) w n (below-more i σ u) k)
+  moved-rows (output a v) σ i d h w n u k = sym (ap (λ t. t || false) (brings-not i k (λ q. omega (arith, q, d .0))))
+  moved-rows (conjunction φ χ) σ i d h w n u k =
+      ap₂ (λ x y. x || y)
+      (moved-rows φ σ (suc i) (d .1) (omega arith) (w .0) (n .0) (below-more i σ u) k)
+      (moved-rows χ σ (suc i + size φ) (d .2) (omega arith) (w .1) (n .1) (below-far (suc i) (size φ) σ (below-more i σ u)) k)
+      ∙ sym (some-split (brings kinds firsts rows D e k) (suc i) (size φ) (size χ))
+      ∙ sym (ap (λ t. t || some-in (brings kinds firsts rows D e k) (suc i) (size φ + size χ))
+      (brings-not i k (λ z. omega (arith, z, d .0))))
+  moved-rows (greatest φ) σ i d h w n u k =
+      ap (λ C. moved D e (C ∷ map (row rows) σ) (suc i) φ k)
+      (sym (ok i (omega (arith, h)) (read firsts) value (greatest φ) σ d h w n u))
+      ∙ moved-rows φ (i ∷ σ) (suc i) (d .1) (omega arith) (w .1) n (omega arith, below-more i σ u) k
+      ∙ sym (ap (λ t. t || some-in (brings kinds firsts rows D e k) (suc i) (size φ))
+      (brings-not i k (λ q. omega (arith, q, d .0))))
+
+-- For a whole formula.
+pub stepped-moved :
+    (kinds firsts b rows : List ℕ) (value : ℕ → ℕ) (φ : Formula ℕ) → RowsTo kinds b (size φ) rows (size φ) →
+    Reads (read kinds) (read firsts) value 0 φ → Guarded φ → Binds (read b) [] 0 φ →
+    (D : NodeSet) (e : ℕ) → stepped kinds firsts rows (size φ) D e ≡ moved D e [] 0 φ
+unfolding stepped
+stepped-moved kinds firsts b rows value φ ok d w n D e =
+    fun-ext λ k. sym (moved-rows kinds firsts b (size φ) rows ok value D e φ [] 0 d (omega arith) w n tt k)

@@ -1,0 +1,118 @@
+use borrow.Author.Needs.{needs}
+use Prim.Native.Nat.{ℕ, _≤_, _<_, _-_, _+_, _*_}
+use mathlib.Core.Path.{_≡_, refl, _∙_, subst}
+use native.Mathlib.Nat.{add-mul}
+use native.Mathlib.Omega.{arith}
+use lib.ListN.{length}
+use Rattle.synthesis.specs.NodeWords.{bits-at}
+use Rattle.synthesis.specs.Exploring.{next-bits, Unchanged, Kept}
+use Rattle.synthesis.proofs.Exploring.{all-to, kept-start, row-kept, row-over, all-kept}
+use Rattle.synthesis.proofs.exploration.explore.Statement.{statement}
+use Rattle.synthesis.proofs.exploration.explore.Tie as tie
+use Rattle.synthesis.proofs.exploration.explore.Reads as reads
+use Rattle.synthesis.proofs.exploration.explore.Lts as lts
+use Rattle.synthesis.proofs.exploration.expand.Reads as expand-reads
+
+abbrev Inv-loop : tie.InvT-loop
+Inv-loop kinds firsts count rows events states₀ nexts₀ n₀ i₀ states nexts n i =
+    (i ≤ n) × (n ≤ 64) × (length states ≡ 1028) × (length nexts ≡ 1024) × Unchanged (i * events) nexts₀ nexts
+    × Kept (next-bits kinds firsts rows count) (bits-at states₀ 0) events (all-to (next-bits kinds firsts rows count) states₀ events i)
+    n (i * events) states nexts
+
+abbrev μ-loop : tie.MeasureT-loop
+μ-loop kinds firsts count rows events states₀ nexts₀ n₀ i₀ states nexts n i = 64 - i
+
+-- src/exploration.rt:109:5
+loop-holds : tie.Need-loop-holds Inv-loop μ-loop
+loop-holds c =
+    let a = c .args in (
+      search needs,
+      search needs,
+      search needs,
+      search needs,
+      (λ x h. refl),
+      kept-start (next-bits (a .kinds .now) (a .firsts .now) (a .rows .now) (a .count)) (a .states .now) (a .events) (a .nexts .now),
+    )
+
+-- src/exploration.rt:110:13
+expand-requires : tie.Need-expand-requires Inv-loop μ-loop
+expand-requires c κs = search needs
+
+-- src/exploration.rt:112:20
+add-result : tie.Need-add-result Inv-loop μ-loop
+add-result c = search needs
+
+-- src/exploration.rt:112:13
+returns : tie.Need-returns Inv-loop μ-loop
+returns c =
+    let a = c .before .before .before .before .before .before .args in
+    let l = c .before .before .before .before .before .loop in
+    let v = l .inv in
+    let x = c .before .expand .ensures in
+    let nb = next-bits (a .kinds .now) (a .firsts .now) (a .rows .now) (a .count) in (
+      x .0,
+      x .1,
+      (λ h. absurd (omega (arith, h))),
+      record {
+        at-most = search needs;
+        all = λ h. absurd (omega (arith, h));
+        more = λ h. row-over nb (a .states .now) (a .events) 64 (l .i) (l .n) (c .before .expand .result) (l .states) (l .nexts) _ _ (search needs) (v .5) (x .4) (omega (arith, c .if1 .taken, x .4 (bits-at (a .states .now) 0) (all-to nb (a .states .now) (a .events) (l .i)) (v .5) .at-most)) (search needs);
+      },
+    )
+
+-- src/exploration.rt:115:9
+add-i : tie.Need-add-i Inv-loop μ-loop
+add-i c = search needs
+
+-- src/exploration.rt:109:5
+loop-less : tie.Need-loop-less Inv-loop μ-loop
+loop-less c = search needs
+
+-- src/exploration.rt:109:5
+loop-again : tie.Need-loop-again Inv-loop μ-loop
+loop-again c =
+    let a = c .before .before .before .before .before .before .args in
+    let l = c .before .before .before .before .before .loop in
+    let v = l .inv in
+    let x = c .before .expand .ensures in
+    let nb = next-bits (a .kinds .now) (a .firsts .now) (a .rows .now) (a .count) in (
+      search needs,
+      search needs,
+      x .0,
+      x .1,
+      (λ y h. x .3 y (omega (arith, h, add-mul (l .i) 1 (a .events))) ∙ v .4 y (omega (arith, h, add-mul (l .i) 1 (a .events)))),
+      row-kept nb (a .states .now) (a .events) 64 (l .i) (l .n) (c .before .expand .result) (l .states) (l .nexts) _ _ (search needs) (v .5) (x .4) (search needs),
+    )
+
+-- src/exploration.rt:98:1
+returns-2 : tie.Need-returns-2 Inv-loop μ-loop
+returns-2 c =
+    let a = c .before .before .args in
+    let l = c .before .loop in
+    let v = l .inv in
+    let q : l .n ≡ l .i = omega arith in
+    let nb = next-bits (a .kinds .now) (a .firsts .now) (a .rows .now) (a .count) in (
+      v .2,
+      v .3,
+      (λ h y u. v .4 y (subst (λ z. z * a .events ≤ y) q u)),
+      record {
+        at-most = search needs;
+        all = λ h. all-kept nb (a .states .now) (a .events) 64 (l .i) (l .n) (l .states) (l .nexts) q (search needs) (v .5);
+        more = λ h. absurd (omega (arith, h));
+      },
+    )
+
+pub explore-spec : {M : Type 1} → statement M
+explore-spec =
+    tie.close
+    (tie.spec
+    Inv-loop
+    μ-loop
+    loop-holds
+    expand-requires
+    add-result
+    returns
+    add-i
+    loop-less
+    loop-again
+    returns-2)

@@ -1,0 +1,63 @@
+use mathlib.Core.Path.{refl}
+use native.Mathlib.Omega.{arith}
+use Rattle.values.specs.ValueKind.{meetOf}
+use Rattle.synthesis.proofs.FormulaTable.{tables}
+use borrow.Author.Needs.{needs}
+use Rattle.synthesis.proofs.tables.table_of.Statement.{statement}
+use Rattle.synthesis.proofs.tables.table_of.Tie as tie
+use Rattle.synthesis.proofs.tables.table_of.Reads as reads
+use Rattle.synthesis.proofs.tables.table_of.Lts as lts
+use Rattle.synthesis.proofs.demands.bind.Reads as bind-reads
+use Rattle.synthesis.proofs.demands.fill_rows.Reads as fill-rows-reads
+use Rattle.synthesis.proofs.entries.fill_values.Reads as fill-values-reads
+use Rattle.synthesis.proofs.exploration.explore.Reads as explore-reads
+
+-- src/tables.rt:24:5
+bind-requires : tie.Need-bind-requires
+bind-requires c κs = search needs
+
+-- src/tables.rt:26:5
+fill-rows-requires : tie.Need-fill-rows-requires
+fill-rows-requires c κs = search needs
+
+-- src/tables.rt:28:9
+explore-requires : tie.Need-explore-requires
+explore-requires c κs = search needs
+
+-- src/tables.rt:30:9
+returns : tie.Need-returns
+returns c =
+    let a = c .before .before .before .before .before .before .before .before .before .before .before .before .args in
+    let x = c .before .explore .ensures in (
+      search needs,
+      x .1,
+      tables (a .kinds .now) (a .firsts .now) (a .fields .now) _ _ _ _ (meetOf (a .kind) (a .meet .now)) (a .top) (a .events) 64 (c .before .explore .result) (a .count) (a .values .now) (a .nexts .now) _ _
+          (c .before .before .before .before .before .before .before .before .bind .ensures .bound) (c .before .before .before .before .before .fill-rows .ensures .1) (x .3) (λ h. absurd (omega (arith, h, c .if1 .taken))) (λ h y u. refl) (x .2),
+    )
+
+-- src/tables.rt:32:5
+fill-values-requires : tie.Need-fill-values-requires
+fill-values-requires c κs = search needs
+
+-- src/tables.rt:15:1
+returns-2 : tie.Need-returns-2
+returns-2 c =
+    let a = c .before .before .before .before .before .before .before .before .before .before .before .before .before .before .before .args in
+    let x = c .before .before .before .before .explore .ensures in
+    let f = c .fill-values .ensures in (
+      f .0,
+      x .1,
+      tables (a .kinds .now) (a .firsts .now) (a .fields .now) _ _ _ _ (meetOf (a .kind) (a .meet .now)) (a .top) (a .events) 64 (c .before .before .before .before .explore .result) (a .count) (a .values .now) (a .nexts .now) _ _
+          (c .before .before .before .before .before .before .before .before .before .before .before .bind .ensures .bound) (c .before .before .before .before .before .before .before .before .fill-rows .ensures .1) (x .3) (λ h. f .2) (λ h. f .1) (x .2),
+    )
+
+pub table-of-spec : {M : Type 1} → statement M
+table-of-spec =
+    tie.close
+    (tie.spec
+    bind-requires
+    fill-rows-requires
+    explore-requires
+    returns
+    fill-values-requires
+    returns-2)

@@ -1,0 +1,29 @@
+-- The walk that gives each variable node its binder's node.
+-- Assumes nothing.
+use mathlib.Core.Path.{_≡_}
+use mathlib.Core.List.{List}
+use Prim.Native.Nat.{ℕ, _+_, _-_, _≤_, _<_}
+use lib.ListN.{length, getD}
+use Rattle.theory.specs.Formula.{Formula, size, FreeBelow}
+use Rattle.formulas.specs.NodeReading.{Reads}
+use Rattle.synthesis.specs.NodeWalks.{read, Ends, Binds}
+
+-- The binders around, the innermost first, are the stack's first numbers, read down.
+pub record Stack (stack σ : List ℕ) (depth : ℕ) : Type 0 where
+  pub deep : length σ ≡ depth
+  pub at : (k : ℕ) → k < depth → getD stack (depth - 1 - k) 0 ≡ getD σ k 0
+
+-- Every variable of the formula at a node has its binder in b.
+unfoldable pub AllBound : List ℕ → List ℕ → ℕ → ℕ → ℕ → List ℕ → List ℕ → Type 0
+AllBound kinds firsts at left depth stack b =
+    (value : ℕ → ℕ) (φ : Formula ℕ) (σ : List ℕ) → Reads (read kinds) (read firsts) value at φ → size φ ≤ left →
+    FreeBelow (length σ) φ → Stack stack σ depth → Binds (read b) σ at φ
+
+pub record Bound (kinds firsts : List ℕ) (at left depth : ℕ) (stack b stack′ b′ : List ℕ) (r : ℕ) : Type 0 where
+  pub low : at ≤ r
+  pub high : r ≤ at + left
+  pub end : Ends kinds at left r
+  pub sizes : (length stack′ ≡ 256) × (length b′ ≡ 256)
+  pub below : (k : ℕ) → k < depth → getD stack′ k 0 ≡ getD stack k 0
+  pub earlier : (i : ℕ) → i < at → getD b′ i 0 ≡ getD b i 0
+  pub bound : AllBound kinds firsts at left depth stack b′

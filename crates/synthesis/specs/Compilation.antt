@@ -1,0 +1,107 @@
+-- What the two compilers answer: the computing twins of the conditions and claims in `Claims`.
+-- Assumes nothing.
+use mathlib.Core.Path.{_≡_}
+use mathlib.Core.Bool.{Bool}
+use mathlib.Core.List.{List}
+use mathlib.Core.Option.{Option, none, some}
+use Prim.Native.Nat.{ℕ, _*_, _/_, _%_}
+use lib.Dec.{leb}
+use lib.ListN.{length, replicate}
+use Rattle.theory.specs.MealyMachine.{Machine}
+use Rattle.refusal.specs.declared.Refusal.{Refusal}
+use Rattle.refusal.specs.declared.Counted.the-variants.{Refused}
+use Rattle.refusal.specs.Refusal.{or-else, plain-unless, counted}
+use Rattle.values.specs.declared.ValueKind.{ValueKind}
+use Rattle.values.specs.declared.ValueKind.the-variants.{Numbered, Register}
+use Rattle.values.specs.ValueKind.{meetOf}
+use Rattle.values.specs.Setup.{Setup, events-test, setup-refusal}
+use Rattle.formulas.specs.RuleRefusal.{rule-refusal, formula-of}
+use Rattle.formulas.specs.NodeArrays.{padded}
+use Rattle.machines.specs.TableBytes.{table-bytes, two-bytes}
+use Rattle.machines.specs.StoredEntries.{put}
+use Rattle.synthesis.specs.declared.Compiled.{Compiled}
+use Rattle.synthesis.specs.FormulaTable.{formula-states, formula-table}
+
+-- At most so many states, and the entries of so many states and events.
+abbrev pub state-limit : ℕ
+state-limit = 64
+
+abbrev pub entry-limit : ℕ
+entry-limit = 1024
+
+-- The values that a rule may name: those of a numbered set are below its count, those of a register are numbers of 32 bits.
+unfoldable pub value-count : ValueKind → ℕ
+value-count (Numbered n) = n
+value-count Register = 4294967296
+
+-- The rule in these bytes, over values of a kind with a meet table and top.
+module _ (kind : ValueKind) (events top : ℕ) (table rule : List ℕ) where
+  -- Its count of states and its table, for a limit of states.
+  abbrev pub rule-states : ℕ → ℕ
+  rule-states limit = formula-states (meetOf kind table) top (formula-of rule) events limit
+
+  abbrev pub rule-table : ℕ → Machine ℕ ℕ
+  rule-table limit = formula-table (meetOf kind table) top (formula-of rule) events limit
+
+  -- 5 to 10.
+  unfoldable pub rule-table-refusal : ℕ → Option Refusal
+  rule-table-refusal limit = or-else (rule-refusal events (value-count kind) rule) (plain-unless (leb (rule-states limit) limit) 10)
+
+  -- 1, then 5 to 10.
+  unfoldable pub compile-rule-refusal : ℕ → Option Refusal
+  compile-rule-refusal limit = or-else (plain-unless (events-test events) 1) (rule-table-refusal limit)
+
+-- How many entries there are beside an answer: none beside a refusal.
+unfoldable pub entry-count : Option Refusal → ℕ → ℕ
+entry-count none entries = entries
+entry-count (some refusal) entries = 0
+
+-- Entries by state and then event, and zeros after them.
+unfoldable pub flat : (ℕ → ℕ → ℕ) → ℕ → ℕ → ℕ → List ℕ
+flat f events entries size = padded (λ x. f (x / events) (x % events)) entries size 0
+
+-- The table beside a refusal.
+unfoldable pub refused : Refusal → Compiled
+refused refusal =
+    record { verdict = Refused refusal; values = replicate entry-limit 0; nexts = replicate entry-limit 0 }
+
+-- The answer of `compile_rule`.
+unfoldable pub compiled-within : ℕ → ValueKind → ℕ → ℕ → List ℕ → List ℕ → Compiled
+compiled-within limit kind events top table rule =
+    record {
+      verdict = counted (compile-rule-refusal kind events top table rule limit) (rule-states kind events top table rule limit);
+      values =
+          flat (rule-table kind events top table rule limit .value) events
+          (entry-count (compile-rule-refusal kind events top table rule limit) (rule-states kind events top table rule limit * events))
+          entry-limit;
+      nexts =
+          flat (rule-table kind events top table rule limit .next) events
+          (entry-count (compile-rule-refusal kind events top table rule limit) (rule-states kind events top table rule limit * events))
+          entry-limit;
+    }
+
+unfoldable pub compiled : ValueKind → ℕ → ℕ → List ℕ → List ℕ → Compiled
+compiled = compiled-within state-limit
+
+-- The answer of `compile` for a set-up, a rule and what the lent buffer held.
+module _ (limit : ℕ) (s : Setup) (rule old : List ℕ) where
+  abbrev pub setup-states : ℕ
+  setup-states = rule-states (Numbered (s .values)) (s .events) (s .top) (s .meet) rule limit
+
+  abbrev pub setup-table : Machine ℕ ℕ
+  setup-table = rule-table (Numbered (s .values)) (s .events) (s .top) (s .meet) rule limit
+
+  -- 1 to 3, 5 to 10, 13.
+  unfoldable pub compile-refusal : Option Refusal
+  compile-refusal =
+      or-else (setup-refusal s)
+      (or-else (rule-table-refusal (Numbered (s .values)) (s .events) (s .top) (s .meet) rule limit)
+      (plain-unless (leb (setup-states * s .events * 2) (length old)) 13))
+
+  -- The buffer afterwards: the table's bytes, and what lies after them as it was; beside a refusal all as it was.
+  unfoldable pub contents-after : Option Refusal → List ℕ
+  contents-after none = put (table-bytes two-bytes (s .events) setup-table setup-states) old
+  contents-after (some refusal) = old
+
+  unfoldable pub compile-contents : List ℕ
+  compile-contents = contents-after compile-refusal

@@ -1,0 +1,33 @@
+-- Sets of node numbers in words of 64 bits, four words a set.
+-- Assumes nothing.
+use mathlib.Core.Path.{_≡_}
+use mathlib.Core.Bool.{Bool, _&&_}
+use mathlib.Core.List.{List}
+use Prim.Native.Nat.{ℕ, _+_, _*_, _/_, _%_, _^_, _≤_, _<_}
+use lib.Dec.{ltb, eqb}
+use lib.ListN.{length, getD}
+use Rattle.theory.specs.Demands.{NodeSet}
+use Rattle.theory.specs.Exploration.{bits}
+
+-- Bit k of a number.
+unfoldable pub bit-at : ℕ → ℕ → ℕ
+bit-at a k = a / 2 ^ k % 2
+
+-- The set of the four words from base on: node k is bit k % 64 of word k / 64.
+unfoldable pub set-at : List ℕ → ℕ → NodeSet
+set-at words base k = ltb k 256 && eqb (bit-at (getD words (base + k / 64) 0) (k % 64)) 1
+
+-- The set kept for number i.
+abbrev pub row : List ℕ → ℕ → NodeSet
+row rows i = set-at rows (i * 4)
+
+-- The set from base on as a list of bits.
+unfoldable pub bits-at : List ℕ → ℕ → List Bool
+bits-at words base = bits 256 0 (set-at words base)
+
+-- The four words from base on are those of a set, and the others are as before.
+pub record Stored (before after : List ℕ) (base : ℕ) (set : List ℕ) : Type 0 where
+  pub sized : length after ≡ length before
+  pub there : (w : ℕ) → w < 4 → getD after (base + w) 0 ≡ getD set w 0
+  pub below : (x : ℕ) → x < base → getD after x 0 ≡ getD before x 0
+  pub above : (x : ℕ) → base + 4 ≤ x → getD after x 0 ≡ getD before x 0

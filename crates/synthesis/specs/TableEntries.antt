@@ -1,0 +1,27 @@
+-- The value of a set on an event, node by node, and entries by state and then event.
+-- Assumes nothing.
+use mathlib.Core.Path.{_≡_}
+use mathlib.Core.Bool.{_&&_, cond}
+use mathlib.Core.List.{List}
+use Prim.Native.Nat.{ℕ, zero, suc, _*_, _/_, _%_, _<_}
+use lib.ListN.{getD}
+use Rattle.theory.specs.Demands.{NodeSet}
+use Rattle.synthesis.specs.NodeWords.{row}
+use Rattle.synthesis.specs.NodeWalks.{read}
+use Rattle.synthesis.specs.Exploring.{for-event}
+
+module _ (meet : ℕ → ℕ → ℕ) (top : ℕ) (kinds firsts values : List ℕ) where
+  -- The meet of the values of the O nodes of D for e, of the c nodes from i on.
+  abbrev pub meet-from : NodeSet → ℕ → ℕ → ℕ → ℕ
+  meet-from D e i zero = top
+  meet-from D e i (suc c) =
+      let rest = meet-from D e (suc i) c in
+      cond (D i && for-event kinds firsts 3 e i) (meet (read values i) rest) rest
+
+  -- The value of a state that is kept.
+  abbrev pub state-value : ℕ → List ℕ → ℕ → ℕ → ℕ
+  state-value count states l e = meet-from (row states l) e 0 count
+
+-- The first m entries are those of f.
+abbrev pub EntriesTo : (ℕ → ℕ → ℕ) → ℕ → ℕ → List ℕ → Type 0
+EntriesTo f events m to = (x : ℕ) → x < m → getD to x 0 ≡ f (x / events) (x % events)

@@ -1,0 +1,130 @@
+// The states that event sequences reach, in document 01's order, and the next state of each on each event.
+use crate::kinds::TRANSITION;
+use crate::node_sets::active;
+use crate::node_sets::same;
+use crate::node_sets::store;
+use crate::node_sets::unite;
+use crate::numbers::entry_at;
+use crate::numbers::narrow;
+ghost use mathlib.Core.Path.{_≡_};
+ghost use Prim.Native.Nat.{ℕ, _+_, _*_, _<_, _≤_};
+ghost use lib.ListN.{length};
+ghost use Rattle.theory.specs.DemandSets.{empty};
+ghost use Rattle.synthesis.specs.NodeWords.{set-at, bits-at};
+ghost use Rattle.synthesis.specs.Exploring.{stepped, next-bits, Found, Counted, Expanded, sequences, Unchanged};
+
+// The most states of a table.
+pub const STATE_LIMIT: usize = 64;
+
+// The next set: the demands of the parts of the set's G nodes for the event.
+fn advance(
+    kinds: &[u8; 256],
+    firsts: &[u8; 256],
+    count: usize,
+    rows: &[u64; 1028],
+    states: &[u64; 1028],
+    base: usize,
+    event: usize,
+    next: &mut [u64; 4],
+)
+    requires { ⌜ (count ≤ 256) × (base + 4 ≤ 1028) × (length (now kinds) ≡ 256) × (length (now firsts) ≡ 256) × (length (now rows) ≡ 1028)
+        × (length (now states) ≡ 1028) × (length (now next) ≡ 4) × (set-at (now next) 0 ≡ empty) ⌝ }
+    ensures { λ _. ⌜ (length (now (next .exit)) ≡ 4)
+        × (set-at (now (next .exit)) 0
+        ≡ stepped (now (kinds .entry)) (now (firsts .entry)) (now (rows .entry)) count (set-at (now (states .entry)) base) event) ⌝ }
+{
+    let mut node: usize = 0;
+    while node < count {
+        if active(kinds, firsts, TRANSITION, node, event, states, base) {
+            unite(next, rows, (node + 1) * 4);
+        }
+        node += 1;
+    }
+}
+
+// The first of n states that is the set, or n.
+fn find(states: &[u64; 1028], n: usize, set: &[u64; 4]) -> usize
+    requires { ⌜ (n ≤ 256) × (length (now states) ≡ 1028) × (length (now set) ≡ 4) ⌝ }
+    ensures { λ r. ⌜ Found (now (states .entry)) n (now (set .entry)) r ⌝ }
+{
+    let mut j: usize = 0;
+    while j < n {
+        if same(states, j * 4, set) {
+            return j;
+        }
+        j += 1;
+    }
+    n
+}
+
+// The states that the events lead to from state i come after the n there are, and the entries of state i get their numbers;
+// the limit and one where there are more.
+fn expand(
+    kinds: &[u8; 256],
+    firsts: &[u8; 256],
+    count: usize,
+    rows: &[u64; 1028],
+    events: usize,
+    i: usize,
+    n: usize,
+    states: &mut [u64; 1028],
+    nexts: &mut [u8; 1024],
+) -> usize
+    requires { ⌜ (count ≤ 256) × (i < n) × (n ≤ 64) × (events ≤ 16) × (length (now kinds) ≡ 256) × (length (now firsts) ≡ 256)
+        × (length (now rows) ≡ 1028) × (length (now states) ≡ 1028) × (length (now nexts) ≡ 1024) ⌝ }
+    ensures { λ r. ⌜ (length (now (states .exit)) ≡ 1028) × (length (now (nexts .exit)) ≡ 1024) × (n ≤ r)
+        × Unchanged (i * events + events) (now (nexts .entry)) (now (nexts .exit))
+        × Expanded (next-bits (now (kinds .entry)) (now (firsts .entry)) (now (rows .entry)) count) events 64 i n
+        (now (states .entry)) (now (nexts .entry)) r (now (states .exit)) (now (nexts .exit)) ⌝ }
+{
+    let mut k = n;
+    let mut event: usize = 0;
+    while event < events {
+        let mut set = [0u64; 4];
+        advance(kinds, firsts, count, rows, &*states, i * 4, event, &mut set);
+        let j = find(&*states, k, &set);
+        if j == k {
+            if k == STATE_LIMIT {
+                return STATE_LIMIT + 1;
+            }
+            store(states, k * 4, &set);
+            k += 1;
+        }
+        let at = entry_at(i, events, event);
+        nexts[at] = narrow(j);
+        event += 1;
+    }
+    k
+}
+
+// The states that event sequences reach, in order, from the first, and the numbers of the next states, by state and then event;
+// the limit and one where there are more.
+pub fn explore(
+    kinds: &[u8; 256],
+    firsts: &[u8; 256],
+    count: usize,
+    rows: &[u64; 1028],
+    events: usize,
+    states: &mut [u64; 1028],
+    nexts: &mut [u8; 1024],
+) -> usize
+    requires { ⌜ (count ≤ 256) × (events ≤ 16) × (length (now kinds) ≡ 256) × (length (now firsts) ≡ 256) × (length (now rows) ≡ 1028)
+        × (length (now states) ≡ 1028) × (length (now nexts) ≡ 1024) ⌝ }
+    ensures { λ r. ⌜ (length (now (states .exit)) ≡ 1028) × (length (now (nexts .exit)) ≡ 1024)
+        × (r ≤ 64 → Unchanged (r * events) (now (nexts .entry)) (now (nexts .exit)))
+        × Counted (next-bits (now (kinds .entry)) (now (firsts .entry)) (now (rows .entry)) count) (bits-at (now (states .entry)) 0) events 64
+        (sequences (next-bits (now (kinds .entry)) (now (firsts .entry)) (now (rows .entry)) count) (bits-at (now (states .entry)) 0) events 64)
+        r (r * events) (now (states .exit)) (now (nexts .exit)) ⌝ }
+{
+    let mut n: usize = 1;
+    let mut i: usize = 0;
+    while i < n {
+        let m = expand(kinds, firsts, count, rows, events, i, n, states, nexts);
+        if STATE_LIMIT < m {
+            return STATE_LIMIT + 1;
+        }
+        n = m;
+        i += 1;
+    }
+    n
+}

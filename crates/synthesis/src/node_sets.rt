@@ -1,0 +1,102 @@
+// Sets of node numbers, four words of 64 bits a set.
+use crate::numbers::wide;
+use crate::numbers::word;
+ghost use mathlib.Core.Path.{_≡_};
+ghost use mathlib.Core.Bool.{true, false, _&&_};
+ghost use Prim.Native.Nat.{ℕ, _+_, _*_, _<_, _≤_, _^_};
+ghost use lib.ListN.{length};
+ghost use Rattle.theory.specs.DemandSets.{union, only};
+ghost use Rattle.synthesis.specs.NodeWords.{set-at, bits-at, Stored};
+ghost use Rattle.synthesis.specs.Exploring.{for-event};
+
+// 2 to the k-th.
+fn power(k: usize) -> u64
+    requires { ⌜ k < 64 ⌝ }
+    ensures { λ r. ⌜ r ≡ 2 ^ k ⌝ }
+{
+    1u64 << (k as u64)
+}
+
+// A node comes into a set.
+pub fn insert(set: &mut [u64; 4], node: usize)
+    requires { ⌜ (node < 256) × (length (now set) ≡ 4) ⌝ }
+    ensures { λ _. ⌜ (length (now (set .exit)) ≡ 4) × (set-at (now (set .exit)) 0 ≡ union (set-at (now (set .entry)) 0) (only node)) ⌝ }
+{
+    let at = node / 64;
+    let bit = power(node % 64);
+    set[at] = set[at] | bit;
+}
+
+// The set from base on comes into a set.
+pub fn unite(set: &mut [u64; 4], rows: &[u64; 1028], base: usize)
+    requires { ⌜ (base + 4 ≤ 1028) × (length (now set) ≡ 4) × (length (now rows) ≡ 1028) ⌝ }
+    ensures { λ _. ⌜ (length (now (set .exit)) ≡ 4)
+        × (set-at (now (set .exit)) 0 ≡ union (set-at (now (set .entry)) 0) (set-at (now (rows .entry)) base)) ⌝ }
+{
+    let mut i: usize = 0;
+    while i < 4 {
+        set[i] = set[i] | rows[base + i];
+        i += 1;
+    }
+}
+
+// A set is stored from base on.
+pub fn store(rows: &mut [u64; 1028], base: usize, set: &[u64; 4])
+    requires { ⌜ (base + 4 ≤ 1028) × (length (now rows) ≡ 1028) × (length (now set) ≡ 4) ⌝ }
+    ensures { λ _. ⌜ Stored (now (rows .entry)) (now (rows .exit)) base (now (set .entry)) ⌝ }
+{
+    let mut i: usize = 0;
+    while i < 4 {
+        rows[base + i] = set[i];
+        i += 1;
+    }
+}
+
+// Whether a node is in the set from base on.
+pub fn contains(rows: &[u64; 1028], base: usize, node: usize) -> bool
+    requires { ⌜ (base + 4 ≤ 1028) × (node < 256) × (length (now rows) ≡ 1028) ⌝ }
+    ensures { λ r. ⌜ r ≡ set-at (now (rows .entry)) base node ⌝ }
+{
+    let w = rows[base + node / 64];
+    (w >> ((node % 64) as u64)) % 2 == 1
+}
+
+// Whether the set from base on is the given one.
+pub fn same(rows: &[u64; 1028], base: usize, set: &[u64; 4]) -> bool
+    requires { ⌜ (base + 4 ≤ 1028) × (length (now rows) ≡ 1028) × (length (now set) ≡ 4) ⌝ }
+    ensures { λ r. ⌜ (r ≡ true → bits-at (now (rows .entry)) base ≡ bits-at (now (set .entry)) 0)
+        × (r ≡ false → bits-at (now (rows .entry)) base ≡ bits-at (now (set .entry)) 0 → ⊥) ⌝ }
+{
+    let mut i: usize = 0;
+    while i < 4 {
+        let a = word(rows[base + i]);
+        let b = word(set[i]);
+        if a != b {
+            return false;
+        }
+        i += 1;
+    }
+    true
+}
+
+// Whether a node is of the kind, for the event, and in the set from base on.
+pub fn active(
+    kinds: &[u8; 256],
+    firsts: &[u8; 256],
+    kind: u8,
+    node: usize,
+    event: usize,
+    rows: &[u64; 1028],
+    base: usize,
+) -> bool
+    requires { ⌜ (node < 256) × (base + 4 ≤ 1028) × (length (now kinds) ≡ 256) × (length (now firsts) ≡ 256) × (length (now rows) ≡ 1028) ⌝ }
+    ensures { λ r. ⌜ r ≡ set-at (now (rows .entry)) base node && for-event (now (kinds .entry)) (now (firsts .entry)) kind event node ⌝ }
+{
+    if kinds[node] != kind {
+        return false;
+    }
+    if wide(firsts[node]) != event {
+        return false;
+    }
+    contains(rows, base, node)
+}
