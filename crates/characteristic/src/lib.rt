@@ -1,6 +1,11 @@
 // The rule of a table (document 01, "Rule of a table"): refusals 1 to 3, 11, 12 and 13.
+use formulas::CONJUNCTION;
+use formulas::GREATEST;
 use formulas::NODE_LIMIT;
 use formulas::NODE_WIDTH;
+use formulas::OUTPUT;
+use formulas::TRANSITION;
+use formulas::VARIABLE;
 use refusal::Counted;
 use refusal::Judgement;
 use refusal::Refusal;
@@ -17,17 +22,6 @@ ghost use Rattle.characteristic.specs.NodeOutput.{Appends, HasRoom, Look
 
 // A table handed in has at most so many states.
 pub const STATE_LIMIT: usize = 64;
-
-// Kinds of nodes.
-const VARIABLE: u8 = 1;
-
-const TRANSITION: u8 = 2;
-
-const OUTPUT: u8 = 3;
-
-const CONJUNCTION: u8 = 4;
-
-const GREATEST: u8 = 5;
 
 // Appends one node. This and the answers that follow are the node count afterwards, cut off at one more than the limit.
 fn put_node(to: &mut [u8], limit: usize, at: usize, kind: u8, first: usize, value: u32) -> usize

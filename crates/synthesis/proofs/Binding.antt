@@ -7,9 +7,11 @@ use native.Mathlib.Numerals.{add-one}
 use native.Mathlib.Omega.{arith}
 use lib.ListN.{getD}
 use Rattle.theory.specs.Formula.{Formula, truth, variable, transition, output, conjunction, greatest, size}
-use Rattle.synthesis.specs.NodeWalks.{read, Ends, Binds}
+use Rattle.formulas.specs.NodeWalks.{field}
+use Rattle.formulas.proofs.Walking.{size-positive}
+use Rattle.synthesis.specs.NodeWalks.{Ends, Binds}
 use Rattle.synthesis.specs.Binding.{AllBound}
-use Rattle.synthesis.proofs.NodeWalks.{size-pos, reads-at, binds-at}
+use Rattle.synthesis.proofs.NodeWalks.{reads-at, binds-at}
 
 -- Only the nodes of the formula matter.
 binds-agree :
@@ -27,11 +29,11 @@ binds-agree b c σ i (greatest φ) h n = binds-agree b c (i ∷ σ) (suc i) φ (
 
 module _ (kinds firsts : List ℕ) (at left depth : ℕ) (stack : List ℕ) where
   abbrev kind : ℕ
-  kind = read kinds at
+  kind = field kinds at
 
   pub bound-none : left ≡ 0 → (b : List ℕ) → AllBound kinds firsts at left depth stack b
   unfolding AllBound
-  bound-none e b value φ σ d h sc st = absurd (omega (arith, size-pos φ))
+  bound-none e b value φ σ d h sc st = absurd (omega (arith, size-positive φ))
 
   pub bound-leaf :
       (b : List ℕ) → ¬ (kind ≡ 1) → ¬ (kind ≡ 2) → ¬ (kind ≡ 4) → ¬ (kind ≡ 5) → AllBound kinds firsts at left depth stack b
@@ -45,7 +47,7 @@ module _ (kinds firsts : List ℕ) (at left depth : ℕ) (stack : List ℕ) wher
 
   pub bound-variable :
       (b : List ℕ) → kind ≡ 1 →
-      (read firsts at < depth → getD b at 0 ≡ getD stack (depth - 1 - read firsts at) 0) →
+      (field firsts at < depth → getD b at 0 ≡ getD stack (depth - 1 - field firsts at) 0) →
       AllBound kinds firsts at left depth stack b
   unfolding AllBound
   bound-variable b k e value truth σ d h sc st = tt
@@ -66,8 +68,8 @@ module _ (kinds firsts : List ℕ) (at left depth : ℕ) (stack : List ℕ) wher
   bound-transition b k e value truth σ d h sc st = tt
   bound-transition b k e value (variable m) σ d h sc st = absurd (omega (arith, k, d .0))
   bound-transition b k e value (transition a φ) σ d h sc st =
-      binds-at (read b) σ φ (add-one at)
-      (e value φ σ (reads-at (read kinds) (read firsts) value φ (sym (add-one at)) (d .2)) (omega arith) sc st)
+      binds-at (field b) σ φ (add-one at)
+      (e value φ σ (reads-at (field kinds) (field firsts) value φ (sym (add-one at)) (d .2)) (omega arith) sc st)
   bound-transition b k e value (output a v) σ d h sc st = tt
   bound-transition b k e value (conjunction φ χ) σ d h sc st = absurd (omega (arith, k, d .0))
   bound-transition b k e value (greatest φ) σ d h sc st = absurd (omega (arith, k, d .0))
@@ -83,8 +85,8 @@ module _ (kinds firsts : List ℕ) (at left depth : ℕ) (stack : List ℕ) wher
   bound-greatest b stack′ k top rest e value (output a v) σ d h sc st = tt
   bound-greatest b stack′ k top rest e value (conjunction φ χ) σ d h sc st = absurd (omega (arith, k, d .0))
   bound-greatest b stack′ k top rest e value (greatest φ) σ d h sc st =
-      binds-at (read b) (at ∷ σ) φ (add-one at)
-      (e value φ (at ∷ σ) (reads-at (read kinds) (read firsts) value φ (sym (add-one at)) (d .1)) (omega arith) sc
+      binds-at (field b) (at ∷ σ) φ (add-one at)
+      (e value φ (at ∷ σ) (reads-at (field kinds) (field firsts) value φ (sym (add-one at)) (d .1)) (omega arith) sc
       (record { deep = omega (arith, st .deep); at = more }))
     where
       more : (j : ℕ) → j < depth + 1 → getD stack′ (depth + 1 - 1 - j) 0 ≡ getD (at ∷ σ) j 0
@@ -108,13 +110,13 @@ module _ (kinds firsts : List ℕ) (at left depth : ℕ) (stack : List ℕ) wher
   bound-conjunction b b′ stack′ m k r one rest old two value (conjunction φ χ) σ d h sc st =
       let z : suc at ≡ at + 1 = sym (add-one at) in
       let e : m ≡ at + 1 + size φ
-      = r (read firsts) value φ (reads-at (read kinds) (read firsts) value φ z (d .1)) (omega arith) in
+      = r (field firsts) value φ (reads-at (field kinds) (field firsts) value φ z (d .1)) (omega arith) in
       let y : suc at + size φ ≡ m = omega (arith, e) in (
-        binds-agree (read b) (read b′) σ (suc at) φ (λ x l u. old x (omega (arith, y)))
-            (binds-at (read b) σ φ (add-one at)
-            (one value φ σ (reads-at (read kinds) (read firsts) value φ z (d .1)) (omega arith) (sc .0) st)),
-        binds-at (read b′) σ χ (sym y)
-            (two value χ σ (reads-at (read kinds) (read firsts) value χ y (d .2)) (omega (arith, e)) (sc .1)
+        binds-agree (field b) (field b′) σ (suc at) φ (λ x l u. old x (omega (arith, y)))
+            (binds-at (field b) σ φ (add-one at)
+            (one value φ σ (reads-at (field kinds) (field firsts) value φ z (d .1)) (omega arith) (sc .0) st)),
+        binds-at (field b′) σ χ (sym y)
+            (two value χ σ (reads-at (field kinds) (field firsts) value χ y (d .2)) (omega (arith, e)) (sc .1)
             (record { deep = st .deep; at = λ j l. rest (depth - 1 - j) (omega arith) ∙ st .at j l })),
       )
   bound-conjunction b b′ stack′ m k r one rest old two value (greatest φ) σ d h sc st = absurd (omega (arith, k, d .0))

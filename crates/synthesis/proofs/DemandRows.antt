@@ -11,7 +11,8 @@ use Rattle.theory.specs.DemandSets.{union, demands}
 use Rattle.theory.proofs.NodeSets.{empty-union}
 use Rattle.formulas.specs.NodeReading.{Reads}
 use Rattle.synthesis.specs.NodeWords.{row, Stored}
-use Rattle.synthesis.specs.NodeWalks.{read, Binds, Gathers}
+use Rattle.formulas.specs.NodeWalks.{field}
+use Rattle.synthesis.specs.NodeWalks.{Binds, Gathers}
 use Rattle.synthesis.specs.DemandRows.{AllBelow, RowsTo}
 use Rattle.synthesis.proofs.NodeWords.{no-members, stored-there, stored-else}
 
@@ -33,8 +34,8 @@ rows-more kinds b total rows after from i old new stored j h first value φ σ d
         let ρ : List NodeSet = map (row rows) σ in
         ap (row after) e
         ∙ stored-there rows after from (i * 4) stored
-        ∙ new first value φ σ (subst (λ x. Reads (read kinds) first value x φ) e d) (omega (arith, e)) w
-        (subst (λ x. Binds (read b) σ x φ) e n)
+        ∙ new first value φ σ (subst (λ x. Reads (field kinds) first value x φ) e d) (omega (arith, e)) w
+        (subst (λ x. Binds (field b) σ x φ) e n)
         ∙ ap (λ C. union C (demands ρ i φ)) no-members
         ∙ empty-union (demands ρ i φ)
         ∙ ap₂ (λ ρ x. demands ρ x φ)

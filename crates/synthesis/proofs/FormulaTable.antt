@@ -11,8 +11,10 @@ use Rattle.theory.specs.MealyMachine.{Machine}
 use Rattle.theory.specs.Demands.{value-of-set}
 use Rattle.theory.specs.Exploration.{explored, numbered, member, bits, same-bits, bit-machine, first-bits}
 use Rattle.formulas.specs.NodeReading.{Reads}
+use Rattle.formulas.proofs.Walking.{size-positive}
 use Rattle.synthesis.specs.NodeWords.{set-at, bits-at}
-use Rattle.synthesis.specs.NodeWalks.{read, Binds}
+use Rattle.formulas.specs.NodeWalks.{field}
+use Rattle.synthesis.specs.NodeWalks.{Binds}
 use Rattle.synthesis.specs.Binding.{AllBound}
 use Rattle.synthesis.specs.DemandRows.{RowsTo}
 use Rattle.synthesis.specs.Exploring.{next-bits, Unchanged, Kept, Counted, sequences}
@@ -20,7 +22,6 @@ use Rattle.synthesis.specs.TableEntries.{state-value, EntriesTo}
 use Rattle.synthesis.specs.FormulaTable.{formula-states, formula-table}
 use Rattle.synthesis.specs.MadeTable.{Tabled, Tables}
 use Rattle.synthesis.proofs.NodeWords.{member-bits-at}
-use Rattle.synthesis.proofs.NodeWalks.{size-pos}
 use Rattle.synthesis.proofs.Stepping.{stepped-moved}
 use Rattle.synthesis.proofs.TableEntries.{value-from}
 
@@ -37,12 +38,12 @@ pub record Parts (kinds firsts fields stack b rows states : List ℕ) (meet : �
   pub nexts-kept : n ≤ limit → Unchanged (n * events) nexts nexts′
 
 module _ (kinds firsts fields stack b rows states : List ℕ) (meet : ℕ → ℕ → ℕ) (top events limit n : ℕ)
-    (values nexts values′ nexts′ : List ℕ) (φ : Formula ℕ) (d : Reads (read kinds) (read firsts) (read fields) 0 φ)
+    (values nexts values′ nexts′ : List ℕ) (φ : Formula ℕ) (d : Reads (field kinds) (field firsts) (field fields) 0 φ)
     (closed : Closed φ) (guarded : Guarded φ)
     (p : Parts kinds firsts fields stack b rows states meet top events limit n values nexts values′ nexts′ (size φ)) where
-  binds : Binds (read b) [] 0 φ
+  binds : Binds (field b) [] 0 φ
   unfolding AllBound
-  binds = p .bound (read fields) φ [] d (omega arith) closed (record { deep = refl; at = λ k h. absurd (omega arith) })
+  binds = p .bound (field fields) φ [] d (omega arith) closed (record { deep = refl; at = λ k h. absurd (omega arith) })
 
   abbrev next : List Bool → ℕ → List Bool
   next = next-bits kinds firsts rows (size φ)
@@ -54,11 +55,11 @@ module _ (kinds firsts fields stack b rows states : List ℕ) (meet : ℕ → �
   unfolding next-bits
   next-is =
       fun-ext λ L. fun-ext λ e.
-      ap (bits 256 0) (stepped-moved kinds firsts b rows (read fields) φ (p .filled) d guarded binds (member L) e)
+      ap (bits 256 0) (stepped-moved kinds firsts b rows (field fields) φ (p .filled) d guarded binds (member L) e)
 
   start-is : start ≡ first-bits 256 meet top φ
   unfolding bits-at
-  start-is = ap (bits 256 0) (p .filled 0 (size-pos φ) (read firsts) (read fields) φ [] d (omega arith) guarded binds tt)
+  start-is = ap (bits 256 0) (p .filled 0 (size-positive φ) (field firsts) (field fields) φ [] d (omega arith) guarded binds tt)
 
   abbrev m : Machine (List Bool) ℕ
   m = record { value = bit-machine 256 meet top φ .value; next = next }

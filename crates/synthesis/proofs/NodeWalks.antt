@@ -10,17 +10,11 @@ use Rattle.theory.specs.Demands.{NodeSet}
 use Rattle.theory.specs.DemandSets.{empty, union, only, demands}
 use Rattle.theory.proofs.NodeSets.{union-empty, demands-swap}
 use Rattle.formulas.specs.NodeReading.{Reads}
+use Rattle.formulas.proofs.Walking.{size-positive}
 use Rattle.synthesis.specs.NodeWords.{set-at, row}
-use Rattle.synthesis.specs.NodeWalks.{read, Ends, Binds, Gathers}
+use Rattle.formulas.specs.NodeWalks.{field}
+use Rattle.synthesis.specs.NodeWalks.{Ends, Binds, Gathers}
 use Rattle.synthesis.proofs.NodeSetLaws.{union-assoc, binder-map}
-
-pub size-pos : {B : Type 0} (φ : Formula B) → 0 < size φ
-size-pos truth = omega arith
-size-pos (variable n) = omega arith
-size-pos (transition e φ) = omega arith
-size-pos (output e b) = omega arith
-size-pos (conjunction φ χ) = omega arith
-size-pos (greatest φ) = omega arith
 
 pub reads-at :
     (kind first value : ℕ → ℕ) (φ : Formula ℕ) {i j : ℕ} → i ≡ j → Reads kind first value i φ → Reads kind first value j φ
@@ -32,10 +26,10 @@ binds-at b σ φ e d = subst (λ i. Binds b σ i φ) e d
 -- The node after a formula.
 module _ (kinds : List ℕ) (at left : ℕ) where
   abbrev kind-here : ℕ
-  kind-here = read kinds at
+  kind-here = field kinds at
 
   pub end-none : left ≡ 0 → (r : ℕ) → Ends kinds at left r
-  end-none e r first value φ d h = absurd (omega (arith, size-pos φ))
+  end-none e r first value φ d h = absurd (omega (arith, size-positive φ))
 
   pub end-leaf : ¬ (kind-here ≡ 2) → ¬ (kind-here ≡ 4) → ¬ (kind-here ≡ 5) → Ends kinds at left (at + 1)
   end-leaf g a v first value truth d h = refl
@@ -50,7 +44,7 @@ module _ (kinds : List ℕ) (at left : ℕ) where
     end-transition g first value truth d h = absurd (omega (arith, g, d))
     end-transition g first value (variable n) d h = absurd (omega (arith, g, d .0))
     end-transition g first value (transition e φ) d h =
-        omega (arith, part first value φ (reads-at (read kinds) first value φ (sym (add-one at)) (d .2)) (omega arith))
+        omega (arith, part first value φ (reads-at (field kinds) first value φ (sym (add-one at)) (d .2)) (omega arith))
     end-transition g first value (output e b) d h = absurd (omega (arith, g, d .0))
     end-transition g first value (conjunction φ χ) d h = absurd (omega (arith, g, d .0))
     end-transition g first value (greatest φ) d h = absurd (omega (arith, g, d .0))
@@ -62,7 +56,7 @@ module _ (kinds : List ℕ) (at left : ℕ) where
     end-greatest g first value (output e b) d h = absurd (omega (arith, g, d .0))
     end-greatest g first value (conjunction φ χ) d h = absurd (omega (arith, g, d .0))
     end-greatest g first value (greatest φ) d h =
-        omega (arith, part first value φ (reads-at (read kinds) first value φ (sym (add-one at)) (d .1)) (omega arith))
+        omega (arith, part first value φ (reads-at (field kinds) first value φ (sym (add-one at)) (d .1)) (omega arith))
 
   module _ (m r : ℕ) (one : Ends kinds (at + 1) (left - 1) m) (two : Ends kinds m (at + left - m) r) where
     pub end-conjunction : kind-here ≡ 4 → Ends kinds at left r
@@ -72,17 +66,17 @@ module _ (kinds : List ℕ) (at left : ℕ) where
     end-conjunction g first value (output e b) d h = absurd (omega (arith, g, d .0))
     end-conjunction g first value (conjunction φ χ) d h =
         let e : m ≡ at + 1 + size φ
-        = one first value φ (reads-at (read kinds) first value φ (sym (add-one at)) (d .1)) (omega arith) in
-        omega (arith, two first value χ (reads-at (read kinds) first value χ (omega (arith, e)) (d .2)) (omega arith))
+        = one first value φ (reads-at (field kinds) first value φ (sym (add-one at)) (d .1)) (omega arith) in
+        omega (arith, two first value χ (reads-at (field kinds) first value χ (omega (arith, e)) (d .2)) (omega arith))
     end-conjunction g first value (greatest φ) d h = absurd (omega (arith, g, d .0))
 
 -- The demands of a formula.
 module _ (kinds b rows : List ℕ) (at left : ℕ) where
   abbrev kind-at : ℕ
-  kind-at = read kinds at
+  kind-at = field kinds at
 
   pub gather-none : left ≡ 0 → (before after : List ℕ) → Gathers kinds b rows at left before after
-  gather-none e before after first value φ σ d h w n = absurd (omega (arith, size-pos φ))
+  gather-none e before after first value φ σ d h w n = absurd (omega (arith, size-positive φ))
 
   pub gather-truth :
       (before : List ℕ) → ¬ (kind-at ≡ 1) → ¬ (kind-at ≡ 2) → ¬ (kind-at ≡ 3) → ¬ (kind-at ≡ 4) → ¬ (kind-at ≡ 5) →
@@ -95,7 +89,7 @@ module _ (kinds b rows : List ℕ) (at left : ℕ) where
   gather-truth before k1 k2 k3 k4 k5 first value (greatest φ) σ d h w n = absurd (k5 (d .0))
 
   pub gather-variable :
-      (before after : List ℕ) → kind-at ≡ 1 → set-at after 0 ≡ union (set-at before 0) (row rows (read b at)) →
+      (before after : List ℕ) → kind-at ≡ 1 → set-at after 0 ≡ union (set-at before 0) (row rows (field b at)) →
       Gathers kinds b rows at left before after
   gather-variable before after k e first value truth σ d h w n = absurd (omega (arith, k, d))
   gather-variable before after k e first value (variable m) σ d h w n =
@@ -135,8 +129,8 @@ module _ (kinds b rows : List ℕ) (at left : ℕ) where
   gather-greatest before after k e first value (conjunction φ χ) σ d h w n = absurd (omega (arith, k, d .0))
   gather-greatest before after k e first value (greatest φ) σ d h w n =
       let z : suc at ≡ at + 1 = sym (add-one at) in
-      e first value φ (at ∷ σ) (reads-at (read kinds) first value φ z (d .1)) (omega arith) (w .1)
-      (binds-at (read b) (at ∷ σ) φ z n)
+      e first value φ (at ∷ σ) (reads-at (field kinds) first value φ z (d .1)) (omega arith) (w .1)
+      (binds-at (field b) (at ∷ σ) φ z n)
       ∙ ap (union (set-at before 0))
       (ap (λ i. demands (map (row rows) (at ∷ σ)) i φ) (add-one at)
       ∙ sym (demands-swap 0 empty (map (row rows) (at ∷ σ)) (suc at) φ (w .0)))
@@ -151,14 +145,14 @@ module _ (kinds b rows : List ℕ) (at left : ℕ) where
   gather-conjunction before middle after m k r one two first value (output a v) σ d h w n = absurd (omega (arith, k, d .0))
   gather-conjunction before middle after m k r one two first value (conjunction φ χ) σ d h w n =
       let z : suc at ≡ at + 1 = sym (add-one at) in
-      let e : m ≡ at + 1 + size φ = r first value φ (reads-at (read kinds) first value φ z (d .1)) (omega arith) in
+      let e : m ≡ at + 1 + size φ = r first value φ (reads-at (field kinds) first value φ z (d .1)) (omega arith) in
       let y : suc at + size φ ≡ m = omega (arith, e) in
       let ρ : List NodeSet = map (row rows) σ in
-      two first value χ σ (reads-at (read kinds) first value χ y (d .2)) (omega (arith, e)) (w .1)
-      (binds-at (read b) σ χ y (n .1))
+      two first value χ σ (reads-at (field kinds) first value χ y (d .2)) (omega (arith, e)) (w .1)
+      (binds-at (field b) σ χ y (n .1))
       ∙ ap (λ C. union C (demands ρ m χ))
-      (one first value φ σ (reads-at (read kinds) first value φ z (d .1)) (omega arith) (w .0)
-      (binds-at (read b) σ φ z (n .0)))
+      (one first value φ σ (reads-at (field kinds) first value φ z (d .1)) (omega arith) (w .0)
+      (binds-at (field b) σ φ z (n .0)))
       ∙ union-assoc (set-at before 0) (demands ρ (at + 1) φ) (demands ρ m χ)
       ∙ ap (union (set-at before 0)) (ap₂ (λ i j. union (demands ρ i φ) (demands ρ j χ)) (add-one at) (sym y))
   gather-conjunction before middle after m k r one two first value (greatest φ) σ d h w n = absurd (omega (arith, k, d .0))

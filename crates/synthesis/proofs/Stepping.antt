@@ -12,11 +12,12 @@ use Rattle.theory.specs.Formula.{Formula, truth, variable, transition, output, 
 use Rattle.theory.specs.Demands.{NodeSet}
 use Rattle.theory.specs.DemandSets.{empty, union, demands, moved}
 use Rattle.formulas.specs.NodeReading.{Reads}
+use Rattle.formulas.proofs.Walking.{size-positive}
 use Rattle.synthesis.specs.NodeWords.{row}
-use Rattle.synthesis.specs.NodeWalks.{read, Binds}
+use Rattle.formulas.specs.NodeWalks.{field}
+use Rattle.synthesis.specs.NodeWalks.{Binds}
 use Rattle.synthesis.specs.DemandRows.{AllBelow, RowsTo}
 use Rattle.synthesis.specs.Exploring.{some-in, for-event, brings, stepped}
-use Rattle.synthesis.proofs.NodeWalks.{size-pos}
 
 some-split : (p : ℕ → Bool) (i n m : ℕ) → some-in p i (n + m) ≡ some-in p i n || some-in p (i + n) m
 some-split p i zero m =
@@ -57,22 +58,22 @@ module _ (kinds firsts rows : List ℕ) (n : ℕ) (D : NodeSet) (e : ℕ) where
 
 -- A node of one kind for one event, as the code tests it.
 module _ (kinds firsts : List ℕ) (k e i : ℕ) (x : Bool) where
-  pub test-kind : ¬ (read kinds i ≡ k) → false ≡ x && for-event kinds firsts k e i
+  pub test-kind : ¬ (field kinds i ≡ k) → false ≡ x && for-event kinds firsts k e i
   unfolding for-event
-  test-kind h = sym (ap (λ t. x && (t && eqb (read firsts i) e)) (ne-eqb (read kinds i) k h) ∙ and-false x)
+  test-kind h = sym (ap (λ t. x && (t && eqb (field firsts i) e)) (ne-eqb (field kinds i) k h) ∙ and-false x)
 
-  pub test-event : ¬ (read firsts i ≡ e) → false ≡ x && for-event kinds firsts k e i
+  pub test-event : ¬ (field firsts i ≡ e) → false ≡ x && for-event kinds firsts k e i
   unfolding for-event
   test-event h =
       sym
-      (ap (λ t. x && (eqb (read kinds i) k && t)) (ne-eqb (read firsts i) e h)
-      ∙ ap (λ t. x && t) (and-false (eqb (read kinds i) k))
+      (ap (λ t. x && (eqb (field kinds i) k && t)) (ne-eqb (field firsts i) e h)
+      ∙ ap (λ t. x && t) (and-false (eqb (field kinds i) k))
       ∙ and-false x)
 
-  pub test-both : read kinds i ≡ k → read firsts i ≡ e → x ≡ x && for-event kinds firsts k e i
+  pub test-both : field kinds i ≡ k → field firsts i ≡ e → x ≡ x && for-event kinds firsts k e i
   unfolding for-event
   test-both h q =
-      sym (ap (λ t. x && t) (ap₂ (λ a b. a && b) (eq-eqb (read kinds i) k h) (eq-eqb (read firsts i) e q)) ∙ and-true x)
+      sym (ap (λ t. x && t) (ap₂ (λ a b. a && b) (eq-eqb (field kinds i) k h) (eq-eqb (field firsts i) e q)) ∙ and-true x)
 
 below-more : (i : ℕ) (σ : List ℕ) → AllBelow i σ → AllBelow (suc i) σ
 below-more i [] u = tt
@@ -84,17 +85,17 @@ below-far i n (x ∷ σ) u = (omega (arith, u .0), below-far i n σ (u .1))
 
 -- A node of another kind, and a node of the kind.
 module _ (kinds firsts : List ℕ) (k e i : ℕ) where
-  pub other-kind : ¬ (read kinds i ≡ k) → for-event kinds firsts k e i ≡ false
+  pub other-kind : ¬ (field kinds i ≡ k) → for-event kinds firsts k e i ≡ false
   unfolding for-event
-  other-kind h = ap (λ t. t && eqb (read firsts i) e) (ne-eqb (read kinds i) k h)
+  other-kind h = ap (λ t. t && eqb (field firsts i) e) (ne-eqb (field kinds i) k h)
 
-  pub same-kind : read kinds i ≡ k → for-event kinds firsts k e i ≡ eqb (read firsts i) e
+  pub same-kind : field kinds i ≡ k → for-event kinds firsts k e i ≡ eqb (field firsts i) e
   unfolding for-event
-  same-kind h = ap (λ t. t && eqb (read firsts i) e) (eq-eqb (read kinds i) k h)
+  same-kind h = ap (λ t. t && eqb (field firsts i) e) (eq-eqb (field kinds i) k h)
 
 module _ (kinds firsts b : List ℕ) (total : ℕ) (rows : List ℕ) (ok : RowsTo kinds b total rows total) (value : ℕ → ℕ)
     (D : NodeSet) (e : ℕ) where
-  brings-not : (i k : ℕ) → ¬ (read kinds i ≡ 2) → brings kinds firsts rows D e k i ≡ false
+  brings-not : (i k : ℕ) → ¬ (field kinds i ≡ 2) → brings kinds firsts rows D e k i ≡ false
   brings-not i k h =
       ap (λ t. t && row rows (suc i) k) (ap (λ t. D i && t) (other-kind kinds firsts 2 e i h) ∙ and-false (D i))
 
@@ -104,8 +105,8 @@ module _ (kinds firsts b : List ℕ) (total : ℕ) (rows : List ℕ) (ok : RowsT
   cond-at false C k = refl
 
   moved-rows :
-      (φ : Formula ℕ) (σ : List ℕ) (i : ℕ) → Reads (read kinds) (read firsts) value i φ → i + size φ ≤ total → Guarded φ →
-      Binds (read b) σ i φ → AllBelow i σ → (k : ℕ) →
+      (φ : Formula ℕ) (σ : List ℕ) (i : ℕ) → Reads (field kinds) (field firsts) value i φ → i + size φ ≤ total → Guarded φ →
+      Binds (field b) σ i φ → AllBelow i σ → (k : ℕ) →
       moved D e (map (row rows) σ) i φ k ≡ some-in (brings kinds firsts rows D e k) i (size φ)
   unfolding empty union
   moved-rows truth σ i d h w n u k = sym (ap (λ t. t || false) (brings-not i k (λ q. omega (arith, q, d))))
@@ -116,7 +117,7 @@ module _ (kinds firsts b : List ℕ) (total : ℕ) (rows : List ℕ) (ok : RowsT
       ∙ ap₂ (λ x y. x && y)
       (ap (λ t. D i && t) (sym (same-kind kinds firsts 2 e i (d .0) ∙ ap (λ x. eqb x e) (d .1))))
       (ap (λ C. C k)
-      (sym (ok (suc i) (omega (arith, h, size-pos φ)) (read firsts) value φ σ (d .2) (omega arith) w n (below-more i σ u)))))
+      (sym (ok (suc i) (omega (arith, h, size-positive φ)) (field firsts) value φ σ (d .2) (omega arith) w n (below-more i σ u)))))
       (moved-rows φ σ (suc i) (d .2) (omega arith) w n (below-more i σ u) k)
   moved-rows (output a v) σ i d h w n u k = sym (ap (λ t. t || false) (brings-not i k (λ q. omega (arith, q, d .0))))
   moved-rows (conjunction φ χ) σ i d h w n u k =
@@ -128,7 +129,7 @@ module _ (kinds firsts b : List ℕ) (total : ℕ) (rows : List ℕ) (ok : RowsT
       (brings-not i k (λ z. omega (arith, z, d .0))))
   moved-rows (greatest φ) σ i d h w n u k =
       ap (λ C. moved D e (C ∷ map (row rows) σ) (suc i) φ k)
-      (sym (ok i (omega (arith, h)) (read firsts) value (greatest φ) σ d h w n u))
+      (sym (ok i (omega (arith, h)) (field firsts) value (greatest φ) σ d h w n u))
       ∙ moved-rows φ (i ∷ σ) (suc i) (d .1) (omega arith) (w .1) n (omega arith, below-more i σ u) k
       ∙ sym (ap (λ t. t || some-in (brings kinds firsts rows D e k) (suc i) (size φ))
       (brings-not i k (λ q. omega (arith, q, d .0))))
@@ -136,7 +137,7 @@ module _ (kinds firsts b : List ℕ) (total : ℕ) (rows : List ℕ) (ok : RowsT
 -- For a whole formula.
 pub stepped-moved :
     (kinds firsts b rows : List ℕ) (value : ℕ → ℕ) (φ : Formula ℕ) → RowsTo kinds b (size φ) rows (size φ) →
-    Reads (read kinds) (read firsts) value 0 φ → Guarded φ → Binds (read b) [] 0 φ →
+    Reads (field kinds) (field firsts) value 0 φ → Guarded φ → Binds (field b) [] 0 φ →
     (D : NodeSet) (e : ℕ) → stepped kinds firsts rows (size φ) D e ≡ moved D e [] 0 φ
 unfolding stepped
 stepped-moved kinds firsts b rows value φ ok d w n D e =

@@ -15,7 +15,7 @@ use Rattle.theory.specs.Formula.{Formula, truth, variable, transition, output, 
 use Rattle.theory.specs.PrefixCode.{Node, nodes}
 use Rattle.theory.specs.Demands.{NodeSet, outputs, meet-all, value-of-set}
 use Rattle.formulas.specs.NodeReading.{Reads}
-use Rattle.synthesis.specs.NodeWalks.{read}
+use Rattle.formulas.specs.NodeWalks.{field}
 use Rattle.synthesis.specs.Exploring.{for-event}
 use Rattle.synthesis.specs.TableEntries.{meet-from, EntriesTo}
 use Rattle.synthesis.proofs.Stepping.{other-kind, same-kind}
@@ -25,11 +25,11 @@ module _ (meet : ℕ → ℕ → ℕ) (top : ℕ) (kinds firsts values : List �
   from i c = meet-from meet top kinds firsts values D e i c
 
   -- One more node, from the last to the first.
-  from-yes : (i c : ℕ) → D i && for-event kinds firsts 3 e i ≡ true → from i (suc c) ≡ meet (read values i) (from (suc i) c)
-  from-yes i c h = ap (λ t. cond t (meet (read values i) (from (suc i) c)) (from (suc i) c)) h
+  from-yes : (i c : ℕ) → D i && for-event kinds firsts 3 e i ≡ true → from i (suc c) ≡ meet (field values i) (from (suc i) c)
+  from-yes i c h = ap (λ t. cond t (meet (field values i) (from (suc i) c)) (from (suc i) c)) h
 
   from-no : (i c : ℕ) → D i && for-event kinds firsts 3 e i ≡ false → from i (suc c) ≡ from (suc i) c
-  from-no i c h = ap (λ t. cond t (meet (read values i) (from (suc i) c)) (from (suc i) c)) h
+  from-no i c h = ap (λ t. cond t (meet (field values i) (from (suc i) c)) (from (suc i) c)) h
 
   -- The same, where the nodes from `node` on were taken.
   module _ (count node value : ℕ) (some : 0 < node) (small : node ≤ count) (so-far : value ≡ from node (count - node)) where
@@ -41,10 +41,10 @@ module _ (meet : ℕ → ℕ → ℕ) (top : ℕ) (kinds firsts values : List �
 
     pub take-node :
         (result : ℕ) → D (node - 1) && for-event kinds firsts 3 e (node - 1) ≡ true →
-        result ≡ meet (read values (node - 1)) value → result ≡ from (node - 1) (count - (node - 1))
+        result ≡ meet (field values (node - 1)) value → result ≡ from (node - 1) (count - (node - 1))
     take-node result h q =
         q
-        ∙ ap (meet (read values (node - 1))) (so-far ∙ ap (λ x. from x (count - node)) (sym again))
+        ∙ ap (meet (field values (node - 1))) (so-far ∙ ap (λ x. from x (count - node)) (sym again))
         ∙ sym (from-yes (node - 1) (count - node) h)
         ∙ ap (from (node - 1)) less
 
@@ -56,7 +56,7 @@ module _ (meet : ℕ → ℕ → ℕ) (top : ℕ) (kinds firsts values : List �
         ∙ sym (from-no (node - 1) (count - node) h)
         ∙ ap (from (node - 1)) less
 
-  silent : (i c : ℕ) → ¬ (read kinds i ≡ 3) → from i (suc c) ≡ from (suc i) c
+  silent : (i c : ℕ) → ¬ (field kinds i ≡ 3) → from i (suc c) ≡ from (suc i) c
   silent i c h = from-no i c (ap (λ t. D i && t) (other-kind kinds firsts 3 e i h) ∙ and-false (D i))
 
   abbrev all : ℕ → List (Node ℕ) → ℕ
@@ -72,7 +72,7 @@ module _ (meet : ℕ → ℕ → ℕ) (top : ℕ) (kinds firsts values : List �
 
   -- The nodes of a formula, then others.
   formula-from :
-      (φ : Formula ℕ) (i c : ℕ) (ns : List (Node ℕ)) → Reads (read kinds) (read firsts) (read values) i φ →
+      (φ : Formula ℕ) (i c : ℕ) (ns : List (Node ℕ)) → Reads (field kinds) (field firsts) (field values) i φ →
       from (i + size φ) c ≡ all (i + size φ) ns → from i (size φ + c) ≡ all i (nodes φ ++ ns)
   formula-from truth i c ns d h =
       let z : 1 + c ≡ suc c = omega arith in
@@ -113,7 +113,7 @@ module _ (meet : ℕ → ℕ → ℕ) (top : ℕ) (kinds firsts values : List �
   append-nil (x ∷ xs) = ap (_∷_ x) (append-nil xs)
 
   -- For a whole formula.
-  pub value-from : (φ : Formula ℕ) → Reads (read kinds) (read firsts) (read values) 0 φ → from 0 (size φ) ≡ value-of-set meet top φ D e
+  pub value-from : (φ : Formula ℕ) → Reads (field kinds) (field firsts) (field values) 0 φ → from 0 (size φ) ≡ value-of-set meet top φ D e
   value-from φ d =
       let z : size φ ≡ size φ + 0 = omega arith in
       ap (from 0) z ∙ formula-from φ 0 0 [] d refl ∙ ap (all 0) (append-nil (nodes φ))

@@ -9,7 +9,7 @@ use lib.ListN.{length, getD}
 use Rattle.theory.specs.Demands.{NodeSet}
 use Rattle.theory.specs.Exploration.{reached, add, explored, index, member, bits, same-bits}
 use Rattle.synthesis.specs.NodeWords.{row, bits-at}
-use Rattle.synthesis.specs.NodeWalks.{read}
+use Rattle.formulas.specs.NodeWalks.{field}
 
 -- Some of the n numbers from i on.
 abbrev pub some-in : (ℕ → Bool) → ℕ → ℕ → Bool
@@ -18,7 +18,7 @@ some-in p i (suc n) = p i || some-in p (suc i) n
 
 -- Node i is of kind k, for event e.
 unfoldable pub for-event : List ℕ → List ℕ → ℕ → ℕ → ℕ → Bool
-for-event kinds firsts k e i = eqb (read kinds i) k && eqb (read firsts i) e
+for-event kinds firsts k e i = eqb (field kinds i) k && eqb (field firsts i) e
 
 -- Node i is in D, a G for e, and its part demands node d.
 abbrev pub brings : List ℕ → List ℕ → List ℕ → NodeSet → ℕ → ℕ → ℕ → Bool

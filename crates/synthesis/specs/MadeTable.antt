@@ -6,7 +6,7 @@ use Prim.Native.Nat.{ℕ, suc, _*_, _≤_, _<_}
 use Rattle.theory.specs.Formula.{Formula, size, Closed, Guarded}
 use Rattle.formulas.specs.NodeReading.{Reads}
 use Rattle.synthesis.specs.FormulaTable.{formula-states, formula-table}
-use Rattle.synthesis.specs.NodeWalks.{read}
+use Rattle.formulas.specs.NodeWalks.{field}
 use Rattle.synthesis.specs.Exploring.{Unchanged}
 use Rattle.synthesis.specs.TableEntries.{EntriesTo}
 
@@ -25,5 +25,5 @@ pub record Tabled (meet : ℕ → ℕ → ℕ) (top : ℕ) (φ : Formula ℕ) (e
 abbrev pub Tables :
     List ℕ → List ℕ → List ℕ → ℕ → (ℕ → ℕ → ℕ) → ℕ → ℕ → ℕ → List ℕ → List ℕ → List ℕ → List ℕ → ℕ → Type 0
 Tables kinds firsts fields count meet top events limit values nexts values′ nexts′ n =
-    (φ : Formula ℕ) → Reads (read kinds) (read firsts) (read fields) 0 φ → size φ ≡ count → Closed φ → Guarded φ →
+    (φ : Formula ℕ) → Reads (field kinds) (field firsts) (field fields) 0 φ → size φ ≡ count → Closed φ → Guarded φ →
     Tabled meet top φ events limit values nexts values′ nexts′ n

@@ -7,7 +7,7 @@ use Prim.Native.Nat.{ℕ, zero, suc, _/_, _%_, _<_}
 use lib.ListN.{getD}
 use Rattle.theory.specs.Demands.{NodeSet}
 use Rattle.synthesis.specs.NodeWords.{row}
-use Rattle.synthesis.specs.NodeWalks.{read}
+use Rattle.formulas.specs.NodeWalks.{field}
 use Rattle.synthesis.specs.Exploring.{for-event}
 
 module _ (meet : ℕ → ℕ → ℕ) (top : ℕ) (kinds firsts values : List ℕ) where
@@ -16,7 +16,7 @@ module _ (meet : ℕ → ℕ → ℕ) (top : ℕ) (kinds firsts values : List �
   meet-from D e i zero = top
   meet-from D e i (suc c) =
       let rest = meet-from D e (suc i) c in
-      cond (D i && for-event kinds firsts 3 e i) (meet (read values i) rest) rest
+      cond (D i && for-event kinds firsts 3 e i) (meet (field values i) rest) rest
 
   -- The value of a state that is kept.
   abbrev pub state-value : ℕ → List ℕ → ℕ → ℕ → ℕ

@@ -1,10 +1,5 @@
 // The demands of every node, worked out before the walk over states (document 01, "Table of a rule").
 // Nodes stand in prefix order: a node, then its parts; the nodes remaining are the falling number of each walk.
-use crate::kinds::CONJUNCTION;
-use crate::kinds::GREATEST;
-use crate::kinds::OUTPUT;
-use crate::kinds::TRANSITION;
-use crate::kinds::VARIABLE;
 use crate::node_sets::insert;
 use crate::node_sets::store;
 use crate::node_sets::unite;

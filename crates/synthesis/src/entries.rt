@@ -1,7 +1,7 @@
 // The values of a table, by state and then event.
-use crate::kinds::OUTPUT;
 use crate::node_sets::active;
 use crate::numbers::entry_at;
+use formulas::OUTPUT;
 use values::ValueKind;
 use values::meet_of;
 ghost use mathlib.Core.Path.{_≡_};

@@ -1,11 +1,11 @@
 // The states that event sequences reach, in document 01's order, and the next state of each on each event.
-use crate::kinds::TRANSITION;
 use crate::node_sets::active;
 use crate::node_sets::same;
 use crate::node_sets::store;
 use crate::node_sets::unite;
 use crate::numbers::entry_at;
 use crate::numbers::narrow;
+use formulas::TRANSITION;
 ghost use mathlib.Core.Path.{_≡_};
 ghost use Prim.Native.Nat.{ℕ, _+_, _*_, _<_, _≤_};
 ghost use lib.ListN.{length};

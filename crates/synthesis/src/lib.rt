@@ -2,7 +2,6 @@
 mod demands;
 mod entries;
 mod exploration;
-mod kinds;
 mod node_sets;
 mod numbers;
 mod tables;
