@@ -20,7 +20,7 @@ use Rattle.theory.specs.Conformance.{counterexample}
 use Rattle.theory.proofs.ConformanceClaims.{conformance-claim}
 use Rattle.theory.proofs.Trial.{trial-claim}
 use Rattle.refusal.specs.declared.Refusal.{Refusal}
-use Rattle.refusal.specs.Refusal.{First, HasNumbers}
+use Rattle.refusal.specs.Refusal.{has-place, First, HasNumbers}
 use Rattle.refusal.specs.RefusalClaims.{AllFunctional}
 use Rattle.refusal.proofs.Refusals.{plain-first, plain-functional, plain-number, first-append, first-unique}
 use Rattle.values.specs.declared.ValueKind.the-variants.{Numbered}
@@ -75,9 +75,9 @@ module _ (d t : ℕ) where
       (plain-functional 1 _, (plain-functional 2 _, (plain-functional 3 _, (plain-functional 11 _, (plain-functional 11 _, (plain-functional 13 _, tt))))))
 
   refusal-numbers : (x : TrialInput) (old : List ℕ) → HasNumbers (1 ∷ 2 ∷ 3 ∷ 11 ∷ 11 ∷ 13 ∷ []) (trial-conditions d t x old)
-  unfolding trial-conditions setup-conditions HasNumbers
+  unfolding trial-conditions setup-conditions HasNumbers has-place
   refusal-numbers x old =
-      (plain-number 1 _, (plain-number 2 _, (plain-number 3 _, (plain-number 11 _, (plain-number 11 _, (plain-number 13 _, tt))))))
+      (plain-number 1 _ refl, (plain-number 2 _ refl, (plain-number 3 _ refl, (plain-number 11 _ refl, (plain-number 11 _ refl, (plain-number 13 _ refl, tt))))))
 
   pub trial-refusals : TrialRefusalClaim d t
   trial-refusals =
