@@ -1,0 +1,159 @@
+// A mixed list of calls on all eight channels of a tool, accepted and refused, against stored output.
+use libc::STDOUT_FILENO;
+use recorder::Reply;
+use recorder::Tool;
+use refusal::Refusal;
+
+fn print_number(n: usize) {
+    io::print_decimal(STDOUT_FILENO, n as u64);
+}
+
+fn print_refusal(r: Refusal) {
+    io::write_all(STDOUT_FILENO, b"refused=");
+    match r {
+        Refusal::Plain(n) => print_number(n as usize),
+        Refusal::At(n, p) => {
+            print_number(n as usize);
+            io::write_all(STDOUT_FILENO, b" ");
+            print_number(p);
+        }
+    }
+    io::write_all(STDOUT_FILENO, b"\n");
+}
+
+fn print_reply(r: Reply) {
+    match r {
+        Reply::Accepted => {
+            io::write_all(STDOUT_FILENO, b"accepted\n");
+        }
+        Reply::Value(v) => {
+            io::write_all(STDOUT_FILENO, b"value=");
+            print_number(v as usize);
+            io::write_all(STDOUT_FILENO, b"\n");
+        }
+        Reply::Refused(x) => print_refusal(x),
+    }
+}
+
+fn print_call(name: &[u8], channel: usize) {
+    io::write_all(STDOUT_FILENO, name);
+    io::write_all(STDOUT_FILENO, b" ");
+    print_number(channel);
+    io::write_all(STDOUT_FILENO, b": ");
+}
+
+fn load(tool: Tool, channel: usize, rule: &[u8]) -> Tool {
+    print_call(b"load", channel);
+    let answer = recorder::load(tool, channel, rule);
+    let reply = answer.reply;
+    print_reply(reply);
+    answer.tool
+}
+
+fn event(tool: Tool, channel: usize, e: usize) -> Tool {
+    print_call(b"event", channel);
+    let answer = recorder::event(tool, channel, e);
+    let reply = answer.reply;
+    print_reply(reply);
+    answer.tool
+}
+
+fn restart(tool: Tool, channel: usize) -> Tool {
+    print_call(b"restart", channel);
+    let answer = recorder::restart(tool, channel);
+    let reply = answer.reply;
+    print_reply(reply);
+    answer.tool
+}
+
+fn clear(tool: Tool, channel: usize) -> Tool {
+    print_call(b"clear", channel);
+    let answer = recorder::clear(tool, channel);
+    let reply = answer.reply;
+    print_reply(reply);
+    answer.tool
+}
+
+fn restart_all(tool: Tool) -> Tool {
+    io::write_all(STDOUT_FILENO, b"restart all: ");
+    let answer = recorder::restart_all(tool);
+    let reply = answer.reply;
+    print_reply(reply);
+    answer.tool
+}
+
+// Two events on a channel.
+fn twice(tool: Tool, channel: usize, first: usize, second: usize) -> Tool {
+    let t = event(tool, channel, first);
+    event(t, channel, second)
+}
+
+// One event on each channel.
+fn round(tool: Tool, e: usize) -> Tool {
+    let t = event(tool, 0, e);
+    let t = event(t, 1, e);
+    let t = event(t, 2, e);
+    let t = event(t, 3, e);
+    let t = event(t, 4, e);
+    let t = event(t, 5, e);
+    let t = event(t, 6, e);
+    event(t, 7, e)
+}
+
+// Rules of document 01's cases, accepted and refused, and numbers above 7.
+fn loads(tool: Tool) -> Tool {
+    // V A G1 O1.1 G1 X0
+    let t = load(
+        tool,
+        0,
+        &[5, 0, 0, 4, 0, 0, 2, 1, 0, 3, 1, 1, 2, 1, 0, 1, 0, 0],
+    );
+    // A O1.1 V G1 X0
+    let t = load(t, 3, &[4, 0, 0, 3, 1, 1, 5, 0, 0, 2, 1, 0, 1, 0, 0]);
+    // A O0.1 O0.2
+    let t = load(t, 7, &[4, 0, 0, 3, 0, 1, 3, 0, 2]);
+    // T
+    let t = load(t, 5, &[0, 0, 0]);
+    // V X0
+    let t = load(t, 0, &[5, 0, 0, 1, 0, 0]);
+    // X0
+    let t = load(t, 3, &[1, 0, 0]);
+    // A T
+    let t = load(t, 1, &[4, 0, 0, 0, 0, 0]);
+    // G9
+    let t = load(t, 1, &[2, 9, 0]);
+    load(t, 8, &[0, 0, 0])
+}
+
+fn main() {
+    let meet = values::four_values();
+    let made = recorder::set_up(2, 4, 3, &meet);
+    let reply = made.reply;
+    print_reply(reply);
+    let tool = made.tool;
+    let t = round(tool, 1);
+    let t = loads(t);
+    let t = round(t, 1);
+    let t = round(t, 1);
+    let t = twice(t, 7, 0, 2);
+    let t = twice(t, 0, 0, 1);
+    let t = twice(t, 9, 0, 1);
+    let t = restart(t, 0);
+    let t = restart(t, 1);
+    let t = restart(t, 8);
+    let t = round(t, 1);
+    let t = restart_all(t);
+    let t = round(t, 0);
+    let t = clear(t, 3);
+    let t = clear(t, 2);
+    let t = clear(t, 8);
+    let t = round(t, 1);
+    let again = values::four_values();
+    let spoilt = recorder::set_up(2, 4, 4, &again);
+    let reply = spoilt.reply;
+    print_reply(reply);
+    let blank = spoilt.tool;
+    let u = event(blank, 0, 0);
+    restart_all(u);
+    restart_all(t);
+}
