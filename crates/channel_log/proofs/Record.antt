@@ -1,0 +1,221 @@
+-- Demand 3 and independence for any tool whose calls take its channels as `recorded` says, over compiled tables that are the rules'.
+-- Assumes nothing.
+use mathlib.Core.Path.{_≡_, refl, sym, _∙_, ap, ap₂, subst, subst⁻¹}
+use mathlib.Core.Bool.{Bool, true, false, cond}
+use mathlib.Core.Logic.{_⊎_, inl, inr}
+use mathlib.Core.List.{List, [], _∷_, _++_}
+use mathlib.Core.Option.{Option, none, some}
+use Prim.Native.Nat.{ℕ, zero, _<_}
+use native.Mathlib.Omega.{arith}
+use lib.Dec.{ltb}
+use borrow.Author.Tests.{ltb-true}
+use Rattle.theory.specs.Semilattice.{MeetSemilattice}
+use Rattle.theory.specs.Formula.{Formula, WellFormed}
+use Rattle.theory.specs.MealyMachine.{Machine, Word, after}
+use Rattle.theory.specs.ReachableStates.{IsTableOf}
+use Rattle.theory.proofs.SemanticsEquality.{only-answer}
+use Rattle.theory.proofs.WordOrder.{word-append}
+use Rattle.theory.proofs.ReachableStates.{after-append}
+use Rattle.theory.proofs.Claims.{table-values}
+use Rattle.refusal.specs.declared.Refusal.{Refusal}
+use Rattle.refusal.specs.declared.Refusal.the-variants.{Plain}
+use Rattle.refusal.specs.Refusal.{or-else, number}
+use Rattle.channel_log.specs.Calls.{Call, load, event, restart, restart-all, clear, Reply, accepted, returned, refused, Channels, all-empty, channel-refusal, Content, empty-refusal, on-event, call-refusal, event-reply, accepted-reply, map-option, effect, settled, step, replies, final}
+use Rattle.channel_log.specs.Log.{History, large-event, value-after, log}
+use Rattle.channel_log.specs.Recorded.{Loaded, at-state, recorded}
+use Rattle.channel_log.specs.Independence.{struck, replies-on}
+use Rattle.channel_log.specs.Claims.{Never, StandsAs, AsLogged, Independent, RecordClaim, IndependenceClaim}
+use Rattle.channel_log.proofs.Simulation.{run-related, Related, AllRelated, Matches, step-related}
+use Rattle.channel_log.proofs.Independence.{replies-struck}
+
+abbrev IsNone : {A : Type 0} → Option A → Type 0
+IsNone none = Unit {0}
+IsNone (some a) = ⊥
+
+not-large : (events e : ℕ) → large-event events e ≡ none → e < events
+not-large events e h = go (ltb e events) refl h
+  where
+    go : (t : Bool) → ltb e events ≡ t → cond t none (some (Plain 16)) ≡ none → e < events
+    go true p x = ltb-true e events p
+    go false p x = absurd (subst⁻¹ IsNone x tt)
+
+-- The refusal, if any, has another number.
+abbrev Not : ℕ → Option Refusal → Type 0
+Not n none = Unit {0}
+Not n (some r) = ¬ (number r ≡ n)
+
+plain-not-17 : (t : Bool) (k : ℕ) → k < 17 → Not 17 (cond t none (some (Plain k)))
+unfolding number
+plain-not-17 true k h = tt
+plain-not-17 false k h = λ e. omega arith
+
+first-not-17 : (a b : Option Refusal) → Not 17 a → Not 17 b → Not 17 (or-else a b)
+unfolding or-else
+first-not-17 none b p q = q
+first-not-17 (some r) b p q = p
+
+module _ {B : Type 0} (In : B → Type 0) (meet : B → B → B) (top : B) (laws : MeetSemilattice In meet top) (events : ℕ)
+    (judged : List ℕ → Option Refusal) (formula-of : List ℕ → Formula B) (table-of : List ℕ → Loaded B)
+    (good : (r : List ℕ) → judged r ≡ none → WellFormed events In (formula-of r))
+    (compiled : (r : List ℕ) → judged r ≡ none → IsTableOf meet top events (formula-of r) (table-of r .states) (table-of r .table))
+    (not-17 : (r : List ℕ) → Not 17 (judged r)) where
+  abbrev logged : Content (History B) ℕ B
+  logged = log meet top events judged formula-of
+
+  abbrev channel : Content (Loaded B) ℕ B
+  channel = recorded events judged table-of
+
+  -- A channel stands as its history says.
+  pub record Stands (h : History B) (x : Loaded B) : Type 0 where
+    pub rule : WellFormed events In (h .rule)
+    pub word : Word events (h .events)
+    pub table : IsTableOf meet top events (h .rule) (x .states) (x .table)
+    pub state : x .current ≡ after (x .table) zero (h .events)
+
+  same-output :
+      (h : History B) (x : Loaded B) (e : ℕ) → Stands h x → e < events →
+      value-after meet top events judged formula-of h e ≡ x .table .value (x .current) e
+  same-output h x e s l =
+      sym (ap (λ q. x .table .value q e) (s .state)
+      ∙ only-answer In meet top events (h .rule) (s .rule) (h .events) e (x .table .value (after (x .table) zero (h .events)) e)
+      (table-values In meet top events laws (h .rule) (s .rule) (x .states) (x .table) (s .table) .2 (h .events) (s .word) e l))
+
+  matches : Matches logged channel Stands
+  matches =
+      record {
+        load-refusal = λ L N c r a. refl;
+        event-refusal = λ h x e s. refl;
+        loaded = λ L c r a. record { rule = good r a; word = tt; table = compiled r a; state = refl };
+        output = λ h x e s a. same-output h x e s (not-large events e a);
+        moved = λ h x e s a.
+            record {
+              rule = s .rule;
+              word = word-append events (h .events) (e ∷ []) (s .word) (not-large events e a, tt);
+              table = s .table;
+              state = ap (λ q. x .table .next q e) (s .state) ∙ sym (after-append (x .table) zero (h .events) (e ∷ []));
+            };
+        restarted = λ h x s. record { rule = s .rule; word = tt; table = s .table; state = refl };
+      }
+
+  -- 17 never arises in the log.
+  event-not-17 : (h : Option (History B)) (e : ℕ) → Not 17 (on-event logged h e)
+  unfolding number
+  event-not-17 none e = λ q. omega arith
+  event-not-17 (some h) e = plain-not-17 (ltb e events) 16 (omega arith)
+
+  empty-not-17 : (h : Option (History B)) → Not 17 (empty-refusal h)
+  unfolding number
+  empty-not-17 none = λ q. omega arith
+  empty-not-17 (some h) = tt
+
+  channel-not-17 : (c : ℕ) → Not 17 (channel-refusal c)
+  channel-not-17 c = plain-not-17 (ltb c 8) 14 (omega arith)
+
+  refusal-not-17 : (L : Channels (History B)) (call : Call ℕ) → Not 17 (call-refusal logged L call)
+  refusal-not-17 L (load c r) = first-not-17 (channel-refusal c) (judged r) (channel-not-17 c) (not-17 r)
+  refusal-not-17 L (event c e) = first-not-17 (channel-refusal c) (on-event logged (L c) e) (channel-not-17 c) (event-not-17 (L c) e)
+  refusal-not-17 L (restart c) = first-not-17 (channel-refusal c) (empty-refusal (L c)) (channel-not-17 c) (empty-not-17 (L c))
+  refusal-not-17 L restart-all = tt
+  refusal-not-17 L (clear c) = channel-not-17 c
+
+  abbrev NotRefused : Reply B → Type 0
+  NotRefused accepted = Unit {0}
+  NotRefused (returned v) = Unit {0}
+  NotRefused (refused r) = ⊥
+
+  event-not-refused : (h : Option (History B)) (e : ℕ) → NotRefused (event-reply logged h e)
+  event-not-refused none e = tt
+  event-not-refused (some h) e = tt
+
+  reply-not-refused : (L : Channels (History B)) (call : Call ℕ) → NotRefused (accepted-reply logged L call)
+  reply-not-refused L (load c r) = tt
+  reply-not-refused L (event c e) = event-not-refused (L c) e
+  reply-not-refused L (restart c) = tt
+  reply-not-refused L restart-all = tt
+  reply-not-refused L (clear c) = tt
+
+  never-cons : (a : Reply B) (rs : List (Reply B)) → NotRefused a → Never 17 rs → Never 17 (a ∷ rs)
+  never-cons accepted rs p q = q
+  never-cons (returned v) rs p q = q
+  never-cons (refused r) rs p q = absurd p
+
+  never-settled :
+      (o : Option Refusal) (a : Reply B) (E L : Channels (History B)) (rs : List (Reply B)) → NotRefused a → Not 17 o → Never 17 rs →
+      Never 17 (settled logged o a E L .0 ∷ rs)
+  never-settled none a E L rs p q h = never-cons a rs p h
+  never-settled (some r) a E L rs p q h = (q, h)
+
+  log-never : (calls : List (Call ℕ)) (L : Channels (History B)) → Never 17 (replies (step logged) calls L)
+  log-never [] L = tt
+  log-never (x ∷ xs) L =
+      never-settled (call-refusal logged L x) (accepted-reply logged L x) (effect logged L x) L
+      (replies (step logged) xs (step logged x L .1)) (reply-not-refused L x) (refusal-not-17 L x)
+      (log-never xs (step logged x L .1))
+
+  -- Any tool whose calls keep it sound and take its channels as `recorded` says, from a sound one with all channels empty.
+  module _ {Tool : Type 0} (call : Call ℕ → Tool → Reply B × Tool) (channels : Tool → Channels (Loaded B)) (Sound : Tool → Type 0)
+      (keeps :
+      (x : Call ℕ) (t : Tool) → Sound t →
+      (call x t .0 ≡ step channel x (channels t) .0) × Sound (call x t .1) × (channels (call x t .1) ≡ step channel x (channels t) .1))
+      (tool : Tool) (sound : Sound tool) (fresh : channels tool ≡ all-empty) where
+    abbrev Follows : Tool → Channels (History B) → Type 0
+    Follows t L = Sound t × AllRelated logged channel Stands L (channels t)
+
+    tool-step :
+        (x : Call ℕ) (t : Tool) (L : Channels (History B)) → Follows t L →
+        (call x t .0 ≡ step logged x L .0) × Follows (call x t .1) (step logged x L .1)
+    tool-step x t L r =
+        let k = keeps x t (r .0) in
+        let o = step-related logged channel Stands matches x L (channels t) (r .1) in
+        (k .0 ∙ sym (o .0), (k .1, subst⁻¹ (AllRelated logged channel Stands (step logged x L .1)) (k .2) (o .1)))
+
+    start : Follows tool all-empty
+    start = (sound, subst⁻¹ (AllRelated logged channel Stands all-empty) fresh (λ c. tt))
+
+    run :
+        (calls : List (Call ℕ)) →
+        (replies call calls tool ≡ replies (step logged) calls all-empty)
+        × Follows (final call calls tool) (final (step logged) calls all-empty)
+    run calls = run-related call (step logged) Follows tool-step calls tool all-empty start
+
+    as-printed : (h : Option (History B)) (x : Option (Loaded B)) → Related Stands h x → StandsAs meet top events x h
+    as-printed none none r = tt
+    as-printed none (some x) r = absurd r
+    as-printed (some h) none r = absurd r
+    as-printed (some h) (some x) r = (r .table, r .state)
+
+    pub record-claim : RecordClaim call channels logged (StandsAs meet top events) tool
+    record-claim calls =
+        let r = run calls in
+        record {
+          same-replies = r .0;
+          never-17 = subst⁻¹ (Never 17) (r .0) (log-never calls all-empty);
+          stands = λ c l. as-printed (final (step logged) calls all-empty c) (channels (final call calls tool) c) (r .1 .1 c);
+        }
+
+    -- The tool's channels go as `recorded` says, so that independence is that of one step of calls.
+    follows-recorded :
+        (calls : List (Call ℕ)) →
+        (replies call calls tool ≡ replies (step channel) calls all-empty)
+        × (Sound (final call calls tool) × (channels (final call calls tool) ≡ final (step channel) calls all-empty))
+    follows-recorded calls =
+        run-related call (step channel) (λ t N. Sound t × (channels t ≡ N))
+        (λ x t N r.
+        let k = keeps x t (r .0) in
+        (k .0 ∙ ap (λ y. step channel x y .0) (r .1), (k .1, k .2 ∙ ap (λ y. step channel x y .1) (r .1))))
+        calls tool all-empty (sound, fresh)
+
+    pub independence-claim : IndependenceClaim call channels logged (StandsAs meet top events) tool
+    independence-claim c l calls others e =
+        let p = follows-recorded calls in
+        let q = follows-recorded others in
+        let a = replies-struck channel (λ L N d r h. refl) c calls all-empty all-empty refl in
+        let b = replies-struck channel (λ L N d r h. refl) c others all-empty all-empty refl in
+        record {
+          same-replies =
+              ap (replies-on c calls) (p .0) ∙ a .0 ∙ ap (λ xs. replies (step channel) xs all-empty) e
+              ∙ sym (b .0) ∙ sym (ap (replies-on c others) (q .0));
+          same-channel =
+              ap (λ N. N c) (p .1 .1) ∙ a .1 ∙ ap (λ xs. final (step channel) xs all-empty c) e
+              ∙ sym (b .1) ∙ sym (ap (λ N. N c) (q .1 .1));
+        }

@@ -1,0 +1,56 @@
+-- Demand 3 as one claim about every list of calls, and the independence of channels, for any tool.
+-- Assumes nothing.
+use mathlib.Core.Path.{_≡_}
+use mathlib.Core.List.{List, [], _∷_}
+use mathlib.Core.Option.{Option, none, some}
+use Prim.Native.Nat.{ℕ, zero, _<_}
+use Rattle.theory.specs.Formula.{Formula}
+use Rattle.theory.specs.MealyMachine.{Machine, after}
+use Rattle.theory.specs.ReachableStates.{IsTableOf}
+use Rattle.refusal.specs.declared.Refusal.{Refusal}
+use Rattle.refusal.specs.Refusal.{number}
+use Rattle.channel_log.specs.Calls.{Call, Reply, accepted, returned, refused, Channels, all-empty, Content, step, replies, final}
+use Rattle.channel_log.specs.Log.{History}
+use Rattle.channel_log.specs.Recorded.{Loaded}
+use Rattle.channel_log.specs.Independence.{struck, replies-on}
+
+-- No reply is refusal n.
+abbrev pub Never : {Output : Type 0} → ℕ → List (Reply Output) → Type 0
+Never n [] = Unit {0}
+Never n (accepted ∷ rs) = Never n rs
+Never n (returned v ∷ rs) = Never n rs
+Never n (refused r ∷ rs) = ¬ (number r ≡ n) × Never n rs
+
+-- The channel is empty exactly where the log has nothing; elsewhere it has the table of the rule there and the state that the
+-- rule's events reach from state 0.
+module _ {B : Type 0} (meet : B → B → B) (top : B) (events : ℕ) where
+  abbrev pub StandsAs : Option (Loaded B) → Option (History B) → Type 0
+  StandsAs none none = Unit {0}
+  StandsAs none (some h) = ⊥
+  StandsAs (some x) none = ⊥
+  StandsAs (some x) (some h) =
+      IsTableOf meet top events (h .rule) (x .states) (x .table) × (x .current ≡ after (x .table) zero (h .events))
+
+-- `call`: the function that the contracts of the five calls state; `channels`: what a tool's channels hold; `log`: the log's
+-- content; `Stands`: how a channel stands by the log.
+module _ {Tool X Y Input Output : Type 0} (call : Call Input → Tool → Reply Output × Tool) (channels : Tool → Channels Y)
+    (log : Content X Input Output) (Stands : Option Y → Option X → Type 0) (tool : Tool) where
+  -- Acceptance, each refusal's number and place, and each accepted event's value equal the log's; 17 never arises; afterwards
+  -- each channel stands as the log says.
+  pub record AsLogged (calls : List (Call Input)) : Type 0 where
+    pub same-replies : replies call calls tool ≡ replies (step log) calls all-empty
+    pub never-17 : Never 17 (replies call calls tool)
+    pub stands : (c : ℕ) → c < 8 → Stands (channels (final call calls tool) c) (final (step log) calls all-empty c)
+
+  -- Two lists that become the same once calls that name another channel than c are struck out: the same replies to the calls
+  -- that stay, and the same channel afterwards.
+  pub record Independent (c : ℕ) (calls others : List (Call Input)) : Type 0 where
+    pub same-replies : replies-on c calls (replies call calls tool) ≡ replies-on c others (replies call others tool)
+    pub same-channel : channels (final call calls tool) c ≡ channels (final call others tool) c
+
+  abbrev pub RecordClaim : Type 0
+  RecordClaim = (calls : List (Call Input)) → AsLogged calls
+
+  abbrev pub IndependenceClaim : Type 0
+  IndependenceClaim =
+      (c : ℕ) → c < 8 → (calls others : List (Call Input)) → struck c calls ≡ struck c others → Independent c calls others

@@ -1,0 +1,32 @@
+-- A tool's channels: a table and a current state (document 01, "Tool").
+-- Assumes nothing.
+use mathlib.Core.List.{List}
+use mathlib.Core.Option.{Option}
+use Prim.Native.Nat.{ℕ, zero}
+use Rattle.theory.specs.MealyMachine.{Machine}
+use Rattle.refusal.specs.declared.Refusal.{Refusal}
+use Rattle.channel_log.specs.Calls.{Content}
+use Rattle.channel_log.specs.Log.{large-event}
+
+-- A loaded channel: a table of so many states, and a current state.
+pub record Loaded (B : Type 0) : Type 0 where
+  pub states : ℕ
+  pub table : Machine ℕ B
+  pub current : ℕ
+
+abbrev pub at-state : {B : Type 0} → Loaded B → ℕ → Loaded B
+at-state x s = record { states = x .states; table = x .table; current = s }
+
+-- `judged`: 5 to 10 of a rule's bytes; `table-of`: the table that accepted bytes are compiled to. An event returns the value and
+-- moves to the next state; a load and a restart put the channel in state 0.
+module _ {B : Type 0} (events : ℕ) (judged : List ℕ → Option Refusal) (table-of : List ℕ → Loaded B) where
+  abbrev pub recorded : Content (Loaded B) ℕ B
+  recorded =
+      record {
+        load-refusal = λ L c bytes. judged bytes;
+        event-refusal = λ x e. large-event events e;
+        loaded = λ bytes. at-state (table-of bytes) zero;
+        output = λ x e. x .table .value (x .current) e;
+        moved = λ x e. at-state x (x .table .next (x .current) e);
+        restarted = λ x. at-state x zero;
+      }
