@@ -1,0 +1,10 @@
+-- Parts of lists, copies into them, and where channels' rows lie.
+pub mod Rows
+-- What channels hold, and the tests of refusal 17.
+pub mod Held
+-- What is decided is what the definitions of the calls say.
+pub mod Decided
+-- The run over a sequence of events.
+pub mod Runs
+-- A sequence of events is the event call repeated.
+pub mod Replays

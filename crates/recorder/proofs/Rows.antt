@@ -1,0 +1,159 @@
+-- Parts of a list, copies into it and padding; where the rows of channels lie.
+-- Assumes nothing.
+use mathlib.Core.Path.{_≡_, refl, sym, _∙_, ap, ap₂, subst}
+use mathlib.Core.Bool.{Bool, true, false}
+use mathlib.Core.Logic.{_⊎_, inl, inr, ⊎-elim}
+use mathlib.Core.List.{List, [], _∷_, _++_}
+use Prim.Native.Nat.{ℕ, zero, suc, _+_, _*_, _-_, _≤_, _<_}
+use native.Mathlib.Nat.{mul-le-mul-right, suc-mul, eq-or-lt-of-le}
+use native.Mathlib.Omega.{arith}
+use borrow.Author.Tests.{ltb-true, ltb-false}
+use lib.Dec.{ltb}
+use lib.ListN.{length, getD, take, drop, replicate, length-append, length-take, length-drop, length-replicate, List·getD-append}
+use lib.Seq.{paste, length-paste-head, length-paste, length-take-le, take-all, take-take, getD-append-add, getD-take, getD-drop, ext-getD}
+use Rattle.recorder.specs.Channels.{part, rows-size, rows-start}
+use Rattle.recorder.specs.Tool.{padded}
+
+pub length-part : (l : List ℕ) (at n : ℕ) → at + n ≤ length l → length (part l at n) ≡ n
+length-part l at n h = simp (length-take, length-drop) (omega arith)
+
+pub getD-part : (l : List ℕ) (at n i : ℕ) → i < n → getD (part l at n) i 0 ≡ getD l (at + i) 0
+getD-part l at n i h = getD-take n (drop at l) i 0 h ∙ getD-drop at l i 0
+
+pub getD-zeros : (m i : ℕ) → _≡_ {A = ℕ} (getD (replicate m 0) i 0) 0
+getD-zeros zero i = refl
+getD-zeros (suc m) zero = refl
+getD-zeros (suc m) (suc i) = getD-zeros m i
+
+drop-zeros : (m i : ℕ) → _≡_ {A = List ℕ} (drop i (replicate m 0)) (replicate (m - i) 0)
+drop-zeros m zero = let e : m ≡ m - zero = omega arith in ap (λ k. replicate k 0) e
+drop-zeros zero (suc i) = let e : zero ≡ zero - suc i = omega arith in ap (λ k. replicate k 0) e
+drop-zeros (suc m) (suc i) = let e : m - i ≡ suc m - suc i = omega arith in drop-zeros m i ∙ ap (λ k. replicate k 0) e
+
+-- A list of at most n elements, brought to n.
+module _ (n : ℕ) (l : List ℕ) (h : length l ≤ n) where
+  pub length-padded : length (padded n l) ≡ n
+  unfolding padded
+  length-padded =
+      length-append (take n l) (replicate (n - length l) 0)
+      ∙ ap₂ _+_ (ap length (take-all n l h)) (length-replicate {A = ℕ} (n - length l) 0) ∙ omega arith
+
+  pub padded-at : (i : ℕ) → i < length l → getD (padded n l) i 0 ≡ getD l i 0
+  unfolding padded
+  padded-at i g =
+      ap (λ x. getD (x ++ replicate (n - length l) 0) i 0) (take-all n l h)
+      ∙ List·getD-append l (replicate (n - length l) 0) 0 i g
+
+  pub padded-after : (i : ℕ) → length l ≤ i → getD (padded n l) i 0 ≡ 0
+  unfolding padded
+  padded-after i g =
+      let e : i ≡ length l + (i - length l) = omega arith in
+      ap (λ x. getD (x ++ replicate (n - length l) 0) i 0) (take-all n l h)
+      ∙ ap (λ x. getD (l ++ replicate (n - length l) 0) x 0) e
+      ∙ getD-append-add l (replicate (n - length l) 0) (i - length l) 0
+      ∙ getD-zeros (n - length l) (i - length l)
+
+  pub take-padded : take (length l) (padded n l) ≡ l
+  take-padded =
+      let a : length (take (length l) (padded n l)) ≡ length l = length-take-le (length l) (padded n l) (omega (arith, length-padded)) in
+      ext-getD 0 (take (length l) (padded n l)) l a
+      (λ i g. getD-take (length l) (padded n l) i 0 (omega arith) ∙ padded-at i (omega arith))
+
+-- A copy into n zeros, as far as it goes.
+pub pasted-zeros : (n : ℕ) (l : List ℕ) (i : ℕ) → i ≤ length l → i ≤ n → (n ≤ i) ⊎ (length l ≤ i) → paste (replicate n 0) 0 l i ≡ padded n l
+unfolding padded
+pasted-zeros n l i h g (inl m) =
+    let e : i ≡ n = omega arith in
+    let z : 0 + i ≡ i = omega arith in
+    let f : n - i ≡ n - length l = omega arith in
+    ap₂ (λ a b. take a l ++ drop b (replicate n 0)) e z
+    ∙ ap (λ x. take n l ++ x) (drop-zeros n i ∙ ap (λ k. replicate k 0) f)
+pasted-zeros n l i h g (inr m) =
+    let e : i ≡ length l = omega arith in
+    let z : 0 + i ≡ i = omega arith in
+    let f : n - i ≡ n - length l = omega arith in
+    ap₂ (λ a b. a ++ drop b (replicate n 0)) (take-all i l m ∙ sym (take-all n l (omega arith))) z
+    ∙ ap (λ x. take n l ++ x) (drop-zeros n i ∙ ap (λ k. replicate k 0) f)
+
+-- A list after a copy into it.
+module _ (d : List ℕ) (at : ℕ) (s : List ℕ) (n : ℕ) (hd : at + n ≤ length d) (hs : n ≤ length s) where
+  abbrev head : List ℕ
+  head = take at d ++ take n s
+
+  head-length : length head ≡ at + n
+  head-length = length-paste-head d at s n (omega arith) hs
+
+  paste-below : (j : ℕ) → j < at → getD (paste d at s n) j 0 ≡ getD d j 0
+  paste-below j h =
+      List·getD-append head (drop (at + n) d) 0 j (omega (arith, head-length))
+      ∙ List·getD-append (take at d) (take n s) 0 j (omega (arith, length-take-le at d (omega arith)))
+      ∙ getD-take at d j 0 h
+
+  paste-inside : (i : ℕ) → i < n → getD (paste d at s n) (at + i) 0 ≡ getD s i 0
+  paste-inside i h =
+      List·getD-append head (drop (at + n) d) 0 (at + i) (omega (arith, head-length))
+      ∙ ap (λ k. getD head (k + i) 0) (sym (length-take-le at d (omega arith)))
+      ∙ getD-append-add (take at d) (take n s) i 0
+      ∙ getD-take n s i 0 h
+
+  paste-above : (i : ℕ) → getD (paste d at s n) (at + n + i) 0 ≡ getD d (at + n + i) 0
+  paste-above i =
+      ap (λ k. getD (paste d at s n) (k + i) 0) (sym head-length)
+      ∙ getD-append-add head (drop (at + n) d) i 0
+      ∙ getD-drop (at + n) d i 0
+
+  part-length : (b m : ℕ) → b + m ≤ length d → length (part (paste d at s n) b m) ≡ m
+  part-length b m h = length-part (paste d at s n) b m (subst (λ x. b + m ≤ x) (sym (length-paste d at s n hd hs)) h)
+
+  -- A part that the copy wrote.
+  pub part-inside : (m : ℕ) → m ≤ n → part (paste d at s n) at m ≡ part s 0 m
+  part-inside m h =
+      let a = part-length at m (omega arith) in
+      let b : length (part s 0 m) ≡ m = length-part s 0 m (omega arith) in
+      ext-getD 0 (part (paste d at s n) at m) (part s 0 m) (a ∙ sym b)
+      (λ i g.
+      let k : i < m = omega (arith, a) in
+      let z : 0 + i ≡ i = omega arith in
+      getD-part (paste d at s n) at m i k ∙ paste-inside i (omega arith) ∙ ap (λ x. getD s x 0) (sym z) ∙ sym (getD-part s 0 m i k))
+
+  -- A part that lies before it, or after it.
+  pub part-before : (b m : ℕ) → b + m ≤ at → part (paste d at s n) b m ≡ part d b m
+  part-before b m h =
+      let p = part-length b m (omega arith) in
+      ext-getD 0 (part (paste d at s n) b m) (part d b m) (p ∙ sym (length-part d b m (omega arith)))
+      (λ i g.
+      let k : i < m = omega (arith, p) in
+      getD-part (paste d at s n) b m i k ∙ paste-below (b + i) (omega arith) ∙ sym (getD-part d b m i k))
+
+  pub part-after : (b m : ℕ) → at + n ≤ b → b + m ≤ length d → part (paste d at s n) b m ≡ part d b m
+  part-after b m h l =
+      let p = part-length b m l in
+      ext-getD 0 (part (paste d at s n) b m) (part d b m) (p ∙ sym (length-part d b m l))
+      (λ i g.
+      let k : i < m = omega (arith, p) in
+      let e : b + i ≡ at + n + (b + i - (at + n)) = omega arith in
+      getD-part (paste d at s n) b m i k ∙ ap (λ x. getD (paste d at s n) x 0) e ∙ paste-above (b + i - (at + n))
+      ∙ ap (λ x. getD d x 0) (sym e) ∙ sym (getD-part d b m i k))
+
+-- The rows of a channel lie within the arrays, and those of two channels apart.
+pub rows-in : (c : ℕ) → c < 8 → rows-start c + rows-size ≤ 8192
+unfolding rows-start
+rows-in c h = omega arith
+
+pub rows-apart : (c d : ℕ) → (d ≡ c → ⊥) → (rows-start d + rows-size ≤ rows-start c) ⊎ (rows-start c + rows-size ≤ rows-start d)
+unfolding rows-start
+rows-apart c d h = go (ltb d c) refl
+  where
+    go : (t : Bool) → ltb d c ≡ t → (rows-start d + rows-size ≤ rows-start c) ⊎ (rows-start c + rows-size ≤ rows-start d)
+    go true e = let l : d < c = ltb-true d c e in inl (omega arith)
+    go false e = let l : c < d = later (ltb-false d c e) in inr (omega arith)
+      where
+        later : c ≤ d → c < d
+        later l = ⊎-elim (λ p. absurd (h (sym p))) (λ g. g) (eq-or-lt-of-le l)
+
+-- A table's entries fit the rows.
+pub entries-fit : (k n : ℕ) → k ≤ 64 → n ≤ 16 → k * n ≤ rows-size
+entries-fit k n h g = omega (arith, mul-le-mul-right n h)
+
+pub entry-below : (k n q e : ℕ) → q < k → e < n → q * n + e < k * n
+entry-below k n q e h g = omega (arith, mul-le-mul-right n h, suc-mul q n)

@@ -1,0 +1,11 @@
+-- In reading order.
+-- What a tool holds: its set-up and its channels.
+pub mod Channels
+-- Refusal 17.
+pub mod ToolFault
+-- What each call answers, and the tool that it returns.
+pub mod Tool
+-- A sequence of events on one channel.
+pub mod Replay
+-- What the private functions decide before anything is written.
+pub mod Decisions
