@@ -40,7 +40,7 @@ not-large events e h = go (ltb e events) refl h
     go false p x = absurd (subst⁻¹ IsNone x tt)
 
 -- The refusal, if any, has another number.
-abbrev Not : ℕ → Option Refusal → Type 0
+abbrev pub Not : ℕ → Option Refusal → Type 0
 Not n none = Unit {0}
 Not n (some r) = ¬ (number r ≡ n)
 

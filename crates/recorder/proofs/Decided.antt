@@ -25,7 +25,7 @@ use Rattle.recorder.specs.declared.Decision.{Decision}
 use Rattle.recorder.specs.declared.Decision.the-variants.{Refuse, Go}
 use Rattle.recorder.specs.Channels.{setup-of, rows-size, rows-start, held, channels, loaded-at}
 use Rattle.recorder.specs.ToolFault.{InOrder, setup-test, channel-test, tool-test}
-use Rattle.recorder.specs.Tool.{Compiler, with-current, with-rows, next-state, content, effect-on, settled-tool, called, padded, empty-tool, new-tool, blank-tool, set-up-answer, set-up-called}
+use Rattle.recorder.specs.Tool.{with-current, with-rows, next-state, content, effect-on, settled-tool, called, padded, empty-tool, new-tool, blank-tool, set-up-answer, set-up-called}
 use Rattle.recorder.specs.Decisions.{decide, event-decision-in, event-decision, restart-decision, channel-decision, value-reply, plain-reply, state-after, count-after, sound-reply, states-after, judged-reply}
 use Rattle.recorder.proofs.Rows.{getD-part, rows-in, entries-fit, entry-below}
 use Rattle.recorder.proofs.Held.{held-above, held-some, empty-held, in-order-of-test, well-formed-of-test, accepted-test}
@@ -84,7 +84,7 @@ bounds n v c k q e L N p h g l =
 same-tool : (t : Tool) (w : ℕ) → with-current t (set (t .current) w (getD (t .current) w 0)) ≡ t
 same-tool t w = ap (with-current t) (set-getD (t .current) w 0)
 
-module _ (K : Compiler) (t : Tool) (c : ℕ) where
+module _ (t : Tool) (c : ℕ) where
   abbrev w : ℕ
   w = c % 8
 
@@ -98,7 +98,7 @@ module _ (K : Compiler) (t : Tool) (c : ℕ) where
     event-by-number :
         (i : Bool) → ltb c 8 ≡ i → (x : Loaded ℕ) (j : Bool) →
         event-result (decide i (decide j (Go (x .table .value (x .current) e) (x .table .next (x .current) e)) 16) 14)
-        ≡ settled-tool K (or-else (cond i none (some (Plain 14))) (cond j none (some (Plain 16)))) (event-reply (content K t) (some x) e)
+        ≡ settled-tool (or-else (cond i none (some (Plain 14))) (cond j none (some (Plain 16)))) (event-reply (content t) (some x) e)
         (with-current t (set (t .current) c (next-state (some x) e))) t
     unfolding or-else
     event-by-number true p x true =
@@ -110,7 +110,7 @@ module _ (K : Compiler) (t : Tool) (c : ℕ) where
     event-by-channel :
         (i : Bool) → ltb c 8 ≡ i → (o : Option (Loaded ℕ)) →
         event-result (decide i (event-decision-in (t .events) o e) 14)
-        ≡ settled-tool K (or-else (cond i none (some (Plain 14))) (on-event (content K t) o e)) (event-reply (content K t) o e)
+        ≡ settled-tool (or-else (cond i none (some (Plain 14))) (on-event (content t) o e)) (event-reply (content t) o e)
         (with-current t (set (t .current) c (next-state o e))) t
     unfolding or-else
     event-by-channel true p none = event-refused 15
@@ -120,8 +120,8 @@ module _ (K : Compiler) (t : Tool) (c : ℕ) where
     event-by-test :
         (s : Bool) →
         event-result (event-decision s (t .events) c (channels t c) e)
-        ≡ settled-tool K (or-else (plain-unless s 17) (call-refusal (content K t) (channels t) (event c e)))
-        (accepted-reply (content K t) (channels t) (event c e)) (effect-on K t (event c e)) t
+        ≡ settled-tool (or-else (plain-unless s 17) (call-refusal (content t) (channels t) (event c e)))
+        (accepted-reply (content t) (channels t) (event c e)) (effect-on t (event c e)) t
     unfolding or-else plain-unless
     event-by-test true = event-by-channel (ltb c 8) refl (channels t c)
     event-by-test false = event-refused 17
@@ -129,7 +129,7 @@ module _ (K : Compiler) (t : Tool) (c : ℕ) where
     pub event-done :
         (r : Reply ℕ) (q : ℕ) (d : Decision) (s : Bool) → r ≡ value-reply d → q ≡ state-after d (getD (t .current) w 0) →
         d ≡ event-decision s (t .events) c (read t c) e → s ≡ tested t c →
-        (r, with-current t (set (t .current) w q)) ≡ called K (event c e) t
+        (r, with-current t (set (t .current) w q)) ≡ called (event c e) t
     unfolding called or-else plain-unless
     event-done r q d s e1 e2 e3 e4 =
         ap₂ (λ r q. (r, with-current t (set (t .current) w q))) e1 e2
@@ -145,7 +145,7 @@ module _ (K : Compiler) (t : Tool) (c : ℕ) where
   restart-cases :
       (s i : Bool) → ltb c 8 ≡ i →
       restart-result w (decide s (decide i (decide (ltb 0 (getD (t .states) w 0)) (Go 0 0) 15) 14) 17)
-      ≡ settled-tool K (or-else (plain-unless s 17) (or-else (cond i none (some (Plain 14))) (empty-refusal (channels t c)))) accepted
+      ≡ settled-tool (or-else (plain-unless s 17) (or-else (cond i none (some (Plain 14))) (empty-refusal (channels t c)))) accepted
       (with-current t (set (t .current) c 0)) t
   unfolding or-else plain-unless
   restart-cases false i p = restart-refused 17
@@ -154,20 +154,20 @@ module _ (K : Compiler) (t : Tool) (c : ℕ) where
       rw (empty-held c (t .events) (getD (t .states) c 0) (getD (t .current) c 0) (t .value) (t .next) (ltb-true c 8 p))
       (subst⁻¹
       (λ x. restart-result x (decide (ltb 0 (getD (t .states) x 0)) (Go 0 0) 15)
-      ≡ settled-tool K (cond (ltb 0 (getD (t .states) c 0)) none (some (Plain 15))) accepted (with-current t (set (t .current) c 0)) t)
+      ≡ settled-tool (cond (ltb 0 (getD (t .states) c 0)) none (some (Plain 15))) accepted (with-current t (set (t .current) c 0)) t)
       (mod-eq-of-lt (ltb-true c 8 p)) (go (ltb 0 (getD (t .states) c 0))))
     where
       go :
           (j : Bool) →
           restart-result c (decide j (Go 0 0) 15)
-          ≡ settled-tool K (cond j none (some (Plain 15))) accepted (with-current t (set (t .current) c 0)) t
+          ≡ settled-tool (cond j none (some (Plain 15))) accepted (with-current t (set (t .current) c 0)) t
       go true = refl
       go false = ap (λ u. (refused (Plain 15), u)) (same-tool t c)
 
   pub restart-done :
       (r : Reply ℕ) (q : ℕ) (d : Decision) (s : Bool) → r ≡ plain-reply d → q ≡ state-after d (getD (t .current) w 0) →
       d ≡ restart-decision s c (getD (t .states) w 0) → s ≡ tested t c →
-      (r, with-current t (set (t .current) w q)) ≡ called K (restart c) t
+      (r, with-current t (set (t .current) w q)) ≡ called (restart c) t
   unfolding called or-else plain-unless
   restart-done r q d s e1 e2 e3 e4 =
       ap₂ (λ r q. (r, with-current t (set (t .current) w q))) e1 e2
@@ -211,7 +211,7 @@ module _ (K : Compiler) (t : Tool) (c : ℕ) where
   clear-cases :
       (s i : Bool) → ltb c 8 ≡ i →
       clear-result w (decide s (decide i (Go 0 0) 14) 17)
-      ≡ settled-tool K (or-else (plain-unless s 17) (cond i none (some (Plain 14)))) accepted (with-rows t c 0 (t .value) (t .next)) t
+      ≡ settled-tool (or-else (plain-unless s 17) (cond i none (some (Plain 14)))) accepted (with-rows t c 0 (t .value) (t .next)) t
   unfolding or-else plain-unless
   clear-cases false i p = clear-refused 17
   clear-cases true false p = clear-refused 14
@@ -220,7 +220,7 @@ module _ (K : Compiler) (t : Tool) (c : ℕ) where
   pub clear-done :
       (r : Reply ℕ) (k q : ℕ) (d : Decision) (s : Bool) → r ≡ plain-reply d → k ≡ count-after d (getD (t .states) w 0) →
       q ≡ state-after d (getD (t .current) w 0) → d ≡ channel-decision s c → s ≡ tested t c →
-      (r, emptied w k q) ≡ called K (clear c) t
+      (r, emptied w k q) ≡ called (clear c) t
   unfolding called or-else plain-unless
   clear-done r k q d s e1 e2 e3 e4 e5 =
       ap (λ r. (r, emptied w k q)) e1 ∙ ap₂ (λ k q. (plain-reply d, emptied w k q)) e2 e3
@@ -228,17 +228,17 @@ module _ (K : Compiler) (t : Tool) (c : ℕ) where
       ∙ clear-cases (tool-test t (clear c)) (ltb c 8) refl
 
 pub restart-all-done :
-    (K : Compiler) (t : Tool) (r : Reply ℕ) (l : List ℕ) (s : Bool) → r ≡ sound-reply s → l ≡ states-after s (t .current) →
-    s ≡ tool-test t restart-all → (r, with-current t l) ≡ called K restart-all t
+    (t : Tool) (r : Reply ℕ) (l : List ℕ) (s : Bool) → r ≡ sound-reply s → l ≡ states-after s (t .current) →
+    s ≡ tool-test t restart-all → (r, with-current t l) ≡ called restart-all t
 unfolding called or-else plain-unless
-restart-all-done K t r l s e1 e2 e3 =
+restart-all-done t r l s e1 e2 e3 =
     ap₂ (λ r l. (r, with-current t l)) e1 e2
     ∙ ap (λ s. (sound-reply s, with-current t (states-after s (t .current)))) e3 ∙ go (tool-test t restart-all)
   where
     go :
         (s : Bool) →
         (sound-reply s, with-current t (states-after s (t .current)))
-        ≡ settled-tool K (or-else (plain-unless s 17) none) accepted (with-current t (replicate 8 0)) t
+        ≡ settled-tool (or-else (plain-unless s 17) none) accepted (with-current t (replicate 8 0)) t
     go true = refl
     go false = refl
 

@@ -21,31 +21,50 @@ use Rattle.refusal.specs.declared.Judgement.the-variants.{Accepted, Refused}
 use Rattle.refusal.specs.Refusal.{or-else, plain-unless, judgement}
 use Rattle.values.specs.Setup.{Setup, setup, WellFormed, events-test, values-test, meet-test, setup-refusal}
 use Rattle.values.proofs.Setups.{setup-accepted}
-use Rattle.channel_log.specs.Calls.{empty-refusal}
+use Rattle.channel_log.specs.Calls.{channel-refusal, empty-refusal}
 use Rattle.channel_log.specs.Recorded.{Loaded}
 use Rattle.recorder.specs.Channels.{part, table-at, loaded-at, rows-start, held}
 use Rattle.recorder.specs.ToolFault.{InOrder, passed, setup-test, entries-test, loaded-test, channel-test}
 use Rattle.recorder.proofs.Rows.{getD-part, entry-below}
+
+abbrev pub IsNone : {A : Type 0} → Option A → Type 0
+IsNone none = Unit {0}
+IsNone (some a) = ⊥
+
+-- 14.
+pub channel-below : (c : ℕ) → channel-refusal c ≡ none → c < 8
+channel-below c h = go (ltb c 8) refl h
+  where
+    go : (t : Bool) → ltb c 8 ≡ t → cond t none (some (Plain 14)) ≡ none → c < 8
+    go true p x = ltb-true c 8 p
+    go false p x = absurd (subst⁻¹ IsNone x tt)
 
 -- The test of a set-up.
 passed-none : (o : Option Refusal) → passed o ≡ true → o ≡ none
 passed-none none h = refl
 passed-none (some r) h = let z : _≡_ {A = ℕ} 0 1 = cc in absurd (omega arith)
 
-passed-of-none : (o : Option Refusal) → o ≡ none → passed o ≡ true
-passed-of-none o h = ap passed h
+pub accepted-of-test : (s : Setup) → setup-test s ≡ true → setup-refusal s ≡ none
+unfolding setup-test
+accepted-of-test s h = passed-none (setup-refusal s) h
+
+pub test-of-accepted : (s : Setup) → setup-refusal s ≡ none → setup-test s ≡ true
+unfolding setup-test
+test-of-accepted s h = ap passed h
 
 pub well-formed-of-test : (s : Setup) → setup-test s ≡ true → WellFormed s
-unfolding setup-test
-well-formed-of-test s h = setup-accepted s .0 (passed-none (setup-refusal s) h)
+well-formed-of-test s h = setup-accepted s .0 (accepted-of-test s h)
 
 pub test-of-well-formed : (s : Setup) → WellFormed s → setup-test s ≡ true
-unfolding setup-test
-test-of-well-formed s h = passed-of-none (setup-refusal s) (setup-accepted s .1 h)
+test-of-well-formed s h = test-of-accepted s (setup-accepted s .1 h)
 
 pub few-events : (e v t : ℕ) (m : List ℕ) → setup-test (setup e v t m) ≡ true → e ≤ 16
 unfolding setup
 few-events e v t m h = well-formed-of-test (setup e v t m) h .few-events
+
+pub few-values : (e v t : ℕ) (m : List ℕ) → setup-test (setup e v t m) ≡ true → v ≤ 16
+unfolding setup
+few-values e v t m h = well-formed-of-test (setup e v t m) h .few-values
 
 pub many-values : (e v t : ℕ) (m : List ℕ) → 16 < v → setup-test (setup e v t m) ≡ false
 unfolding setup-test setup setup-refusal values-test or-else plain-unless

@@ -4,7 +4,17 @@ pub mod Rows
 pub mod Held
 -- What is decided is what the definitions of the calls say.
 pub mod Decided
+-- The compiler's answer beside an accepted set-up.
+pub mod CompiledRules
+-- What load decides and stores.
+pub mod Loads
 -- The run over a sequence of events.
 pub mod Runs
 -- A sequence of events is the event call repeated.
 pub mod Replays
+-- Each call's effect on the channels.
+pub mod View
+-- A sound tool stays sound.
+pub mod Keeps
+-- The claims.
+pub mod Claims

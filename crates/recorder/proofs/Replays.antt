@@ -17,6 +17,7 @@ use Rattle.theory.proofs.ValueSets.{and-left, and-right, and-both, every-at}
 use Rattle.refusal.specs.declared.Refusal.{Refusal}
 use Rattle.refusal.specs.declared.Refusal.the-variants.{Plain}
 use Rattle.refusal.specs.Refusal.{or-else, plain-unless}
+use Rattle.refusal.proofs.Refusals.{or-else-none, plain-none}
 use Rattle.channel_log.specs.Calls.{Call, event, Reply, accepted, returned, refused, channel-refusal, empty-refusal, on-event, event-reply, replies, final}
 use Rattle.channel_log.specs.Recorded.{Loaded, at-state}
 use Rattle.recorder.specs.declared.Tool.{Tool}
@@ -24,11 +25,11 @@ use Rattle.recorder.specs.declared.Decision.{Decision}
 use Rattle.recorder.specs.declared.Decision.the-variants.{Refuse, Go}
 use Rattle.recorder.specs.Channels.{setup-of, table-at, loaded-at, rows-size, rows-start, held, channels}
 use Rattle.recorder.specs.ToolFault.{InOrder, setup-test, channel-test, tool-test}
-use Rattle.recorder.specs.Tool.{Compiler, with-current, next-state, content, settled-tool, called}
-use Rattle.recorder.specs.Replay.{event-calls, returned-values, replay-refusal, put, replay-settled, replayed}
+use Rattle.recorder.specs.Tool.{with-current, next-state, content, settled-tool, called}
+use Rattle.recorder.specs.Replay.{event-calls, returned-values, replay-refusal, put, replay-settled, replayed, ReplayClaim}
 use Rattle.recorder.specs.Decisions.{decide, restart-decision, replay-decision, plain-reply, outputs, Runnable}
 use Rattle.recorder.proofs.Rows.{getD-part, rows-in, entries-fit, entry-below}
-use Rattle.recorder.proofs.Held.{held-some, empty-held, in-order-of-test, test-of-in-order, tests-split, flat-next}
+use Rattle.recorder.proofs.Held.{held-some, empty-held, in-order-of-test, test-of-in-order, tests-split, flat-next, IsNone, channel-below}
 use Rattle.recorder.proofs.Decided.{read, tested, tested-same}
 use Rattle.recorder.proofs.Runs.{length-outputs}
 
@@ -63,62 +64,65 @@ ready-facts t c g =
 written : (t : Tool) (c q : ℕ) → Ready t c → getD (set (t .current) c q) c 0 ≡ q
 written t c q g = getD-set-same (t .current) c q 0 (omega (arith, g .channel, g .current-length))
 
-module _ (K : Compiler) where
-  one :
-      (t : Tool) (c e : ℕ) → Ready t c → e < t .events →
-      called K (event c e) t ≡ (returned (table-of t c .value (state-of t c) e), at t c (table-of t c .next (state-of t c) e))
-  unfolding called or-else plain-unless
-  one t c e g l =
-      ap₂
-      (λ s i. settled-tool K (or-else (plain-unless s 17) (or-else (cond i none (some (Plain 14))) (on-event (content K t) (channels t c) e)))
-      (event-reply (content K t) (channels t c) e) (at t c (next-state (channels t c) e)) t)
-      (and-both (g .setup-passes) (g .in-order)) (lt-ltb c 8 (g .channel))
-      ∙ ap (λ o. settled-tool K (on-event (content K t) o e) (event-reply (content K t) o e) (at t c (next-state o e)) t) (has t c g)
-      ∙ ap
-      (λ j. settled-tool K (cond j none (some (Plain 16))) (returned (table-of t c .value (state-of t c) e))
-      (at t c (table-of t c .next (state-of t c) e)) t)
-      (lt-ltb e (t .events) l)
+one :
+    (t : Tool) (c e : ℕ) → Ready t c → e < t .events →
+    called (event c e) t ≡ (returned (table-of t c .value (state-of t c) e), at t c (table-of t c .next (state-of t c) e))
+unfolding called or-else plain-unless
+one t c e g l =
+    ap₂
+    (λ s i. settled-tool (or-else (plain-unless s 17) (or-else (cond i none (some (Plain 14))) (on-event (content t) (channels t c) e)))
+    (event-reply (content t) (channels t c) e) (at t c (next-state (channels t c) e)) t)
+    (and-both (g .setup-passes) (g .in-order)) (lt-ltb c 8 (g .channel))
+    ∙ ap (λ o. settled-tool (on-event (content t) o e) (event-reply (content t) o e) (at t c (next-state o e)) t) (has t c g)
+    ∙ ap
+    (λ j. settled-tool (cond j none (some (Plain 16))) (returned (table-of t c .value (state-of t c) e))
+    (at t c (table-of t c .next (state-of t c) e)) t)
+    (lt-ltb e (t .events) l)
 
-  ready-next : (t : Tool) (c e : ℕ) → Ready t c → e < t .events → Ready (at t c (table-of t c .next (state-of t c) e)) c
-  ready-next t c e g l =
-      let q = table-of t c .next (state-of t c) e in
-      let f = ready-facts t c g in
-      record {
-        setup-passes = g .setup-passes;
-        channel = g .channel;
-        current-length = length-set (t .current) c q ∙ g .current-length;
-        loaded = g .loaded;
-        in-order =
-            ap (channel-test (t .events) (t .values))
-            (held-some c (t .events) (getD (t .states) c 0) (getD (set (t .current) c q) c 0) (t .value) (t .next) (g .channel) (g .loaded)
-            ∙ ap (λ q. some (loaded-with t c q)) (written t c q g))
-            ∙ test-of-in-order (t .events) (t .values) (loaded-with t c q)
-            (record {
-              some-states = f .some-states;
-              few-states = f .few-states;
-              entries = f .entries;
-              current-in = f .entries .next-in (state-of t c) (f .current-in) e l;
-            });
-      }
+ready-next : (t : Tool) (c e : ℕ) → Ready t c → e < t .events → Ready (at t c (table-of t c .next (state-of t c) e)) c
+ready-next t c e g l =
+    let q = table-of t c .next (state-of t c) e in
+    let f = ready-facts t c g in
+    record {
+      setup-passes = g .setup-passes;
+      channel = g .channel;
+      current-length = length-set (t .current) c q ∙ g .current-length;
+      loaded = g .loaded;
+      in-order =
+          ap (channel-test (t .events) (t .values))
+          (held-some c (t .events) (getD (t .states) c 0) (getD (set (t .current) c q) c 0) (t .value) (t .next) (g .channel) (g .loaded)
+          ∙ ap (λ q. some (loaded-with t c q)) (written t c q g))
+          ∙ test-of-in-order (t .events) (t .values) (loaded-with t c q)
+          (record {
+            some-states = f .some-states;
+            few-states = f .few-states;
+            entries = f .entries;
+            current-in = f .entries .next-in (state-of t c) (f .current-in) e l;
+          });
+    }
 
-  -- One event call after another.
-  pub repeated :
-      (w : List ℕ) (t : Tool) (c : ℕ) → Ready t c → Word (t .events) w →
-      (returned-values (replies (called K) (event-calls c w) t) ≡ outputs (table-of t c) (state-of t c) w)
-      × (final (called K) (event-calls c w) t ≡ at t c (after (table-of t c) (state-of t c) w))
-  repeated [] t c g h = (refl, sym (ap (with-current t) (set-getD (t .current) c 0)))
-  repeated (e ∷ w) t c g h =
-      let q = table-of t c .next (state-of t c) e in
-      let u = at t c q in
-      let o = one t c e g (h .0) in
-      let r = repeated w u c (ready-next t c e g (h .0)) (h .1) in
-      let z = written t c q g in (
-        ap (λ p. returned-values (p .0 ∷ replies (called K) (event-calls c w) (p .1))) o
-            ∙ ap (λ l. table-of t c .value (state-of t c) e ∷ l) (r .0 ∙ ap (λ q. outputs (table-of t c) q w) z),
-        ap (λ p. final (called K) (event-calls c w) (p .1)) o ∙ r .1
-            ∙ ap (λ x. with-current t (set (set (t .current) c q) c (after (table-of t c) x w))) z
-            ∙ ap (with-current t) (set-set (t .current) c q (after (table-of t c) q w)),
-      )
+-- One event call after another.
+pub repeated :
+    (w : List ℕ) (t : Tool) (c : ℕ) → Ready t c → Word (t .events) w →
+    (replies called (event-calls c w) t ≡ map returned (outputs (table-of t c) (state-of t c) w))
+    × (final called (event-calls c w) t ≡ at t c (after (table-of t c) (state-of t c) w))
+repeated [] t c g h = (refl, sym (ap (with-current t) (set-getD (t .current) c 0)))
+repeated (e ∷ w) t c g h =
+    let q = table-of t c .next (state-of t c) e in
+    let u = at t c q in
+    let o = one t c e g (h .0) in
+    let r = repeated w u c (ready-next t c e g (h .0)) (h .1) in
+    let z = written t c q g in (
+      ap (λ p. p .0 ∷ replies called (event-calls c w) (p .1)) o
+          ∙ ap (λ l. returned (table-of t c .value (state-of t c) e) ∷ l) (r .0 ∙ ap (λ q. map returned (outputs (table-of t c) q w)) z),
+      ap (λ p. final called (event-calls c w) (p .1)) o ∙ r .1
+          ∙ ap (λ x. with-current t (set (set (t .current) c q) c (after (table-of t c) x w))) z
+          ∙ ap (with-current t) (set-set (t .current) c q (after (table-of t c) q w)),
+    )
+
+values-back : (l : List ℕ) → returned-values (map returned l) ≡ l
+values-back [] = refl
+values-back (v ∷ l) = ap (λ l. v ∷ l) (values-back l)
 
 word-of-test :
     (n : ℕ) (w : List ℕ) → ((i : ℕ) → i < length w → getD w i 0 < n) → Word n w
@@ -213,11 +217,11 @@ module _ (t : Tool) (c : ℕ) (word out : List ℕ) (d : Decision) (s i j : Bool
           inner true true false = refl
           inner true true true = refl
 
-  pub replay-refused : (K : Compiler) (a : Reply ℕ) (x : ℕ) → a ≡ plain-reply d → d ≡ Refuse x → ((a, t), out) ≡ replayed K t c word out
+  pub replay-refused : (a : Reply ℕ) (x : ℕ) → a ≡ plain-reply d → d ≡ Refuse x → ((a, t), out) ≡ replayed t c word out
   unfolding replayed
-  replay-refused K a x e1 e2 =
+  replay-refused a x e1 e2 =
       ap (λ a. ((a, t), out)) (e1 ∙ ap plain-reply e2)
-      ∙ sym (ap (replay-settled K t c word out) (refusal-is ∙ ap refusal-of e2))
+      ∙ sym (ap (replay-settled t c word out) (refusal-is ∙ ap refusal-of e2))
 
   module _ (v q : ℕ) (went : d ≡ Go v q) where
     pub record Passed : Type 0 where
@@ -294,13 +298,13 @@ module _ (t : Tool) (c : ℕ) (word out : List ℕ) (d : Decision) (s i j : Bool
         }
 
     pub replay-done :
-        (K : Compiler) (r : ℕ) (b : List ℕ) → length (t .current) ≡ 8 →
+        (r : ℕ) (b : List ℕ) → length (t .current) ≡ 8 →
         r ≡ after (table-at (rows-start w) n k (t .value) (t .next)) (getD (t .current) w 0) word →
         b ≡ paste out 0 (outputs (table-at (rows-start w) n k (t .value) (t .next)) (getD (t .current) w 0) word) (length word) →
-        ((accepted, with-current t (set (t .current) w r)), b) ≡ replayed K t c word out
+        ((accepted, with-current t (set (t .current) w r)), b) ≡ replayed t c word out
     unfolding replayed
-    replay-done K r b l e1 e2 =
-        let run = repeated K word t c (ready l) (word-of-test n word events-in) in
+    replay-done r b l e1 e2 =
+        let run = repeated word t c (ready l) (word-of-test n word events-in) in
         ap₂ (λ r b. ((accepted, with-current t (set (t .current) w r)), b)) e1 e2
         ∙ ap
         (λ x. (
@@ -310,5 +314,42 @@ module _ (t : Tool) (c : ℕ) (word out : List ℕ) (d : Decision) (s i j : Bool
         at-c
         ∙ ap (λ b. ((accepted, at t c (after (table-of t c) (state-of t c) word)), b))
         (pasted-put out (outputs (table-of t c) (state-of t c) word) (length word) (length-outputs (table-of t c) (state-of t c) word))
-        ∙ sym (ap₂ (λ u l. ((accepted, u), put l out)) (run .1) (run .0))
-        ∙ sym (ap (replay-settled K t c word out) (refusal-is ∙ ap refusal-of went))
+        ∙ sym (ap₂ (λ u l. ((accepted, u), put l out)) (run .1) (ap returned-values (run .0) ∙ values-back (outputs (table-of t c) (state-of t c) word)))
+        ∙ sym (ap (replay-settled t c word out) (refusal-is ∙ ap refusal-of went))
+
+loaded-below : (t : Tool) (c : ℕ) → c < 8 → empty-refusal (channels t c) ≡ none → 0 < getD (t .states) c 0
+loaded-below t c h e =
+    go (ltb 0 (getD (t .states) c 0)) refl
+    (sym (empty-held c (t .events) (getD (t .states) c 0) (getD (t .current) c 0) (t .value) (t .next) h) ∙ e)
+  where
+    go : (b : Bool) → ltb 0 (getD (t .states) c 0) ≡ b → cond b none (some (Plain 15)) ≡ none → 0 < getD (t .states) c 0
+    go true p x = ltb-true 0 (getD (t .states) c 0) p
+    go false p x = absurd (subst⁻¹ IsNone x tt)
+
+-- No event call of an accepted sequence is refused: each returns its value.
+pub replay-repeated : ReplayClaim
+replay-repeated t l c word buffer h =
+    let P = plain-unless (tool-test t (event c 0)) 17 in
+    let O = plain-unless (every (length word) (λ i. ltb (getD word i 0) (t .events))) 16 in
+    let F = plain-unless (leb (length word) (length buffer)) 13 in
+    let a = or-else-none P (or-else (channel-refusal c) (or-else (empty-refusal (channels t c)) (or-else O F))) h in
+    let b = or-else-none (channel-refusal c) (or-else (empty-refusal (channels t c)) (or-else O F)) (a .1) in
+    let d = or-else-none (empty-refusal (channels t c)) (or-else O F) (b .1) in
+    let e = or-else-none O F (d .1) in
+    let sound : tool-test t (event c 0) ≡ true = plain-none (tool-test t (event c 0)) 17 (a .0) in
+    let lt8 : c < 8 = channel-below c (b .0) in
+    let loaded : 0 < getD (t .states) c 0 = loaded-below t c lt8 (d .0) in
+    let words : every (length word) (λ i. ltb (getD word i 0) (t .events)) ≡ true =
+    plain-none (every (length word) (λ i. ltb (getD word i 0) (t .events))) 16 (e .0) in
+    let r =
+    repeated word t c
+    (record {
+      setup-passes = and-left (setup-test (setup-of t)) (channel-test (t .events) (t .values) (channels t c)) sound;
+      channel = lt8;
+      current-length = l;
+      loaded = loaded;
+      in-order = and-right (setup-test (setup-of t)) (channel-test (t .events) (t .values) (channels t c)) sound;
+    })
+    (word-of-test (t .events) word
+    (λ i p. ltb-true (getD word i 0) (t .events) (every-at (length word) (λ i. ltb (getD word i 0) (t .events)) words i p))) in
+    (outputs (table-of t c) (state-of t c) word, r .0, length-outputs (table-of t c) (state-of t c) word)

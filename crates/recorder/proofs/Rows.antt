@@ -3,14 +3,15 @@
 use mathlib.Core.Path.{_≡_, refl, sym, _∙_, ap, ap₂, subst}
 use mathlib.Core.Bool.{Bool, true, false}
 use mathlib.Core.Logic.{_⊎_, inl, inr, ⊎-elim}
-use mathlib.Core.List.{List, [], _∷_, _++_}
+use mathlib.Core.List.{List, [], _∷_, _++_, append-nil}
 use Prim.Native.Nat.{ℕ, zero, suc, _+_, _*_, _-_, _≤_, _<_}
 use native.Mathlib.Nat.{mul-le-mul-right, suc-mul, eq-or-lt-of-le}
+use native.Mathlib.Numerals.{add-one}
 use native.Mathlib.Omega.{arith}
 use borrow.Author.Tests.{ltb-true, ltb-false}
 use lib.Dec.{ltb}
-use lib.ListN.{length, getD, take, drop, replicate, length-append, length-take, length-drop, length-replicate, List·getD-append}
-use lib.Seq.{paste, length-paste-head, length-paste, length-take-le, take-all, take-take, getD-append-add, getD-take, getD-drop, ext-getD}
+use lib.ListN.{length, getD, set, take, drop, replicate, length-append, length-take, length-drop, length-replicate, List·getD-append}
+use lib.Seq.{paste, paste-suc, drop-length, length-paste-head, length-paste, length-take-le, take-all, take-take, getD-append-add, getD-take, getD-drop, ext-getD}
 use Rattle.recorder.specs.Channels.{part, rows-size, rows-start}
 use Rattle.recorder.specs.Tool.{padded}
 
@@ -74,6 +75,19 @@ pasted-zeros n l i h g (inr m) =
     let f : n - i ≡ n - length l = omega arith in
     ap₂ (λ a b. a ++ drop b (replicate n 0)) (take-all i l m ∙ sym (take-all n l (omega arith))) z
     ∙ ap (λ x. take n l ++ x) (drop-zeros n i ∙ ap (λ k. replicate k 0) f)
+
+-- A turn of a copy to the front of a list, and a copy over the whole of it.
+pub paste-next :
+    (d s : List ℕ) (i : ℕ) → i < length d → i < length s → set (paste d 0 s i) i (getD s i 0) ≡ paste d 0 s (i + 1)
+paste-next d s i h g =
+    let z : 0 + i ≡ i = omega arith in
+    subst (λ x. set (paste d 0 s i) x (getD s i 0) ≡ paste d 0 s (suc i)) z (paste-suc d 0 s i 0 (omega arith) g)
+    ∙ ap (paste d 0 s) (sym (add-one i))
+
+pub paste-all : (d s : List ℕ) (n : ℕ) → length d ≡ n → length s ≡ n → paste d 0 s n ≡ s
+paste-all d s n h g =
+    let z : 0 + n ≡ length d = omega arith in
+    ap₂ (λ a b. a ++ drop b d) (take-all n s (omega arith)) z ∙ ap (λ x. s ++ x) (drop-length d) ∙ append-nil s
 
 -- A list after a copy into it.
 module _ (d : List ℕ) (at : ℕ) (s : List ℕ) (n : ℕ) (hd : at + n ≤ length d) (hs : n ≤ length s) where

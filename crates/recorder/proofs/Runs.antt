@@ -7,11 +7,11 @@ use native.Mathlib.Nat.{not-suc-le-zero, le-of-suc-le-suc}
 use native.Mathlib.Numerals.{add-one}
 use native.Mathlib.Omega.{arith}
 use lib.ListN.{length, getD, set, take}
-use lib.Seq.{paste, paste-zero, paste-suc, length-paste, take-all}
+use lib.Seq.{paste, paste-zero, length-paste, take-all}
 use Rattle.theory.specs.MealyMachine.{Machine, after}
 use Rattle.recorder.specs.Channels.{part, table-at}
 use Rattle.recorder.specs.Decisions.{outputs, Runnable}
-use Rattle.recorder.proofs.Rows.{getD-part, entries-fit, entry-below}
+use Rattle.recorder.proofs.Rows.{getD-part, paste-next, entries-fit, entry-below}
 
 pub length-outputs : (m : Machine ℕ ℕ) (q : ℕ) (w : List ℕ) → length (outputs m q w) ≡ length w
 length-outputs m q [] = refl
@@ -80,12 +80,9 @@ module _ (from n k q : ℕ) (L N w out : List ℕ) (g : Runnable from n k q L N 
 
     stored : set b i (getD L (from + (p * n + e)) 0) ≡ paste out 0 (outputs m q w) (i + 1)
     stored =
-        let z : 0 + i ≡ i = omega arith in
         ap₂ (λ x y. set x i y) (h .buffer)
         (sym (getD-part L from (k * n) (p * n + e) entry) ∙ ap (λ x. m .value x e) (h .state) ∙ sym (outputs-at m q w i l))
-        ∙ ap (λ x. set (paste out 0 (outputs m q w) i) x (getD (outputs m q w) i 0)) (sym z)
-        ∙ paste-suc out 0 (outputs m q w) i 0 (omega (arith, g .fits, l)) (omega (arith, l, length-outputs m q w))
-        ∙ ap (paste out 0 (outputs m q w)) (sym (add-one i))
+        ∙ paste-next out (outputs m q w) i (omega (arith, g .fits, l)) (omega (arith, l, length-outputs m q w))
 
     pub again : Ran from n k q L N w out (getD N (from + (p * n + e)) 0) (set b i (getD L (from + (p * n + e)) 0)) (i + 1)
     again = record { within = omega (arith, l); state = next-state; below = g .nexts (p * n + e) entry; buffer = stored }

@@ -10,6 +10,8 @@ use lib.ListN.{getD, length, replicate}
 use Rattle.theory.specs.MealyMachine.{Machine, after}
 use Rattle.theory.specs.ValueSetClaims.{every}
 use Rattle.refusal.specs.declared.Refusal.the-variants.{Plain}
+use Rattle.refusal.specs.declared.Counted.{Counted}
+use Rattle.refusal.specs.declared.Counted.the-variants.{Count, Refused as NotCounted}
 use Rattle.refusal.specs.declared.Judgement.{Judgement}
 use Rattle.refusal.specs.declared.Judgement.the-variants.{Accepted, Refused}
 use Rattle.channel_log.specs.Calls.{Reply, accepted, returned, refused}
@@ -61,6 +63,11 @@ state-after (Go v q) old = q
 abbrev pub judged-reply : Judgement → Reply ℕ
 judged-reply Accepted = accepted
 judged-reply (Refused r) = refused r
+
+-- For load: what 5 to 10 say.
+abbrev pub counted-reply : Counted → Reply ℕ
+counted-reply (Count n) = accepted
+counted-reply (NotCounted r) = refused r
 
 -- For clear: the state count afterwards.
 abbrev pub count-after : Decision → ℕ → ℕ

@@ -1,5 +1,6 @@
 -- A sequence of events on one channel into a lent buffer: the event call repeated (document 01, "Tool"), all or nothing.
 -- Assumes nothing.
+use mathlib.Core.Path.{_≡_}
 use mathlib.Core.List.{List, [], _∷_, _++_, map}
 use mathlib.Core.Option.{Option, none, some}
 use Prim.Native.Nat.{ℕ}
@@ -13,7 +14,7 @@ use Rattle.recorder.specs.declared.Tool.{Tool}
 use Rattle.recorder.specs.declared.Answer.{Answer}
 use Rattle.recorder.specs.Channels.{channels}
 use Rattle.recorder.specs.ToolFault.{tool-test}
-use Rattle.recorder.specs.Tool.{Compiler, called, answer}
+use Rattle.recorder.specs.Tool.{called, answer}
 
 -- The event calls, one for each event of the sequence.
 abbrev pub event-calls : ℕ → List ℕ → List (Call ℕ)
@@ -39,17 +40,20 @@ replay-refusal t c word buffer =
 abbrev pub put : List ℕ → List ℕ → List ℕ
 put output buffer = output ++ drop (length output) buffer
 
-module _ (compiler : Compiler) where
-  -- The reply, the tool and the buffer. Accepted: the tool after all the event calls, and the values that they return.
-  abbrev pub replay-settled : Tool → ℕ → List ℕ → List ℕ → Option Refusal → (Reply ℕ × Tool) × List ℕ
-  replay-settled t c word buffer none = (
-    (accepted, final (called compiler) (event-calls c word) t),
-    put (returned-values (replies (called compiler) (event-calls c word) t)) buffer,
-  )
-  replay-settled t c word buffer (some r) = ((refused r, t), buffer)
+-- The reply, the tool and the buffer. Accepted: the tool after all the event calls, and the values that they return.
+abbrev pub replay-settled : Tool → ℕ → List ℕ → List ℕ → Option Refusal → (Reply ℕ × Tool) × List ℕ
+replay-settled t c word buffer none =
+    ((accepted, final called (event-calls c word) t), put (returned-values (replies called (event-calls c word) t)) buffer)
+replay-settled t c word buffer (some r) = ((refused r, t), buffer)
 
-  unfoldable pub replayed : Tool → ℕ → List ℕ → List ℕ → (Reply ℕ × Tool) × List ℕ
-  replayed t c word buffer = replay-settled t c word buffer (replay-refusal t c word buffer)
+unfoldable pub replayed : Tool → ℕ → List ℕ → List ℕ → (Reply ℕ × Tool) × List ℕ
+replayed t c word buffer = replay-settled t c word buffer (replay-refusal t c word buffer)
 
 abbrev pub replay-answer : Answer → List ℕ → (Reply ℕ × Tool) × List ℕ
 replay-answer r buffer = (answer r, buffer)
+
+-- Replay is the event call repeated: where it is accepted, on a tool with its eight current states, every event call returns a value.
+abbrev pub ReplayClaim : Type 0
+ReplayClaim =
+    (t : Tool) → length (t .current) ≡ 8 → (c : ℕ) (word buffer : List ℕ) → replay-refusal t c word buffer ≡ none →
+    (values : List ℕ) × (replies called (event-calls c word) t ≡ map returned values) × (length values ≡ length word)

@@ -14,8 +14,9 @@ use Rattle.recorder.specs.declared.Tool.{Tool}
 use Rattle.recorder.specs.declared.Answer.{Answer}
 use Rattle.recorder.specs.declared.Reply as declared
 use Rattle.recorder.specs.declared.Reply.the-variants as variant
-use Rattle.recorder.specs.Channels.{setup-of, part, table-at, loaded-at, rows-size, rows-start, channels}
+use Rattle.recorder.specs.Channels.{setup-of, rows-size, rows-start, channels}
 use Rattle.recorder.specs.ToolFault.{tool-test}
+use Rattle.recorder.specs.CompiledRule.{rule-judged, states-of-rule, values-of-rule, nexts-of-rule, loaded-rule}
 
 -- Document 01's answer for each case of the enum.
 abbrev pub reply-of : declared.Reply → Reply ℕ
@@ -25,14 +26,6 @@ reply-of (variant.Refused r) = refused r
 
 abbrev pub answer : Answer → Reply ℕ × Tool
 answer r = (reply-of (r .reply), r .tool)
-
--- What load takes from the compiler, for a set-up and a rule's bytes: 5 to 10, and the states and entries of an accepted rule's
--- table, by state, then event.
-pub record Compiler : Type 0 where
-  pub rule-refusal : Setup → List ℕ → Option Refusal
-  pub states : Setup → List ℕ → ℕ
-  pub values : Setup → List ℕ → List ℕ
-  pub nexts : Setup → List ℕ → List ℕ
 
 -- A list brought to a length, with 0 after its end.
 unfoldable pub padded : ℕ → List ℕ → List ℕ
@@ -65,63 +58,57 @@ with-rows t c k value next =
       next = next;
     }
 
--- Entries in the rows of channel c: the rows after the last of them are 0, and no other channel's change.
+-- A table's entries in the rows of channel c; no other channel's change.
 abbrev pub stored-rows : List ℕ → ℕ → List ℕ → List ℕ
-stored-rows rows c entries = paste rows (rows-start c) (padded rows-size entries) rows-size
+stored-rows rows c entries = paste rows (rows-start c) entries rows-size
 
 -- The state that an event leads to.
 abbrev pub next-state : Option (Loaded ℕ) → ℕ → ℕ
 next-state none e = 0
 next-state (some x) e = x .table .next (x .current) e
 
-module _ (compiler : Compiler) where
-  -- The table of a rule that 5 to 10 accept.
-  abbrev pub rule-table : Setup → List ℕ → Loaded ℕ
-  rule-table s r = loaded-at 0 (s .events) (compiler .states s r) 0 (compiler .values s r) (compiler .nexts s r)
+-- The tool's channels take calls as `recorded` says.
+abbrev pub content : Tool → Content (Loaded ℕ) ℕ ℕ
+content t = recorded (t .events) (rule-judged (setup-of t)) (loaded-rule (setup-of t))
 
-  -- The tool's channels take calls as `recorded` says.
-  abbrev pub content : Tool → Content (Loaded ℕ) ℕ ℕ
-  content t = recorded (t .events) (compiler .rule-refusal (setup-of t)) (rule-table (setup-of t))
+-- The first refusal in document 01's order: 17, then 14, 15, 16, then 5 to 10.
+abbrev pub tool-refusal : Tool → Call ℕ → Option Refusal
+tool-refusal t call = or-else (plain-unless (tool-test t call) 17) (call-refusal (content t) (channels t) call)
 
-  -- The first refusal in document 01's order: 17, then 14, 15, 16, then 5 to 10.
-  abbrev pub tool-refusal : Tool → Call ℕ → Option Refusal
-  tool-refusal t call = or-else (plain-unless (tool-test t call) 17) (call-refusal (content t) (channels t) call)
+-- The tool that an accepted call returns. After a load the channel's rows beyond the new table are 0; clear leaves its rows as they
+-- are.
+abbrev pub effect-on : Tool → Call ℕ → Tool
+effect-on t (load c r) =
+    with-rows t c (states-of-rule (setup-of t) r)
+    (stored-rows (t .value) c (values-of-rule (setup-of t) r)) (stored-rows (t .next) c (nexts-of-rule (setup-of t) r))
+effect-on t (event c e) = with-current t (set (t .current) c (next-state (channels t c) e))
+effect-on t (restart c) = with-current t (set (t .current) c 0)
+effect-on t restart-all = with-current t (replicate 8 0)
+effect-on t (clear c) = with-rows t c 0 (t .value) (t .next)
 
-  -- The tool that an accepted call returns. Clear leaves the channel's rows as they are.
-  abbrev pub effect-on : Tool → Call ℕ → Tool
-  effect-on t (load c r) =
-      let s = setup-of t in
-      let count = compiler .states s r * t .events in
-      with-rows t c (compiler .states s r)
-      (stored-rows (t .value) c (take count (compiler .values s r))) (stored-rows (t .next) c (take count (compiler .nexts s r)))
-  effect-on t (event c e) = with-current t (set (t .current) c (next-state (channels t c) e))
-  effect-on t (restart c) = with-current t (set (t .current) c 0)
-  effect-on t restart-all = with-current t (replicate 8 0)
-  effect-on t (clear c) = with-rows t c 0 (t .value) (t .next)
+-- A refused call returns the tool as it came.
+abbrev pub settled-tool : Option Refusal → Reply ℕ → Tool → Tool → Reply ℕ × Tool
+settled-tool none reply after before = (reply, after)
+settled-tool (some r) reply after before = (refused r, before)
 
-  -- A refused call returns the tool as it came.
-  abbrev pub settled-tool : Option Refusal → Reply ℕ → Tool → Tool → Reply ℕ × Tool
-  settled-tool none reply after before = (reply, after)
-  settled-tool (some r) reply after before = (refused r, before)
+-- One call on a tool: its reply, and the tool that it returns.
+unfoldable pub called : Call ℕ → Tool → Reply ℕ × Tool
+called call t = settled-tool (tool-refusal t call) (accepted-reply (content t) (channels t) call) (effect-on t call) t
 
-  -- One call on a tool: its reply, and the tool that it returns.
-  unfoldable pub called : Call ℕ → Tool → Reply ℕ × Tool
-  called call t = settled-tool (tool-refusal t call) (accepted-reply (content t) (channels t) call) (effect-on t call) t
+abbrev pub load-called : Tool → ℕ → List ℕ → Reply ℕ × Tool
+load-called t c r = called (load c r) t
 
-  abbrev pub load-called : Tool → ℕ → List ℕ → Reply ℕ × Tool
-  load-called t c r = called (load c r) t
+abbrev pub event-called : Tool → ℕ → ℕ → Reply ℕ × Tool
+event-called t c e = called (event c e) t
 
-  abbrev pub event-called : Tool → ℕ → ℕ → Reply ℕ × Tool
-  event-called t c e = called (event c e) t
+abbrev pub restart-called : Tool → ℕ → Reply ℕ × Tool
+restart-called t c = called (restart c) t
 
-  abbrev pub restart-called : Tool → ℕ → Reply ℕ × Tool
-  restart-called t c = called (restart c) t
+abbrev pub restart-all-called : Tool → Reply ℕ × Tool
+restart-all-called t = called restart-all t
 
-  abbrev pub restart-all-called : Tool → Reply ℕ × Tool
-  restart-all-called t = called restart-all t
-
-  abbrev pub clear-called : Tool → ℕ → Reply ℕ × Tool
-  clear-called t c = called (clear c) t
+abbrev pub clear-called : Tool → ℕ → Reply ℕ × Tool
+clear-called t c = called (clear c) t
 
 -- A tool with all channels empty, every cell of theirs 0.
 unfoldable pub empty-tool : ℕ → ℕ → ℕ → List ℕ → Tool

@@ -1,9 +1,14 @@
 // Document 01, "Tool": one set-up and eight channels, and the calls on them. Refusals 14 to 17.
 // Each call first decides, then writes and returns the tool once; a refused call returns the tool as it came.
+use refusal::Counted;
 use refusal::Judgement;
 use refusal::Refusal;
+use synthesis::Compiled;
+use synthesis::compile_rule;
+use values::ValueKind;
 ghost use mathlib.Core.Path.{_≡_};
 ghost use mathlib.Core.Bool.{true, _&&_};
+ghost use mathlib.Core.List.{map};
 ghost use Prim.Native.Nat.{ℕ, _+_, _*_, _≤_, _<_};
 ghost use lib.Dec.{ltb};
 ghost use lib.ListN.{length, getD, take};
@@ -13,9 +18,10 @@ ghost use Rattle.theory.specs.ValueSetClaims.{every};
 ghost use Rattle.values.specs.Setup.{setup};
 ghost use Rattle.recorder.specs.Channels.{table-at, rows-start, held};
 ghost use Rattle.recorder.specs.ToolFault.{setup-test, channel-test};
-ghost use Rattle.recorder.specs.Tool.{Compiler, padded, empty-tool, reply-of, answer, event-called, restart-called, restart-all-called, clear-called, set-up-called};
+ghost use Rattle.recorder.specs.CompiledRule.{low-byte, compiled-rule};
+ghost use Rattle.recorder.specs.Tool.{padded, with-rows, stored-rows, empty-tool, reply-of, answer, load-called, event-called, restart-called, restart-all-called, clear-called, set-up-called};
 ghost use Rattle.recorder.specs.Replay.{replayed, replay-answer};
-ghost use Rattle.recorder.specs.Decisions.{event-decision, restart-decision, channel-decision, replay-decision, value-reply, plain-reply, state-after, count-after, sound-reply, states-after, judged-reply, outputs, Runnable};
+ghost use Rattle.recorder.specs.Decisions.{event-decision, restart-decision, channel-decision, replay-decision, value-reply, plain-reply, state-after, count-after, sound-reply, states-after, judged-reply, counted-reply, outputs, Runnable};
 
 // The most states of a table.
 pub const STATE_LIMIT: usize = 64;
@@ -57,6 +63,12 @@ fn wide(x: u8) -> usize
     ensures { λ r. ⌜ r ≡ x ⌝ }
 {
     x as usize
+}
+
+fn wide32(x: u8) -> u32
+    ensures { λ r. ⌜ r ≡ x ⌝ }
+{
+    x as u32
 }
 
 fn wide16(x: u16) -> usize
@@ -208,7 +220,7 @@ fn decide_restart(sound: bool, channel: usize, states: u16) -> Decision
         if 7 < channel {
             return Decision::Refuse(refusal::CHANNEL_NUMBER);
         }
-        if states == 0 {
+        if states < 1 {
             return Decision::Refuse(refusal::CHANNEL_EMPTY);
         }
         return Decision::Go(0, 0);
@@ -266,7 +278,7 @@ fn count_after(decision: Decision, old: u16) -> u16
 
 // An event: returns the value and moves to the next state.
 pub fn event(mut tool: Tool, channel: usize, event: usize) -> Answer
-    ensures { λ r. ⌜ ((compiler : Compiler) → answer r ≡ event-called compiler tool channel event) ⌝ }
+    ensures { λ r. ⌜ answer r ≡ event-called tool channel event ⌝ }
 {
     let events = tool.events;
     let values = tool.values;
@@ -296,7 +308,8 @@ pub fn event(mut tool: Tool, channel: usize, event: usize) -> Answer
         current,
         event,
     );
-    tool.current[c] = state_after(decision, current);
+    let moved = state_after(decision, current);
+    tool.current[c] = moved;
     Answer {
         reply: value_reply(decision),
         tool: tool,
@@ -305,7 +318,7 @@ pub fn event(mut tool: Tool, channel: usize, event: usize) -> Answer
 
 // Restart one: the channel is at state 0 again.
 pub fn restart(mut tool: Tool, channel: usize) -> Answer
-    ensures { λ r. ⌜ ((compiler : Compiler) → answer r ≡ restart-called compiler tool channel) ⌝ }
+    ensures { λ r. ⌜ answer r ≡ restart-called tool channel ⌝ }
 {
     let events = tool.events;
     let values = tool.values;
@@ -325,7 +338,8 @@ pub fn restart(mut tool: Tool, channel: usize) -> Answer
         current,
     );
     let decision = decide_restart(sound, channel, states);
-    tool.current[c] = state_after(decision, current);
+    let restarted = state_after(decision, current);
+    tool.current[c] = restarted;
     Answer {
         reply: plain_reply(decision),
         tool: tool,
@@ -334,7 +348,7 @@ pub fn restart(mut tool: Tool, channel: usize) -> Answer
 
 // Clear: the channel is empty.
 pub fn clear(mut tool: Tool, channel: usize) -> Answer
-    ensures { λ r. ⌜ ((compiler : Compiler) → answer r ≡ clear-called compiler tool channel) ⌝ }
+    ensures { λ r. ⌜ answer r ≡ clear-called tool channel ⌝ }
 {
     let events = tool.events;
     let values = tool.values;
@@ -432,7 +446,7 @@ fn sound_reply(sound: bool) -> Reply
 
 // Restart all: every loaded channel is at state 0 again; empty ones remain empty.
 pub fn restart_all(mut tool: Tool) -> Answer
-    ensures { λ r. ⌜ ((compiler : Compiler) → answer r ≡ restart-all-called compiler tool) ⌝ }
+    ensures { λ r. ⌜ answer r ≡ restart-all-called tool ⌝ }
 {
     let events = tool.events;
     let values = tool.values;
@@ -578,7 +592,7 @@ fn decide_replay(sound: bool, channel: usize, states: u16, allowed: bool, fits: 
 // Replay: a sequence of events on one channel, its values into a lent buffer; 17 is tested once. The event call repeated, or a
 // refusal that changes nothing.
 pub fn replay<'a>(mut tool: Tool, channel: usize, word: &'a [u8], values: &mut [u8]) -> Answer
-    ensures { λ r. ⌜ ((compiler : Compiler) → replay-answer r (now (values .exit)) ≡ replayed compiler tool channel (now (word .entry)) (now (values .entry))) ⌝ }
+    ensures { λ r. ⌜ replay-answer r (now (values .exit)) ≡ replayed tool channel (now (word .entry)) (now (values .entry)) ⌝ }
 {
     let events = tool.events;
     let count = tool.values;
@@ -621,5 +635,111 @@ pub fn replay<'a>(mut tool: Tool, channel: usize, word: &'a [u8], values: &mut [
     Answer {
         reply: Reply::Accepted,
         tool: tool,
+    }
+}
+
+// Compiled values in the tool's bytes.
+fn low_bytes(values: &[u32; 1024]) -> [u8; 1024]
+    requires { ⌜ length (now values) ≡ 1024 ⌝ }
+    ensures { λ r. ⌜ r ≡ map low-byte (now (values .entry)) ⌝ }
+{
+    let mut bytes = [0u8; 1024];
+    let mut i: usize = 0;
+    while i < ROWS_SIZE {
+        bytes[i] = (values[i] % 256) as u8;
+        i += 1;
+    }
+    bytes
+}
+
+// Copies a table's entries into the rows from a place on.
+fn store_rows(rows: &mut [u8; 8192], at: usize, entries: &[u8; 1024])
+    requires { ⌜ (at ≤ 7168) × (length (now rows) ≡ 8192) × (length (now entries) ≡ 1024) ⌝ }
+    ensures { λ _. ⌜ now (rows .exit) ≡ paste (now (rows .entry)) at (now (entries .entry)) 1024 ⌝ }
+{
+    let mut i: usize = 0;
+    while i < ROWS_SIZE {
+        rows[at + i] = entries[i];
+        i += 1;
+    }
+}
+
+// The tool with a table in a channel's rows, at state 0.
+fn stored(tool: Tool, channel: usize, states: u16, values: [u8; 1024], nexts: [u8; 1024]) -> Tool
+    requires { ⌜ channel < 8 ⌝ }
+    ensures { λ r. ⌜ r ≡ with-rows tool channel states (stored-rows (tool .value) channel values) (stored-rows (tool .next) channel nexts) ⌝ }
+{
+    let at = rows_start(channel);
+    let mut t = tool;
+    store_rows(&mut t.value, at, &values);
+    store_rows(&mut t.next, at, &nexts);
+    t.states[channel] = states;
+    t.current[channel] = 0;
+    t
+}
+
+// The compiler's answer for a rule and the tool's set-up.
+fn compile_for(meet: &[u8], events: u8, values: u8, top: u8, rule: &[u8]) -> Compiled
+    requires { ⌜ (length (now meet) ≡ 256) × (values ≤ 16) ⌝ }
+    ensures { λ r. ⌜ r ≡ compiled-rule (setup events values top (take (values * values) (now (meet .entry)))) (now (rule .entry)) ⌝ }
+{
+    let v = wide(values);
+    let count = v * v;
+    let kind = ValueKind::Numbered(wide32(values));
+    compile_rule(kind, wide(events), wide32(top), &meet[..count], rule)
+}
+
+fn counted_reply(verdict: Counted) -> Reply
+    ensures { λ r. ⌜ reply-of r ≡ counted-reply verdict ⌝ }
+{
+    match verdict {
+        Counted::Count(_) => Reply::Accepted,
+        Counted::Refused(x) => Reply::Refused(x),
+    }
+}
+
+// Load a rule: its table replaces what the channel had, at state 0. A refused loading hands the old tool back.
+pub fn load(tool: Tool, channel: usize, rule: &[u8]) -> Answer
+    ensures { λ r. ⌜ answer r ≡ load-called tool channel (now (rule .entry)) ⌝ }
+{
+    let events = tool.events;
+    let values = tool.values;
+    let top = tool.top;
+    let c = channel % 8;
+    let states = tool.states[c];
+    let current = tool.current[c];
+    let sound = tool_in_order(
+        &tool.meet,
+        &tool.value,
+        &tool.next,
+        events,
+        values,
+        top,
+        channel,
+        states,
+        current,
+    );
+    let decision = decide_channel(sound, channel);
+    let Decision::Go(_, _) = decision else {
+        return Answer {
+            reply: plain_reply(decision),
+            tool: tool,
+        };
+    };
+    let compiled = compile_for(&tool.meet, events, values, top, rule);
+    let verdict = compiled.verdict;
+    let Counted::Count(n) = verdict else {
+        return Answer {
+            reply: counted_reply(verdict),
+            tool: tool,
+        };
+    };
+    let entries = compiled.values;
+    let bytes = low_bytes(&entries);
+    let nexts = compiled.nexts;
+    let loaded = stored(tool, c, (n % 65536) as u16, bytes, nexts);
+    Answer {
+        reply: Reply::Accepted,
+        tool: loaded,
     }
 }

@@ -38,9 +38,8 @@ plain-reply-requires c κs = search needs
 
 returns : tie.Need-returns
 returns c =
-    λ K.
     let a = c .before .before .before .before .before .before .before .before .before .before .before .before .args in
-    clear-done K (a .t1) (a .channel) _ (c .before .before .count-after .result) (c .before .state-after .result) (c .before .before .before .decide-channel .result) (c .before .before .before .before .tool-in-order .result)
+    clear-done (a .t1) (a .channel) _ (c .before .before .count-after .result) (c .before .state-after .result) (c .before .before .before .decide-channel .result) (c .before .before .before .before .tool-in-order .result)
     (c .plain-reply .ensures) (c .before .before .count-after .ensures) (c .before .state-after .ensures) (c .before .before .before .decide-channel .ensures) (c .before .before .before .before .tool-in-order .ensures)
 
 pub clear-spec : {M : Type 1} → statement M

@@ -31,9 +31,8 @@ value-reply-requires c κs = search needs
 
 returns : tie.Need-returns
 returns c =
-    λ K.
     let a = c .before .before .before .before .before .before .before .before .before .before .before .before .before .before .args in
-    event-done K (a .t1) (a .channel) (a .event) _ (c .before .state-after .result) (c .before .before .decide-event .result) (c .before .before .before .before .before .before .tool-in-order .result)
+    event-done (a .t1) (a .channel) (a .event) _ (c .before .state-after .result) (c .before .before .decide-event .result) (c .before .before .before .before .before .before .tool-in-order .result)
     (c .value-reply .ensures) (c .before .state-after .ensures) (c .before .before .decide-event .ensures) (c .before .before .before .before .before .before .tool-in-order .ensures)
 
 pub event-spec : {M : Type 1} → statement M

@@ -1,11 +1,7 @@
-use lib.ListN.{getD, set}
-use mathlib.Core.Path.{subst}
-use Prim.Native.Nat.{suc, _+_}
-use Rattle.recorder.proofs.Rows.{pasted-zeros}
-use lib.Seq.{paste, paste-zero, paste-suc}
+use Rattle.recorder.proofs.Rows.{paste-next, pasted-zeros}
+use lib.Seq.{paste, paste-zero}
 use lib.ListN.{length, replicate}
 use native.Mathlib.Omega.{arith}
-use native.Mathlib.Numerals.{add-one}
 use Prim.Native.Nat.{_≤_, _-_}
 use mathlib.Core.Logic.{inl, inr}
 use mathlib.Core.Path.{_≡_}
@@ -51,14 +47,10 @@ loop-less c = search needs
 -- src/lib.rt:367:5
 loop-again : tie.Need-loop-again Inv-loop μ-loop
 loop-again c =
-    let i = c .before .before .before .loop .i in
-    let l = c .before .before .before .before .args .meet .now in
-    let z : 0 + i ≡ i = omega arith in (
+    let i = c .before .before .before .loop .i in (
       search needs,
       search needs,
-      rw (c .before .before .before .loop .inv .2, add-one i)
-          (subst (λ x. set (paste (replicate 256 0) 0 l i) x (getD l i 0) ≡ paste (replicate 256 0) 0 l (suc i)) z
-          (paste-suc (replicate 256 0) 0 l i 0 (search needs) (search needs))),
+      rw (c .before .before .before .loop .inv .2) (paste-next (replicate 256 0) (c .before .before .before .before .args .meet .now) i (search needs) (search needs)),
     )
 
 -- src/lib.rt:362:1

@@ -34,9 +34,8 @@ plain-reply-requires c κs = search needs
 
 returns : tie.Need-returns
 returns c =
-    λ K.
     let a = c .before .before .before .before .before .before .before .before .before .before .before .before .before .before .before .args in
-    replay-refused (a .t1) (a .channel) (a .word .now) (a .values .now) (c .before .before .before .decide-replay .result) (c .before .before .before .before .before .tool-in-order .result) (c .before .before .before .before .word-in-order .result) _ (c .before .before .before .decide-replay .ensures) (c .before .before .before .before .before .tool-in-order .ensures) (c .before .before .before .before .word-in-order .ensures) refl K _ (c .before .enum-told2 .given .0 .0) (c .plain-reply .ensures) (c .before .enum-told2 .given .1)
+    replay-refused (a .t1) (a .channel) (a .word .now) (a .values .now) (c .before .before .before .decide-replay .result) (c .before .before .before .before .before .tool-in-order .result) (c .before .before .before .before .word-in-order .result) _ (c .before .before .before .decide-replay .ensures) (c .before .before .before .before .before .tool-in-order .ensures) (c .before .before .before .before .word-in-order .ensures) refl _ (c .before .enum-told2 .given .0 .0) (c .plain-reply .ensures) (c .before .enum-told2 .given .1)
 
 rows-start-requires : tie.Need-rows-start-requires
 rows-start-requires c κs = search needs
@@ -55,9 +54,8 @@ same-length c = search needs
 
 returns-2 : tie.Need-returns-2
 returns-2 c =
-    λ K.
     let a = c .before .before .before .before .before .before .before .before .before .before .before .before .before .before .before .before .before .before .before .before .before .before .args in
-    replay-done (a .t1) (a .channel) (a .word .now) (a .values .now) (c .before .before .before .before .before .before .before .before .before .before .decide-replay .result) (c .before .before .before .before .before .before .before .before .before .before .before .before .tool-in-order .result) (c .before .before .before .before .before .before .before .before .before .before .before .word-in-order .result) _ (c .before .before .before .before .before .before .before .before .before .before .decide-replay .ensures) (c .before .before .before .before .before .before .before .before .before .before .before .before .tool-in-order .ensures) (c .before .before .before .before .before .before .before .before .before .before .before .word-in-order .ensures) refl (c .before .before .before .before .before .before .before .before .enum-told .given .0 .0) (c .before .before .before .before .before .before .before .before .enum-told .given .0 .1 .0) (c .before .before .before .before .before .before .before .before .enum-told .given .1) K (c .before .before .run .result) _ (rw length-map at (c .before .before .before .before .before .before .before .before .before .before .before .before .before .before .before .before .before .before .before .before .before .before .good .0 .1 .1 .1 .1 .1 .1 .1 .0 .1 .0 .1))
+    replay-done (a .t1) (a .channel) (a .word .now) (a .values .now) (c .before .before .before .before .before .before .before .before .before .before .decide-replay .result) (c .before .before .before .before .before .before .before .before .before .before .before .before .tool-in-order .result) (c .before .before .before .before .before .before .before .before .before .before .before .word-in-order .result) _ (c .before .before .before .before .before .before .before .before .before .before .decide-replay .ensures) (c .before .before .before .before .before .before .before .before .before .before .before .before .tool-in-order .ensures) (c .before .before .before .before .before .before .before .before .before .before .before .word-in-order .ensures) refl (c .before .before .before .before .before .before .before .before .enum-told .given .0 .0) (c .before .before .before .before .before .before .before .before .enum-told .given .0 .1 .0) (c .before .before .before .before .before .before .before .before .enum-told .given .1) (c .before .before .run .result) _ (rw length-map at (c .before .before .before .before .before .before .before .before .before .before .before .before .before .before .before .before .before .before .before .before .before .before .good .0 .1 .1 .1 .1 .1 .1 .1 .0 .1 .0 .1))
     (rw (c .before .before .before .before .before .before .before .rows-start .ensures .0) at (c .before .before .run .ensures .0)) (rw (c .before .before .before .before .before .before .before .rows-start .ensures .0) at (c .before .before .run .ensures .1))
 
 pub replay-spec : {M : Type 1} → statement M

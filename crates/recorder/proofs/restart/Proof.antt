@@ -29,9 +29,8 @@ plain-reply-requires c κs = search needs
 
 returns : tie.Need-returns
 returns c =
-    λ K.
     let a = c .before .before .before .before .before .before .before .before .before .before .before .args in
-    restart-done K (a .t1) (a .channel) _ (c .before .state-after .result) (c .before .before .decide-restart .result) (c .before .before .before .tool-in-order .result)
+    restart-done (a .t1) (a .channel) _ (c .before .state-after .result) (c .before .before .decide-restart .result) (c .before .before .before .tool-in-order .result)
     (c .plain-reply .ensures) (c .before .state-after .ensures) (c .before .before .decide-restart .ensures) (c .before .before .before .tool-in-order .ensures)
 
 pub restart-spec : {M : Type 1} → statement M

@@ -14,8 +14,7 @@ sound-reply-requires c κs = search needs
 
 returns : tie.Need-returns
 returns c =
-    λ K.
-    restart-all-done K (c .before .before .before .before .before .before .before .before .before .before .before .args .t1) _ (c .before .states-after .result) (c .before .before .all-in-order .result)
+    restart-all-done (c .before .before .before .before .before .before .before .before .before .before .before .args .t1) _ (c .before .states-after .result) (c .before .before .all-in-order .result)
     (c .sound-reply .ensures) (c .before .states-after .ensures) (c .before .before .all-in-order .ensures)
 
 pub restart-all-spec : {M : Type 1} → statement M

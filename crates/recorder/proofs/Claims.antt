@@ -1,0 +1,145 @@
+-- The claims of `specs/Claims.antt` and of refusal 17.
+-- Assumes nothing.
+use mathlib.Core.Path.{_≡_, refl, sym, _∙_, ap, subst, subst⁻¹, fun-ext}
+use mathlib.Core.Logic.{_↔_, ⊎-elim}
+use mathlib.Core.Bool.{Bool, true, false, _&&_, false≢true}
+use mathlib.Core.List.{List, [], _∷_}
+use mathlib.Core.Option.{Option, none, some}
+use Prim.Native.Nat.{ℕ, _+_, _*_, _≤_, _<_}
+use native.Mathlib.Omega.{arith}
+use borrow.Author.Tests.{ltb-true, ltb-false}
+use lib.Dec.{ltb}
+use lib.ListN.{length, take, length-replicate}
+use Rattle.theory.specs.ValueSets.{Below}
+use Rattle.theory.specs.ValueSetClaims.{every}
+use Rattle.theory.proofs.ValueSets.{and-left, and-right, and-failed, and-cases, every-at, every-some}
+use Rattle.refusal.specs.declared.Refusal.{Refusal}
+use Rattle.refusal.specs.declared.Refusal.the-variants.{Plain}
+use Rattle.refusal.specs.Refusal.{or-else, plain-unless}
+use Rattle.values.specs.Setup.{Setup, setup, setup-refusal, events-test}
+use Rattle.values.proofs.Setups.{square-small}
+use Rattle.values.specs.ValueKind.{meetOf}
+use Rattle.values.specs.declared.ValueKind.the-variants.{Numbered}
+use Rattle.formulas.specs.RuleRefusal.{formula-of}
+use Rattle.synthesis.proofs.LentTable.{well-formed, laws}
+use Rattle.channel_log.specs.Calls.{Call, load, event, restart, restart-all, clear, refused, all-empty, call-refusal, accepted-reply}
+use Rattle.channel_log.specs.Recorded.{Loaded}
+use Rattle.channel_log.proofs.Record.{Not, record-claim, independence-claim}
+use Rattle.recorder.specs.declared.Tool.{Tool}
+use Rattle.recorder.specs.Channels.{setup-of, channels}
+use Rattle.recorder.specs.ToolFault.{LooksAt, ToolFault, setup-fails, channel-fails, setup-test, loaded-test, channel-test, named-test, tool-test, ToolTestClaim}
+use Rattle.recorder.specs.CompiledRule.{rule-judged, loaded-rule}
+use Rattle.recorder.specs.Tool.{content, effect-on, settled-tool, called, padded, empty-tool, new-tool, blank-tool}
+use Rattle.recorder.specs.Claims.{setup-meet, setup-log, ToolRecordClaim, ToolIndependenceClaim, BlankClaim}
+use Rattle.recorder.proofs.Rows.{getD-zeros, take-padded}
+use Rattle.recorder.proofs.Held.{held-above, held-empty, well-formed-of-test, test-of-well-formed, in-order-of-test, test-of-in-order}
+use Rattle.recorder.proofs.CompiledRules.{rule-well-formed, rule-table-is, NumberBelow, refusal-below, judged-below-17}
+use Rattle.recorder.proofs.Keeps.{Sound, keeps}
+
+module _ (s : Setup) (ok : setup-refusal s ≡ none) where
+  tool-setup : setup-of (new-tool s) ≡ s
+  unfolding new-tool empty-tool setup
+  tool-setup =
+      let w = well-formed s ok in
+      ap (λ m. setup (s .events) (s .values) (s .top) m)
+      (ap (λ k. take k (padded 256 (s .meet))) (sym (w .whole))
+      ∙ take-padded 256 (s .meet) (omega (arith, w .whole, square-small {values = s .values} (w .few-values))))
+
+  nothing-loaded : channels (new-tool s) ≡ all-empty
+  unfolding new-tool empty-tool
+  nothing-loaded = fun-ext λ d. held-empty d (s .events) _ _ _ _ (getD-zeros 8 d)
+
+  sound : Sound s (new-tool s)
+  unfolding new-tool empty-tool
+  sound =
+      record {
+        setup-is = tool-setup;
+        accepted = ok;
+        states-length = length-replicate {A = ℕ} 8 0;
+        current-length = length-replicate {A = ℕ} 8 0;
+        value-length = length-replicate {A = ℕ} 8192 0;
+        next-length = length-replicate {A = ℕ} 8192 0;
+        in-order = λ d. ap (λ N. channel-test (s .events) (s .values) (N d)) nothing-loaded;
+      }
+
+not-17 : (o : Option Refusal) → NumberBelow 17 o → Not 17 o
+not-17 none h = tt
+not-17 (some r) (refusal-below h) = λ e. omega (arith, h)
+
+-- Demand 3.
+pub tool-record : ToolRecordClaim
+tool-record s ok =
+    record-claim (Below (s .values)) (setup-meet s) (s .top) (laws s ok) (s .events) (rule-judged s) formula-of (loaded-rule s)
+    (λ r h. rule-well-formed s r ok h) (λ r h. rule-table-is s r ok h) (λ r. not-17 (rule-judged s r) (judged-below-17 s r))
+    called channels (Sound s) (keeps s) (new-tool s) (sound s ok) (nothing-loaded s ok)
+
+pub tool-independence : ToolIndependenceClaim
+tool-independence s ok =
+    independence-claim (Below (s .values)) (setup-meet s) (s .top) (laws s ok) (s .events) (rule-judged s) formula-of (loaded-rule s)
+    (λ r h. rule-well-formed s r ok h) (λ r h. rule-table-is s r ok h) (λ r. not-17 (rule-judged s r) (judged-below-17 s r))
+    called channels (Sound s) (keeps s) (new-tool s) (sound s ok) (nothing-loaded s ok)
+
+blank-setup : setup-test (setup-of blank-tool) ≡ false
+unfolding blank-tool empty-tool setup-test setup setup-refusal events-test or-else plain-unless
+blank-setup = refl
+
+pub blank-refused : BlankClaim
+unfolding called or-else plain-unless
+blank-refused x =
+    ap
+    (λ s.
+    settled-tool (or-else (plain-unless s 17) (call-refusal (content blank-tool) (channels blank-tool) x))
+    (accepted-reply (content blank-tool) (channels blank-tool) x) (effect-on blank-tool x) blank-tool)
+    (and-failed (named-test blank-tool x) blank-setup)
+
+-- The tests of 17 decide the printed condition.
+module _ (t : Tool) where
+  abbrev test : ℕ → Bool
+  test c = channel-test (t .events) (t .values) (channels t c)
+
+  all-pass : every 8 test ≡ true → (c : ℕ) → test c ≡ true
+  all-pass h c = go (ltb c 8) refl
+    where
+      go : (i : Bool) → ltb c 8 ≡ i → test c ≡ true
+      go true p = every-at 8 test h c (ltb-true c 8 p)
+      go false p =
+          ap (channel-test (t .events) (t .values)) (held-above c (t .events) _ _ (t .value) (t .next) (ltb-false c 8 p))
+
+  looked-passes : (call : Call ℕ) → named-test t call ≡ true → (c : ℕ) → LooksAt call c → test c ≡ true
+  looked-passes (load d r) h c e = subst⁻¹ (λ c. test c ≡ true) e h
+  looked-passes (event d i) h c e = subst⁻¹ (λ c. test c ≡ true) e h
+  looked-passes (restart d) h c e = subst⁻¹ (λ c. test c ≡ true) e h
+  looked-passes restart-all h c e = all-pass h c
+  looked-passes (clear d) h c e = subst⁻¹ (λ c. test c ≡ true) e h
+
+  looked-fails : (call : Call ℕ) → named-test t call ≡ false → (c : ℕ) × LooksAt call c × (test c ≡ false)
+  looked-fails (load d r) h = (d, refl, h)
+  looked-fails (event d i) h = (d, refl, h)
+  looked-fails (restart d) h = (d, refl, h)
+  looked-fails restart-all h = let f = every-some 8 test h in (f .0, tt, f .2)
+  looked-fails (clear d) h = (d, refl, h)
+
+  fault-of : (call : Call ℕ) → tool-test t call ≡ false → ToolFault t call
+  fault-of call h =
+      ⊎-elim (λ f. setup-fails (λ w. absurd (false≢true (sym f ∙ test-of-well-formed (setup-of t) w))))
+      (λ f. let x = looked-fails call f in go (x .0) (x .1) (channels t (x .0)) refl (x .2))
+      (and-cases (setup-test (setup-of t)) (named-test t call) h)
+    where
+      go : (c : ℕ) → LooksAt call c → (o : Option (Loaded ℕ)) → channels t c ≡ o → channel-test (t .events) (t .values) o ≡ false → ToolFault t call
+      go c l none e f = absurd (false≢true (sym f))
+      go c l (some x) e f = channel-fails c x l e (λ g. absurd (false≢true (sym f ∙ test-of-in-order (t .events) (t .values) x g)))
+
+  no-fault : (call : Call ℕ) → tool-test t call ≡ true → ToolFault t call → ⊥
+  no-fault call h (setup-fails f) = f (well-formed-of-test (setup-of t) (and-left (setup-test (setup-of t)) (named-test t call) h))
+  no-fault call h (channel-fails c x l e f) =
+      f
+      (in-order-of-test (t .events) (t .values) x
+      (subst (λ o. channel-test (t .events) (t .values) o ≡ true) e
+      (looked-passes call (and-right (setup-test (setup-of t)) (named-test t call) h) c l)))
+
+pub tool-tested : ToolTestClaim
+tool-tested t call = (no-fault t call, λ f. go (tool-test t call) refl f)
+  where
+    go : (b : Bool) → tool-test t call ≡ b → ¬ ToolFault t call → tool-test t call ≡ true
+    go true e f = e
+    go false e f = absurd (f (fault-of t call e))
