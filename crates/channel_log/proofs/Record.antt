@@ -32,7 +32,7 @@ abbrev IsNone : {A : Type 0} → Option A → Type 0
 IsNone none = Unit {0}
 IsNone (some a) = ⊥
 
-not-large : (events e : ℕ) → large-event events e ≡ none → e < events
+pub not-large : (events e : ℕ) → large-event events e ≡ none → e < events
 not-large events e h = go (ltb e events) refl h
   where
     go : (t : Bool) → ltb e events ≡ t → cond t none (some (Plain 16)) ≡ none → e < events

@@ -1,36 +1,32 @@
 -- The claims of `specs/Claims.antt` and of refusal 17.
 -- Assumes nothing.
 use mathlib.Core.Path.{_≡_, refl, sym, _∙_, ap, subst, subst⁻¹, fun-ext}
-use mathlib.Core.Logic.{_↔_, ⊎-elim}
-use mathlib.Core.Bool.{Bool, true, false, _&&_, false≢true}
-use mathlib.Core.List.{List, [], _∷_}
+use mathlib.Core.Logic.{⊎-elim}
+use mathlib.Core.Bool.{Bool, true, false, false≢true}
 use mathlib.Core.Option.{Option, none, some}
-use Prim.Native.Nat.{ℕ, _+_, _*_, _≤_, _<_}
+use Prim.Native.Nat.{ℕ}
 use native.Mathlib.Omega.{arith}
 use borrow.Author.Tests.{ltb-true, ltb-false}
 use lib.Dec.{ltb}
-use lib.ListN.{length, take, length-replicate}
+use lib.ListN.{take, length-replicate}
 use Rattle.theory.specs.ValueSets.{Below}
 use Rattle.theory.specs.ValueSetClaims.{every}
 use Rattle.theory.proofs.ValueSets.{and-left, and-right, and-failed, and-cases, every-at, every-some}
 use Rattle.refusal.specs.declared.Refusal.{Refusal}
-use Rattle.refusal.specs.declared.Refusal.the-variants.{Plain}
 use Rattle.refusal.specs.Refusal.{or-else, plain-unless}
 use Rattle.values.specs.Setup.{Setup, setup, setup-refusal, events-test}
 use Rattle.values.proofs.Setups.{square-small}
-use Rattle.values.specs.ValueKind.{meetOf}
-use Rattle.values.specs.declared.ValueKind.the-variants.{Numbered}
 use Rattle.formulas.specs.RuleRefusal.{formula-of}
 use Rattle.synthesis.proofs.LentTable.{well-formed, laws}
-use Rattle.channel_log.specs.Calls.{Call, load, event, restart, restart-all, clear, refused, all-empty, call-refusal, accepted-reply}
+use Rattle.channel_log.specs.Calls.{Call, load, event, restart, restart-all, clear, all-empty, call-refusal, accepted-reply}
 use Rattle.channel_log.specs.Recorded.{Loaded}
 use Rattle.channel_log.proofs.Record.{Not, record-claim, independence-claim}
 use Rattle.recorder.specs.declared.Tool.{Tool}
 use Rattle.recorder.specs.Channels.{setup-of, channels}
-use Rattle.recorder.specs.ToolFault.{LooksAt, ToolFault, setup-fails, channel-fails, setup-test, loaded-test, channel-test, named-test, tool-test, ToolTestClaim}
+use Rattle.recorder.specs.ToolFault.{LooksAt, ToolFault, setup-fails, channel-fails, setup-test, channel-test, named-test, tool-test, ToolTestClaim}
 use Rattle.recorder.specs.CompiledRule.{rule-judged, loaded-rule}
 use Rattle.recorder.specs.Tool.{content, effect-on, settled-tool, called, padded, empty-tool, new-tool, blank-tool}
-use Rattle.recorder.specs.Claims.{setup-meet, setup-log, ToolRecordClaim, ToolIndependenceClaim, BlankClaim}
+use Rattle.recorder.specs.Claims.{setup-meet, ToolRecordClaim, ToolIndependenceClaim, BlankClaim}
 use Rattle.recorder.proofs.Rows.{getD-zeros, take-padded}
 use Rattle.recorder.proofs.Held.{held-above, held-empty, well-formed-of-test, test-of-well-formed, in-order-of-test, test-of-in-order}
 use Rattle.recorder.proofs.CompiledRules.{rule-well-formed, rule-table-is, NumberBelow, refusal-below, judged-below-17}

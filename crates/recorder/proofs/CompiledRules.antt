@@ -2,22 +2,17 @@
 -- Assumes nothing.
 use mathlib.Core.Path.{_≡_, refl, sym, _∙_, ap, ap₂, subst, subst⁻¹}
 use mathlib.Core.Bool.{Bool, true, false}
-use mathlib.Core.List.{List, [], _∷_, map}
+use mathlib.Core.List.{List, map}
 use mathlib.Core.Option.{Option, none, some}
-use Prim.Native.Nat.{ℕ, zero, suc, _+_, _*_, _/_, _%_, _≤_, _<_}
+use Prim.Native.Nat.{ℕ, _+_, _*_, _/_, _%_, _≤_, _<_}
 use native.Mathlib.Nat.{mod-eq-of-lt}
 use native.Mathlib.Omega.{arith}
-use borrow.Author.Tests.{leb-true}
-use lib.Dec.{leb}
 use lib.ListN.{length, getD, length-map, List·getD-map}
-use Rattle.theory.specs.Semilattice.{MeetSemilattice}
 use Rattle.theory.specs.ValueSets.{Below}
 use Rattle.theory.specs.Formula.{Formula, WellFormed}
 use Rattle.theory.specs.MealyMachine.{Machine, Runs, States}
-use Rattle.theory.specs.ReachableStates.{IsTable, IsTableOf, state-at}
+use Rattle.theory.specs.ReachableStates.{IsTableOf, state-at}
 use Rattle.refusal.specs.declared.Refusal.{Refusal}
-use Rattle.refusal.specs.declared.Refusal.the-variants.{Plain, At}
-use Rattle.refusal.specs.declared.Counted.{Counted}
 use Rattle.refusal.specs.declared.Counted.the-variants.{Count, Refused}
 use Rattle.refusal.specs.Refusal.{number, or-else, plain-unless, at-found, counted}
 use Rattle.refusal.proofs.Refusals.{or-else-none, plain-none}
@@ -28,11 +23,11 @@ use Rattle.values.specs.declared.ValueKind.the-variants.{Numbered}
 use Rattle.formulas.specs.RuleRefusal.{variables-refusal, structure-refusal, nodes-refusal, rule-refusal, formula-of}
 use Rattle.formulas.proofs.Padding.{padded-length}
 use Rattle.machines.proofs.EntryIndex.{index-below, index-state, index-event}
-use Rattle.synthesis.specs.Compilation.{state-limit, entry-count, flat, rule-states, rule-table, rule-table-refusal, compile-rule-refusal, compiled, compiled-within}
+use Rattle.synthesis.specs.Compilation.{state-limit, entry-count, flat, rule-states, rule-table-refusal, compile-rule-refusal, compiled, compiled-within}
 use Rattle.synthesis.proofs.Compilation.{flat-at}
 use Rattle.synthesis.proofs.CompiledTable.{is-table, table-runs}
 use Rattle.synthesis.proofs.LentTable.{well-formed, laws, few, formula-well-formed, formula-small}
-use Rattle.recorder.specs.Channels.{part, table-at, loaded-at, rows-size}
+use Rattle.recorder.specs.Channels.{part, rows-size}
 use Rattle.recorder.specs.ToolFault.{InOrder}
 use Rattle.recorder.specs.CompiledRule.{low-byte, rule-judged, states-of-rule, table-of-rule, values-of-rule, nexts-of-rule, loaded-rule, compiled-rule}
 use Rattle.recorder.proofs.Rows.{getD-part, entries-fit}

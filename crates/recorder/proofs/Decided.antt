@@ -2,32 +2,32 @@
 -- Assumes nothing.
 use mathlib.Core.Path.{_≡_, refl, sym, _∙_, ap, ap₂, subst, subst⁻¹}
 use mathlib.Core.Bool.{Bool, true, false, _&&_, cond}
-use mathlib.Core.List.{List, [], _∷_}
+use mathlib.Core.List.{List}
 use mathlib.Core.Option.{Option, none, some}
-use Prim.Native.Nat.{ℕ, zero, suc, _+_, _*_, _%_, _≤_, _<_}
+use Prim.Native.Nat.{ℕ, _+_, _*_, _%_, _≤_, _<_}
 use native.Mathlib.Nat.{mod-eq-of-lt}
 use native.Mathlib.Omega.{arith}
 use borrow.Author.Tests.{lt-ltb, ltb-true, ltb-false}
 use lib.Dec.{ltb}
-use lib.ListN.{length, getD, set, replicate, take}
+use lib.ListN.{getD, set, replicate}
 use lib.Seq.{set-getD}
-use Rattle.theory.proofs.ValueSets.{and-left, and-right}
 use Rattle.refusal.specs.declared.Refusal.{Refusal}
 use Rattle.refusal.specs.declared.Refusal.the-variants.{Plain}
 use Rattle.refusal.specs.Refusal.{or-else, plain-unless, judgement}
 use Rattle.refusal.specs.declared.Judgement.{Judgement}
 use Rattle.refusal.specs.declared.Judgement.the-variants.{Accepted, Refused}
 use Rattle.values.specs.Setup.{Setup, setup, WellFormed, setup-refusal}
-use Rattle.channel_log.specs.Calls.{Call, load, event, restart, restart-all, clear, Reply, accepted, returned, refused, empty-refusal, on-event, event-reply, call-refusal, accepted-reply}
+use Rattle.channel_log.specs.Calls.{event, restart, restart-all, clear, Reply, accepted, returned, refused, empty-refusal, on-event, event-reply, call-refusal, accepted-reply}
 use Rattle.channel_log.specs.Recorded.{Loaded}
 use Rattle.recorder.specs.declared.Tool.{Tool}
 use Rattle.recorder.specs.declared.Decision.{Decision}
 use Rattle.recorder.specs.declared.Decision.the-variants.{Refuse, Go}
+use Rattle.machines.proofs.EntryIndex.{index-below}
 use Rattle.recorder.specs.Channels.{setup-of, rows-size, rows-start, held, channels, loaded-at}
 use Rattle.recorder.specs.ToolFault.{InOrder, setup-test, channel-test, tool-test}
 use Rattle.recorder.specs.Tool.{with-current, with-rows, next-state, content, effect-on, settled-tool, called, padded, empty-tool, new-tool, blank-tool, set-up-answer, set-up-called}
 use Rattle.recorder.specs.Decisions.{decide, event-decision-in, event-decision, restart-decision, channel-decision, value-reply, plain-reply, state-after, count-after, sound-reply, states-after, judged-reply}
-use Rattle.recorder.proofs.Rows.{getD-part, rows-in, entries-fit, entry-below}
+use Rattle.recorder.proofs.Rows.{getD-part, rows-in, entries-fit}
 use Rattle.recorder.proofs.Held.{held-above, held-some, empty-held, in-order-of-test, well-formed-of-test, accepted-test}
 
 -- The channel as the code reads it, with its state at c % 8; and 17's test of it.
@@ -59,8 +59,8 @@ goes n c k q e L N h g l m =
     (simp (
       lt-ltb c 8 h,
       lt-ltb e n m,
-      getD-part L (rows-start c) (k * n) (q * n + e) (entry-below k n q e l m),
-      getD-part N (rows-start c) (k * n) (q * n + e) (entry-below k n q e l m),
+      getD-part L (rows-start c) (k * n) (q * n + e) (index-below n k q e l m),
+      getD-part N (rows-start c) (k * n) (q * n + e) (index-below n k q e l m),
     ))
 
 -- Where it lies.
@@ -77,8 +77,12 @@ bounds n v c k q e L N p h g l =
     record {
       state = f .current-in;
       row = entries-fit q n (omega (arith, f .current-in, f .few-states)) (p .0);
-      place = omega (arith, rows-in c h, entries-fit k n (f .few-states) (p .0), entry-below k n q e (f .current-in) l);
+      place = omega (arith, rows-in c h, entries-fit k n (f .few-states) (p .0), index-below n k q e (f .current-in) l);
     }
+
+abbrev pub IsGo : Decision → Type 0
+IsGo (Refuse n) = ⊥
+IsGo (Go v q) = Unit {0}
 
 -- Nothing written.
 same-tool : (t : Tool) (w : ℕ) → with-current t (set (t .current) w (getD (t .current) w 0)) ≡ t

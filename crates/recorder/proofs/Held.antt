@@ -1,19 +1,16 @@
 -- What channels hold; the tests of refusal 17 decide the printed condition.
 -- Assumes nothing.
 use mathlib.Core.Path.{_≡_, refl, sym, _∙_, ap, ap₂, subst, subst⁻¹}
-use mathlib.Core.Bool.{Bool, true, false, _&&_, and-true, and-false, cond}
-use mathlib.Core.List.{List, [], _∷_}
+use mathlib.Core.Bool.{Bool, true, false, _&&_, and-false, cond}
+use mathlib.Core.List.{List}
 use mathlib.Core.Option.{Option, none, some}
-use Prim.Native.Nat.{ℕ, zero, suc, _+_, _*_, _/_, _%_, _≤_, _<_}
-use native.Mathlib.Nat.{div-add-mod', mod-lt, div-lt-iff-lt-mul}
+use Prim.Native.Nat.{ℕ, _+_, _*_, _≤_, _<_}
 use native.Mathlib.Omega.{arith}
 use borrow.Author.Tests.{lt-ltb, le-ltb, le-leb, lt-leb, ltb-true, leb-true}
 use lib.Dec.{ltb, leb}
-use lib.ListN.{length, getD}
-use Rattle.theory.specs.MealyMachine.{Machine, Runs, States}
-use Rattle.theory.specs.ValueSets.{Below}
+use lib.ListN.{getD}
 use Rattle.theory.specs.ValueSetClaims.{every}
-use Rattle.theory.proofs.ValueSets.{and-left, and-right, and-both, every-at, every-of, every-some}
+use Rattle.theory.proofs.ValueSets.{and-left, and-right, and-both, every-at, every-of}
 use Rattle.refusal.specs.declared.Refusal.the-variants.{Plain}
 use Rattle.refusal.specs.declared.Refusal.{Refusal}
 use Rattle.refusal.specs.declared.Judgement.{Judgement}
@@ -23,9 +20,10 @@ use Rattle.values.specs.Setup.{Setup, setup, WellFormed, events-test, values-te
 use Rattle.values.proofs.Setups.{setup-accepted}
 use Rattle.channel_log.specs.Calls.{channel-refusal, empty-refusal}
 use Rattle.channel_log.specs.Recorded.{Loaded}
+use Rattle.machines.proofs.EntryIndex.{index-below, every-entry}
 use Rattle.recorder.specs.Channels.{part, table-at, loaded-at, rows-start, held}
 use Rattle.recorder.specs.ToolFault.{InOrder, passed, setup-test, entries-test, loaded-test, channel-test}
-use Rattle.recorder.proofs.Rows.{getD-part, entry-below}
+use Rattle.recorder.proofs.Rows.{getD-part}
 
 abbrev pub IsNone : {A : Type 0} → Option A → Type 0
 IsNone none = Unit {0}
@@ -150,27 +148,15 @@ module _ (at n v k : ℕ) (L N : List ℕ) where
       to h =
           every-of k (λ l. every n (λ e. entry (l * n + e)))
           (λ l a. every-of n (λ e. entry (l * n + e))
-          (λ e b. entry-flat (l * n + e) (entry-below k n l e a b) ∙ every-at (k * n) flat h (l * n + e) (entry-below k n l e a b)))
-
-      some-events : (i : ℕ) → i < k * n → 0 < n
-      some-events i h = go n refl
-        where
-          go : (m : ℕ) → n ≡ m → 0 < n
-          go zero e = absurd (no (subst (λ m. i < k * m) e h))
-            where
-              no : i < k * zero → ⊥
-              no l = omega (arith, l)
-          go (suc m) e = omega arith
+          (λ e b. entry-flat (l * n + e) (index-below n k l e a b) ∙ every-at (k * n) flat h (l * n + e) (index-below n k l e a b)))
 
       from : every k (λ l. every n (λ e. entry (l * n + e))) ≡ true → every (k * n) flat ≡ true
       from h =
           every-of (k * n) flat
           (λ i a.
-          let p : 0 < n = some-events i a in
           sym (entry-flat i a)
-          ∙ subst (λ j. entry j ≡ true) (div-add-mod' i n)
-          (every-at n (λ e. entry (i / n * n + e)) (every-at k (λ l. every n (λ e. entry (l * n + e))) h (i / n) (div-lt-iff-lt-mul p .1 a))
-          (i % n) (mod-lt i p)))
+          ∙ every-entry (λ i. entry i ≡ true) n k
+          (λ l e p q. every-at n (λ e. entry (l * n + e)) (every-at k (λ l. every n (λ e. entry (l * n + e))) h l p) e q) i a)
 
 -- The tests of a loaded channel.
 module _ (n v : ℕ) (x : Loaded ℕ) where

@@ -1,24 +1,22 @@
 -- A sound tool stays sound under every call, replies as its channels do, and 17 does not arise.
 -- Assumes nothing.
-use mathlib.Core.Path.{_≡_, refl, sym, _∙_, ap, ap₂, subst, subst⁻¹}
-use mathlib.Core.Bool.{Bool, true, false, _&&_, cond}
-use mathlib.Core.List.{List, [], _∷_}
+use mathlib.Core.Path.{_≡_, refl, _∙_, ap, subst, subst⁻¹}
+use mathlib.Core.Bool.{Bool, true, false, cond}
+use mathlib.Core.List.{List}
 use mathlib.Core.Option.{Option, none, some}
-use Prim.Native.Nat.{ℕ, zero, suc, _+_, _*_, _≤_, _<_}
+use Prim.Native.Nat.{ℕ, _<_}
 use native.Mathlib.Omega.{arith}
-use borrow.Author.Tests.{ltb-true}
-use lib.Dec.{ltb, eqb}
-use lib.ListN.{length, getD, set, replicate, length-set, length-replicate}
-use lib.Seq.{paste, length-paste}
+use lib.Dec.{eqb}
+use lib.ListN.{length, set, replicate, length-set, length-replicate}
+use lib.Seq.{length-paste}
 use Rattle.theory.proofs.ValueSets.{and-both, every-of}
 use Rattle.refusal.specs.declared.Refusal.{Refusal}
-use Rattle.refusal.specs.declared.Refusal.the-variants.{Plain}
 use Rattle.refusal.specs.Refusal.{or-else, plain-unless}
 use Rattle.refusal.proofs.Refusals.{or-else-none}
 use Rattle.values.specs.Setup.{Setup, setup, setup-refusal}
 use Rattle.channel_log.specs.Calls.{Call, load, event, restart, restart-all, clear, Reply, Channels, with-channel, map-option, channel-refusal, empty-refusal, on-event, call-refusal, accepted-reply, effect, settled, step}
-use Rattle.channel_log.specs.Log.{large-event}
 use Rattle.channel_log.specs.Recorded.{Loaded, at-state, recorded}
+use Rattle.channel_log.proofs.Record.{not-large}
 use Rattle.recorder.specs.declared.Tool.{Tool}
 use Rattle.recorder.specs.Channels.{setup-of, rows-size, rows-start, channels}
 use Rattle.recorder.specs.ToolFault.{InOrder, setup-test, channel-test, named-test, tool-test}
@@ -38,13 +36,6 @@ pub record Sound (s : Setup) (t : Tool) : Type 0 where
   pub value-length : length (t .value) ≡ 8192
   pub next-length : length (t .next) ≡ 8192
   pub in-order : (d : ℕ) → channel-test (t .events) (t .values) (channels t d) ≡ true
-
-event-below : (events e : ℕ) → large-event events e ≡ none → e < events
-event-below events e h = go (ltb e events) refl h
-  where
-    go : (t : Bool) → ltb e events ≡ t → cond t none (some (Plain 16)) ≡ none → e < events
-    go true p x = ltb-true e events p
-    go false p x = absurd (subst⁻¹ IsNone x tt)
 
 with-in-order :
     (n v c : ℕ) (x : Option (Loaded ℕ)) (L : Channels (Loaded ℕ)) → channel-test n v x ≡ true → ((d : ℕ) → channel-test n v (L d) ≡ true) →
@@ -82,7 +73,7 @@ next-same e (some x) = refl
 
 event-fits : (n e : ℕ) (judged : List ℕ → Option Refusal) (table : List ℕ → Loaded ℕ) (o : Option (Loaded ℕ)) → on-event (recorded n judged table) o e ≡ none → e < n
 event-fits n e judged table none h = absurd (subst⁻¹ IsNone h tt)
-event-fits n e judged table (some x) h = event-below n e h
+event-fits n e judged table (some x) h = not-large n e h
 
 module _ (t : Tool) (g : Sound (setup-of t) t) where
   abbrev n : ℕ

@@ -2,37 +2,32 @@
 -- Assumes nothing.
 use mathlib.Core.Path.{_≡_, refl, sym, _∙_, ap, ap₂, subst}
 use mathlib.Core.Bool.{Bool, true, false, cond}
-use mathlib.Core.List.{List, [], _∷_, map}
-use mathlib.Core.Option.{Option, none, some}
-use Prim.Native.Nat.{ℕ, zero, suc, _+_, _*_, _%_, _≤_, _<_}
+use mathlib.Core.List.{List, map}
+use mathlib.Core.Option.{none, some}
+use Prim.Native.Nat.{ℕ, _%_, _≤_, _<_}
 use native.Mathlib.Nat.{mod-eq-of-lt}
 use native.Mathlib.Omega.{arith}
 use borrow.Author.Tests.{ltb-true}
 use lib.Dec.{ltb}
-use lib.ListN.{take}
 use Rattle.theory.proofs.ValueSets.{and-left}
 use Rattle.refusal.specs.declared.Refusal.{Refusal}
 use Rattle.refusal.specs.declared.Refusal.the-variants.{Plain}
 use Rattle.refusal.specs.declared.Counted.the-variants.{Count, Refused}
 use Rattle.refusal.specs.Refusal.{or-else, plain-unless}
-use Rattle.values.specs.Setup.{setup, setup-refusal}
+use Rattle.values.specs.Setup.{setup-refusal}
 use Rattle.synthesis.specs.declared.Compiled.{Compiled}
-use Rattle.channel_log.specs.Calls.{load, Reply, accepted, refused}
+use Rattle.channel_log.specs.Calls.{load, Reply, accepted}
 use Rattle.recorder.specs.declared.Tool.{Tool}
 use Rattle.recorder.specs.declared.Decision.{Decision}
 use Rattle.recorder.specs.declared.Decision.the-variants.{Refuse, Go}
 use Rattle.recorder.specs.Channels.{setup-of, channels}
 use Rattle.recorder.specs.ToolFault.{setup-test, channel-test, tool-test}
-use Rattle.recorder.specs.CompiledRule.{low-byte, rule-judged, states-of-rule, values-of-rule, nexts-of-rule, compiled-rule}
+use Rattle.recorder.specs.CompiledRule.{low-byte, rule-judged, states-of-rule, compiled-rule}
 use Rattle.recorder.specs.Tool.{with-rows, stored-rows, effect-on, settled-tool, called}
 use Rattle.recorder.specs.Decisions.{decide, channel-decision, plain-reply, counted-reply}
 use Rattle.recorder.proofs.Held.{accepted-of-test, few-values}
-use Rattle.recorder.proofs.Decided.{tested, tested-same}
+use Rattle.recorder.proofs.Decided.{IsGo, tested, tested-same}
 use Rattle.recorder.proofs.CompiledRules.{rule-refused, rule-counted, values-are, nexts-are, few-states}
-
-abbrev IsGo : Decision → Type 0
-IsGo (Refuse n) = ⊥
-IsGo (Go v q) = Unit {0}
 
 abbrev IsRefuse : Decision → Type 0
 IsRefuse (Refuse n) = Unit {0}

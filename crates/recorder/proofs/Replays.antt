@@ -1,10 +1,10 @@
 -- A sequence of events on one channel is the event call repeated; what is decided on it is what its definition says.
 -- Assumes nothing.
 use mathlib.Core.Path.{_≡_, refl, sym, _∙_, ap, ap₂, subst, subst⁻¹}
-use mathlib.Core.Bool.{Bool, true, false, _&&_, cond}
+use mathlib.Core.Bool.{Bool, true, false, cond}
 use mathlib.Core.List.{List, [], _∷_, _++_, map}
 use mathlib.Core.Option.{Option, none, some}
-use Prim.Native.Nat.{ℕ, zero, suc, _+_, _*_, _%_, _≤_, _<_}
+use Prim.Native.Nat.{ℕ, suc, _+_, _*_, _%_, _≤_, _<_}
 use native.Mathlib.Nat.{mod-eq-of-lt}
 use native.Mathlib.Omega.{arith}
 use borrow.Author.Tests.{ltb-true, lt-ltb, leb-true}
@@ -18,19 +18,19 @@ use Rattle.refusal.specs.declared.Refusal.{Refusal}
 use Rattle.refusal.specs.declared.Refusal.the-variants.{Plain}
 use Rattle.refusal.specs.Refusal.{or-else, plain-unless}
 use Rattle.refusal.proofs.Refusals.{or-else-none, plain-none}
-use Rattle.channel_log.specs.Calls.{Call, event, Reply, accepted, returned, refused, channel-refusal, empty-refusal, on-event, event-reply, replies, final}
-use Rattle.channel_log.specs.Recorded.{Loaded, at-state}
+use Rattle.channel_log.specs.Calls.{event, Reply, accepted, returned, channel-refusal, empty-refusal, on-event, event-reply, replies, final}
+use Rattle.channel_log.specs.Recorded.{Loaded}
 use Rattle.recorder.specs.declared.Tool.{Tool}
 use Rattle.recorder.specs.declared.Decision.{Decision}
 use Rattle.recorder.specs.declared.Decision.the-variants.{Refuse, Go}
-use Rattle.recorder.specs.Channels.{setup-of, table-at, loaded-at, rows-size, rows-start, held, channels}
+use Rattle.recorder.specs.Channels.{setup-of, table-at, loaded-at, rows-start, channels}
 use Rattle.recorder.specs.ToolFault.{InOrder, setup-test, channel-test, tool-test}
 use Rattle.recorder.specs.Tool.{with-current, next-state, content, settled-tool, called}
 use Rattle.recorder.specs.Replay.{event-calls, returned-values, replay-refusal, put, replay-settled, replayed, ReplayClaim}
 use Rattle.recorder.specs.Decisions.{decide, restart-decision, replay-decision, plain-reply, outputs, Runnable}
-use Rattle.recorder.proofs.Rows.{getD-part, rows-in, entries-fit, entry-below}
+use Rattle.recorder.proofs.Rows.{rows-in, entries-fit}
 use Rattle.recorder.proofs.Held.{held-some, empty-held, in-order-of-test, test-of-in-order, tests-split, flat-next, IsNone, channel-below}
-use Rattle.recorder.proofs.Decided.{read, tested, tested-same}
+use Rattle.recorder.proofs.Decided.{IsGo, tested, tested-same}
 use Rattle.recorder.proofs.Runs.{length-outputs}
 
 -- A loaded channel that 17 does not refuse.
@@ -138,10 +138,6 @@ pasted-put out l n h =
 abbrev refusal-of : Decision → Option Refusal
 refusal-of (Refuse n) = some (Plain n)
 refusal-of (Go v q) = none
-
-abbrev IsGo : Decision → Type 0
-IsGo (Refuse n) = ⊥
-IsGo (Go v q) = Unit {0}
 
 -- A restart's decision, and the tests that come after it.
 module _ (s : Bool) (c k : ℕ) (i j : Bool) (d : Decision) (e : d ≡ restart-decision s c k) where

@@ -3,15 +3,15 @@
 use mathlib.Core.Path.{_≡_, refl, sym, _∙_, ap, ap₂, subst}
 use mathlib.Core.Bool.{Bool, true, false}
 use mathlib.Core.Logic.{_⊎_, inl, inr, ⊎-elim}
-use mathlib.Core.List.{List, [], _∷_, _++_, append-nil}
+use mathlib.Core.List.{List, _++_, append-nil}
 use Prim.Native.Nat.{ℕ, zero, suc, _+_, _*_, _-_, _≤_, _<_}
-use native.Mathlib.Nat.{mul-le-mul-right, suc-mul, eq-or-lt-of-le}
+use native.Mathlib.Nat.{mul-le-mul-right, eq-or-lt-of-le}
 use native.Mathlib.Numerals.{add-one}
 use native.Mathlib.Omega.{arith}
 use borrow.Author.Tests.{ltb-true, ltb-false}
 use lib.Dec.{ltb}
 use lib.ListN.{length, getD, set, take, drop, replicate, length-append, length-take, length-drop, length-replicate, List·getD-append}
-use lib.Seq.{paste, paste-suc, drop-length, length-paste-head, length-paste, length-take-le, take-all, take-take, getD-append-add, getD-take, getD-drop, ext-getD}
+use lib.Seq.{paste, paste-suc, drop-length, length-paste-head, length-paste, length-take-le, take-all, getD-append-add, getD-take, getD-drop, ext-getD}
 use Rattle.recorder.specs.Channels.{part, rows-size, rows-start}
 use Rattle.recorder.specs.Tool.{padded}
 
@@ -168,6 +168,3 @@ rows-apart c d h = go (ltb d c) refl
 -- A table's entries fit the rows.
 pub entries-fit : (k n : ℕ) → k ≤ 64 → n ≤ 16 → k * n ≤ rows-size
 entries-fit k n h g = omega (arith, mul-le-mul-right n h)
-
-pub entry-below : (k n q e : ℕ) → q < k → e < n → q * n + e < k * n
-entry-below k n q e h g = omega (arith, mul-le-mul-right n h, suc-mul q n)

@@ -1,6 +1,6 @@
 -- The run over a sequence of events, turn by turn.
 -- Assumes nothing.
-use mathlib.Core.Path.{_≡_, refl, sym, _∙_, ap, ap₂, subst, subst⁻¹}
+use mathlib.Core.Path.{_≡_, refl, sym, _∙_, ap, ap₂}
 use mathlib.Core.List.{List, [], _∷_}
 use Prim.Native.Nat.{ℕ, zero, suc, _+_, _*_, _≤_, _<_}
 use native.Mathlib.Nat.{not-suc-le-zero, le-of-suc-le-suc}
@@ -9,9 +9,10 @@ use native.Mathlib.Omega.{arith}
 use lib.ListN.{length, getD, set, take}
 use lib.Seq.{paste, paste-zero, length-paste, take-all}
 use Rattle.theory.specs.MealyMachine.{Machine, after}
-use Rattle.recorder.specs.Channels.{part, table-at}
+use Rattle.machines.proofs.EntryIndex.{index-below}
+use Rattle.recorder.specs.Channels.{table-at}
 use Rattle.recorder.specs.Decisions.{outputs, Runnable}
-use Rattle.recorder.proofs.Rows.{getD-part, paste-next, entries-fit, entry-below}
+use Rattle.recorder.proofs.Rows.{getD-part, paste-next, entries-fit}
 
 pub length-outputs : (m : Machine ℕ ℕ) (q : ℕ) (w : List ℕ) → length (outputs m q w) ≡ length w
 length-outputs m q [] = refl
@@ -62,7 +63,7 @@ module _ (from n k q : ℕ) (L N w out : List ℕ) (g : Runnable from n k q L N 
     e = getD w i 0
 
     entry : p * n + e < k * n
-    entry = entry-below k n p e (h .below) (g .word-in i l)
+    entry = index-below n k p e (h .below) (g .word-in i l)
 
     pub row : p * n ≤ 1024
     row = entries-fit p n (omega (arith, h .below, g .few-states)) (g .few-events)

@@ -2,20 +2,20 @@
 -- Assumes nothing.
 use mathlib.Core.Path.{_≡_, refl, sym, _∙_, ap, ap₂, subst, subst⁻¹, fun-ext}
 use mathlib.Core.Bool.{Bool, true, false, _&&_, cond}
-use mathlib.Core.List.{List, [], _∷_}
+use mathlib.Core.List.{List}
 use mathlib.Core.Logic.{⊎-elim}
 use mathlib.Core.Option.{Option, none, some}
-use Prim.Native.Nat.{ℕ, zero, suc, _+_, _*_, _≤_, _<_}
+use Prim.Native.Nat.{ℕ, _+_, _*_, _≤_, _<_}
 use native.Mathlib.Omega.{arith}
 use borrow.Author.Tests.{eq-eqb, ne-eqb, ltb-true, ltb-false, eqb-true, eqb-false}
 use lib.Dec.{ltb, eqb}
 use lib.ListN.{length, getD, set, replicate}
-use lib.Seq.{paste, getD-set-same, getD-set-other}
+use lib.Seq.{getD-set-same, getD-set-other}
 use Rattle.channel_log.specs.Calls.{Channels, with-channel, map-option}
 use Rattle.channel_log.specs.Recorded.{Loaded, at-state}
 use Rattle.recorder.specs.declared.Tool.{Tool}
-use Rattle.recorder.specs.Channels.{part, table-at, loaded-at, rows-size, rows-start, held, channels}
-use Rattle.recorder.specs.ToolFault.{InOrder, channel-test}
+use Rattle.recorder.specs.Channels.{part, loaded-at, rows-size, rows-start, held, channels}
+use Rattle.recorder.specs.ToolFault.{channel-test}
 use Rattle.recorder.specs.Tool.{with-current, with-rows, stored-rows}
 use Rattle.recorder.proofs.Rows.{getD-zeros, part-inside, part-before, part-after, rows-in, rows-apart, entries-fit}
 use Rattle.recorder.proofs.Held.{held-above, held-empty, held-some, in-order-of-test}

@@ -2,7 +2,6 @@
 -- over the calls that the contracts state; the printed condition of 17; the blank tool.
 -- Assumes nothing.
 use mathlib.Core.Path.{_≡_}
-use mathlib.Core.List.{List}
 use mathlib.Core.Option.{none}
 use Prim.Native.Nat.{ℕ}
 use Rattle.refusal.specs.declared.Refusal.the-variants.{Plain}
@@ -13,7 +12,6 @@ use Rattle.formulas.specs.RuleRefusal.{formula-of}
 use Rattle.channel_log.specs.Calls.{Call, Content, refused}
 use Rattle.channel_log.specs.Log.{History, log}
 use Rattle.channel_log.specs.Claims.{StandsAs, RecordClaim, IndependenceClaim}
-use Rattle.recorder.specs.declared.Tool.{Tool}
 use Rattle.recorder.specs.Channels.{channels}
 use Rattle.recorder.specs.CompiledRule.{rule-judged}
 use Rattle.recorder.specs.Tool.{called, new-tool, blank-tool}

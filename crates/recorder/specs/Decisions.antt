@@ -1,14 +1,13 @@
 -- What the private functions of the calls decide before anything is written.
 -- Assumes nothing.
 use mathlib.Core.Path.{_≡_}
-use mathlib.Core.Bool.{Bool, true, false, _&&_, cond}
+use mathlib.Core.Bool.{Bool, true, false, cond}
 use mathlib.Core.List.{List, [], _∷_}
 use mathlib.Core.Option.{Option, none, some}
 use Prim.Native.Nat.{ℕ, _+_, _*_, _≤_, _<_}
-use lib.Dec.{ltb, leb}
+use lib.Dec.{ltb}
 use lib.ListN.{getD, length, replicate}
-use Rattle.theory.specs.MealyMachine.{Machine, after}
-use Rattle.theory.specs.ValueSetClaims.{every}
+use Rattle.theory.specs.MealyMachine.{Machine}
 use Rattle.refusal.specs.declared.Refusal.the-variants.{Plain}
 use Rattle.refusal.specs.declared.Counted.{Counted}
 use Rattle.refusal.specs.declared.Counted.the-variants.{Count, Refused as NotCounted}
@@ -18,7 +17,6 @@ use Rattle.channel_log.specs.Calls.{Reply, accepted, returned, refused}
 use Rattle.channel_log.specs.Recorded.{Loaded}
 use Rattle.recorder.specs.declared.Decision.{Decision}
 use Rattle.recorder.specs.declared.Decision.the-variants.{Refuse, Go}
-use Rattle.recorder.specs.Channels.{part, table-at}
 
 -- Go on, or refuse with a number.
 abbrev pub decide : Bool → Decision → ℕ → Decision

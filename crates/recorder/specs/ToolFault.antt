@@ -4,24 +4,19 @@
 use mathlib.Core.Path.{_≡_}
 use mathlib.Core.Logic.{_↔_}
 use mathlib.Core.Bool.{Bool, true, false, _&&_}
-use mathlib.Core.List.{List}
 use mathlib.Core.Option.{Option, none, some}
-use Prim.Native.Nat.{ℕ, _+_, _*_, _≤_, _<_}
+use Prim.Native.Nat.{ℕ, _≤_, _<_}
 use lib.Dec.{ltb, leb}
-use lib.ListN.{getD}
 use Rattle.theory.specs.MealyMachine.{Machine, Runs, States}
 use Rattle.theory.specs.ValueSets.{Below}
 use Rattle.theory.specs.ValueSetClaims.{every}
 use Rattle.refusal.specs.declared.Refusal.{Refusal}
 use Rattle.values.specs.Setup.{Setup, WellFormed, setup-refusal}
+use Rattle.synthesis.specs.Compilation.{state-limit}
 use Rattle.channel_log.specs.Calls.{Call, load, event, restart, restart-all, clear}
 use Rattle.channel_log.specs.Recorded.{Loaded}
 use Rattle.recorder.specs.declared.Tool.{Tool}
 use Rattle.recorder.specs.Channels.{setup-of, channels}
-
--- The most states of a table (10 and 11).
-abbrev pub state-limit : ℕ
-state-limit = 64
 
 -- A loaded channel's table is within 11's limits, and its current state is one of the table's.
 pub record InOrder (events values : ℕ) (x : Loaded ℕ) : Type 0 where

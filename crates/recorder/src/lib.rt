@@ -9,7 +9,7 @@ use values::ValueKind;
 ghost use mathlib.Core.Path.{_≡_};
 ghost use mathlib.Core.Bool.{true, _&&_};
 ghost use mathlib.Core.List.{map};
-ghost use Prim.Native.Nat.{ℕ, _+_, _*_, _≤_, _<_};
+ghost use Prim.Native.Nat.{_+_, _*_, _≤_, _<_};
 ghost use lib.Dec.{ltb};
 ghost use lib.ListN.{length, getD, take};
 ghost use lib.Seq.{paste};
@@ -24,7 +24,7 @@ ghost use Rattle.recorder.specs.Replay.{replayed, replay-answer};
 ghost use Rattle.recorder.specs.Decisions.{event-decision, restart-decision, channel-decision, replay-decision, value-reply, plain-reply, state-after, count-after, sound-reply, states-after, judged-reply, counted-reply, outputs, Runnable};
 
 // The most states of a table.
-pub const STATE_LIMIT: usize = 64;
+const STATE_LIMIT: usize = 64;
 
 // The entries that a channel has room for: 64 states of 16 events.
 const ROWS_SIZE: usize = 1024;

@@ -1,10 +1,10 @@
-use Rattle.recorder.proofs.Held.{held-above, held-empty, held-some, many-states, state-outside, entries-only}
-use Rattle.recorder.proofs.Rows.{entries-fit, rows-in}
-use Rattle.recorder.specs.Channels.{rows-start}
+-- `recorder::channel_in_order` meets its contract: each limit is tested in turn, and the entries last.
+-- Assumes nothing.
 use native.Mathlib.Omega.{arith}
-use Prim.Native.Nat.{_≤_, _<_, _+_, _*_}
-use mathlib.Core.Path.{_≡_}
 use borrow.Author.Needs.{needs}
+use Rattle.recorder.specs.Channels.{rows-start}
+use Rattle.recorder.proofs.Held.{held-above, held-empty, held-some, many-states, state-outside, entries-only}
+use Rattle.recorder.proofs.Rows.{entries-fit}
 use Rattle.recorder.proofs.channel_in_order.Statement.{statement}
 use Rattle.recorder.proofs.channel_in_order.Tie as tie
 

@@ -1,14 +1,15 @@
-use Rattle.recorder.specs.ToolFault.{channel-test}
-use Rattle.recorder.specs.Channels.{held}
+-- `recorder::channels_in_order` meets its contract: the loop's invariant: the test passes at every channel before c.
+-- Assumes nothing.
+use mathlib.Core.Bool.{true}
+use mathlib.Core.Path.{_≡_, sym, _∙_}
+use Prim.Native.Nat.{_≤_, _-_}
+use borrow.Author.Needs.{needs}
+use borrow.Author.Tests.{not-true, not-false}
+use lib.ListN.{getD}
 use Rattle.theory.proofs.ValueSets.{every-none, every-more, every-not, every-done}
 use Rattle.theory.specs.ValueSetClaims.{every}
-use lib.ListN.{getD}
-use borrow.Author.Tests.{not-true, not-false}
-use Prim.Native.Nat.{ℕ, _≤_, _-_}
-use mathlib.Core.List.{List}
-use mathlib.Core.Bool.{Bool, true}
-use mathlib.Core.Path.{_≡_, sym, _∙_}
-use borrow.Author.Needs.{needs}
+use Rattle.recorder.specs.Channels.{held}
+use Rattle.recorder.specs.ToolFault.{channel-test}
 use Rattle.recorder.proofs.channels_in_order.Statement.{statement}
 use Rattle.recorder.proofs.channels_in_order.Tie as tie
 

@@ -1,5 +1,7 @@
-use Rattle.recorder.proofs.Decided.{clear-done}
+-- `recorder::clear` meets its contract: what is decided is what the definition says.
+-- Assumes nothing.
 use borrow.Author.Needs.{needs}
+use Rattle.recorder.proofs.Decided.{clear-done}
 use Rattle.recorder.proofs.clear.Statement.{statement}
 use Rattle.recorder.proofs.clear.Tie as tie
 

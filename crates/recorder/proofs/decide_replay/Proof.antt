@@ -1,41 +1,34 @@
-use Rattle.recorder.proofs.Replays.{stops, goes-on}
+-- `recorder::decide_replay` meets its contract: the decision of a restart, then the two tests more.
+-- Assumes nothing.
 use borrow.Author.Needs.{needs}
+use Rattle.recorder.proofs.Replays.{stops, goes-on}
 use Rattle.recorder.proofs.decide_replay.Statement.{statement}
 use Rattle.recorder.proofs.decide_replay.Tie as tie
-use Rattle.recorder.proofs.decide_replay.Reads as reads
-use Rattle.recorder.proofs.decide_replay.Lts as lts
-use Rattle.recorder.proofs.decide_restart.Reads as decide-restart-reads
 
--- src/lib.rt:456:9
 decide-restart-requires : tie.Need-decide-restart-requires
 decide-restart-requires c κs = search needs
 
 enum-told : tie.Need-enum-told
 enum-told c = search needs
 
--- src/lib.rt:458:9
 enum-told-2 : tie.Need-enum-told-2
 enum-told-2 c = search needs
 
--- src/lib.rt:458:9
 returns : tie.Need-returns
 returns c =
     let a = c .before .before .before .args in
     stops (a .sound) (a .channel) (a .states) (a .allowed) (a .fits) (c .before .before .decide-restart .result) (c .before .before .decide-restart .ensures) (c .enum-told2 .given .0 .0) (c .enum-told2 .given .1)
 
--- src/lib.rt:462:13
 returns-2 : tie.Need-returns-2
 returns-2 c =
     let a = c .before .before .before .before .before .args in
     rw (← (goes-on (a .sound) (a .channel) (a .states) (a .allowed) (a .fits) (c .before .before .before .before .decide-restart .result) (c .before .before .before .before .decide-restart .ensures) (c .before .before .enum-told .given .0 .0) (c .before .before .enum-told .given .0 .1 .0) (c .before .before .enum-told .given .1)), c .before .if1 .taken, c .if2 .taken)
 
--- src/lib.rt:464:9
 returns-3 : tie.Need-returns-3
 returns-3 c =
     let a = c .before .before .before .before .before .args in
     rw (← (goes-on (a .sound) (a .channel) (a .states) (a .allowed) (a .fits) (c .before .before .before .before .decide-restart .result) (c .before .before .before .before .decide-restart .ensures) (c .before .before .enum-told .given .0 .0) (c .before .before .enum-told .given .0 .1 .0) (c .before .before .enum-told .given .1)), c .before .if1 .taken, c .if2 .left)
 
--- src/lib.rt:453:1
 returns-4 : tie.Need-returns-4
 returns-4 c =
     let a = c .before .before .before .before .args in

@@ -1,12 +1,10 @@
-use Rattle.recorder.specs.Tool.{empty-tool}
+-- `recorder::empty_tool` meets its contract: field by field.
+-- Assumes nothing.
 use mathlib.Core.Path.{refl}
-use borrow.Author.Needs.{needs}
+use Rattle.recorder.specs.Tool.{empty-tool}
 use Rattle.recorder.proofs.empty_tool.Statement.{statement}
 use Rattle.recorder.proofs.empty_tool.Tie as tie
-use Rattle.recorder.proofs.empty_tool.Reads as reads
-use Rattle.recorder.proofs.empty_tool.Lts as lts
 
--- src/lib.rt:387:1
 returns : tie.Need-returns
 unfolding empty-tool
 returns c = refl

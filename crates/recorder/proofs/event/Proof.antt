@@ -1,6 +1,8 @@
+-- `recorder::event` meets its contract: what is decided is what the definition says.
+-- Assumes nothing.
+use borrow.Author.Needs.{needs}
 use Rattle.recorder.proofs.Decided.{event-done}
 use Rattle.recorder.proofs.Held.{tests-split}
-use borrow.Author.Needs.{needs}
 use Rattle.recorder.proofs.event.Statement.{statement}
 use Rattle.recorder.proofs.event.Tie as tie
 

@@ -1,6 +1,7 @@
-use Rattle.recorder.proofs.Loads.{load-refused, values-few, load-judged, load-stored}
-use mathlib.Core.Path.{_≡_}
+-- `recorder::load` meets its contract: refused before the compiler, refused by it, or stored.
+-- Assumes nothing.
 use borrow.Author.Needs.{needs}
+use Rattle.recorder.proofs.Loads.{load-refused, values-few, load-judged, load-stored}
 use Rattle.recorder.proofs.load.Statement.{statement}
 use Rattle.recorder.proofs.load.Tie as tie
 

@@ -1,16 +1,16 @@
-use Rattle.recorder.proofs.Rows.{paste-next, paste-all}
-use Rattle.recorder.specs.CompiledRule.{low-byte}
-use lib.Seq.{paste, paste-zero}
-use lib.ListN.{length, getD, set, replicate, length-map, length-replicate, List·getD-map}
+-- `recorder::low_bytes` meets its contract: the loop's invariant: the first i values are narrowed.
+-- Assumes nothing.
 use mathlib.Core.List.{List, map}
 use mathlib.Core.Path.{_≡_, sym, _∙_, ap}
-use Prim.Native.Nat.{ℕ, _≤_, _<_, _-_, _+_, _*_, _%_}
+use Prim.Native.Nat.{ℕ, _≤_, _-_}
 use native.Mathlib.Omega.{arith}
 use borrow.Author.Needs.{needs}
+use lib.ListN.{set, replicate, length-map, length-replicate, List·getD-map}
+use lib.Seq.{paste, paste-zero}
+use Rattle.recorder.specs.CompiledRule.{low-byte}
+use Rattle.recorder.proofs.Rows.{paste-next, paste-all}
 use Rattle.recorder.proofs.low_bytes.Statement.{statement}
 use Rattle.recorder.proofs.low_bytes.Tie as tie
-use Rattle.recorder.proofs.low_bytes.Reads as reads
-use Rattle.recorder.proofs.low_bytes.Lts as lts
 
 abbrev Inv-loop : tie.InvT-loop
 Inv-loop values bytes₀ i₀ bytes i = (i ≤ 1024) × (bytes ≡ paste (replicate 1024 0) 0 (map low-byte values) i)
@@ -18,35 +18,27 @@ Inv-loop values bytes₀ i₀ bytes i = (i ≤ 1024) × (bytes ≡ paste (replic
 abbrev μ-loop : tie.MeasureT-loop
 μ-loop values bytes₀ i₀ bytes i = 1024 - i
 
--- src/lib.rt:648:5
 loop-holds : tie.Need-loop-holds Inv-loop μ-loop
 loop-holds c = (search needs, paste-zero (replicate 1024 0) 0 (map low-byte (c .args .values .now)))
 
--- src/lib.rt:649:21
 mul-bytes : tie.Need-mul-bytes Inv-loop μ-loop
 mul-bytes c = search needs
 
--- src/lib.rt:649:21
 element-copy-out-bytes : tie.Need-element-copy-out-bytes Inv-loop μ-loop
 element-copy-out-bytes c = search needs
 
--- src/lib.rt:649:20
 cast-bytes : tie.Need-cast-bytes Inv-loop μ-loop
 cast-bytes c = search needs
 
--- src/lib.rt:649:9
 array-write-bytes : tie.Need-array-write-bytes Inv-loop μ-loop
 array-write-bytes c = search needs
 
--- src/lib.rt:650:9
 add-i : tie.Need-add-i Inv-loop μ-loop
 add-i c = search needs
 
--- src/lib.rt:648:5
 loop-less : tie.Need-loop-less Inv-loop μ-loop
 loop-less c = search needs
 
--- src/lib.rt:648:5
 loop-again : tie.Need-loop-again Inv-loop μ-loop
 loop-again c =
     let l = c .before .before .before .args .values .now in
@@ -57,7 +49,6 @@ loop-again c =
           ∙ paste-next (replicate 1024 0) (map low-byte l) i (omega (arith, length-replicate {A = ℕ} 1024 0)) (omega (arith, length-map l low-byte))),
     )
 
--- src/lib.rt:642:1
 returns : tie.Need-returns Inv-loop μ-loop
 returns c =
     let l = c .before .before .args .values .now in

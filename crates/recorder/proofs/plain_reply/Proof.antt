@@ -1,24 +1,20 @@
-use Rattle.recorder.specs.Decisions.{plain-reply}
+-- `recorder::plain_reply` meets its contract: case by case.
+-- Assumes nothing.
 use mathlib.Core.Path.{sym, ap}
 use borrow.Author.Needs.{needs}
+use Rattle.recorder.specs.Decisions.{plain-reply}
 use Rattle.recorder.proofs.plain_reply.Statement.{statement}
 use Rattle.recorder.proofs.plain_reply.Tie as tie
-use Rattle.recorder.proofs.plain_reply.Reads as reads
-use Rattle.recorder.proofs.plain_reply.Lts as lts
 
--- src/lib.rt:222:26
 enum-known-decision : tie.Need-enum-known-decision
 enum-known-decision c = search needs
 
--- src/lib.rt:223:31
 enum-told : tie.Need-enum-told
 enum-told c = search needs
 
--- src/lib.rt:218:1
 returns : tie.Need-returns
 returns c = ap plain-reply (sym (c .before .decision .given .1))
 
--- src/lib.rt:218:1
 returns-2 : tie.Need-returns-2
 returns-2 c = search needs
 

@@ -1,7 +1,9 @@
-use Rattle.recorder.proofs.Replays.{replay-refused, runnable, replay-done}
-use lib.ListN.{length-map}
-use mathlib.Core.Path.{_≡_, refl}
+-- `recorder::replay` meets its contract: refused, or run from the current state.
+-- Assumes nothing.
+use mathlib.Core.Path.{refl}
 use borrow.Author.Needs.{needs}
+use lib.ListN.{length-map}
+use Rattle.recorder.proofs.Replays.{replay-refused, runnable, replay-done}
 use Rattle.recorder.proofs.replay.Statement.{statement}
 use Rattle.recorder.proofs.replay.Tie as tie
 

@@ -1,5 +1,7 @@
-use Rattle.recorder.proofs.Decided.{restart-done}
+-- `recorder::restart` meets its contract: what is decided is what the definition says.
+-- Assumes nothing.
 use borrow.Author.Needs.{needs}
+use Rattle.recorder.proofs.Decided.{restart-done}
 use Rattle.recorder.proofs.restart.Statement.{statement}
 use Rattle.recorder.proofs.restart.Tie as tie
 

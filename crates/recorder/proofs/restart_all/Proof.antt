@@ -1,5 +1,7 @@
-use Rattle.recorder.proofs.Decided.{restart-all-done}
+-- `recorder::restart_all` meets its contract: what is decided is what the definition says.
+-- Assumes nothing.
 use borrow.Author.Needs.{needs}
+use Rattle.recorder.proofs.Decided.{restart-all-done}
 use Rattle.recorder.proofs.restart_all.Statement.{statement}
 use Rattle.recorder.proofs.restart_all.Tie as tie
 

@@ -1,5 +1,7 @@
-use Rattle.recorder.proofs.Decided.{set-up-refused, set-up-accepted}
+-- `recorder::set_up` meets its contract: refused with the blank tool, or the new tool.
+-- Assumes nothing.
 use borrow.Author.Needs.{needs}
+use Rattle.recorder.proofs.Decided.{set-up-refused, set-up-accepted}
 use Rattle.recorder.proofs.set_up.Statement.{statement}
 use Rattle.recorder.proofs.set_up.Tie as tie
 

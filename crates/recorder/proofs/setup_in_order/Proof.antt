@@ -1,50 +1,40 @@
-use lib.Seq.{length-take-le}
-use Rattle.recorder.proofs.Held.{many-values, accepted-test, refused-test}
-use Rattle.values.proofs.Setups.{square-small}
-use Rattle.values.specs.Setup.{setup}
+-- `recorder::setup_in_order` meets its contract: a set-up of more than 16 values is refused at once; any other is judged on the part of the array that is its table.
+-- Assumes nothing.
+use mathlib.Core.Path.{sym}
+use Prim.Native.Nat.{_≤_, _*_}
 use native.Mathlib.Omega.{arith}
-use Prim.Native.Nat.{_≤_, _<_, _*_}
-use mathlib.Core.Path.{_≡_, sym}
 use borrow.Author.Needs.{needs}
+use lib.Seq.{length-take-le}
+use Rattle.values.proofs.Setups.{square-small}
+use Rattle.recorder.proofs.Held.{many-values, accepted-test, refused-test}
 use Rattle.recorder.proofs.setup_in_order.Statement.{statement}
 use Rattle.recorder.proofs.setup_in_order.Tie as tie
-use Rattle.recorder.proofs.setup_in_order.Reads as reads
-use Rattle.recorder.proofs.setup_in_order.Lts as lts
-use Rattle.values.proofs.check_setup.Reads as check-setup-reads
 
--- src/lib.rt:82:9
 returns : tie.Need-returns
 returns c = sym (many-values _ _ _ _ (search needs))
 
--- src/lib.rt:84:17
 mul-count : tie.Need-mul-count
 mul-count c = let h : c .before .before .args .values * c .before .before .args .values ≤ 256 = square-small (search needs) in omega arith
 
--- src/lib.rt:85:62
 slice-aggregate-check-setup : tie.Need-slice-aggregate-check-setup
 slice-aggregate-check-setup c =
     let v = c .before .before .before .args .values in
     let h : v * v ≤ 256 = square-small (search needs) in
     sym (length-take-le (v * v) (c .before .before .before .args .meet .now) (omega arith))
 
--- src/lib.rt:85:9
 check-setup-requires : tie.Need-check-setup-requires
 check-setup-requires c κs = search needs
 
--- src/lib.rt:87:32
 enum-told : tie.Need-enum-told
 enum-told c = search needs
 
--- src/lib.rt:88:34
 enum-told-2 : tie.Need-enum-told-2
 enum-told-2 c = search needs
 
--- src/lib.rt:77:1
 returns-2 : tie.Need-returns-2
 returns-2 c =
     accepted-test _ (c .before .before .check-setup .result) (c .before .before .check-setup .ensures) (c .enum-told .given .1)
 
--- src/lib.rt:77:1
 returns-3 : tie.Need-returns-3
 returns-3 c =
     refused-test _ (c .before .before .check-setup .result) (c .before .before .check-setup .ensures) (c .enum-told2 .given .0 .0) (c .enum-told2 .given .1)

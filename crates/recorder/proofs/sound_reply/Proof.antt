@@ -1,14 +1,12 @@
+-- `recorder::sound_reply` meets its contract: both cases.
+-- Assumes nothing.
 use borrow.Author.Needs.{needs}
 use Rattle.recorder.proofs.sound_reply.Statement.{statement}
 use Rattle.recorder.proofs.sound_reply.Tie as tie
-use Rattle.recorder.proofs.sound_reply.Reads as reads
-use Rattle.recorder.proofs.sound_reply.Lts as lts
 
--- src/lib.rt:342:9
 returns : tie.Need-returns
 returns c = search needs
 
--- src/lib.rt:338:1
 returns-2 : tie.Need-returns-2
 returns-2 c = rw (c .if1 .left)
 

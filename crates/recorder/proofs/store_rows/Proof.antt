@@ -1,14 +1,13 @@
-use native.Mathlib.Numerals.{add-one}
-use lib.Seq.{paste, paste-zero, paste-suc}
-use lib.ListN.{length, getD}
+-- `recorder::store_rows` meets its contract: the loop's invariant: the first i entries are copied.
+-- Assumes nothing.
 use mathlib.Core.Path.{_≡_}
-use Prim.Native.Nat.{ℕ, _≤_, _<_, _-_, _+_, _*_}
+use Prim.Native.Nat.{_≤_, _-_}
+use native.Mathlib.Numerals.{add-one}
 use native.Mathlib.Omega.{arith}
 use borrow.Author.Needs.{needs}
+use lib.Seq.{paste, paste-zero, paste-suc}
 use Rattle.recorder.proofs.store_rows.Statement.{statement}
 use Rattle.recorder.proofs.store_rows.Tie as tie
-use Rattle.recorder.proofs.store_rows.Reads as reads
-use Rattle.recorder.proofs.store_rows.Lts as lts
 
 abbrev Inv-loop : tie.InvT-loop
 Inv-loop rows₀ at entries i₀ rows i = (i ≤ 1024) × (rows ≡ paste rows₀ at entries i)
@@ -16,31 +15,24 @@ Inv-loop rows₀ at entries i₀ rows i = (i ≤ 1024) × (rows ≡ paste rows�
 abbrev μ-loop : tie.MeasureT-loop
 μ-loop rows₀ at entries i₀ rows i = 1024 - i
 
--- src/lib.rt:661:5
 loop-holds : tie.Need-loop-holds Inv-loop μ-loop
 loop-holds c = (search needs, paste-zero (c .args .rows .now) (c .args .at) (c .args .entries .now))
 
--- src/lib.rt:662:24
 element-copy-out-rows : tie.Need-element-copy-out-rows Inv-loop μ-loop
 element-copy-out-rows c = search needs
 
--- src/lib.rt:662:14
 add-rows : tie.Need-add-rows Inv-loop μ-loop
 add-rows c = search needs
 
--- src/lib.rt:662:9
 element-write-rows : tie.Need-element-write-rows Inv-loop μ-loop
 element-write-rows c = search needs
 
--- src/lib.rt:663:9
 add-i : tie.Need-add-i Inv-loop μ-loop
 add-i c = search needs
 
--- src/lib.rt:661:5
 loop-less : tie.Need-loop-less Inv-loop μ-loop
 loop-less c = search needs
 
--- src/lib.rt:661:5
 loop-again : tie.Need-loop-again Inv-loop μ-loop
 loop-again c =
     let a = c .before .before .before .args in
@@ -49,7 +41,6 @@ loop-again c =
       rw (c .before .before .loop .inv .1, add-one i) (paste-suc (a .rows .now) (a .at) (a .entries .now) i 0 (search needs) (search needs)),
     )
 
--- src/lib.rt:656:1
 returns : tie.Need-returns Inv-loop μ-loop
 returns c =
     let e : c .before .loop .i ≡ 1024 = omega arith in

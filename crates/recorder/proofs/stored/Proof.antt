@@ -1,6 +1,8 @@
-use Rattle.recorder.specs.Tool.{with-rows}
-use mathlib.Core.Path.{_≡_, ap₂}
+-- `recorder::stored` meets its contract: both arrays are stored, then the count and the state.
+-- Assumes nothing.
+use mathlib.Core.Path.{ap₂}
 use borrow.Author.Needs.{needs}
+use Rattle.recorder.specs.Tool.{with-rows}
 use Rattle.recorder.proofs.stored.Statement.{statement}
 use Rattle.recorder.proofs.stored.Tie as tie
 

@@ -1,6 +1,8 @@
-use Rattle.recorder.proofs.Held.{few-events, both-tests, first-fails}
-use mathlib.Core.Path.{_≡_, sym, _∙_}
+-- `recorder::tool_in_order` meets its contract: the set-up's test, then the channel's.
+-- Assumes nothing.
+use mathlib.Core.Path.{sym, _∙_}
 use borrow.Author.Needs.{needs}
+use Rattle.recorder.proofs.Held.{few-events, both-tests, first-fails}
 use Rattle.recorder.proofs.tool_in_order.Statement.{statement}
 use Rattle.recorder.proofs.tool_in_order.Tie as tie
 

@@ -1,24 +1,20 @@
-use Rattle.recorder.specs.Decisions.{value-reply}
+-- `recorder::value_reply` meets its contract: case by case.
+-- Assumes nothing.
 use mathlib.Core.Path.{sym, ap}
 use borrow.Author.Needs.{needs}
+use Rattle.recorder.specs.Decisions.{value-reply}
 use Rattle.recorder.proofs.value_reply.Statement.{statement}
 use Rattle.recorder.proofs.value_reply.Tie as tie
-use Rattle.recorder.proofs.value_reply.Reads as reads
-use Rattle.recorder.proofs.value_reply.Lts as lts
 
--- src/lib.rt:213:26
 enum-known-decision : tie.Need-enum-known-decision
 enum-known-decision c = search needs
 
--- src/lib.rt:214:22
 enum-known-decision-2 : tie.Need-enum-known-decision-2
 enum-known-decision-2 c = search needs
 
--- src/lib.rt:209:1
 returns : tie.Need-returns
 returns c = ap value-reply (sym (c .before .decision .given .1))
 
--- src/lib.rt:209:1
 returns-2 : tie.Need-returns-2
 returns-2 c = ap value-reply (sym (c .before .decision2 .given .1))
 
