@@ -1,33 +1,36 @@
 -- The refusal of a call is the first that its conditions give.
 -- Assumes nothing.
 use mathlib.Core.Path.{_≡_, refl, ap, subst}
-use mathlib.Core.Logic.{_↔_, _⊎_, inl, inr}
+use mathlib.Core.Logic.{inl, inr}
 use mathlib.Core.Bool.{Bool, true, false, cond}
-use mathlib.Core.List.{List, [], _∷_, _++_}
+use mathlib.Core.List.{List, [], _∷_}
 use mathlib.Core.Option.{Option, none, some}
-use Prim.Native.Nat.{ℕ, _≤_, _<_}
+use Prim.Native.Nat.{ℕ, _<_}
 use native.Mathlib.Omega.{arith}
 use borrow.Author.Tests.{ltb-true, ltb-false}
 use lib.Dec.{ltb}
+use Rattle.theory.specs.ValueSets.{Below}
 use Rattle.theory.proofs.ValueSets.{and-left}
 use Rattle.refusal.specs.declared.Refusal.{Refusal}
 use Rattle.refusal.specs.declared.Refusal.the-variants.{Plain}
-use Rattle.refusal.specs.Refusal.{Condition, plain, First, or-else, plain-unless}
-use Rattle.refusal.proofs.Refusals.{plain-first, first-append}
+use Rattle.refusal.specs.Refusal.{HasNumbers, has-place, part-of, order, InOrder, Condition, plain, First, or-else, plain-unless}
+use Rattle.refusal.proofs.Refusals.{plain-number, plain-first, first-append}
 use Rattle.values.specs.Setup.{Setup, setup, EventsFault, setup-refusal}
 use Rattle.values.specs.declared.ValueKind.the-variants.{Numbered}
+use Rattle.formulas.specs.NodeBytes.{three-bytes}
+use Rattle.formulas.specs.RuleRefusal.{node-width, node-limit}
+use Rattle.formulas.proofs.RuleClaims.{in-order}
 use Rattle.synthesis.specs.Compilation.{value-count}
 use Rattle.synthesis.proofs.LentTable.{well-formed, laws}
 use Rattle.synthesis.proofs.CompileClaims.{compile-rule-claim}
 use Rattle.channel_log.specs.Calls.{Call, load, event, restart, restart-all, clear, channel-refusal, empty-refusal, on-event}
-use Rattle.channel_log.specs.Log.{large-event}
 use Rattle.channel_log.specs.Recorded.{Loaded}
 use Rattle.recorder.specs.declared.Tool.{Tool}
 use Rattle.recorder.specs.Channels.{setup-of, channels}
 use Rattle.recorder.specs.ToolFault.{ToolFault, setup-test, named-test, tool-test}
 use Rattle.recorder.specs.CompiledRule.{rule-judged}
 use Rattle.recorder.specs.Tool.{content, tool-refusal}
-use Rattle.recorder.specs.CallConditions.{rule-conditions-of, channel-condition, empty-condition, event-condition, call-conditions, CallRefusalClaim}
+use Rattle.recorder.specs.CallConditions.{call-numbers, rule-conditions-of, channel-condition, empty-condition, event-condition, call-conditions, CallRefusalClaim}
 use Rattle.recorder.proofs.Held.{accepted-of-test}
 use Rattle.recorder.proofs.CompiledRules.{answer-is}
 use Rattle.recorder.proofs.Claims.{fault-of, tool-tested}
@@ -106,24 +109,52 @@ module _ (t : Tool) where
           first-met (plain 17 (ToolFault t (load c r))) (channel-condition c ∷ rule-conditions-of (setup-of t) r) (tool-refusal t (load c r))
           (Plain 17) (fault-of t (load c r) p, refl) (settled-17 (tool-test t (load c r)) p (or-else (channel-refusal c) (rule-judged (setup-of t) r)))
 
-pub call-refusals : CallRefusalClaim
+call-first : (t : Tool) (call : Call ℕ) → First (call-conditions t call) (tool-refusal t call)
 unfolding call-conditions
-call-refusals t (load c r) = load-first t c r
-call-refusals t (event c e) =
+call-first t (load c r) = load-first t c r
+call-first t (event c e) =
     first-append (plain 17 (ToolFault t (event c e)) ∷ []) (channel-condition c ∷ empty-condition t c ∷ event-condition t e ∷ [])
     (plain-unless (tool-test t (event c e)) 17) (or-else (channel-refusal c) (on-event (content t) (channels t c) e))
     (seventeen t (event c e))
     (first-append (channel-condition c ∷ []) (empty-condition t c ∷ event-condition t e ∷ []) (channel-refusal c)
     (on-event (content t) (channels t c) e) (fourteen t c) (event-first t (channels t c) e))
-call-refusals t (restart c) =
+call-first t (restart c) =
     first-append (plain 17 (ToolFault t (restart c)) ∷ []) (channel-condition c ∷ empty-condition t c ∷ [])
     (plain-unless (tool-test t (restart c)) 17) (or-else (channel-refusal c) (empty-refusal (channels t c))) (seventeen t (restart c))
     (first-append (channel-condition c ∷ []) (empty-condition t c ∷ []) (channel-refusal c) (empty-refusal (channels t c)) (fourteen t c)
     (empty-first (channels t c)))
-call-refusals t restart-all = none-after (plain-unless (tool-test t restart-all) 17) (seventeen t restart-all)
+call-first t restart-all = none-after (plain-unless (tool-test t restart-all) 17) (seventeen t restart-all)
   where
     none-after : (a : Option Refusal) → First (plain 17 (ToolFault t restart-all) ∷ []) a → First (plain 17 (ToolFault t restart-all) ∷ []) (or-else a none)
     none-after a f = first-append (plain 17 (ToolFault t restart-all) ∷ []) [] a none f (no-conditions)
-call-refusals t (clear c) =
+call-first t (clear c) =
     first-append (plain 17 (ToolFault t (clear c)) ∷ []) (channel-condition c ∷ []) (plain-unless (tool-test t (clear c)) 17) (channel-refusal c)
     (seventeen t (clear c)) (fourteen t c)
+
+call-ordered : (t : Tool) (call : Call ℕ) → InOrder (call-numbers call) (call-conditions t call)
+unfolding HasNumbers has-place part-of order call-conditions rule-conditions-of
+call-ordered t (load c r) =
+    let s = setup-of t in
+    let N = in-order ℕ node-width three-bytes node-limit (s .events) (Below (s .values)) r .numbered in
+    record {
+      numbered = (
+        plain-number 17 _ refl,
+        (
+          plain-number 14 _ refl,
+          (N .0, (N .1 .0, (N .1 .1 .0, (N .1 .1 .1 .0, (N .1 .1 .1 .1 .0, ((λ q m. plain-number 10 _ refl q (m .2)), tt)))))),
+        ),
+      );
+      ordered = refl;
+    }
+call-ordered t (event c e) =
+    record {
+      numbered = (plain-number 17 _ refl, (plain-number 14 _ refl, (plain-number 15 _ refl, (plain-number 16 _ refl, tt))));
+      ordered = refl;
+    }
+call-ordered t (restart c) =
+    record { numbered = (plain-number 17 _ refl, (plain-number 14 _ refl, (plain-number 15 _ refl, tt))); ordered = refl }
+call-ordered t restart-all = record { numbered = (plain-number 17 _ refl, tt); ordered = refl }
+call-ordered t (clear c) = record { numbered = (plain-number 17 _ refl, (plain-number 14 _ refl, tt)); ordered = refl }
+
+pub call-refusals : CallRefusalClaim
+call-refusals = record { first = call-first; ordered = call-ordered }

@@ -5,7 +5,7 @@ use mathlib.Core.Path.{_≡_}
 use mathlib.Core.List.{List, [], _∷_, _++_}
 use mathlib.Core.Option.{none}
 use Prim.Native.Nat.{ℕ, _<_}
-use Rattle.refusal.specs.Refusal.{Condition, plain, First}
+use Rattle.refusal.specs.Refusal.{Condition, plain, First, InOrder}
 use Rattle.values.specs.Setup.{Setup}
 use Rattle.values.specs.ValueKind.{meetOf}
 use Rattle.values.specs.declared.ValueKind.the-variants.{Numbered}
@@ -42,6 +42,14 @@ call-conditions t (restart c) = plain 17 (ToolFault t (restart c)) ∷ channel-c
 call-conditions t restart-all = plain 17 (ToolFault t restart-all) ∷ []
 call-conditions t (clear c) = plain 17 (ToolFault t (clear c)) ∷ channel-condition c ∷ []
 
--- The refusal that a call replies, or none, is the first that its conditions give.
-abbrev pub CallRefusalClaim : Type 0
-CallRefusalClaim = (t : Tool) (call : Call ℕ) → First (call-conditions t call) (tool-refusal t call)
+abbrev pub call-numbers : Call ℕ → List ℕ
+call-numbers (load c r) = 17 ∷ 14 ∷ 5 ∷ 6 ∷ 7 ∷ 8 ∷ 9 ∷ 10 ∷ []
+call-numbers (event c e) = 17 ∷ 14 ∷ 15 ∷ 16 ∷ []
+call-numbers (restart c) = 17 ∷ 14 ∷ 15 ∷ []
+call-numbers restart-all = 17 ∷ []
+call-numbers (clear c) = 17 ∷ 14 ∷ []
+
+-- The refusal that a call replies, or none, is the first that its conditions give; they stand in document 01's order.
+pub record CallRefusalClaim : Type 0 where
+  pub first : (t : Tool) (call : Call ℕ) → First (call-conditions t call) (tool-refusal t call)
+  pub ordered : (t : Tool) (call : Call ℕ) → InOrder (call-numbers call) (call-conditions t call)
