@@ -115,7 +115,7 @@ module _ (t : Tool) where
   looked-fails restart-all h = let f = every-some 8 test h in (f .0, tt, f .2)
   looked-fails (clear d) h = (d, refl, h)
 
-  fault-of : (call : Call ℕ) → tool-test t call ≡ false → ToolFault t call
+  pub fault-of : (call : Call ℕ) → tool-test t call ≡ false → ToolFault t call
   fault-of call h =
       ⊎-elim (λ f. setup-fails (λ w. absurd (false≢true (sym f ∙ test-of-well-formed (setup-of t) w))))
       (λ f. let x = looked-fails call f in go (x .0) (x .1) (channels t (x .0)) refl (x .2))

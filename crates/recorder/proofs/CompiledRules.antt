@@ -106,7 +106,7 @@ module _ (s : Setup) (rule : List ℕ) where
 
   module _ (ok : setup-refusal s ≡ none) where
     -- Beside an accepted set-up 1 is not met again.
-    answer-is : compile-rule-refusal (Numbered (s .values)) (s .events) (s .top) (s .meet) rule state-limit ≡ rule-judged s rule
+    pub answer-is : compile-rule-refusal (Numbered (s .values)) (s .events) (s .top) (s .meet) rule state-limit ≡ rule-judged s rule
     unfolding compile-rule-refusal rule-judged or-else plain-unless setup-refusal
     answer-is =
         ap (λ b. or-else (plain-unless b 1) (rule-table-refusal (Numbered (s .values)) (s .events) (s .top) (s .meet) rule state-limit))

@@ -18,3 +18,5 @@ pub mod View
 pub mod Keeps
 -- The claims.
 pub mod Claims
+-- The refusal of a call is the first that its conditions give.
+pub mod CallRefusals
