@@ -1,0 +1,247 @@
+-- The answers of the functions that read a file, case by case.
+-- Assumes nothing.
+use Prim.Native.Nat.{ℕ, suc, _+_, _*_, _≤_, _<_}
+use mathlib.Core.Path.{_≡_, refl, sym, ap, ap₂, _∙_, subst}
+use mathlib.Core.Logic.{_⊎_, inl, inr}
+use mathlib.Core.List.{List, [], _∷_, _++_, map}
+use mathlib.Core.Bool.{Bool, true, false, cond, _&&_}
+use mathlib.Core.Option.{Option, none, some}
+use native.Mathlib.Omega.{arith}
+use lib.Dec.{leb, ltb}
+use lib.ListN.{length, take, drop, length-append}
+use lib.Seq.{take-at}
+use borrow.Author.Tests.{le-leb, lt-leb, le-ltb}
+use Rattle.theory.proofs.ValueSets.{and-both, and-failed, and-false-right}
+use Rattle.refusal.specs.declared.Refusal.{Refusal}
+use Rattle.refusal.specs.declared.Refusal.the-variants.{Plain, At}
+use Rattle.refusal.specs.declared.Judgement.the-variants.{Accepted, Refused}
+use Rattle.refusal.specs.Refusal.{or-else, plain-unless, judgement}
+use Rattle.refusal.proofs.Refusals.{judgement-accepted, or-else-none}
+use Rattle.values.specs.Setup.{setup, setup-refusal}
+use Rattle.formulas.specs.RuleRefusal.{rule-refusal}
+use Rattle.text_format.specs.Format.{Outcome, contents, refused}
+use Rattle.text_format.specs.Series.{separated, OneOrMore}
+use Rattle.text_format.specs.Decimal.{Numeral}
+use Rattle.text_format.proofs.Decimal.{decimal-numeral}
+use Rattle.channel_file.specs.ChannelFile.{Token, token-T, token-A, token-V, token-X, token-G, token-O, Contents, number, Small, SmallToken, token-text, text, SmallContents, Shows}
+use Rattle.channel_file.specs.Reading.{file-limit, read-file, checked}
+use Rattle.channel_file.specs.Bytes.{entry, node, encoded, meet-bytes, rule-bytes, put-in, stored-buffer, Stores}
+use Rattle.channel_file.specs.declared.Checked.{Checked}
+use Rattle.channel_file.specs.declared.Stored.{Stored}
+use Rattle.channel_file.proofs.Claims.{shown}
+use Rattle.channel_file.proofs.Buffers.{encoded-length}
+use Rattle.channel_io.specs.declared.FileRead.{FileRead}
+use Rattle.channel_io.specs.declared.FileRead.the-variants.{Accepted as Read, Refused as Unread}
+use Rattle.channel_io.specs.FileJudgement.{node-numbers, rule-numbers, pair-refusal, contents-refusal, has-room, stored-refusal, contents-read-refusal}
+use Rattle.channel_io.specs.FileReading.{numbers, accepted-or, read-answer, put-unless, meet-after, rule-after, Reads, Keeps}
+use Rattle.channel_io.proofs.Clamping.{file-same, nothing-clamped}
+
+pub judged-refused : (a : Option Refusal) (r : Refusal) → judgement a ≡ Refused r → a ≡ some r
+unfolding judgement
+judged-refused none r e = let z : _≡_ {A = ℕ} 0 1 = cc in absurd (omega arith)
+judged-refused (some s) r e = let q : s ≡ r = cc in ap some q
+
+-- ---- 1 to 3, then 5 to 9
+module _ (events values top : ℕ) (meet rule : List ℕ) where
+  pub pair-setup :
+      (r : Refusal) → judgement (setup-refusal (setup events values top meet)) ≡ Refused r → Refused r ≡ judgement (pair-refusal events values top meet rule)
+  unfolding pair-refusal or-else judgement
+  pair-setup r e =
+      sym (ap (λ (o : Option Refusal). judgement (or-else o (rule-refusal events values rule))) (judged-refused (setup-refusal (setup events values top meet)) r e))
+
+  pub pair-rule :
+      judgement (setup-refusal (setup events values top meet)) ≡ Accepted
+      → judgement (rule-refusal events values rule) ≡ judgement (pair-refusal events values top meet rule)
+  unfolding pair-refusal or-else
+  pair-rule e =
+      sym (ap (λ (o : Option Refusal). judgement (or-else o (rule-refusal events values rule))) (judgement-accepted (setup-refusal (setup events values top meet)) e))
+
+-- ---- entries and nodes put into two buffers
+module _ (events values top count : ℕ) (entries nodes meet rule : List ℕ) where
+  abbrev R : Option Refusal
+  R = stored-refusal events values top entries nodes meet rule
+
+  keeps : (o : Option Refusal) (meet′ rule′ : List ℕ) (r : FileRead) → R ≡ o → r ≡ accepted-or o (numbers events values top (length entries) count)
+      → meet′ ≡ put-unless o entries meet → rule′ ≡ put-unless o nodes rule → Keeps events values top count entries nodes meet rule meet′ rule′ r
+  keeps o meet′ rule′ r e a m n =
+      record {
+        answer = a ∙ ap (λ (x : Option Refusal). accepted-or x (numbers events values top (length entries) count)) (sym e);
+        meet-is = m ∙ ap (λ (x : Option Refusal). put-unless x entries meet) (sym e);
+        rule-is = n ∙ ap (λ (x : Option Refusal). put-unless x nodes rule) (sym e);
+      }
+
+  pub keeps-refused :
+      (r : Refusal) → judgement (pair-refusal events values top entries nodes) ≡ Refused r
+      → Keeps events values top count entries nodes meet rule meet rule (Unread r)
+  unfolding stored-refusal or-else accepted-or put-unless
+  keeps-refused r e =
+      keeps (some r) meet rule (Unread r)
+      (ap (λ (o : Option Refusal). or-else o (plain-unless (has-room entries nodes meet rule) 13)) (judged-refused (pair-refusal events values top entries nodes) r e))
+      refl refl refl
+
+  room-answer :
+      judgement (pair-refusal events values top entries nodes) ≡ Accepted → (b : Bool) → has-room entries nodes meet rule ≡ b → R ≡ plain-unless b 13
+  unfolding stored-refusal or-else
+  room-answer e b h =
+      ap (λ (o : Option Refusal). or-else o (plain-unless (has-room entries nodes meet rule) 13)) (judgement-accepted (pair-refusal events values top entries nodes) e)
+      ∙ ap (λ (x : Bool). plain-unless x 13) h
+
+  no-room : (length meet < length entries) ⊎ (length rule < length nodes) → has-room entries nodes meet rule ≡ false
+  unfolding has-room
+  no-room (inl h) = and-failed (leb (length nodes) (length rule)) (lt-leb (length entries) (length meet) h)
+  no-room (inr h) = and-false-right (leb (length entries) (length meet)) (lt-leb (length nodes) (length rule) h)
+
+  pub keeps-short :
+      judgement (pair-refusal events values top entries nodes) ≡ Accepted → (length meet < length entries) ⊎ (length rule < length nodes)
+      → Keeps events values top count entries nodes meet rule meet rule (Unread (Plain 13))
+  unfolding plain-unless accepted-or put-unless
+  keeps-short e h = keeps (some (Plain 13)) meet rule (Unread (Plain 13)) (room-answer e false (no-room h)) refl refl refl
+
+  pub keeps-all :
+      (meet′ rule′ : List ℕ) → judgement (pair-refusal events values top entries nodes) ≡ Accepted → length entries ≤ length meet
+      → length nodes ≤ length rule → meet′ ≡ put-in entries meet → rule′ ≡ put-in nodes rule
+      → Keeps events values top count entries nodes meet rule meet′ rule′ (Read (numbers events values top (length entries) count))
+  unfolding plain-unless accepted-or put-unless has-room
+  keeps-all meet′ rule′ e h g m n =
+      keeps none meet′ rule′ (Read (numbers events values top (length entries) count))
+      (room-answer e true (and-both (le-leb (length entries) (length meet) h) (le-leb (length nodes) (length rule) g)))
+      refl m n
+
+-- ---- a text
+
+-- an item has at least one byte
+items-few : {A : Type 0} (P : A → Type 0) (f : A → List ℕ) → ((a : A) → P a → 1 ≤ length (f a)) → (xs : List A) → OneOrMore P xs
+    → length xs ≤ length (separated (map f xs))
+items-few P f some-byte [] h = absurd h
+items-few P f some-byte (a ∷ []) h = omega (arith, some-byte a h)
+items-few P f some-byte (a ∷ b ∷ xs) h =
+    omega (arith, some-byte a (h .0), items-few P f some-byte (b ∷ xs) (h .1), length-append (f a) (32 ∷ separated (map f (b ∷ xs))))
+
+number-some : (v : ℕ) → Small v → 1 ≤ length (number v)
+number-some v h = let n : Numeral 2 v (number v) = decimal-numeral 2 v h in n .some-digit
+
+token-some : (x : Token) → SmallToken x → 1 ≤ length (token-text x)
+token-some token-T h = omega arith
+token-some token-A h = omega arith
+token-some token-V h = omega arith
+token-some (token-X n) h = omega arith
+token-some (token-G n) h = omega arith
+token-some (token-O e v) h = omega arith
+
+text-items : (c : Contents) → SmallContents c → (length (c .meet) ≤ length (text c)) × (length (c .rule) ≤ length (text c))
+text-items c s =
+    let x = items-few Small number number-some (c .meet) (s .meet) in
+    let y = items-few SmallToken token-text token-some (c .rule) (s .rule) in
+    (simp length-append (omega arith), simp length-append (omega arith))
+
+-- what a caller of check_form knows of an accepted text
+pub record Formed (t : List ℕ) (events values top entries items : ℕ) : Type 0 where
+  pub inside : Contents
+  pub answer : read-file t ≡ contents inside
+  pub events-is : events ≡ inside .events
+  pub values-is : values ≡ inside .values
+  pub top-is : top ≡ inside .top
+  pub entries-is : entries ≡ length (inside .meet)
+  pub items-is : items ≡ length (inside .rule)
+  pub few-entries : entries ≤ 4096
+  pub few-items : items ≤ 4096
+
+pub formed : (t : List ℕ) (e v p m a n b : ℕ) → Checked.Form e v p m a n b ≡ checked (read-file t) → Formed t e v p m n
+formed t e v p m a n b h = go (read-file t) refl h
+  where
+    go : (x : Outcome Contents) → read-file t ≡ x → Checked.Form e v p m a n b ≡ checked x → Formed t e v p m n
+    go (contents c) f h =
+        let s = shown t c f in
+        let l : length t ≤ file-limit = s .0 in
+        let w = text-items c (s .1 .small) in
+        let z : length (text c) ≡ length t = ap length (s .1 .printed) in
+        let em : m ≡ length (c .meet) = cc in
+        let en : n ≡ length (c .rule) = cc in
+        record {
+          inside = c;
+          answer = f;
+          events-is = cc;
+          values-is = cc;
+          top-is = cc;
+          entries-is = em;
+          items-is = en;
+          few-entries = omega (arith, w .0);
+          few-items = omega (arith, w .1);
+        }
+    go (refused q) f h = let z : _≡_ {A = ℕ} 0 1 = cc in absurd (omega arith)
+
+-- the bytes that were stored stand at the front
+pub stored-front :
+    (bytes : Contents → List ℕ) (t old new : List ℕ) (r : Stored) (c : Contents) (n : ℕ) → Stores bytes t old new r → read-file t ≡ contents c
+    → n ≡ length (bytes c) → n ≤ length old → take n new ≡ bytes c
+stored-front bytes t old new r c n s e l h =
+    ap (take n) (s .buffer ∙ ap (stored-buffer bytes old) e ∙ ap (λ (b : Bool). cond b old (put-in (bytes c) old)) (le-ltb (length old) (length (bytes c)) (omega arith)))
+    ∙ take-at (bytes c) (drop (length (bytes c)) old) n (sym l)
+
+pub meet-length : (c : Contents) → length (meet-bytes c) ≡ length (c .meet)
+meet-length c = omega (arith, encoded-length entry 1 (λ a. refl) (c .meet))
+
+pub rule-length : (c : Contents) → length (rule-bytes c) ≡ 3 * length (c .rule)
+rule-length c = omega (arith, encoded-length node 3 (λ a. refl) (c .rule))
+
+numbers-length : (c : Contents) → length (rule-numbers c) ≡ 3 * length (c .rule)
+numbers-length c = omega (arith, encoded-length node-numbers 3 (λ a. refl) (c .rule))
+
+-- 4
+pub reads-refused : (t meet rule : List ℕ) (p : ℕ) → Checked.Refused p ≡ checked (read-file t) → Reads t meet rule meet rule (Unread (At 4 p))
+unfolding read-answer meet-after rule-after
+reads-refused t meet rule p h = go (read-file t) refl h
+  where
+    go : (x : Outcome Contents) → read-file t ≡ x → Checked.Refused p ≡ checked x → Reads t meet rule meet rule (Unread (At 4 p))
+    go (contents c) f h = let z : _≡_ {A = ℕ} 0 1 = cc in absurd (omega arith)
+    go (refused q) f h =
+        let e : read-file t ≡ refused p = f ∙ (let z : p ≡ q = cc in ap refused (sym z)) in
+        record {
+          answer = sym (ap (λ (x : Outcome Contents). read-answer x meet rule) e);
+          meet-is = sym (ap (λ (x : Outcome Contents). meet-after x meet rule) e);
+          rule-is = sym (ap (λ (x : Outcome Contents). rule-after x meet rule) e);
+        }
+
+module _ (c : Contents) (meet rule : List ℕ) where
+  -- what is judged on the bytes is judged on the numbers
+  refusal-same : stored-refusal (c .events) (c .values) (c .top) (meet-bytes c) (rule-bytes c) meet rule ≡ contents-read-refusal c meet rule
+  unfolding stored-refusal has-room
+  refusal-same =
+      ap₂ (λ (o : Option Refusal) (b : Bool). or-else o (plain-unless b 13)) (file-same c)
+      (ap₂ (λ (x y : ℕ). leb x (length meet) && leb y (length rule)) (meet-length c) (rule-length c ∙ sym (numbers-length c)))
+
+  -- and what is put was not clamped
+  put-same :
+      (bytes output old : List ℕ) → (contents-refusal c ≡ none → bytes ≡ output) → (o : Option Refusal) → contents-read-refusal c meet rule ≡ o
+      → put-unless o bytes old ≡ put-unless o output old
+  unfolding put-unless stored-refusal
+  put-same bytes output old h none e = ap (λ (s : List ℕ). put-in s old) (h (or-else-none (contents-refusal c) (plain-unless (has-room (c .meet) (rule-numbers c) meet rule) 13) e .0))
+  put-same bytes output old h (some r) e = refl
+
+pub reads-kept :
+    (t meet rule meet′ rule′ : List ℕ) (r : FileRead) (events values top entries items : ℕ) (E N : List ℕ) (f : Formed t events values top entries items)
+    → E ≡ meet-bytes (f .inside) → N ≡ rule-bytes (f .inside) → Keeps events values top items E N meet rule meet′ rule′ r
+    → Reads t meet rule meet′ rule′ r
+unfolding read-answer meet-after rule-after
+reads-kept t meet rule meet′ rule′ r events values top entries items E N f eE eN k =
+    let c = f .inside in
+    let same : stored-refusal events values top E N meet rule ≡ contents-read-refusal c meet rule =
+    ap₂ (λ (x y : List ℕ). stored-refusal events values top x y meet rule) eE eN
+    ∙ ap₂ (λ (x y : ℕ). stored-refusal x y top (meet-bytes c) (rule-bytes c) meet rule) (f .events-is) (f .values-is)
+    ∙ ap (λ (x : ℕ). stored-refusal (c .events) (c .values) x (meet-bytes c) (rule-bytes c) meet rule) (f .top-is)
+    ∙ refusal-same c meet rule in
+    record {
+      answer = k .answer
+          ∙ ap₂ (λ (o : Option Refusal) (n : ℕ). accepted-or o (numbers events values top n items)) same (ap length eE ∙ meet-length c)
+          ∙ ap₂ (λ (x y : ℕ). accepted-or (contents-read-refusal c meet rule) (numbers x y top (length (c .meet)) items)) (f .events-is) (f .values-is)
+          ∙ ap₂ (λ (x y : ℕ). accepted-or (contents-read-refusal c meet rule) (numbers (c .events) (c .values) x (length (c .meet)) y)) (f .top-is) (f .items-is)
+          ∙ sym (ap (λ (x : Outcome Contents). read-answer x meet rule) (f .answer));
+      meet-is = k .meet-is
+          ∙ ap₂ (λ (o : Option Refusal) (s : List ℕ). put-unless o s meet) same eE
+          ∙ put-same c meet rule (meet-bytes c) (c .meet) meet (λ e. nothing-clamped c e .0) (contents-read-refusal c meet rule) refl
+          ∙ sym (ap (λ (x : Outcome Contents). meet-after x meet rule) (f .answer));
+      rule-is = k .rule-is
+          ∙ ap₂ (λ (o : Option Refusal) (s : List ℕ). put-unless o s rule) same eN
+          ∙ put-same c meet rule (rule-bytes c) (rule-numbers c) rule (λ e. nothing-clamped c e .1) (contents-read-refusal c meet rule) refl
+          ∙ sym (ap (λ (x : Outcome Contents). rule-after x meet rule) (f .answer));
+    }

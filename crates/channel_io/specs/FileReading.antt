@@ -1,0 +1,62 @@
+-- Reading a channel file (document 01, "Channel file", refusals 4, 1 to 3, 5 to 9 and 13): the answer, and what two lent buffers
+-- hold afterwards.
+-- Assumes nothing.
+use Prim.Native.Nat.{ℕ}
+use mathlib.Core.Path.{_≡_}
+use mathlib.Core.List.{List}
+use mathlib.Core.Option.{Option, none, some}
+use lib.ListN.{length}
+use Rattle.refusal.specs.declared.Refusal.{Refusal}
+use Rattle.refusal.specs.declared.Refusal.the-variants.{At}
+use Rattle.text_format.specs.Format.{Outcome, contents, refused}
+use Rattle.channel_file.specs.ChannelFile.{Contents}
+use Rattle.channel_file.specs.Bytes.{put-in}
+use Rattle.channel_file.specs.Reading.{read-file}
+use Rattle.channel_io.specs.declared.FileNumbers.{FileNumbers}
+use Rattle.channel_io.specs.declared.FileRead.{FileRead}
+use Rattle.channel_io.specs.declared.FileRead.the-variants.{Accepted, Refused}
+use Rattle.channel_io.specs.FileJudgement.{rule-numbers, stored-refusal, contents-read-refusal}
+
+-- The numbers of a file: those of its set-up, and how many meet entries and nodes it has.
+unfoldable pub numbers : ℕ → ℕ → ℕ → ℕ → ℕ → FileNumbers
+numbers events values top entries nodes =
+    record { events = events; values = values; top = top; entries = entries; nodes = nodes }
+
+abbrev pub file-numbers : Contents → FileNumbers
+file-numbers c = numbers (c .events) (c .values) (c .top) (length (c .meet)) (length (c .rule))
+
+unfoldable pub accepted-or : Option Refusal → FileNumbers → FileRead
+accepted-or none n = Accepted n
+accepted-or (some refusal) n = Refused refusal
+
+-- The answer to a text.
+unfoldable pub read-answer : Outcome Contents → List ℕ → List ℕ → FileRead
+read-answer (refused p) meet rule = Refused (At 4 p)
+read-answer (contents c) meet rule = accepted-or (contents-read-refusal c meet rule) (file-numbers c)
+
+-- A buffer afterwards: the output and behind it what was there; as it was beside a refusal.
+unfoldable pub put-unless : Option Refusal → List ℕ → List ℕ → List ℕ
+put-unless none output old = put-in output old
+put-unless (some refusal) output old = old
+
+-- The buffers after a text was read: the meet entries, and the nodes of the rule, three numbers each.
+unfoldable pub meet-after : Outcome Contents → List ℕ → List ℕ → List ℕ
+meet-after (refused p) meet rule = meet
+meet-after (contents c) meet rule = put-unless (contents-read-refusal c meet rule) (c .meet) meet
+
+unfoldable pub rule-after : Outcome Contents → List ℕ → List ℕ → List ℕ
+rule-after (refused p) meet rule = rule
+rule-after (contents c) meet rule = put-unless (contents-read-refusal c meet rule) (rule-numbers c) rule
+
+-- Answer and later contents of a call that reads the text t.
+pub record Reads (t meet rule meet′ rule′ : List ℕ) (r : FileRead) : Type 0 where
+  pub answer : r ≡ read-answer (read-file t) meet rule
+  pub meet-is : meet′ ≡ meet-after (read-file t) meet rule
+  pub rule-is : rule′ ≡ rule-after (read-file t) meet rule
+
+-- The same of the private function that stores entries and nodes which were read.
+pub record Keeps (events values top count : ℕ) (entries nodes meet rule meet′ rule′ : List ℕ) (r : FileRead) : Type 0 where
+  pub answer :
+      r ≡ accepted-or (stored-refusal events values top entries nodes meet rule) (numbers events values top (length entries) count)
+  pub meet-is : meet′ ≡ put-unless (stored-refusal events values top entries nodes meet rule) entries meet
+  pub rule-is : rule′ ≡ put-unless (stored-refusal events values top entries nodes meet rule) nodes rule

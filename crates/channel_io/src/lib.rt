@@ -1,0 +1,157 @@
+// Channel files read and written, with all their refusals: 4, 1 to 3, 5 to 9 and 13.
+use channel_file::Checked;
+use channel_file::check_form;
+use channel_file::store_meet;
+use channel_file::store_rule;
+use channel_writer::Written;
+use channel_writer::write_text;
+use formulas::check_rule;
+use refusal::BUFFER_LENGTH;
+use refusal::Counted;
+use refusal::Judgement;
+use refusal::NODE_COUNT;
+use refusal::Refusal;
+use refusal::TEXT_FORM;
+use values::check_setup;
+ghost use mathlib.Core.Path.{_≡_};
+ghost use Prim.Native.Nat.{_≤_};
+ghost use lib.ListN.{length};
+ghost use Rattle.refusal.specs.Refusal.{judgement};
+ghost use Rattle.channel_file.specs.Bytes.{put-in};
+ghost use Rattle.channel_io.specs.FileJudgement.{pair-refusal};
+ghost use Rattle.channel_io.specs.FileReading.{Reads, Keeps};
+ghost use Rattle.channel_io.specs.FileWriting.{WritesFile};
+
+// The numbers of a file: those of its set-up, and how many meet entries and nodes it has.
+pub struct FileNumbers {
+    pub events: usize,
+    pub values: usize,
+    pub top: usize,
+    pub entries: usize,
+    pub nodes: usize,
+}
+
+// The answer to reading a file.
+pub enum FileRead {
+    Accepted(FileNumbers),
+    Refused(Refusal),
+}
+
+// Entries and node bytes of a text within the limit are at most so many.
+const ENTRY_ROOM: usize = 4096;
+
+const NODE_ROOM: usize = 12288;
+
+// 1 to 3 for a set-up, then 5 to 9 for a rule.
+fn check_pair(events: usize, values: usize, top: usize, meet: &[u8], rule: &[u8]) -> Judgement
+    ensures { λ r. ⌜ r ≡ judgement (pair-refusal events values top (now (meet .entry)) (now (rule .entry))) ⌝ }
+{
+    let judged = check_setup(events, values, top, meet);
+    if let Judgement::Refused(refusal) = judged {
+        return Judgement::Refused(refusal);
+    }
+    check_rule(events, values, rule)
+}
+
+// Puts bytes at the front of a buffer.
+fn copy_in(from: &[u8], to: &mut [u8])
+    requires { ⌜ length (now from) ≤ length (now to) ⌝ }
+    ensures { λ _. ⌜ now (to .exit) ≡ put-in (now (from .entry)) (now (to .entry)) ⌝ }
+{
+    let mut i: usize = 0;
+    while i < from.len() {
+        to[i] = from[i];
+        i += 1;
+    }
+}
+
+// Entries and nodes of a file, judged and put into two buffers; both are looked at before any is written.
+fn store_pair(
+    events: usize,
+    values: usize,
+    top: usize,
+    count: usize,
+    entries: &[u8],
+    nodes: &[u8],
+    meet: &mut [u8],
+    rule: &mut [u8],
+) -> FileRead
+    ensures { λ r. ⌜ Keeps events values top count (now (entries .entry)) (now (nodes .entry)) (now (meet .entry)) (now (rule .entry)) (now (meet .exit)) (now (rule .exit)) r ⌝ }
+{
+    let judged = check_pair(events, values, top, entries, nodes);
+    if let Judgement::Refused(refusal) = judged {
+        return FileRead::Refused(refusal);
+    }
+    if meet.len() < entries.len() {
+        return FileRead::Refused(Refusal::Plain(BUFFER_LENGTH));
+    }
+    if rule.len() < nodes.len() {
+        return FileRead::Refused(Refusal::Plain(BUFFER_LENGTH));
+    }
+    copy_in(entries, meet);
+    copy_in(nodes, rule);
+    FileRead::Accepted(FileNumbers {
+        events,
+        values,
+        top,
+        entries: entries.len(),
+        nodes: count,
+    })
+}
+
+// Reads a channel file: its meet entries into one buffer and its rule's nodes, three bytes each, into the other.
+pub fn read_file(text: &[u8], meet: &mut [u8], rule: &mut [u8]) -> FileRead
+    ensures { λ r. ⌜ Reads (now (text .entry)) (now (meet .entry)) (now (rule .entry)) (now (meet .exit)) (now (rule .exit)) r ⌝ }
+{
+    match check_form(text) {
+        Checked::Refused(p) => FileRead::Refused(Refusal::At(TEXT_FORM, p)),
+        Checked::Form {
+            events,
+            values,
+            top,
+            entries,
+            items,
+            ..
+        } => {
+            let mut entry_bytes = [0u8; ENTRY_ROOM];
+            let mut node_bytes = [0u8; NODE_ROOM];
+            store_meet(text, &mut entry_bytes);
+            store_rule(text, &mut node_bytes);
+            let size = 3 * items;
+            store_pair(
+                events,
+                values,
+                top,
+                items,
+                &entry_bytes[..entries],
+                &node_bytes[..size],
+                meet,
+                rule,
+            )
+        }
+    }
+}
+
+// Writes a channel file from a set-up and the nodes of a rule, three bytes each.
+pub fn write_file(
+    events: usize,
+    values: usize,
+    top: usize,
+    meet: &[u8],
+    rule: &[u8],
+    to: &mut [u8],
+) -> Counted
+    ensures { λ r. ⌜ WritesFile events values top (now (meet .entry)) (now (rule .entry)) (now (to .entry)) (now (to .exit)) r ⌝ }
+{
+    let judged = check_pair(events, values, top, meet, rule);
+    if let Judgement::Refused(refusal) = judged {
+        return Counted::Refused(refusal);
+    }
+    let written = write_text(events as u8, values as u8, top as u8, meet, rule, to);
+    match written {
+        Written::Text(n) => Counted::Count(n),
+        Written::Long => Counted::Refused(Refusal::Plain(BUFFER_LENGTH)),
+        // an accepted rule has a token for each node
+        Written::Malformed => Counted::Refused(Refusal::Plain(NODE_COUNT)),
+    }
+}

@@ -1,0 +1,4 @@
+-- Texts put piece by piece; places that have a numeral; then the answers.
+pub mod Texts
+pub mod Places
+pub mod Answers

@@ -1,0 +1,5 @@
+-- In reading order.
+-- What is printed for a table and for a refusal.
+pub mod TableText
+-- What is printed for a text.
+pub mod Report

@@ -1,0 +1,80 @@
+-- What is printed for a text (document 01, "Channel file"): the table of its rule, or the refusal, where 4, 1 to 3, 5 to 9 and 10
+-- are looked at in this order.
+-- Assumes nothing.
+use Prim.Native.Nat.{ℕ, _+_, _*_, _≤_, _<_}
+use mathlib.Core.Path.{_≡_}
+use mathlib.Core.List.{List, _++_, _∷_, []}
+use mathlib.Core.Option.{Option, none, some}
+use lib.Dec.{leb}
+use lib.ListN.{length, replicate}
+use Rattle.refusal.specs.declared.Refusal.{Refusal}
+use Rattle.refusal.specs.declared.Refusal.the-variants.{Plain, At}
+use Rattle.refusal.specs.declared.Counted.{Counted}
+use Rattle.refusal.specs.Refusal.{plain-unless, counted}
+use Rattle.values.specs.Setup.{setup}
+use Rattle.text_format.specs.Format.{Outcome, contents, refused}
+use Rattle.channel_file.specs.ChannelFile.{Contents}
+use Rattle.channel_file.specs.Reading.{read-file}
+use Rattle.machines.specs.TableBytes.{machine-of}
+use Rattle.synthesis.specs.Compilation.{compile-refusal, setup-states, compile-contents}
+use Rattle.channel_io.specs.FileJudgement.{rule-numbers}
+use Rattle.channel_io.specs.FileReading.{put-unless}
+use Rattle.table_report.specs.TableText.{numeral, table-text, refusal-text}
+
+-- A buffer that has room for every table: 64 states, 16 events, two bytes an entry.
+unfoldable pub blank : List ℕ
+blank = replicate 2048 0
+
+-- The lines for an answer: those of a table in bytes, or of a refusal.
+unfoldable pub answer-text : Option Refusal → ℕ → ℕ → List ℕ → List ℕ
+answer-text none events n bytes = table-text events n (machine-of events bytes)
+answer-text (some refusal) events n bytes = refusal-text refusal
+
+-- For a set-up and a rule.
+unfoldable pub pair-text : ℕ → ℕ → ℕ → List ℕ → List ℕ → List ℕ
+pair-text events values top meet rule =
+    answer-text (compile-refusal 64 (setup events values top meet) rule blank) events (setup-states 64 (setup events values top meet) rule blank)
+    (compile-contents 64 (setup events values top meet) rule blank)
+
+-- For a text, by what the file reader says of it.
+unfoldable pub outcome-text : Outcome Contents → List ℕ
+outcome-text (refused p) = refusal-text (At 4 p)
+outcome-text (contents c) = pair-text (c .events) (c .values) (c .top) (c .meet) (rule-numbers c)
+
+abbrev pub report-text : List ℕ → List ℕ
+report-text t = outcome-text (read-file t)
+
+-- Answer and buffer of a call that renders the output for a text: its length, or 13.
+pub record Reports (t old new : List ℕ) (r : Counted) : Type 0 where
+  pub answer : r ≡ counted (plain-unless (leb (length (report-text t)) (length old)) 13) (length (report-text t))
+  pub buffer : new ≡ put-unless (plain-unless (leb (length (report-text t)) (length old)) 13) (report-text t) old
+
+-- What the private functions of src/ ask and say. A number and the byte behind it.
+abbrev pub item : ℕ → ℕ → List ℕ
+item v end = numeral v ++ (end ∷ [])
+
+-- A number that has a numeral.
+abbrev pub Printable : ℕ → Type 0
+Printable v = v < 10000
+
+abbrev pub PrintableRefusal : Refusal → Type 0
+PrintableRefusal (Plain n) = Unit {0}
+PrintableRefusal (At n p) = Printable p
+
+-- Every output has room in so many bytes.
+abbrev pub report-limit : ℕ
+report-limit = 24600
+
+pub record RowsRoom (at events count : ℕ) (table out : List ℕ) : Type 0 where
+  pub some-events : 1 ≤ events
+  pub few-events : events ≤ 16
+  pub few : count ≤ 1024
+  pub whole : count * 2 ≤ length table
+  pub room : at + count * 24 ≤ length out
+
+pub record TableRoom (events states : ℕ) (table out : List ℕ) : Type 0 where
+  pub some-events : 1 ≤ events
+  pub few-events : events ≤ 16
+  pub few-states : states ≤ 64
+  pub whole : length table ≡ 2048
+  pub room : report-limit ≤ length out
