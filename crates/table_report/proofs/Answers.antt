@@ -80,7 +80,7 @@ module _ (events values top : ℕ) (meet rule : List ℕ) where
   unfolding pair-text answer-text setup
   compiled-tabled n bytes e b =
       let a = counted-accepted (compile-refusal 64 s rule blank) (setup-states 64 s rule blank) n (sym e) in
-      let made = compile-claim 64 s rule blank (a .0) in
+      let made = compile-claim .accepted 64 s rule blank (a .0) in
       let w : WellFormed s = setup-accepted s .0 (setup-passed (a .0)) in
       let few : setup-states 64 s rule blank ≤ 64 = made .few in
       record {

@@ -2,3 +2,4 @@
 pub mod Texts
 pub mod Places
 pub mod Answers
+pub mod ReportClaims

@@ -3,3 +3,5 @@
 pub mod TableText
 -- What is printed for a text.
 pub mod Report
+-- What is claimed of it.
+pub mod Claims

@@ -1,0 +1,127 @@
+-- What is printed for a text is what document 01 asks for.
+-- Assumes nothing.
+use Prim.Native.Nat.{ℕ, _*_, _≤_}
+use mathlib.Core.Path.{_≡_, refl, sym, ap, ap₂, _∙_, subst}
+use mathlib.Core.Logic.{inl, inr}
+use mathlib.Core.List.{List, [], _∷_, _++_}
+use mathlib.Core.Bool.{Bool, true, false}
+use mathlib.Core.Option.{Option, none, some}
+use native.Mathlib.Omega.{arith}
+use native.Mathlib.Nat.{mul-le-mul}
+use lib.Dec.{leb}
+use lib.ListN.{length, length-replicate}
+use borrow.Author.Tests.{le-leb, leb-true}
+use Rattle.theory.specs.ValueSets.{Below, meetAt}
+use Rattle.refusal.specs.declared.Refusal.{Refusal}
+use Rattle.refusal.specs.declared.Refusal.the-variants.{At}
+use Rattle.refusal.specs.Refusal.{Condition, First, or-else, plain-unless}
+use Rattle.refusal.proofs.Refusals.{first-append, or-else-none, plain-none}
+use Rattle.values.specs.declared.ValueKind.the-variants.{Numbered}
+use Rattle.values.specs.ValueKind.{meetOf}
+use Rattle.values.specs.Setup.{Setup, setup, WellFormed, EventsFault, events-test, setup-conditions, setup-refusal}
+use Rattle.values.proofs.Setups.{setup-correct, setup-accepted}
+use Rattle.formulas.specs.NodeBytes.{three-bytes}
+use Rattle.formulas.specs.RuleConditions.{rule-conditions}
+use Rattle.formulas.specs.RuleRefusal.{rule-refusal}
+use Rattle.text_format.specs.Format.{Outcome, contents, refused}
+use Rattle.channel_file.specs.ChannelFile.{Contents}
+use Rattle.channel_file.specs.Reading.{AnswersFile, read-file}
+use Rattle.channel_file.proofs.Claims.{answer-claim}
+use Rattle.synthesis.specs.Compilation.{value-count, rule-states, rule-table-refusal, compile-rule-refusal, setup-states, compile-refusal, compile-contents}
+use Rattle.synthesis.specs.Claims.{states-condition}
+use Rattle.synthesis.proofs.CompileClaims.{compile-rule-claim, compile-claim}
+use Rattle.machines.specs.TableBytes.{machine-of}
+use Rattle.channel_io.specs.FileJudgement.{rule-numbers}
+use Rattle.table_report.specs.TableText.{table-text}
+use Rattle.table_report.specs.Report.{blank, answer-text, pair-text, outcome-text}
+use Rattle.table_report.specs.Claims.{report-conditions, Prints, off-form, refused as was-refused, table, ReportClaim}
+
+-- a refusal among the first conditions is the answer to all
+first-stop : (cs ds : List Condition) (r : Refusal) → First cs (some r) → First (cs ++ ds) (some r)
+unfolding First
+first-stop [] ds r x = let z : _≡_ {A = ℕ} 0 1 = cc in absurd (omega arith)
+first-stop (C ∷ cs) ds r (inl x) = inl x
+first-stop (C ∷ cs) ds r (inr (unmet, x)) = inr (unmet, first-stop cs ds r x)
+
+-- a first condition that is not met
+first-skip : (C : Condition) (cs : List Condition) (a : Option Refusal) → ((r : Refusal) → ¬ C r) → First (C ∷ cs) a → First cs a
+unfolding First
+first-skip C cs a unmet (inl (r, x, e)) = absurd (unmet r x)
+first-skip C cs a unmet (inr (u, x)) = x
+
+module _ (events values top : ℕ) (meet rule : List ℕ) where
+  abbrev s : Setup
+  s = setup events values top meet
+
+  abbrev X : Option Refusal
+  X = rule-table-refusal (Numbered values) events top meet rule 64
+
+  abbrev N : ℕ
+  N = rule-states (Numbered values) events top meet rule 64
+
+  abbrev rest : List Condition
+  rest = rule-conditions 3 three-bytes 256 events (Below values) rule ++ (states-condition (meetAt values meet) top events values rule 64 ∷ [])
+
+  skipped : events-test events ≡ true → compile-rule-refusal (Numbered values) events top meet rule 64 ≡ X
+  unfolding compile-rule-refusal or-else plain-unless
+  skipped p = ap (λ (b : Bool). or-else (plain-unless b 1) X) p
+
+  rest-first : setup-refusal s ≡ none → First rest X
+  unfolding setup setup-refusal meetOf value-count
+  rest-first e =
+      let w : WellFormed s = setup-accepted s .0 e in
+      let passed = plain-none (events-test events) 1 (or-else-none (plain-unless (events-test events) 1) _ e .0) in
+      let all = compile-rule-claim 64 (Numbered values) events top meet rule (omega arith) (w .laws) .0 in
+      subst (First rest) (skipped passed)
+      (first-skip _ rest _ (λ r f. f .0 (w .some-events, w .few-events)) all)
+
+  blank-length : length blank ≡ 2048
+  unfolding blank
+  blank-length = length-replicate {A = ℕ} 2048 0
+
+  -- 13 is not met
+  room : (o : Option Refusal) → X ≡ o → events ≤ 16 → or-else o (plain-unless (leb (N * events * 2) (length blank)) 13) ≡ o
+  unfolding or-else rule-table-refusal plain-unless
+  room (some r) e h = refl
+  room none e h =
+      let few = leb-true N 64 (plain-none (leb N 64) 10 (or-else-none (rule-refusal events (value-count (Numbered values)) rule) _ e .1)) in
+      ap (λ (b : Bool). plain-unless b 13) (le-leb (N * events * 2) (length blank) (let m = mul-le-mul few h in omega (arith, blank-length)))
+
+  report-first : First (setup-conditions s ++ rest) (compile-refusal 64 s rule blank)
+  unfolding compile-refusal or-else setup
+  report-first = go (setup-refusal s) refl
+    where
+      go : (o : Option Refusal) → setup-refusal s ≡ o → First (setup-conditions s ++ rest) (compile-refusal 64 s rule blank)
+      go (some r) e =
+          subst (First (setup-conditions s ++ rest))
+          (sym (ap (λ (o : Option Refusal). or-else o (or-else X (plain-unless (leb (N * events * 2) (length blank)) 13))) e))
+          (first-stop (setup-conditions s) rest r (subst (First (setup-conditions s)) e (setup-correct .first s)))
+      go none e =
+          let w : WellFormed s = setup-accepted s .0 e in
+          subst (First (setup-conditions s ++ rest))
+          (sym (ap (λ (o : Option Refusal). or-else o (or-else X (plain-unless (leb (N * events * 2) (length blank)) 13))) e ∙ room X refl (w .few-events)))
+          (first-append (setup-conditions s) rest none X (subst (First (setup-conditions s)) e (setup-correct .first s)) (rest-first e))
+
+-- ---- a text
+module _ (t : List ℕ) where
+  table-printed : (c : Contents) → AnswersFile t (contents c) → compile-refusal 64 (setup (c .events) (c .values) (c .top) (c .meet)) (rule-numbers c) blank ≡ none
+      → Prints t (table-text (c .events) (setup-states 64 (setup (c .events) (c .values) (c .top) (c .meet)) (rule-numbers c) blank)
+      (machine-of (c .events) (compile-contents 64 (setup (c .events) (c .values) (c .top) (c .meet)) (rule-numbers c) blank)))
+  unfolding setup
+  table-printed c a e =
+      table c _ _ a (subst (First (report-conditions c)) e (report-first (c .events) (c .values) (c .top) (c .meet) (rule-numbers c)))
+      (compile-claim .accepted 64 (setup (c .events) (c .values) (c .top) (c .meet)) (rule-numbers c) blank e .table)
+
+  printed : (x : Outcome Contents) → AnswersFile t x → Prints t (outcome-text x)
+  unfolding outcome-text pair-text answer-text
+  printed (refused p) a = off-form p a
+  printed (contents c) a = go (compile-refusal 64 (setup (c .events) (c .values) (c .top) (c .meet)) (rule-numbers c) blank) refl
+    where
+      go : (o : Option Refusal) → compile-refusal 64 (setup (c .events) (c .values) (c .top) (c .meet)) (rule-numbers c) blank ≡ o
+          → Prints t (answer-text o (c .events) (setup-states 64 (setup (c .events) (c .values) (c .top) (c .meet)) (rule-numbers c) blank)
+          (compile-contents 64 (setup (c .events) (c .values) (c .top) (c .meet)) (rule-numbers c) blank))
+      go (some r) e = was-refused c r a (subst (First (report-conditions c)) e (report-first (c .events) (c .values) (c .top) (c .meet) (rule-numbers c)))
+      go none e = table-printed c a e
+
+pub report-claim : ReportClaim
+report-claim t = printed t (read-file t) (answer-claim t)
