@@ -1,0 +1,63 @@
+//! The rule of a table: the characteristic formula of a state.
+
+use crate::formula::{Node, Rule, MAX_NODES};
+use crate::table::{Lent, Table, MAX_STATES};
+use crate::values::{RawSetUp, SetUp};
+use crate::Refusal;
+
+/// The rule of a table from a start state: refusal 12. Writing stops at node 257, since the whole may be very long.
+pub fn rule_of(table: &Table, start: usize) -> Result<Rule, Refusal> {
+    let mut writer = Writer { table, open: [None; MAX_STATES], depth: 0, nodes: Vec::new() };
+    writer.state(start)?;
+    Ok(Rule::from_nodes(writer.nodes).expect("each rule so written is accepted as a rule"))
+}
+
+/// Writes the rule of a table handed in into lent memory and returns its size in nodes: refusals 1 to 3, 11, 12, 13.
+pub fn write_rule(set_up: &RawSetUp, table: Lent<'_>, lent: &mut [u8]) -> Result<usize, Refusal> {
+    let set_up = SetUp::new(set_up.clone())?;
+    rule_of(&table.table(&set_up)?, table.start)?.write_bytes(lent)
+}
+
+struct Writer<'a> {
+    table: &'a Table,
+    /// For each state open on the path, how many binders lie around its own.
+    open: [Option<u8>; MAX_STATES],
+    depth: u8,
+    nodes: Vec<Node>,
+}
+
+impl Writer<'_> {
+    fn state(&mut self, state: usize) -> Result<(), Refusal> {
+        // "A state already open on the path is written as X."
+        if let Some(around) = self.open[state] {
+            return self.node(Node::Variable(self.depth - around - 1));
+        }
+        // "V, then for each event in rising order G event (rule of the next state), O event.value, joined by A nested to the
+        // right."
+        self.node(Node::Greatest)?;
+        self.open[state] = Some(self.depth);
+        self.depth += 1;
+        for event in 0..self.table.events() {
+            let entry = self.table.entry(state, event);
+            self.node(Node::Both)?;
+            self.node(Node::After(event as u8))?;
+            self.state(usize::from(entry.next))?;
+            if event + 1 < self.table.events() {
+                self.node(Node::Both)?;
+            }
+            self.node(Node::Output(event as u8, entry.value))?;
+        }
+        self.depth -= 1;
+        self.open[state] = None;
+        Ok(())
+    }
+
+    /// 12: "written rule over 256 nodes".
+    fn node(&mut self, node: Node) -> Result<(), Refusal> {
+        if self.nodes.len() == MAX_NODES {
+            return Err(Refusal::new(12));
+        }
+        self.nodes.push(node);
+        Ok(())
+    }
+}

@@ -1,0 +1,199 @@
+//! Rules: from bytes to a checked formula and back, refusals 5 to 9, and the formula semantics.
+
+mod semantics;
+
+pub use semantics::{Formulas, Id};
+
+use crate::refusal::room;
+use crate::values::SetUp;
+use crate::Refusal;
+
+/// "1 to 256 nodes."
+pub const MAX_NODES: usize = 256;
+/// "A node is three bytes: kind, first, second".
+pub const NODE_BYTES: usize = 3;
+
+/// A node, by document 01's letters.
+#[derive(Clone, Copy, Debug, PartialEq, Eq, Hash)]
+pub enum Node {
+    /// "0 T: demands nothing."
+    True,
+    /// "1 X: variable; first = how many binders lie between it and its own (0 = innermost)."
+    Variable(u8),
+    /// "2 G: first = event; one part, the rule after that event."
+    After(u8),
+    /// "3 O: first = event, second = value; the value on that event is at or below it."
+    Output(u8, u8),
+    /// "4 A: both of two parts."
+    Both,
+    /// "5 V: binder, greatest fixed point; one part."
+    Greatest,
+}
+
+impl Node {
+    /// The node of three bytes, or nothing where 6 refuses it: "unknown kind, event or value too large, unused field not 0".
+    pub fn from_bytes(set_up: &SetUp, kind: u8, first: u8, second: u8) -> Option<Node> {
+        let event = usize::from(first) < set_up.events();
+        let value = usize::from(second) < set_up.values();
+        match (kind, first, second) {
+            (0, 0, 0) => Some(Node::True),
+            (1, index, 0) => Some(Node::Variable(index)),
+            (2, _, 0) if event => Some(Node::After(first)),
+            (3, _, _) if event && value => Some(Node::Output(first, second)),
+            (4, 0, 0) => Some(Node::Both),
+            (5, 0, 0) => Some(Node::Greatest),
+            _ => None,
+        }
+    }
+
+    /// "kind, first, second; an unused field is 0".
+    pub fn to_bytes(self) -> [u8; NODE_BYTES] {
+        match self {
+            Node::True => [0, 0, 0],
+            Node::Variable(index) => [1, index, 0],
+            Node::After(event) => [2, event, 0],
+            Node::Output(event, value) => [3, event, value],
+            Node::Both => [4, 0, 0],
+            Node::Greatest => [5, 0, 0],
+        }
+    }
+
+    /// How many parts follow the node.
+    pub fn parts(self) -> usize {
+        match self {
+            Node::True | Node::Variable(_) | Node::Output(..) => 0,
+            Node::After(_) | Node::Greatest => 1,
+            Node::Both => 2,
+        }
+    }
+}
+
+/// A rule that 5 to 9 do not refuse: "a node, then its parts".
+#[derive(Clone, Debug, PartialEq, Eq)]
+pub struct Rule {
+    nodes: Vec<Node>,
+    /// For A the number of its second part, for X the number of its binder, 0 for the others.
+    links: Vec<u16>,
+}
+
+/// Where the next node stands.
+struct Position {
+    /// "two kinds of position, open to a variable and closed to it".
+    open: bool,
+    /// The innermost V around it.
+    binder: Option<usize>,
+    /// The A whose second part it is.
+    second_of: Option<usize>,
+}
+
+impl Rule {
+    /// Checks a rule in bytes: refusals 5 to 9.
+    pub fn from_bytes(set_up: &SetUp, bytes: &[u8]) -> Result<Rule, Refusal> {
+        // 5: "no nodes, over 256, or bytes left over after the last whole node".
+        if bytes.is_empty() || bytes.len() > MAX_NODES * NODE_BYTES || !bytes.len().is_multiple_of(NODE_BYTES) {
+            return Err(Refusal::new(5));
+        }
+        // 6: "place = lowest such node".
+        let nodes = bytes
+            .chunks_exact(NODE_BYTES)
+            .enumerate()
+            .map(|(place, node)| Node::from_bytes(set_up, node[0], node[1], node[2]).ok_or(Refusal::at(6, place)))
+            .collect::<Result<Vec<Node>, Refusal>>()?;
+        Rule::from_nodes(nodes)
+    }
+
+    /// Refusals 7 to 9 on 1 to 256 nodes that 6 does not refuse.
+    pub(crate) fn from_nodes(nodes: Vec<Node>) -> Result<Rule, Refusal> {
+        check_count(&nodes)?;
+        let links = link(&nodes)?;
+        Ok(Rule { nodes, links })
+    }
+
+    /// The nodes in prefix order.
+    pub fn nodes(&self) -> &[Node] {
+        &self.nodes
+    }
+
+    /// The number of an A node's second part; its first part, like that of G and V, is the node after it.
+    pub fn second(&self, both: usize) -> usize {
+        debug_assert_eq!(self.nodes[both], Node::Both);
+        usize::from(self.links[both])
+    }
+
+    /// The number of an X node's binder.
+    pub fn binder(&self, variable: usize) -> usize {
+        debug_assert!(matches!(self.nodes[variable], Node::Variable(_)));
+        usize::from(self.links[variable])
+    }
+
+    /// The rule in bytes.
+    pub fn to_bytes(&self) -> Vec<u8> {
+        self.nodes.iter().flat_map(|node| node.to_bytes()).collect()
+    }
+
+    /// Writes the rule into lent memory and returns its size in nodes; 13, three bytes a node.
+    pub fn write_bytes(&self, lent: &mut [u8]) -> Result<usize, Refusal> {
+        room(lent, self.nodes.len() * NODE_BYTES)?;
+        for (bytes, node) in lent.chunks_exact_mut(NODE_BYTES).zip(&self.nodes) {
+            bytes.copy_from_slice(&node.to_bytes());
+        }
+        Ok(self.nodes.len())
+    }
+}
+
+/// 7: "nodes run out (place = node count) or are left over (place = first of them)".
+fn check_count(nodes: &[Node]) -> Result<(), Refusal> {
+    let mut wanted = 1;
+    for (place, node) in nodes.iter().enumerate() {
+        if wanted == 0 {
+            return Err(Refusal::at(7, place));
+        }
+        wanted = wanted - 1 + node.parts();
+    }
+    if wanted > 0 {
+        return Err(Refusal::at(7, nodes.len()));
+    }
+    Ok(())
+}
+
+/// Finds second parts and binders of a finished tree: refusals 8 and 9, 8 on all variables first.
+fn link(nodes: &[Node]) -> Result<Vec<u16>, Refusal> {
+    let mut links = vec![0; nodes.len()];
+    // The binder around each V, so that a variable finds its own by going outwards.
+    let mut around = vec![None; nodes.len()];
+    let mut lowest_closed = None;
+    // "The root and the part of V are closed; the part of G is open; the parts of A are as A is."
+    let mut waiting = vec![Position { open: false, binder: None, second_of: None }];
+    for (number, &node) in nodes.iter().enumerate() {
+        let position = waiting.pop().expect("7 has been tested");
+        if let Some(both) = position.second_of {
+            links[both] = number as u16;
+        }
+        let Position { open, binder, .. } = position;
+        match node {
+            Node::True | Node::Output(..) => {}
+            Node::Variable(index) => {
+                // 8: "variable without binder; place = lowest".
+                let own = (0..index).fold(binder, |binder, _| binder.and_then(|v: usize| around[v]));
+                links[number] = own.ok_or(Refusal::at(8, number))? as u16;
+                // 9: "variable in a closed position; place = lowest".
+                if !open && lowest_closed.is_none() {
+                    lowest_closed = Some(number);
+                }
+            }
+            Node::After(_) => waiting.push(Position { open: true, binder, second_of: None }),
+            Node::Both => {
+                waiting.push(Position { open, binder, second_of: Some(number) });
+                waiting.push(Position { open, binder, second_of: None });
+            }
+            Node::Greatest => {
+                around[number] = binder;
+                waiting.push(Position { open: false, binder: Some(number), second_of: None });
+            }
+        }
+    }
+    match lowest_closed {
+        Some(place) => Err(Refusal::at(9, place)),
+        None => Ok(links),
+    }
+}

@@ -1,0 +1,512 @@
+//! Seeded random inputs, good and damaged, for property tests and for comparing two versions. Equal seeds give equal inputs.
+
+use crate::channel_file;
+use crate::formula::{Node, Rule, MAX_NODES};
+use crate::table::{Entry, Table, MAX_STATES};
+use crate::tool::Call;
+use crate::values::{RawSetUp, SetUp, MAX_VALUES};
+
+/// A xorshift generator.
+#[derive(Clone, Debug)]
+pub struct Generator {
+    state: u64,
+}
+
+/// A table as it is handed in: any numbers, any bytes.
+#[derive(Clone, Debug, PartialEq, Eq)]
+pub struct RawTable {
+    /// How many states it claims.
+    pub states: usize,
+    /// The start.
+    pub start: usize,
+    /// The entries in bytes.
+    pub bytes: Vec<u8>,
+}
+
+impl RawTable {
+    /// The table as the calls take it.
+    pub fn lent(&self) -> crate::table::Lent<'_> {
+        crate::table::Lent { states: self.states, start: self.start, bytes: &self.bytes }
+    }
+}
+
+/// Numbers of the first lines of a file, or of a set-up, that are out of range; some of them wrap to a good byte.
+const LARGE: [usize; 8] = [16, 17, 18, 64, 255, 256, 258, 999];
+
+impl Generator {
+    /// A generator for a seed.
+    pub fn new(seed: u64) -> Generator {
+        // The state must not be 0; near seeds are set apart.
+        let state = (seed ^ 0x9e37_79b9_7f4a_7c15).wrapping_mul(0xbf58_476d_1ce4_e5b9) | 1;
+        let mut generator = Generator { state };
+        for _ in 0..8 {
+            generator.bits();
+        }
+        generator
+    }
+
+    /// The next 64 bits.
+    pub fn bits(&mut self) -> u64 {
+        self.state ^= self.state << 13;
+        self.state ^= self.state >> 7;
+        self.state ^= self.state << 17;
+        self.state.wrapping_mul(0x2545_f491_4f6c_dd1d)
+    }
+
+    /// A number below the bound, which is not 0.
+    pub fn below(&mut self, bound: usize) -> usize {
+        ((self.bits() >> 32) as usize) % bound
+    }
+
+    /// A number from low to high, both included.
+    pub fn between(&mut self, low: usize, high: usize) -> usize {
+        low + self.below(high - low + 1)
+    }
+
+    /// True once in so many times.
+    pub fn once_in(&mut self, times: usize) -> bool {
+        self.below(times) == 0
+    }
+
+    /// One of these.
+    pub fn one_of<T: Copy>(&mut self, these: &[T]) -> T {
+        these[self.below(these.len())]
+    }
+
+    /// Bytes of any kind.
+    pub fn bytes(&mut self, length: usize) -> Vec<u8> {
+        (0..length).map(|_| self.bits() as u8).collect()
+    }
+
+    // Set-ups.
+
+    /// A lawful set-up. Its values stand for sets closed under intersection, as in every finite meet-semilattice with a top.
+    pub fn set_up(&mut self) -> SetUp {
+        let events = if self.once_in(8) { self.between(1, 16) } else { self.between(1, 3) };
+        let raw = if self.once_in(4) { RawSetUp::four_values(events) } else { self.lawful(events) };
+        SetUp::new(raw).expect("intersections obey the laws")
+    }
+
+    fn lawful(&mut self, events: usize) -> RawSetUp {
+        let members = self.between(0, 6);
+        let full = (1usize << members) - 1;
+        let wanted = self.between(1, MAX_VALUES);
+        let mut sets = vec![full];
+        for _ in 0..16 {
+            let set = self.below(full + 1);
+            let mut more = sets.clone();
+            more.extend(sets.iter().map(|other| other & set));
+            more.sort_unstable();
+            more.dedup();
+            if more.len() <= wanted {
+                sets = more;
+            }
+        }
+        // Values are numbered in any order.
+        for index in (1..sets.len()).rev() {
+            let other = self.below(index + 1);
+            sets.swap(index, other);
+        }
+        let number = |set: usize| sets.iter().position(|&other| other == set).expect("closed under intersection");
+        let meet = sets.iter().flat_map(|b| sets.iter().map(move |c| b & c)).map(|set| number(set) as u8).collect();
+        RawSetUp { events, values: sets.len(), top: number(full), meet }
+    }
+
+    /// A set-up damaged in one way. A damaged entry may by chance be lawful again, so the refusal is for the caller to find.
+    pub fn damaged_set_up(&mut self) -> RawSetUp {
+        let mut raw = self.set_up().raw().clone();
+        let values = raw.values;
+        match self.below(10) {
+            0 => raw.events = if self.once_in(3) { 0 } else { self.one_of(&LARGE[1..]) },
+            1 => raw.values = if self.once_in(3) { 0 } else { self.one_of(&LARGE[1..]) },
+            2 => raw.top = if self.once_in(2) { values } else { values + self.one_of(&LARGE) },
+            3 => drop(raw.meet.pop()),
+            4 => raw.meet.push(0),
+            5 => raw.meet.clear(),
+            6 => {
+                let at = self.below(raw.meet.len());
+                raw.meet[at] = self.one_of(&[values as u8, 16, 255]).max(values as u8);
+            }
+            // One entry: idempotence, commutativity or top.
+            7 => {
+                let at = self.below(raw.meet.len());
+                raw.meet[at] = self.below(values) as u8;
+            }
+            // Two entries that mirror each other: top or associativity.
+            8 => {
+                let (b, c, value) = (self.below(values), self.below(values), self.below(values) as u8);
+                raw.meet[b * values + c] = value;
+                raw.meet[c * values + b] = value;
+            }
+            _ => raw.top = self.below(values),
+        }
+        raw
+    }
+
+    // Rules.
+
+    /// A rule; most are small.
+    pub fn rule(&mut self, set_up: &SetUp) -> Rule {
+        let size = if self.once_in(8) { self.between(1, MAX_NODES) } else { self.between(1, 24) };
+        self.rule_of_size(set_up, size)
+    }
+
+    /// A rule of so many nodes, 1 to 256.
+    pub fn rule_of_size(&mut self, set_up: &SetUp, size: usize) -> Rule {
+        let mut nodes = Vec::with_capacity(size);
+        self.part(set_up, size, false, 0, &mut nodes);
+        let bytes: Vec<u8> = nodes.iter().flat_map(|node| node.to_bytes()).collect();
+        Rule::from_bytes(set_up, &bytes).expect("no refusal holds of the rule")
+    }
+
+    /// A part of so many nodes in an open or closed position under so many binders.
+    fn part(&mut self, set_up: &SetUp, size: usize, open: bool, binders: usize, nodes: &mut Vec<Node>) {
+        let event = self.below(set_up.events()) as u8;
+        if size == 1 {
+            nodes.push(if open && binders > 0 && !self.once_in(4) {
+                Node::Variable(self.below(binders) as u8)
+            } else if self.once_in(5) {
+                Node::True
+            } else {
+                Node::Output(event, self.below(set_up.values()) as u8)
+            });
+        } else if size >= 3 && !self.once_in(3) {
+            let first = self.between(1, size - 2);
+            nodes.push(Node::Both);
+            self.part(set_up, first, open, binders, nodes);
+            self.part(set_up, size - 1 - first, open, binders, nodes);
+        } else if self.once_in(3) {
+            nodes.push(Node::Greatest);
+            self.part(set_up, size - 1, false, binders + 1, nodes);
+        } else {
+            nodes.push(Node::After(event));
+            self.part(set_up, size - 1, true, binders, nodes);
+        }
+    }
+
+    /// A rule of loops of different lengths, which has many states and often too many.
+    pub fn rule_of_loops(&mut self, set_up: &SetUp) -> Rule {
+        let loops = self.between(1, 4);
+        let mut nodes = Vec::new();
+        for index in 0..loops {
+            if index + 1 < loops {
+                nodes.push(Node::Both);
+            }
+            nodes.push(Node::Greatest);
+            let event = self.below(set_up.events()) as u8;
+            for _ in 0..self.one_of(&[1, 2, 3, 4, 5, 7, 8, 13]) {
+                nodes.push(Node::After(event));
+                if self.once_in(3) {
+                    nodes.push(Node::Both);
+                    nodes.push(Node::Output(event, self.below(set_up.values()) as u8));
+                }
+            }
+            nodes.push(Node::Variable(0));
+        }
+        let bytes: Vec<u8> = nodes.iter().flat_map(|node| node.to_bytes()).collect();
+        Rule::from_bytes(set_up, &bytes).expect("no refusal holds of the rule")
+    }
+
+    /// A rule in bytes, damaged in one way. The refusal is for the caller to find, since damage may by chance be harmless.
+    pub fn damaged_rule(&mut self, set_up: &SetUp) -> Vec<u8> {
+        let mut bytes = self.rule(set_up).to_bytes();
+        let nodes = bytes.len() / 3;
+        let node = 3 * self.below(nodes);
+        match self.below(17) {
+            // 5
+            0 => bytes.clear(),
+            1 => bytes.resize(3 * MAX_NODES + self.between(1, 6), 0),
+            2 => bytes.truncate(bytes.len() - self.between(1, 2)),
+            3 => bytes.push(0),
+            // 6
+            4 => bytes[node] = self.one_of(&[6, 7, 128, 255]),
+            5 => bytes[node + 1] = self.one_of(&[1, 16, 17, 255]),
+            6 => bytes[node + 2] = self.one_of(&[1, 16, 17, 255]),
+            // 7
+            7 => bytes.truncate(3 * self.between(1, nodes)),
+            8 => bytes.extend_from_slice(&[0, 0, 0]),
+            9 => bytes[node..node + 3].copy_from_slice(&[4, 0, 0]),
+            // 8 and 9
+            10 => {
+                let index = if self.once_in(2) { 0 } else { self.bits() as u8 };
+                bytes[node..node + 3].copy_from_slice(&[1, index, 0]);
+            }
+            11..=14 => bytes = self.misplaced_variables(set_up).iter().flat_map(|node| node.to_bytes()).collect(),
+            // Any of them, often several.
+            15 => {
+                for _ in 0..self.between(1, 4) {
+                    let at = self.below(bytes.len());
+                    bytes[at] = self.below(8) as u8;
+                }
+            }
+            _ => {
+                let length = self.below(40);
+                bytes = (0..length).map(|_| self.below(7) as u8).collect();
+            }
+        }
+        bytes
+    }
+
+    /// A whole tree some of whose leaves have become variables, mostly of binders around them: often 9, at times 8.
+    fn misplaced_variables(&mut self, set_up: &SetUp) -> Vec<Node> {
+        let mut nodes = self.rule(set_up).nodes().to_vec();
+        // How many binders lie around each node still to come.
+        let mut waiting = vec![0];
+        for node in &mut nodes {
+            let binders = waiting.pop().expect("the rule is whole");
+            let within = binders + usize::from(*node == Node::Greatest);
+            waiting.extend(std::iter::repeat_n(within, node.parts()));
+            if node.parts() == 0 && binders > 0 && self.once_in(3) {
+                *node = Node::Variable(self.below(binders) as u8);
+            } else if node.parts() == 0 && self.once_in(20) {
+                *node = Node::Variable((binders + self.below(2)) as u8);
+            }
+        }
+        nodes
+    }
+
+    // Words and tables.
+
+    /// A word of so many events.
+    pub fn word(&mut self, set_up: &SetUp, length: usize) -> Vec<u8> {
+        (0..length).map(|_| self.below(set_up.events()) as u8).collect()
+    }
+
+    /// A table and a start; most are small.
+    pub fn table(&mut self, set_up: &SetUp) -> RawTable {
+        let states = if self.once_in(8) { self.between(1, MAX_STATES) } else { self.between(1, 5) };
+        let bytes =
+            (0..states * set_up.events()).flat_map(|_| [self.below(set_up.values()) as u8, self.below(states) as u8]).collect();
+        RawTable { states, start: self.below(states), bytes }
+    }
+
+    /// A table that may be written as a rule: next states seldom go back far, so few paths are long.
+    pub fn chain(&mut self, set_up: &SetUp) -> RawTable {
+        let states = self.between(1, 12);
+        let bytes = (0..states)
+            .flat_map(|state| (0..set_up.events()).map(move |event| (state, event)))
+            .flat_map(|(state, event)| {
+                let next = if event == 0 { (state + 1).min(states - 1) } else { self.below(state + 1) };
+                [self.below(set_up.values()) as u8, next as u8]
+            })
+            .collect();
+        RawTable { states, start: 0, bytes }
+    }
+
+    /// A device made from a table: states doubled, values lowered, so that it passes against that table; and often one value
+    /// set anew, so that it may fail.
+    pub fn device_near(&mut self, set_up: &SetUp, table: &Table) -> RawTable {
+        let copies = if table.states() * 2 <= MAX_STATES { self.between(1, 2) } else { 1 };
+        let states = copies * table.states();
+        let mut bytes = Vec::with_capacity(2 * states * set_up.events());
+        for state in 0..states {
+            for event in 0..set_up.events() {
+                let Entry { value, next } = table.entry(state / copies, event);
+                let value = if self.once_in(2) { set_up.meet(value, self.below(set_up.values()) as u8) } else { value };
+                bytes.extend_from_slice(&[value, next * copies as u8 + self.below(copies) as u8]);
+            }
+        }
+        if self.once_in(2) {
+            let at = 2 * self.below(bytes.len() / 2);
+            bytes[at] = self.below(set_up.values()) as u8;
+        }
+        RawTable { states, start: self.below(copies), bytes }
+    }
+
+    /// A table damaged in one way that 11 refuses.
+    pub fn damaged_table(&mut self, set_up: &SetUp) -> RawTable {
+        let mut table = self.table(set_up);
+        match self.below(8) {
+            0 => {
+                table.states = 0;
+                table.start = 0;
+                table.bytes.clear();
+            }
+            1 => {
+                table.states = self.one_of(&[65, 66, 255, 256, 257]);
+                table.bytes = vec![0; 2 * table.states * set_up.events()];
+            }
+            2 => table.states += 1,
+            3 => table.bytes.truncate(table.bytes.len() - self.between(1, 2)),
+            4 => {
+                let more = self.between(1, 2);
+                table.bytes.extend(std::iter::repeat_n(0, more));
+            }
+            5 => table.start = table.states + self.one_of(&[0, 1, 255, usize::MAX / 2]),
+            6 => {
+                let at = 2 * self.below(table.bytes.len() / 2);
+                table.bytes[at] = self.one_of(&[set_up.values() as u8, 16, 255]);
+            }
+            _ => {
+                let at = 2 * self.below(table.bytes.len() / 2) + 1;
+                table.bytes[at] = self.one_of(&[table.states as u8, 64, 255]).max(table.states as u8);
+            }
+        }
+        table
+    }
+
+    // Calls on a tool.
+
+    /// A list of calls, damaged inputs among them. Few channels are used much, so that their histories grow long.
+    pub fn calls(&mut self, set_up: &SetUp, length: usize) -> Vec<Call> {
+        (0..length).map(|_| self.call(set_up)).collect()
+    }
+
+    fn call(&mut self, set_up: &SetUp) -> Call {
+        let channel = match self.below(20) {
+            0 => self.one_of(&[8, 9, 16, 255, 256, 257, usize::MAX]),
+            1..=4 => self.below(8),
+            _ => self.below(2),
+        };
+        match self.below(30) {
+            0..=3 => Call::Load { channel, rule: self.rule(set_up).to_bytes() },
+            4 => Call::Load { channel, rule: self.rule_of_loops(set_up).to_bytes() },
+            5 => Call::Load { channel, rule: self.damaged_rule(set_up) },
+            6 => Call::RestartOne { channel },
+            7 => Call::RestartAll,
+            8 => Call::Clear { channel },
+            9 => Call::Event { channel, event: self.one_of(&[set_up.events(), 16, 17, 255, 256, usize::MAX]) },
+            _ => Call::Event { channel, event: self.below(set_up.events()) },
+        }
+    }
+
+    // Files.
+
+    /// A channel file.
+    pub fn file(&mut self) -> Vec<u8> {
+        let set_up = self.set_up();
+        let rule = if self.once_in(6) { self.rule_of_loops(&set_up) } else { self.rule(&set_up) };
+        channel_file::to_text(&set_up, &rule).into_bytes()
+    }
+
+    /// A text in the form whose numbers and items are any, so that 1 to 3 and 5 to 10 arise.
+    pub fn loose_file(&mut self) -> Vec<u8> {
+        let file = self.file();
+        let text = String::from_utf8(file).expect("a file is plain text");
+        let mut lines: Vec<String> = text.lines().map(str::to_string).collect();
+        if self.once_in(4) {
+            // The rule line alone, so that 8 and 9 are not hidden by what comes before them.
+            let set_up = channel_file::read(text.as_bytes()).expect("a file is accepted").set_up;
+            let mut line = "rule=".to_string();
+            channel_file::push_items(&mut line, &self.misplaced_variables(&set_up));
+            lines[4] = line;
+            return (lines.join("\n") + "\n").into_bytes();
+        }
+        for _ in 0..self.between(1, 2) {
+            match self.below(8) {
+                0 => lines[0] = format!("events={}", self.loose_number()),
+                1 => lines[1] = format!("values={}", self.loose_number()),
+                2 => lines[2] = format!("top={}", self.loose_number()),
+                3 => {
+                    let mut items: Vec<String> = lines[3]["meet=".len()..].split(' ').map(str::to_string).collect();
+                    let at = self.below(items.len());
+                    match self.below(3) {
+                        0 => items[at] = self.loose_number().to_string(),
+                        1 if items.len() > 1 => drop(items.remove(at)),
+                        _ => items.insert(at, "0".to_string()),
+                    }
+                    lines[3] = format!("meet={}", items.join(" "));
+                }
+                _ => {
+                    let mut items: Vec<String> = lines[4]["rule=".len()..].split(' ').map(str::to_string).collect();
+                    for _ in 0..self.between(1, 2) {
+                        let at = self.below(items.len());
+                        match self.below(4) {
+                            0 if items.len() > 1 => drop(items.remove(at)),
+                            1 => items.insert(at, self.loose_item()),
+                            _ => items[at] = self.loose_item(),
+                        }
+                    }
+                    if self.once_in(12) {
+                        let item = self.loose_item();
+                        let more = self.between(250, 300);
+                        items.extend(std::iter::repeat_n(item, more));
+                    }
+                    lines[4] = format!("rule={}", items.join(" "));
+                }
+            }
+        }
+        (lines.join("\n") + "\n").into_bytes()
+    }
+
+    /// A text in the form of exactly so many bytes, at least 100; its rule has too many nodes left over or more than 256.
+    pub fn long_file(&mut self, length: usize) -> Vec<u8> {
+        let set_up = SetUp::new(RawSetUp::four_values(2)).expect("the four-value set is lawful");
+        let rule = self.rule_of_size(&set_up, 2);
+        let mut text = channel_file::to_text(&set_up, &rule).into_bytes();
+        text.pop();
+        if (length - text.len()).is_multiple_of(2) {
+            text.extend_from_slice(b" G0");
+        }
+        while text.len() + 1 < length {
+            text.extend_from_slice(self.one_of(&[b" T", b" A", b" V"]));
+        }
+        text.push(b'\n');
+        text
+    }
+
+    fn long_file_near_limit(&mut self) -> Vec<u8> {
+        let length = channel_file::MAX_BYTES + self.below(4) - 1;
+        self.long_file(length)
+    }
+
+    fn loose_number(&mut self) -> usize {
+        match self.below(3) {
+            0 => self.one_of(&LARGE),
+            1 => self.below(1000),
+            _ => self.below(17),
+        }
+    }
+
+    fn loose_item(&mut self) -> String {
+        match self.below(6) {
+            0 => "T".to_string(),
+            1 => "A".to_string(),
+            2 => "V".to_string(),
+            3 => format!("X{}", if self.once_in(2) { self.below(3) } else { self.loose_number() }),
+            4 => format!("G{}", if self.once_in(2) { 0 } else { self.loose_number() }),
+            _ => format!("O{}.{}", self.loose_number(), self.loose_number()),
+        }
+    }
+
+    /// A text damaged in its bytes, so that mostly 4 arises.
+    pub fn damaged_file(&mut self) -> Vec<u8> {
+        const BYTES: &[u8] = b"\n\r\t \0.=0123456789TXGOAVtxgoaveventsvaluestopmeetrule\x7f\x80\xff";
+        let mut text = if self.once_in(3) { self.loose_file() } else { self.file() };
+        for _ in 0..self.one_of(&[1, 1, 1, 2, 3]) {
+            let at = self.below(text.len());
+            match self.below(9) {
+                0 => text[at] = self.one_of(BYTES),
+                1 => text[at] = self.bits() as u8,
+                2 => drop(text.remove(at)),
+                3 => text.insert(at, self.one_of(BYTES)),
+                4 => text.insert(at, text[at]),
+                5 => text.truncate(at + 1),
+                6 => text.extend_from_slice(self.one_of(&[&b"\n"[..], b"\0", b" ", b"rule=T\n", b"T"])),
+                7 => {
+                    // At the ends of the parts: before a space or a byte 10.
+                    if let Some(end) = text[at..].iter().position(|byte| matches!(byte, b' ' | b'\n')) {
+                        let more = self.one_of(&[&b" "[..], b"0", b"00", b"1", b"999", b".", b".0", b"\r", b"\n"]);
+                        text.splice(at + end..at + end, more.iter().copied());
+                    }
+                }
+                _ => {
+                    let end = text.len().min(at + self.between(1, 12));
+                    text.drain(at..end);
+                }
+            }
+            if text.is_empty() {
+                break;
+            }
+        }
+        if self.once_in(30) {
+            // Near the limit, in the form or with one byte set anew.
+            text = self.long_file_near_limit();
+            if self.once_in(2) {
+                let at = self.below(text.len());
+                text[at] = self.one_of(BYTES);
+            }
+        }
+        text
+    }
+}

@@ -1,0 +1,225 @@
+//! Tables: the table of a rule (refusal 10), tables handed in (refusal 11), and tables in bytes.
+
+use crate::formula::{Node, Rule};
+use crate::refusal::room;
+use crate::values::{RawSetUp, SetUp, MAX_EVENTS};
+use crate::Refusal;
+
+/// "At most 64."
+pub const MAX_STATES: usize = 64;
+/// "A table entry is a value and a next state, one byte each where lent".
+pub const ENTRY_BYTES: usize = 2;
+
+/// "A table entry is a value and a next state".
+#[derive(Clone, Copy, Debug, PartialEq, Eq, Hash)]
+pub struct Entry {
+    /// The value on the event.
+    pub value: u8,
+    /// The state after it.
+    pub next: u8,
+}
+
+/// A table of 1 to 64 states whose values and next states are in range; "ordered by state, then event".
+#[derive(Clone, Debug, PartialEq, Eq, Hash)]
+pub struct Table {
+    events: usize,
+    entries: Vec<Entry>,
+}
+
+impl Table {
+    /// The table of a rule: refusal 10.
+    pub fn of_rule(set_up: &SetUp, rule: &Rule) -> Result<Table, Refusal> {
+        let events = set_up.events();
+        let demands = demands(rule);
+        // "State 0 is the root's demands." States are taken in the order in which they are found, events rising, so that they
+        // are "numbered by shortest sequence, then by the smaller sequence at the first difference".
+        let mut states = vec![demands[0]];
+        let mut entries = Vec::new();
+        let mut done = 0;
+        while done < states.len() {
+            let mut values = [set_up.top(); MAX_EVENTS];
+            let mut followers = [NodeSet::EMPTY; MAX_EVENTS];
+            for node in states[done].iter() {
+                match rule.nodes()[node] {
+                    // "the value is the meet of the O values for that event (top if none)"
+                    Node::Output(event, value) => {
+                        let meet = &mut values[usize::from(event)];
+                        *meet = set_up.meet(*meet, value);
+                    }
+                    // "the next state is the union of the demands of the parts of its G nodes for that event"
+                    Node::After(event) => followers[usize::from(event)].add_all(&demands[node + 1]),
+                    _ => unreachable!("a state is a set of G and O node numbers"),
+                }
+            }
+            for (&value, follower) in values.iter().zip(&followers).take(events) {
+                let next = match states.iter().position(|state| state == follower) {
+                    Some(next) => next,
+                    // 10: "over 64 states".
+                    None if states.len() == MAX_STATES => return Err(Refusal::new(10)),
+                    None => {
+                        states.push(*follower);
+                        states.len() - 1
+                    }
+                };
+                entries.push(Entry { value, next: next as u8 });
+            }
+            done += 1;
+        }
+        Ok(Table { events, entries })
+    }
+
+    /// How many states.
+    pub fn states(&self) -> usize {
+        self.entries.len() / self.events
+    }
+
+    /// How many events.
+    pub fn events(&self) -> usize {
+        self.events
+    }
+
+    /// The entry of a state and an event.
+    pub fn entry(&self, state: usize, event: usize) -> Entry {
+        debug_assert!(event < self.events);
+        self.entries[state * self.events + event]
+    }
+
+    /// All entries, by state, then event.
+    pub fn entries(&self) -> &[Entry] {
+        &self.entries
+    }
+
+    /// Takes the entries out.
+    pub fn into_entries(self) -> Vec<Entry> {
+        self.entries
+    }
+
+    /// The values on an event sequence from a state, and the state reached.
+    pub fn run(&self, start: usize, word: &[u8]) -> (Vec<u8>, usize) {
+        let mut state = start;
+        let values = word
+            .iter()
+            .map(|&event| {
+                let Entry { value, next } = self.entry(state, usize::from(event));
+                state = usize::from(next);
+                value
+            })
+            .collect();
+        (values, state)
+    }
+
+    /// The table in bytes.
+    pub fn to_bytes(&self) -> Vec<u8> {
+        self.entries.iter().flat_map(|entry| [entry.value, entry.next]).collect()
+    }
+
+    /// Writes the table into lent memory and returns its number of states; 13, two bytes an entry.
+    pub fn write_bytes(&self, lent: &mut [u8]) -> Result<usize, Refusal> {
+        room(lent, self.entries.len() * ENTRY_BYTES)?;
+        for (bytes, entry) in lent.chunks_exact_mut(ENTRY_BYTES).zip(&self.entries) {
+            bytes.copy_from_slice(&[entry.value, entry.next]);
+        }
+        Ok(self.states())
+    }
+}
+
+/// A table handed in, with the number of its states and its start.
+#[derive(Clone, Copy, Debug, PartialEq, Eq)]
+pub struct Lent<'a> {
+    /// How many states.
+    pub states: usize,
+    /// The start.
+    pub start: usize,
+    /// The entries in bytes.
+    pub bytes: &'a [u8],
+}
+
+impl Lent<'_> {
+    /// 11: "states not 1 to 64, entry count not states × events, start, value or next state too large".
+    pub fn table(&self, set_up: &SetUp) -> Result<Table, Refusal> {
+        let refusal = Refusal::new(11);
+        let events = set_up.events();
+        if self.states > MAX_STATES || self.start >= self.states || self.bytes.len() != self.states * events * ENTRY_BYTES {
+            return Err(refusal);
+        }
+        let entries: Vec<Entry> =
+            self.bytes.chunks_exact(ENTRY_BYTES).map(|bytes| Entry { value: bytes[0], next: bytes[1] }).collect();
+        if !within_limits(events, set_up.values(), self.states, &entries) {
+            return Err(refusal);
+        }
+        Ok(Table { events, entries })
+    }
+}
+
+/// The limits of 11 without the start.
+pub(crate) fn within_limits(events: usize, values: usize, states: usize, entries: &[Entry]) -> bool {
+    (1..=MAX_STATES).contains(&states)
+        && entries.len() == states * events
+        && entries.iter().all(|entry| usize::from(entry.value) < values && usize::from(entry.next) < states)
+}
+
+/// Compiles a rule into lent memory and returns the number of states: refusals 1 to 3, 5 to 10, 13.
+pub fn compile(set_up: &RawSetUp, rule: &[u8], lent: &mut [u8]) -> Result<usize, Refusal> {
+    let set_up = SetUp::new(set_up.clone())?;
+    let rule = Rule::from_bytes(&set_up, rule)?;
+    Table::of_rule(&set_up, &rule)?.write_bytes(lent)
+}
+
+/// "The demands of a node: T none; G and O themselves; A those of both parts; V those of its part; X those of its binder."
+fn demands(rule: &Rule) -> Vec<NodeSet> {
+    let nodes = rule.nodes();
+    let mut demands = vec![NodeSet::EMPTY; nodes.len()];
+    // From a binder no variable is met before a G, since 9 was tested, so the first round gets all binders right and the second
+    // the variables and what is above them.
+    for _ in 0..2 {
+        for (number, node) in nodes.iter().enumerate().rev() {
+            demands[number] = match node {
+                Node::True => NodeSet::EMPTY,
+                Node::Variable(_) => demands[rule.binder(number)],
+                Node::After(_) | Node::Output(..) => NodeSet::of(number),
+                Node::Both => {
+                    let mut both = demands[number + 1];
+                    both.add_all(&demands[rule.second(number)]);
+                    both
+                }
+                Node::Greatest => demands[number + 1],
+            };
+        }
+    }
+    demands
+}
+
+/// A set of node numbers, one bit each.
+#[derive(Clone, Copy, PartialEq, Eq)]
+struct NodeSet([u64; 4]);
+
+impl NodeSet {
+    const EMPTY: NodeSet = NodeSet([0; 4]);
+
+    fn of(node: usize) -> NodeSet {
+        let mut set = NodeSet::EMPTY;
+        set.0[node / 64] = 1 << (node % 64);
+        set
+    }
+
+    fn add_all(&mut self, other: &NodeSet) {
+        for (word, other) in self.0.iter_mut().zip(other.0) {
+            *word |= other;
+        }
+    }
+
+    /// The node numbers, rising.
+    fn iter(&self) -> impl Iterator<Item = usize> + '_ {
+        self.0.iter().enumerate().flat_map(|(index, &word)| {
+            let mut rest = word;
+            std::iter::from_fn(move || {
+                if rest == 0 {
+                    return None;
+                }
+                let bit = rest.trailing_zeros() as usize;
+                rest &= rest - 1;
+                Some(index * 64 + bit)
+            })
+        })
+    }
+}

@@ -1,0 +1,156 @@
+//! "The log is what demand 3 compares with." It makes no table and judges events by the formula semantics.
+
+use std::collections::{BTreeSet, HashSet};
+
+use super::{check_channel, Answer, Call, CHANNELS};
+use crate::formula::{Formulas, Id, Node, Rule};
+use crate::table::MAX_STATES;
+use crate::values::{RawSetUp, SetUp};
+use crate::Refusal;
+
+/// What the log has for a channel: "a rule and its events in order".
+pub struct Record {
+    rule: Rule,
+    events: Vec<u8>,
+    formulas: Formulas,
+    /// The formula of the rule.
+    root: Id,
+    /// Its follower after the events, tidied.
+    now: Id,
+}
+
+impl Record {
+    fn new(set_up: &SetUp, rule: Rule) -> Record {
+        let mut formulas = Formulas::new(set_up.clone());
+        let root = formulas.of_rule(&rule);
+        Record { rule, events: Vec::new(), formulas, root, now: root }
+    }
+
+    /// The rule.
+    pub fn rule(&self) -> &Rule {
+        &self.rule
+    }
+
+    /// The events in order.
+    pub fn events(&self) -> &[u8] {
+        &self.events
+    }
+
+    fn forget_events(&mut self) {
+        self.events.clear();
+        self.now = self.root;
+    }
+}
+
+/// "For each channel it has nothing, or a rule and its events in order; at set-up all have nothing."
+pub struct Log {
+    set_up: SetUp,
+    channels: [Option<Record>; CHANNELS],
+}
+
+impl Log {
+    /// "It is fed the set-up and the calls with their inputs": refusals 1 to 3.
+    pub fn new(set_up: RawSetUp) -> Result<Log, Refusal> {
+        Ok(Log { set_up: SetUp::new(set_up)?, channels: Default::default() })
+    }
+
+    /// What the log has for a channel.
+    pub fn record(&self, channel: usize) -> Option<&Record> {
+        self.channels[channel].as_ref()
+    }
+
+    /// A call. "A refused call changes nothing in the log."
+    pub fn call(&mut self, call: &Call) -> Answer {
+        match *call {
+            // "load: the channel gets that rule and no events, whatever it had."
+            Call::Load { channel, ref rule } => {
+                check_channel(channel)?;
+                let rule = Rule::from_bytes(&self.set_up, rule)?;
+                if reaches_too_many(&rule, self.set_up.events()) {
+                    return Err(Refusal::new(10));
+                }
+                self.channels[channel] = Some(Record::new(&self.set_up, rule));
+                Ok(None)
+            }
+            // "event: returns the rule's value on it after the channel's events, the follower being taken on each in turn;
+            // then it is added at their end."
+            Call::Event { channel, event } => {
+                let events = self.set_up.events();
+                let record = self.loaded(channel)?;
+                if event >= events {
+                    return Err(Refusal::new(16));
+                }
+                let event = event as u8;
+                let value = record.formulas.value(record.now, event);
+                let follower = record.formulas.follower(record.now, event);
+                record.now = record.formulas.tidy(follower);
+                record.events.push(event);
+                Ok(Some(value))
+            }
+            // "restart one: the channel's events go."
+            Call::RestartOne { channel } => {
+                self.loaded(channel)?.forget_events();
+                Ok(None)
+            }
+            // "Restart all: all channels' events go, rules stay."
+            Call::RestartAll => {
+                self.channels.iter_mut().flatten().for_each(Record::forget_events);
+                Ok(None)
+            }
+            // "clear: the channel has nothing."
+            Call::Clear { channel } => {
+                check_channel(channel)?;
+                self.channels[channel] = None;
+                Ok(None)
+            }
+        }
+    }
+
+    /// 14, then 15; "there a channel with nothing is empty".
+    fn loaded(&mut self, channel: usize) -> Result<&mut Record, Refusal> {
+        check_channel(channel)?;
+        self.channels[channel].as_mut().ok_or(Refusal::new(15))
+    }
+}
+
+/// 10: "over 64 states". Counts the reached sets of G and O node numbers, by document 01's sentences on demands, and nothing
+/// else of the table.
+fn reaches_too_many(rule: &Rule, events: usize) -> bool {
+    let mut first = BTreeSet::new();
+    demands(rule, 0, &mut first);
+    let mut reached = HashSet::from([first.clone()]);
+    let mut waiting = vec![first];
+    while let Some(state) = waiting.pop() {
+        for event in 0..events {
+            let mut next = BTreeSet::new();
+            for &node in &state {
+                if matches!(rule.nodes()[node], Node::After(own) if usize::from(own) == event) {
+                    demands(rule, node + 1, &mut next);
+                }
+            }
+            if reached.insert(next.clone()) {
+                waiting.push(next);
+            }
+            if reached.len() > MAX_STATES {
+                return true;
+            }
+        }
+    }
+    false
+}
+
+/// Adds the demands of a node.
+fn demands(rule: &Rule, node: usize, set: &mut BTreeSet<usize>) {
+    match rule.nodes()[node] {
+        Node::True => {}
+        Node::After(_) | Node::Output(..) => {
+            set.insert(node);
+        }
+        Node::Both => {
+            demands(rule, node + 1, set);
+            demands(rule, rule.second(node), set);
+        }
+        Node::Greatest => demands(rule, node + 1, set),
+        Node::Variable(_) => demands(rule, rule.binder(node), set),
+    }
+}

@@ -1,0 +1,162 @@
+//! Trial: does a device do what a rule asks? By simulation, with the first failing word, and by the set definition.
+
+use crate::formula::{Node, Rule};
+use crate::refusal::room;
+use crate::table::{Lent, Table, MAX_STATES};
+use crate::values::{RawSetUp, SetUp};
+use crate::Refusal;
+
+/// "a word of 1 to 4,096 events"; "The word buffer has at least 4,096 bytes".
+pub const WORD_BYTES: usize = 4096;
+
+/// The answer of a trial.
+#[derive(Clone, Debug, PartialEq, Eq)]
+pub enum Verdict {
+    /// "The device passes when the start is simulated (definition 1) by state 0 of the rule's table."
+    Passes,
+    /// "a word of 1 to 4,096 events after whose last event the device's value is not at or below the table's".
+    Fails(Vec<u8>),
+}
+
+/// The answer of a trial whose word went into lent memory.
+#[derive(Clone, Copy, Debug, PartialEq, Eq)]
+pub enum Outcome {
+    /// The device passes; the word buffer keeps its contents.
+    Passes,
+    /// The device fails; the word is that long.
+    Fails(usize),
+}
+
+/// A pair of states, and how it was first reached.
+struct Pair {
+    device: u8,
+    table: u8,
+    before: usize,
+    event: u8,
+}
+
+/// Trial of a device from a start against a table from its own start; both tables are of this set-up.
+///
+/// The pairs of states that one word reaches together are the least that a simulation of the two starts must contain. They are
+/// taken in the order of their shortest, then smallest word, so the failing word is the shortest and then the smallest one.
+pub fn trial(set_up: &SetUp, device: (&Table, usize), table: (&Table, usize)) -> Verdict {
+    let (device, device_start) = device;
+    let (table, table_start) = table;
+    // For each state of the device, the states of the table met with it.
+    let mut met = [0u64; MAX_STATES];
+    let mut pairs = vec![Pair { device: device_start as u8, table: table_start as u8, before: 0, event: 0 }];
+    met[device_start] |= 1 << table_start;
+    let mut taken = 0;
+    while taken < pairs.len() {
+        let (s, t) = (usize::from(pairs[taken].device), usize::from(pairs[taken].table));
+        for event in 0..set_up.events() {
+            if !set_up.at_or_below(device.entry(s, event).value, table.entry(t, event).value) {
+                return Verdict::Fails(word_to(&pairs, taken, event as u8));
+            }
+        }
+        for event in 0..set_up.events() {
+            let (s, t) = (device.entry(s, event).next, table.entry(t, event).next);
+            let met = &mut met[usize::from(s)];
+            if *met & 1 << t == 0 {
+                *met |= 1 << t;
+                pairs.push(Pair { device: s, table: t, before: taken, event: event as u8 });
+            }
+        }
+        taken += 1;
+    }
+    Verdict::Passes
+}
+
+/// The word that first reached a pair, and one event more.
+fn word_to(pairs: &[Pair], mut pair: usize, last: u8) -> Vec<u8> {
+    let mut word = vec![last];
+    while pair != 0 {
+        word.push(pairs[pair].event);
+        pair = pairs[pair].before;
+    }
+    word.reverse();
+    word
+}
+
+/// Trial against a rule's table that is handed in too, its states and its entries; it starts at state 0: refusals 1 to 3, 11, 13.
+pub fn trial_of_table(
+    set_up: &RawSetUp,
+    device: Lent<'_>,
+    states: usize,
+    table: &[u8],
+    word: &mut [u8],
+) -> Result<Outcome, Refusal> {
+    let set_up = SetUp::new(set_up.clone())?;
+    let of_device = device.table(&set_up)?;
+    let of_rule = Lent { states, start: 0, bytes: table }.table(&set_up)?;
+    judge(&set_up, (&of_device, device.start), &of_rule, word)
+}
+
+/// Trial against a rule in bytes: refusals 1 to 3, 5 to 10, 11, 13.
+pub fn trial_of_rule(set_up: &RawSetUp, device: Lent<'_>, rule: &[u8], word: &mut [u8]) -> Result<Outcome, Refusal> {
+    let set_up = SetUp::new(set_up.clone())?;
+    let of_rule = Table::of_rule(&set_up, &Rule::from_bytes(&set_up, rule)?)?;
+    let of_device = device.table(&set_up)?;
+    judge(&set_up, (&of_device, device.start), &of_rule, word)
+}
+
+/// 13: "a trial's word buffer shorter than 4,096 bytes", also where the device passes. Bytes "after the word keep their
+/// contents, as does the whole buffer on a pass".
+fn judge(set_up: &SetUp, device: (&Table, usize), table: &Table, lent: &mut [u8]) -> Result<Outcome, Refusal> {
+    room(lent, WORD_BYTES)?;
+    match trial(set_up, device, (table, 0)) {
+        Verdict::Passes => Ok(Outcome::Passes),
+        Verdict::Fails(word) => {
+            lent[..word.len()].copy_from_slice(&word);
+            Ok(Outcome::Fails(word.len()))
+        }
+    }
+}
+
+/// "The start satisfies the rule when it is in the root's set."
+pub fn satisfies(set_up: &SetUp, rule: &Rule, device: &Table, start: usize) -> bool {
+    satisfying(set_up, rule, device) >> start & 1 == 1
+}
+
+/// The root's set by the set definition, one bit for each state of the device. No table of the rule is made.
+///
+/// The set of V is "the union of all sets that lie within its part's set when put for its variable", the greatest fixed point.
+/// All sets start full and fall until nothing changes. Every fixed point is a greatest one, so sets within others only fall
+/// too, and no set has to be filled again when an outer one has fallen.
+pub fn satisfying(set_up: &SetUp, rule: &Rule, device: &Table) -> u64 {
+    let nodes = rule.nodes();
+    let all = u64::MAX >> (MAX_STATES - device.states());
+    let states_where = |holds: &dyn Fn(usize) -> bool| {
+        (0..device.states()).filter(|&state| holds(state)).fold(0u64, |set, state| set | 1 << state)
+    };
+    let mut sets = vec![all; nodes.len()];
+    loop {
+        let mut changed = false;
+        for (number, node) in nodes.iter().enumerate().rev() {
+            let set = match *node {
+                // "T has all states"
+                Node::True => all,
+                // "X the set put for its variable"
+                Node::Variable(_) => sets[rule.binder(number)],
+                // "G the states whose next state on its event is in its part's set"
+                Node::After(event) => {
+                    let part = sets[number + 1];
+                    states_where(&|state| part >> device.entry(state, usize::from(event)).next & 1 == 1)
+                }
+                // "O those whose value on its event is at or below its own"
+                Node::Output(event, value) => {
+                    states_where(&|state| set_up.at_or_below(device.entry(state, usize::from(event)).value, value))
+                }
+                // "A what both parts share"
+                Node::Both => sets[number + 1] & sets[rule.second(number)],
+                // The part's set for the set last put for the variable.
+                Node::Greatest => sets[number + 1],
+            };
+            changed |= set != sets[number];
+            sets[number] = set;
+        }
+        if !changed {
+            return sets[0];
+        }
+    }
+}

@@ -1,0 +1,119 @@
+//! The marked cases of document 01, and those it has run only.
+
+mod common;
+
+use common::{bytes, file, four, rule, table};
+use gurvazze_reference::formula::{Formulas, Rule};
+use gurvazze_reference::table::{Lent, Table};
+use gurvazze_reference::trial::{satisfies, trial, Verdict};
+use gurvazze_reference::{channel_file, characteristic, generate::Generator, render, Refusal};
+
+const PRINTED: &str = "events=2\nstates=3\nrow=0 0 3 1\nrow=0 1 1 2\nrow=1 0 3 1\nrow=1 1 3 1\nrow=2 0 3 1\nrow=2 1 3 2\n";
+
+#[test]
+fn case_1_true_has_one_open_state() {
+    assert_eq!(table(&four(2), "T").unwrap().to_bytes(), [3, 0, 3, 0]);
+}
+
+#[test]
+fn case_2_the_file_has_its_rows() {
+    let text = file("A O1.1 V G1 X0");
+    assert_eq!(render::program(&text), PRINTED);
+    assert_eq!(channel_file::tokens(&text), b"A O1.1 V G1 X0");
+}
+
+#[test]
+fn case_3_two_outputs_meet() {
+    let table = table(&four(2), "A O0.1 O0.2").unwrap();
+    assert_eq!(table.states(), 2);
+    assert_eq!(table.entry(0, 0).value, 0);
+    assert_eq!(table.to_bytes(), [0, 1, 3, 1, 3, 1, 3, 1]);
+}
+
+#[test]
+fn case_4_low_for_ever_after_the_first() {
+    let set_up = four(2);
+    let items = "V A G1 O1.1 G1 X0";
+    let table = table(&set_up, items).unwrap();
+    assert_eq!(table.states(), 3);
+    let word = [1; 20];
+    let mut expected = vec![1; 20];
+    expected[0] = 3;
+    assert_eq!(table.run(0, &word).0, expected);
+    let mut formulas = Formulas::new(set_up.clone());
+    let root = formulas.of_rule(&rule(&set_up, items).unwrap());
+    assert_eq!(formulas.values(root, &word), expected);
+}
+
+#[test]
+fn cases_5_to_9_are_refused() {
+    let set_up = four(2);
+    for (items, number, place) in [("X0", 8, 0), ("V X0", 9, 1), ("V G0 V A X1 G0 X0", 9, 4), ("A T", 7, 2), ("T T", 7, 1)] {
+        assert_eq!(rule(&set_up, items), Err(Refusal::at(number, place)), "{items}");
+        assert_eq!(render::program(&file(items)), format!("refused={number} {place}\n"), "{items}");
+    }
+}
+
+#[test]
+fn case_10_outer_variable() {
+    assert_eq!(table(&four(2), "V V G0 X1").unwrap().states(), 2);
+}
+
+#[test]
+fn case_11_rule_of_a_table() {
+    let set_up = four(2);
+    let rows = [1, 0, 2, 1, 2, 1, 1, 1];
+    let given = Lent { states: 2, start: 0, bytes: &rows }.table(&set_up).unwrap();
+    let written = characteristic::rule_of(&given, 0).unwrap();
+    assert_eq!(written.nodes().len(), 19);
+    assert_eq!(written.to_bytes(), bytes("V A G0 X0 A O0.1 A G1 V A G0 X0 A O0.2 A G1 X0 O1.1 O1.2"));
+    assert_eq!(Table::of_rule(&set_up, &written).unwrap().to_bytes(), rows);
+}
+
+#[test]
+fn case_12_trials() {
+    let set_up = four(2);
+    let open = Lent { states: 1, start: 0, bytes: &[3, 0, 3, 0] }.table(&set_up).unwrap();
+    let against = rule(&set_up, "A O0.1 O0.2").unwrap();
+    let of_rule = Table::of_rule(&set_up, &against).unwrap();
+    assert_eq!(trial(&set_up, (&open, 0), (&of_rule, 0)), Verdict::Fails(vec![0]));
+    assert!(!satisfies(&set_up, &against, &open, 0));
+    // "Both values 0: passes every rule."
+    let closed = Lent { states: 1, start: 0, bytes: &[0, 0, 0, 0] }.table(&set_up).unwrap();
+    for seed in 0..200 {
+        let any = Generator::new(seed).rule(&set_up);
+        assert!(satisfies(&set_up, &any, &closed, 0));
+        if let Ok(of_rule) = Table::of_rule(&set_up, &any) {
+            assert_eq!(trial(&set_up, (&closed, 0), (&of_rule, 0)), Verdict::Passes);
+        }
+    }
+}
+
+#[test]
+fn sixty_four_states_and_no_more() {
+    let set_up = four(2);
+    let most = "G0 ".repeat(63) + "T";
+    assert_eq!(table(&set_up, &most).unwrap().states(), 64);
+    let over = "G0 ".repeat(64) + "T";
+    assert_eq!(table(&set_up, &over), Err(Refusal::new(10)));
+    assert!(rule(&set_up, &over).is_ok());
+    assert_eq!(render::program(&file(&over)), "refused=10\n");
+    assert!(channel_file::read(&file(&over)).is_ok());
+    assert_eq!(table(&four(1), &most).unwrap().states(), 64);
+}
+
+#[test]
+fn chains_of_63_and_64_states() {
+    let set_up = four(1);
+    let chain = |states: u8| -> Vec<u8> { (0..states).flat_map(|state| [1, (state + 1).min(states - 1)]).collect() };
+    let rows = chain(63);
+    let most = Lent { states: 63, start: 0, bytes: &rows }.table(&set_up).unwrap();
+    let written: Rule = characteristic::rule_of(&most, 0).unwrap();
+    assert_eq!(written.nodes().len(), 253);
+    assert_eq!(Table::of_rule(&set_up, &written).unwrap().to_bytes(), rows);
+    let rows = chain(64);
+    let over = Lent { states: 64, start: 0, bytes: &rows }.table(&set_up).unwrap();
+    assert_eq!(characteristic::rule_of(&over, 0), Err(Refusal::new(12)));
+    // From its second state on it is 63 states long.
+    assert_eq!(characteristic::rule_of(&over, 1).unwrap().nodes().len(), 253);
+}

@@ -1,0 +1,459 @@
+//! Random rules, words and devices: the definitions of document 01 held against each other.
+
+mod common;
+
+use std::collections::{BTreeSet, HashMap};
+use std::rc::Rc;
+
+use common::{bytes, four, seeds};
+use gurvazze_reference::formula::{Formulas, Id, Node, Rule};
+use gurvazze_reference::generate::Generator;
+use gurvazze_reference::table::Table;
+use gurvazze_reference::trial::{satisfies, satisfying, trial, Verdict};
+use gurvazze_reference::values::SetUp;
+use gurvazze_reference::{characteristic, Refusal};
+
+/// All words up to a length, shorter ones first, then the smaller at the first difference.
+fn words(events: usize, length: usize) -> Vec<Vec<u8>> {
+    let mut words: Vec<Vec<u8>> = vec![Vec::new()];
+    let mut from = 0;
+    for _ in 0..length {
+        let to = words.len();
+        for index in from..to {
+            for event in 0..events as u8 {
+                let mut word = words[index].clone();
+                word.push(event);
+                words.push(word);
+            }
+        }
+        from = to;
+    }
+    words
+}
+
+/// A length for which there are not too many words.
+fn length_for(events: usize) -> usize {
+    match events {
+        1 => 30,
+        2 => 6,
+        3 => 4,
+        _ => 2,
+    }
+}
+
+/// Formulas as a plain tree with named variables: each binder's name is its number of binders around it.
+#[derive(Clone, PartialEq, Debug)]
+enum Plain {
+    True,
+    Variable(usize),
+    After(u8, Rc<Plain>),
+    Output(u8, u8),
+    Both(Rc<Plain>, Rc<Plain>),
+    Greatest(usize, Rc<Plain>),
+}
+
+impl Plain {
+    fn of(nodes: &mut std::slice::Iter<Node>, binders: usize) -> Plain {
+        match *nodes.next().unwrap() {
+            Node::True => Plain::True,
+            Node::Variable(index) => Plain::Variable(binders - 1 - usize::from(index)),
+            Node::After(event) => Plain::After(event, Rc::new(Plain::of(nodes, binders))),
+            Node::Output(event, value) => Plain::Output(event, value),
+            Node::Both => {
+                let first = Plain::of(nodes, binders);
+                Plain::Both(Rc::new(first), Rc::new(Plain::of(nodes, binders)))
+            }
+            Node::Greatest => Plain::Greatest(binders, Rc::new(Plain::of(nodes, binders + 1))),
+        }
+    }
+
+    fn put(&self, name: usize, whole: &Plain) -> Plain {
+        match self {
+            Plain::Variable(own) if *own == name => whole.clone(),
+            Plain::True | Plain::Variable(_) | Plain::Output(..) => self.clone(),
+            Plain::After(event, part) => Plain::After(*event, Rc::new(part.put(name, whole))),
+            Plain::Both(first, second) => Plain::Both(Rc::new(first.put(name, whole)), Rc::new(second.put(name, whole))),
+            Plain::Greatest(own, _) if *own == name => self.clone(),
+            Plain::Greatest(own, part) => Plain::Greatest(*own, Rc::new(part.put(name, whole))),
+        }
+    }
+
+    fn value(&self, set_up: &SetUp, on: u8) -> u8 {
+        match self {
+            Plain::True | Plain::After(..) => set_up.top(),
+            Plain::Output(event, value) if *event == on => *value,
+            Plain::Output(..) => set_up.top(),
+            Plain::Both(first, second) => set_up.meet(first.value(set_up, on), second.value(set_up, on)),
+            Plain::Greatest(name, part) => part.put(*name, self).value(set_up, on),
+            Plain::Variable(_) => panic!("free or unguarded"),
+        }
+    }
+
+    fn follower(&self, on: u8) -> Plain {
+        match self {
+            Plain::After(event, part) if *event == on => (**part).clone(),
+            Plain::True | Plain::After(..) | Plain::Output(..) => Plain::True,
+            Plain::Both(first, second) => Plain::Both(Rc::new(first.follower(on)), Rc::new(second.follower(on))),
+            Plain::Greatest(name, part) => part.put(*name, self).follower(on),
+            Plain::Variable(_) => panic!("free or unguarded"),
+        }
+    }
+}
+
+#[test]
+fn the_formula_semantics_are_the_plain_equations() {
+    for seed in seeds(300) {
+        let mut g = Generator::new(seed);
+        let set_up = g.set_up();
+        let size = g.between(1, 14);
+        let rule = g.rule_of_size(&set_up, size);
+        let mut formulas = Formulas::new(set_up.clone());
+        let root = formulas.of_rule(&rule);
+        let plain = Plain::of(&mut rule.nodes().iter(), 0);
+        for _ in 0..3 {
+            let word = g.word(&set_up, 5);
+            let mut now = plain.clone();
+            let mut expected = Vec::new();
+            for &event in &word {
+                expected.push(now.value(&set_up, event));
+                now = now.follower(event);
+            }
+            assert_eq!(formulas.values(root, &word), expected, "seed {seed}: {:?} on {word:?}", rule.nodes());
+            assert_eq!(untidied(&mut formulas, root, &word), expected, "seed {seed}: {:?} on {word:?}", rule.nodes());
+        }
+    }
+}
+
+/// The values on a word by the equations alone.
+fn untidied(formulas: &mut Formulas, root: Id, word: &[u8]) -> Vec<u8> {
+    let mut now = root;
+    let mut values = Vec::new();
+    for &event in word {
+        values.push(formulas.value(now, event));
+        now = formulas.follower(now, event);
+    }
+    values
+}
+
+#[test]
+fn tidying_changes_no_value() {
+    for seed in seeds(300) {
+        let mut g = Generator::new(seed);
+        let set_up = g.set_up();
+        let rule = g.rule(&set_up);
+        let mut formulas = Formulas::new(set_up.clone());
+        let root = formulas.of_rule(&rule);
+        let word = g.word(&set_up, 30);
+        assert_eq!(formulas.values(root, &word), untidied(&mut formulas, root, &word), "seed {seed}");
+    }
+}
+
+#[test]
+fn long_words_stay_cheap() {
+    let set_up = four(2);
+    for seed in seeds(5) {
+        let mut g = Generator::new(seed);
+        let rule = g.rule_of_size(&set_up, 100);
+        let mut formulas = Formulas::new(set_up.clone());
+        let root = formulas.of_rule(&rule);
+        let word = g.word(&set_up, 2000);
+        let values = formulas.values(root, &word);
+        if let Ok(table) = Table::of_rule(&set_up, &rule) {
+            assert_eq!(values, table.run(0, &word).0);
+        }
+    }
+}
+
+#[test]
+fn a_rule_is_its_formula_and_so_is_each_follower() {
+    let mut written = 0;
+    for seed in seeds(400) {
+        let mut g = Generator::new(seed);
+        let set_up = g.set_up();
+        let rule = g.rule(&set_up);
+        let mut formulas = Formulas::new(set_up.clone());
+        let root = formulas.of_rule(&rule);
+        assert_eq!(formulas.to_rule(root), Some(rule));
+        let word = g.word(&set_up, 12);
+        let mut now = root;
+        for (index, &event) in word.iter().enumerate() {
+            now = formulas.follower(now, event);
+            let Some(follower) = formulas.to_rule(now) else { break };
+            assert_eq!(Rule::from_bytes(&set_up, &follower.to_bytes()).as_ref(), Ok(&follower));
+            if let Ok(table) = Table::of_rule(&set_up, &follower) {
+                let rest = &word[index + 1..];
+                assert_eq!(table.run(0, rest).0, formulas.values(now, rest), "seed {seed}");
+                written += 1;
+            }
+        }
+    }
+    assert!(written > 1000, "{written}");
+}
+
+#[test]
+fn a_table_has_the_values_of_its_rule() {
+    let (mut tables, mut over) = (0, 0);
+    for seed in seeds(1500) {
+        let mut g = Generator::new(seed);
+        let set_up = g.set_up();
+        let rule = if g.once_in(4) { g.rule_of_loops(&set_up) } else { g.rule(&set_up) };
+        let Ok(table) = Table::of_rule(&set_up, &rule) else {
+            over += 1;
+            continue;
+        };
+        tables += 1;
+        let mut formulas = Formulas::new(set_up.clone());
+        let root = formulas.of_rule(&rule);
+        for _ in 0..4 {
+            let length = g.between(1, 40);
+            let word = g.word(&set_up, length);
+            assert_eq!(table.run(0, &word).0, formulas.values(root, &word), "seed {seed}: {:?}", rule.nodes());
+        }
+    }
+    assert!(tables > 1000 && over > 20, "{tables} tables, {over} over 64 states");
+}
+
+/// "The demands of a node", as a plain set.
+fn demands(rule: &Rule, node: usize) -> BTreeSet<usize> {
+    match rule.nodes()[node] {
+        Node::True => BTreeSet::new(),
+        Node::After(_) | Node::Output(..) => BTreeSet::from([node]),
+        Node::Both => &demands(rule, node + 1) | &demands(rule, rule.second(node)),
+        Node::Greatest => demands(rule, node + 1),
+        Node::Variable(_) => demands(rule, rule.binder(node)),
+    }
+}
+
+#[test]
+fn states_are_the_reached_sets_numbered_by_their_first_word() {
+    for seed in seeds(150) {
+        let mut g = Generator::new(seed);
+        let set_up = g.set_up();
+        let rule = if g.once_in(3) { g.rule_of_loops(&set_up) } else { g.rule(&set_up) };
+        let Ok(table) = Table::of_rule(&set_up, &rule) else { continue };
+        let mut numbers: HashMap<BTreeSet<usize>, usize> = HashMap::new();
+        for word in words(set_up.events(), length_for(set_up.events())) {
+            let mut state = demands(&rule, 0);
+            for &event in &word {
+                state = state
+                    .into_iter()
+                    .filter(|&node| rule.nodes()[node] == Node::After(event))
+                    .flat_map(|node| demands(&rule, node + 1))
+                    .collect();
+            }
+            let next = numbers.len();
+            let number = *numbers.entry(state.clone()).or_insert(next);
+            assert_eq!(table.run(0, &word).1, number, "seed {seed}: {:?} on {word:?}", rule.nodes());
+            for event in 0..set_up.events() {
+                let value = state.iter().fold(set_up.top(), |meet, &node| match rule.nodes()[node] {
+                    Node::Output(own, value) if usize::from(own) == event => set_up.meet(meet, value),
+                    _ => meet,
+                });
+                assert_eq!(table.entry(number, event).value, value, "seed {seed}");
+            }
+        }
+        assert!(numbers.len() <= table.states());
+    }
+}
+
+/// Document 01's form of the rule of a table, as nested lists.
+fn written(table: &Table, state: usize, path: &mut Vec<usize>) -> Vec<String> {
+    if let Some(between) = path.iter().rev().position(|&open| open == state) {
+        return vec![format!("X{between}")];
+    }
+    path.push(state);
+    let mut items: Vec<Vec<String>> = Vec::new();
+    for event in 0..table.events() {
+        let entry = table.entry(state, event);
+        let mut after = vec![format!("G{event}")];
+        after.extend(written(table, entry.next.into(), path));
+        items.push(after);
+        items.push(vec![format!("O{event}.{}", entry.value)]);
+    }
+    path.pop();
+    let mut joined = items.pop().unwrap();
+    while let Some(mut item) = items.pop() {
+        item.insert(0, "A".to_string());
+        item.extend(joined);
+        joined = item;
+    }
+    joined.insert(0, "V".to_string());
+    joined
+}
+
+#[test]
+fn a_written_rule_has_the_values_of_its_state() {
+    let (mut rules, mut over) = (0, 0);
+    for seed in seeds(800) {
+        let mut g = Generator::new(seed);
+        let mut set_up = g.set_up();
+        while set_up.events() > 3 {
+            set_up = g.set_up();
+        }
+        let raw = if g.once_in(2) { g.chain(&set_up) } else { g.table(&set_up) };
+        let table = raw.lent().table(&set_up).unwrap();
+        let result = characteristic::rule_of(&table, raw.start);
+        if table.states() <= 5 {
+            let items = written(&table, raw.start, &mut Vec::new());
+            match &result {
+                Ok(rule) => assert_eq!(rule.to_bytes(), bytes(&items.join(" ")), "seed {seed}"),
+                Err(refusal) => assert!(*refusal == Refusal::new(12) && items.len() > 256, "seed {seed}"),
+            }
+        }
+        let Ok(rule) = result else {
+            over += 1;
+            continue;
+        };
+        rules += 1;
+        assert_eq!(Rule::from_bytes(&set_up, &rule.to_bytes()).as_ref(), Ok(&rule));
+        let again = Table::of_rule(&set_up, &rule).unwrap();
+        let binders = rule.nodes().iter().filter(|&&node| node == Node::Greatest).count();
+        assert_eq!(again.states(), binders, "seed {seed}");
+        let mut formulas = Formulas::new(set_up.clone());
+        let root = formulas.of_rule(&rule);
+        for _ in 0..4 {
+            let word = g.word(&set_up, 40);
+            let (values, _) = table.run(raw.start, &word);
+            assert_eq!(again.run(0, &word).0, values, "seed {seed}");
+            assert_eq!(formulas.values(root, &word), values, "seed {seed}");
+        }
+        assert_eq!(trial(&set_up, (&table, raw.start), (&again, 0)), Verdict::Passes);
+        assert_eq!(trial(&set_up, (&again, 0), (&table, raw.start)), Verdict::Passes);
+        assert!(satisfies(&set_up, &rule, &table, raw.start));
+    }
+    assert!(rules > 300 && over > 20, "{rules} rules, {over} over 256 nodes");
+}
+
+/// The largest simulation between two tables, by definition 1.
+fn simulation(set_up: &SetUp, device: &Table, table: &Table) -> BTreeSet<(usize, usize)> {
+    let mut related: BTreeSet<(usize, usize)> =
+        (0..device.states()).flat_map(|s| (0..table.states()).map(move |t| (s, t))).collect();
+    loop {
+        let kept: BTreeSet<(usize, usize)> = related
+            .iter()
+            .copied()
+            .filter(|&(s, t)| {
+                (0..set_up.events()).all(|event| {
+                    let (d, r) = (device.entry(s, event), table.entry(t, event));
+                    set_up.at_or_below(d.value, r.value) && related.contains(&(d.next.into(), r.next.into()))
+                })
+            })
+            .collect();
+        if kept.len() == related.len() {
+            return kept;
+        }
+        related = kept;
+    }
+}
+
+/// Whether the device's value is at or below the table's after each event of the word.
+fn below_on(set_up: &SetUp, device: (&Table, usize), table: (&Table, usize), word: &[u8]) -> Vec<bool> {
+    let (values, limits) = (device.0.run(device.1, word).0, table.0.run(table.1, word).0);
+    values.iter().zip(&limits).map(|(&value, &limit)| set_up.at_or_below(value, limit)).collect()
+}
+
+#[test]
+fn trial_is_simulation_and_satisfaction() {
+    let (mut passes, mut fails, mut longest) = (0, 0, 0);
+    for seed in seeds(1500) {
+        let mut g = Generator::new(seed);
+        let set_up = g.set_up();
+        let rule = if g.once_in(5) { g.rule_of_loops(&set_up) } else { g.rule(&set_up) };
+        let Ok(table) = Table::of_rule(&set_up, &rule) else { continue };
+        let raw = if g.once_in(3) { g.table(&set_up) } else { g.device_near(&set_up, &table) };
+        let device = raw.lent().table(&set_up).unwrap();
+        let (ours, theirs) = ((&device, raw.start), (&table, 0));
+        let verdict = trial(&set_up, ours, theirs);
+        if device.states() * table.states() <= 400 {
+            let related = simulation(&set_up, &device, &table);
+            assert_eq!(related.contains(&(raw.start, 0)), verdict == Verdict::Passes, "seed {seed}");
+            for state in 0..device.states() {
+                let expected = related.contains(&(state, 0));
+                assert_eq!(satisfies(&set_up, &rule, &device, state), expected, "seed {seed}, state {state}");
+            }
+        }
+        assert_eq!(satisfies(&set_up, &rule, &device, raw.start), verdict == Verdict::Passes, "seed {seed}");
+        match verdict {
+            Verdict::Passes => {
+                passes += 1;
+                let word = g.word(&set_up, 60);
+                assert!(below_on(&set_up, ours, theirs, &word).iter().all(|&below| below), "seed {seed}");
+            }
+            Verdict::Fails(word) => {
+                fails += 1;
+                longest = longest.max(word.len());
+                assert!((1..=4096).contains(&word.len()));
+                let below = below_on(&set_up, ours, theirs, &word);
+                assert_eq!(below.iter().position(|below| !below), Some(word.len() - 1), "seed {seed}");
+                if word.len() <= length_for(set_up.events()) {
+                    let first = words(set_up.events(), word.len())
+                        .into_iter()
+                        .find(|word| below_on(&set_up, ours, theirs, word).contains(&false));
+                    assert_eq!(first, Some(word), "seed {seed}");
+                }
+            }
+        }
+    }
+    assert!(passes > 300 && fails > 300 && longest > 5, "{passes} pass, {fails} fail, longest {longest}");
+}
+
+/// The set definition to the letter: V by trying all sets of states.
+fn set_of(set_up: &SetUp, rule: &Rule, device: &Table, node: usize, put: &mut HashMap<usize, u64>) -> u64 {
+    let all = (1u64 << device.states()) - 1;
+    let states = |holds: &dyn Fn(usize) -> bool| (0..device.states()).filter(|&s| holds(s)).map(|s| 1 << s).sum::<u64>();
+    match rule.nodes()[node] {
+        Node::True => all,
+        Node::Variable(_) => put[&rule.binder(node)],
+        Node::After(event) => {
+            let part = set_of(set_up, rule, device, node + 1, put);
+            states(&|s| part & 1 << device.entry(s, event.into()).next != 0)
+        }
+        Node::Output(event, value) => states(&|s| set_up.at_or_below(device.entry(s, event.into()).value, value)),
+        Node::Both => set_of(set_up, rule, device, node + 1, put) & set_of(set_up, rule, device, rule.second(node), put),
+        Node::Greatest => {
+            let mut union = 0;
+            for set in 0..=all {
+                put.insert(node, set);
+                if set & !set_of(set_up, rule, device, node + 1, put) == 0 {
+                    union |= set;
+                }
+            }
+            put.remove(&node);
+            union
+        }
+    }
+}
+
+#[test]
+fn falling_sets_are_the_set_definition() {
+    let mut judged = 0;
+    for seed in seeds(1000) {
+        let mut g = Generator::new(seed);
+        let set_up = g.set_up();
+        let size = g.between(1, 16);
+        let rule = g.rule_of_size(&set_up, size);
+        let raw = g.table(&set_up);
+        let binders = rule.nodes().iter().filter(|&&node| node == Node::Greatest).count();
+        if raw.states > 3 || binders > 3 {
+            continue;
+        }
+        judged += 1;
+        let device = raw.lent().table(&set_up).unwrap();
+        let expected = set_of(&set_up, &rule, &device, 0, &mut HashMap::new());
+        assert_eq!(satisfying(&set_up, &rule, &device), expected, "seed {seed}: {:?}", rule.nodes());
+    }
+    assert!(judged > 200, "{judged}");
+}
+
+#[test]
+fn conflict_is_no_refusal_and_trial_is_no_equality() {
+    let set_up = four(2);
+    let rule = Rule::from_bytes(&set_up, &bytes("V A O0.1 G0 X0")).unwrap();
+    let table = Table::of_rule(&set_up, &rule).unwrap();
+    for (value, passes) in [(0, true), (1, true), (2, false), (3, false)] {
+        let rows = [value, 0, 2, 0];
+        let device = gurvazze_reference::table::Lent { states: 1, start: 0, bytes: &rows }.table(&set_up).unwrap();
+        assert_eq!(trial(&set_up, (&device, 0), (&table, 0)) == Verdict::Passes, passes);
+        assert_eq!(satisfies(&set_up, &rule, &device, 0), passes);
+    }
+}

@@ -1,0 +1,504 @@
+//! Random good and damaged inputs: refusals held against the list of document 01 read to the letter, and lent memory.
+
+mod common;
+
+use std::collections::BTreeMap;
+
+use common::seeds;
+use gurvazze_reference::channel_file::{self, lines, read, tokens};
+use gurvazze_reference::formula::Rule;
+use gurvazze_reference::generate::Generator;
+use gurvazze_reference::table::{compile, Entry, Lent, Table};
+use gurvazze_reference::trial::{trial, trial_of_rule, trial_of_table, Outcome, Verdict, WORD_BYTES};
+use gurvazze_reference::values::{RawSetUp, SetUp};
+use gurvazze_reference::{characteristic, render, Refusal};
+
+/// How often each refusal arose, 0 for acceptance.
+#[derive(Default)]
+struct Tally(BTreeMap<u8, usize>);
+
+impl Tally {
+    fn add<T>(&mut self, result: &Result<T, Refusal>) {
+        *self.0.entry(result.as_ref().err().map_or(0, |refusal| refusal.number)).or_default() += 1;
+    }
+
+    fn has(&self, numbers: &[u8]) {
+        for number in numbers {
+            assert!(self.0.get(number).is_some_and(|&count| count >= 5), "{number} hardly arose: {:?}", self.0);
+        }
+    }
+}
+
+/// Refusals 1 to 3, with numbers of any size.
+fn set_up_refusal(events: usize, values: usize, top: usize, meet: &[usize]) -> Result<(), Refusal> {
+    if !(1..=16).contains(&events) {
+        return Err(Refusal::new(1));
+    }
+    if !(1..=16).contains(&values) || top >= values {
+        return Err(Refusal::new(2));
+    }
+    let three = Err(Refusal::new(3));
+    if meet.len() != values * values || meet.iter().any(|&entry| entry >= values) {
+        return three;
+    }
+    let rows: Vec<&[usize]> = meet.chunks(values).collect();
+    for b in 0..values {
+        for c in 0..values {
+            for d in 0..values {
+                let laws = rows[b][b] == b
+                    && rows[b][c] == rows[c][b]
+                    && rows[rows[b][c]][d] == rows[b][rows[c][d]]
+                    && rows[top][b] == b
+                    && rows[b][top] == b;
+                if !laws {
+                    return three;
+                }
+            }
+        }
+    }
+    Ok(())
+}
+
+#[test]
+fn set_ups_are_refused_by_the_list() {
+    let mut tally = Tally::default();
+    for seed in seeds(3000) {
+        let mut g = Generator::new(seed);
+        let raw = if g.once_in(5) { g.set_up().raw().clone() } else { g.damaged_set_up() };
+        let meet: Vec<usize> = raw.meet.iter().map(|&entry| entry.into()).collect();
+        let expected = set_up_refusal(raw.events, raw.values, raw.top, &meet);
+        assert_eq!(raw.check(), expected, "seed {seed}: {raw:?}");
+        tally.add(&expected);
+    }
+    tally.has(&[0, 1, 2, 3]);
+}
+
+/// Refusals 5 to 9 on nodes with fields of any size.
+fn rule_refusal(events: usize, values: usize, nodes: &[(u8, usize, usize)]) -> Result<(), Refusal> {
+    if nodes.is_empty() || nodes.len() > 256 {
+        return Err(Refusal::new(5));
+    }
+    let lowest = |number: u8, bad: &dyn Fn(usize) -> bool| match (0..nodes.len()).find(|&node| bad(node)) {
+        Some(place) => Err(Refusal::at(number, place)),
+        None => Ok(()),
+    };
+    lowest(6, &|node| match nodes[node] {
+        (0 | 4 | 5, first, second) => first != 0 || second != 0,
+        (1, _, second) => second != 0,
+        (2, first, second) => first >= events || second != 0,
+        (3, first, second) => first >= events || second >= values,
+        _ => true,
+    })?;
+    // Each node's parent, found by reading whole parts.
+    let mut parents = vec![None; nodes.len()];
+    match whole(nodes, 0, &mut parents) {
+        None => return Err(Refusal::at(7, nodes.len())),
+        Some(end) if end < nodes.len() => return Err(Refusal::at(7, end)),
+        Some(_) => {}
+    }
+    let above = |node: usize| std::iter::successors(parents[node], |&parent| parents[parent]);
+    let is_variable = |node: usize| nodes[node].0 == 1;
+    lowest(8, &|node| is_variable(node) && above(node).filter(|&n| nodes[n].0 == 5).count() <= nodes[node].1)?;
+    // "a position is open when the nearest ancestor that is no A is a G"
+    lowest(9, &|node| is_variable(node) && above(node).find(|&n| nodes[n].0 != 4).is_none_or(|n| nodes[n].0 != 2))
+}
+
+/// Where the part that begins at a node ends, or nothing when nodes run out.
+fn whole(nodes: &[(u8, usize, usize)], node: usize, parents: &mut [Option<usize>]) -> Option<usize> {
+    let parts = match nodes.get(node)?.0 {
+        4 => 2,
+        2 | 5 => 1,
+        _ => 0,
+    };
+    let mut end = node + 1;
+    for _ in 0..parts {
+        if end < nodes.len() {
+            parents[end] = Some(node);
+        }
+        end = whole(nodes, end, parents)?;
+    }
+    Some(end)
+}
+
+#[test]
+fn rules_are_refused_by_the_list() {
+    let mut tally = Tally::default();
+    for seed in seeds(5000) {
+        let mut g = Generator::new(seed);
+        let set_up = g.set_up();
+        let bytes = if g.once_in(6) { g.rule(&set_up).to_bytes() } else { g.damaged_rule(&set_up) };
+        let expected = if bytes.len() % 3 == 0 {
+            let nodes: Vec<(u8, usize, usize)> =
+                bytes.chunks(3).map(|node| (node[0], node[1].into(), node[2].into())).collect();
+            rule_refusal(set_up.events(), set_up.values(), &nodes)
+        } else {
+            Err(Refusal::new(5))
+        };
+        let rule = Rule::from_bytes(&set_up, &bytes);
+        tally.add(&rule);
+        match rule {
+            Ok(rule) => {
+                assert_eq!(expected, Ok(()), "seed {seed}");
+                assert_eq!(rule.to_bytes(), bytes);
+            }
+            Err(refusal) => assert_eq!(expected, Err(refusal), "seed {seed}: {bytes:?}"),
+        }
+    }
+    tally.has(&[0, 5, 6, 7, 8, 9]);
+}
+
+#[test]
+fn tables_are_refused_by_the_list() {
+    for seed in seeds(1000) {
+        let mut g = Generator::new(seed);
+        let set_up = g.set_up();
+        let good = g.table(&set_up);
+        assert_eq!(good.lent().table(&set_up).map(|table| table.to_bytes()), Ok(good.bytes.clone()), "seed {seed}");
+        let damaged = g.damaged_table(&set_up);
+        assert_eq!(damaged.lent().table(&set_up), Err(Refusal::new(11)), "seed {seed}: {damaged:?}");
+    }
+}
+
+fn is_number(text: &str) -> bool {
+    text == "0" || (1..=3).contains(&text.len()) && text.bytes().all(|b| b.is_ascii_digit()) && !text.starts_with('0')
+}
+
+fn is_item(text: &str) -> bool {
+    match text.split_at_checked(1) {
+        Some(("T" | "A" | "V", rest)) => rest.is_empty(),
+        Some(("X" | "G", rest)) => is_number(rest),
+        Some(("O", rest)) => rest.split_once('.').is_some_and(|(event, value)| is_number(event) && is_number(value)),
+        _ => false,
+    }
+}
+
+/// Whether a text is in the form, its length apart.
+fn in_form(text: &[u8]) -> bool {
+    let Some(text) = std::str::from_utf8(text).ok().and_then(|text| text.strip_suffix('\n')) else { return false };
+    let lines: Vec<&str> = text.split('\n').collect();
+    let [events, values, top, meet, rule] = lines[..] else { return false };
+    let after = |line: &str, name: &str, is: &dyn Fn(&str) -> bool| line.strip_prefix(name).is_some_and(is);
+    after(events, "events=", &is_number)
+        && after(values, "values=", &is_number)
+        && after(top, "top=", &is_number)
+        && after(meet, "meet=", &|items| items.split(' ').all(is_number))
+        && after(rule, "rule=", &|items| items.split(' ').all(is_item))
+}
+
+/// Whether some text of the form begins so. Any beginning that can be completed can be so by an end of this text.
+fn begins_a_text(start: &[u8]) -> bool {
+    const WHOLE: &[u8] = b"events=0\nvalues=0\ntop=0\nmeet=0\nrule=O0.0\n";
+    (0..=WHOLE.len()).any(|from| in_form(&[start, &WHOLE[from..]].concat()))
+}
+
+#[test]
+fn places_of_4_are_by_the_sentence() {
+    let mut tally = Tally::default();
+    for seed in seeds(800) {
+        let mut g = Generator::new(seed);
+        let text = if g.once_in(6) { g.loose_file() } else { g.damaged_file() };
+        let result = lines(&text);
+        tally.add(&result);
+        if text.len() > 4096 {
+            assert_eq!(result, Err(Refusal::at(4, 4096)));
+            continue;
+        }
+        match result {
+            Ok(_) => assert!(in_form(&text), "seed {seed}"),
+            Err(Refusal { number: 4, place: Some(place) }) => {
+                assert!(!in_form(&text), "seed {seed}");
+                assert!(begins_a_text(&text[..place]), "seed {seed}, place {place}");
+                assert!(place == text.len() || !begins_a_text(&text[..=place]), "seed {seed}, place {place}");
+            }
+            other => panic!("seed {seed}: {other:?}"),
+        }
+    }
+    tally.has(&[0, 4]);
+}
+
+/// Every cut of a file ends early.
+#[test]
+fn cut_files_end_early() {
+    for seed in seeds(20) {
+        let text = Generator::new(seed).file();
+        for length in 0..text.len() {
+            assert_eq!(lines(&text[..length]), Err(Refusal::at(4, length)), "seed {seed}");
+        }
+    }
+}
+
+/// What reading a text in the form should say, from its pieces as whole numbers.
+fn file_refusal(text: &[u8]) -> Result<(), Refusal> {
+    let text = std::str::from_utf8(text).unwrap();
+    let rest: Vec<&str> = text.lines().map(|line| line.split_once('=').unwrap().1).collect();
+    let number = |text: &str| text.parse::<usize>().unwrap();
+    let (events, values) = (number(rest[0]), number(rest[1]));
+    let meet: Vec<usize> = rest[3].split(' ').map(number).collect();
+    set_up_refusal(events, values, number(rest[2]), &meet)?;
+    let nodes: Vec<(u8, usize, usize)> = rest[4]
+        .split(' ')
+        .map(|item| {
+            let (letter, numbers) = item.split_at(1);
+            let (first, second) = numbers.split_once('.').unwrap_or((numbers, ""));
+            let or_0 = |text: &str| if text.is_empty() { 0 } else { number(text) };
+            ("TXGOAV".find(letter).unwrap() as u8, or_0(first), or_0(second))
+        })
+        .collect();
+    rule_refusal(events, values, &nodes)
+}
+
+#[test]
+fn files_are_refused_by_the_list() {
+    let mut tally = Tally::default();
+    for seed in seeds(2000) {
+        let mut g = Generator::new(seed);
+        let text = match g.below(8) {
+            0 => g.file(),
+            1 => g.damaged_file(),
+            _ => g.loose_file(),
+        };
+        let result = read(&text);
+        let in_form = text.len() <= 4096 && in_form(&text);
+        if in_form {
+            assert_eq!(result.as_ref().map(|_| ()).map_err(|&refusal| refusal), file_refusal(&text), "seed {seed}");
+            let rule_line = text.iter().rposition(|&byte| byte == b'=').unwrap() + 1;
+            assert_eq!(tokens(&text), &text[rule_line..text.len() - 1]);
+        } else {
+            assert_eq!(result.as_ref().map_err(|refusal| refusal.number), Err(4), "seed {seed}");
+            assert!(tokens(&text).is_empty());
+        }
+        let made = result.and_then(|file| {
+            // The form leaves one way to write a file.
+            assert_eq!(channel_file::to_text(&file.set_up, &file.rule).as_bytes(), &text[..], "seed {seed}");
+            Table::of_rule(&file.set_up, &file.rule)
+        });
+        tally.add(&made);
+        let printed = render::program(&text);
+        match made {
+            Ok(table) => assert_eq!(parse_rows(&printed), (table.events(), table.states(), table.entries().to_vec())),
+            Err(Refusal { number, place: Some(place) }) => assert_eq!(printed, format!("refused={number} {place}\n")),
+            Err(Refusal { number, place: None }) => assert_eq!(printed, format!("refused={number}\n")),
+        }
+    }
+    tally.has(&[0, 1, 2, 3, 4, 5, 6, 7, 8, 9, 10]);
+}
+
+/// Reads a printed table back.
+fn parse_rows(printed: &str) -> (usize, usize, Vec<Entry>) {
+    let mut lines = printed.strip_suffix('\n').unwrap().split('\n');
+    let mut count = |name: &str| lines.next().unwrap().strip_prefix(name).unwrap().parse::<usize>().unwrap();
+    let (events, states) = (count("events="), count("states="));
+    let entries: Vec<Entry> = lines
+        .enumerate()
+        .map(|(index, line)| {
+            let row: Vec<usize> = line.strip_prefix("row=").unwrap().split(' ').map(|n| n.parse().unwrap()).collect();
+            assert_eq!((row.len(), row[0], row[1]), (4, index / events, index % events));
+            Entry { value: row[2] as u8, next: row[3] as u8 }
+        })
+        .collect();
+    assert_eq!(entries.len(), events * states);
+    (events, states, entries)
+}
+
+#[test]
+fn reading_undoes_writing() {
+    for seed in seeds(600) {
+        let mut g = Generator::new(seed);
+        let set_up = g.set_up();
+        let rule = g.rule(&set_up);
+        let mut lent = vec![7; 4096];
+        let length = channel_file::write(set_up.raw(), &rule.to_bytes(), &mut lent).unwrap();
+        let file = read(&lent[..length]).unwrap();
+        assert_eq!((file.set_up, file.rule), (set_up, rule), "seed {seed}");
+        assert!(lent[length..].iter().all(|&byte| byte == 7));
+    }
+}
+
+/// A set-up, a rule in bytes, each often good.
+fn inputs(g: &mut Generator) -> (RawSetUp, SetUp, Vec<u8>) {
+    let good = g.set_up();
+    let raw = if g.once_in(5) { g.damaged_set_up() } else { good.raw().clone() };
+    let rule = match g.below(4) {
+        0 => g.damaged_rule(&good),
+        1 => g.rule_of_loops(&good).to_bytes(),
+        _ => g.rule(&good).to_bytes(),
+    };
+    (raw, good, rule)
+}
+
+/// A lent buffer, at times too short.
+fn buffer(g: &mut Generator, needed: usize) -> Vec<u8> {
+    let length = match g.below(4) {
+        0 => g.below(needed + 1),
+        1 => needed,
+        _ => needed + g.below(20),
+    };
+    g.bytes(length)
+}
+
+/// Runs a call on lent memory. It must do what is expected: on refusal nothing changes, else the output stands at the start and
+/// the rest keeps its contents. 13 is last.
+fn on_lent(
+    mut lent: Vec<u8>,
+    expected: Result<Vec<u8>, Refusal>,
+    needed: usize,
+    call: impl FnOnce(&mut [u8]) -> Result<(), Refusal>,
+) -> Result<(), Refusal> {
+    let before = lent.clone();
+    let result = call(&mut lent);
+    match expected {
+        Err(refusal) => {
+            assert_eq!(result, Err(refusal));
+            assert_eq!(lent, before);
+        }
+        Ok(_) if before.len() < needed => {
+            assert_eq!(result, Err(Refusal::new(13)));
+            assert_eq!(lent, before);
+        }
+        Ok(output) => {
+            assert_eq!(result, Ok(()));
+            assert_eq!(lent[..output.len()], output);
+            assert_eq!(lent[output.len()..], before[output.len()..]);
+        }
+    }
+    result
+}
+
+#[test]
+fn refusals_leave_lent_memory() {
+    let mut tallies: [Tally; 5] = Default::default();
+    for seed in seeds(1500) {
+        let mut g = Generator::new(seed);
+        let (raw, good, rule) = inputs(&mut g);
+        let set_up = SetUp::new(raw.clone());
+        let checked = set_up.clone().and_then(|set_up| Ok((Rule::from_bytes(&set_up, &rule)?, set_up)));
+        let compiled = checked.clone().and_then(|(rule, set_up)| Table::of_rule(&set_up, &rule));
+
+        let expected = compiled.clone().map(|table| table.to_bytes());
+        let needed = expected.as_ref().map_or(9, Vec::len);
+        let lent = buffer(&mut g, needed);
+        tallies[0].add(&on_lent(lent, expected, needed, |lent| {
+            compile(&raw, &rule, lent).map(|states| assert_eq!(states, compiled.as_ref().unwrap().states()))
+        }));
+
+        let expected = checked.clone().map(|(rule, set_up)| channel_file::to_text(&set_up, &rule).into_bytes());
+        let needed = expected.as_ref().map_or(9, Vec::len);
+        let lent = buffer(&mut g, needed);
+        tallies[1].add(&on_lent(lent, expected, needed, |lent| {
+            channel_file::write(&raw, &rule, lent).map(|length| assert_eq!(length, needed))
+        }));
+
+        let device = if g.once_in(4) { g.damaged_table(&good) } else { g.table(&good) };
+        let device_table = set_up.clone().and_then(|set_up| device.lent().table(&set_up));
+        let expected =
+            device_table.clone().and_then(|table| characteristic::rule_of(&table, device.start)).map(|rule| rule.to_bytes());
+        let needed = expected.as_ref().map_or(9, Vec::len);
+        let lent = buffer(&mut g, needed);
+        tallies[2].add(&on_lent(lent, expected, needed, |lent| {
+            characteristic::write_rule(&raw, device.lent(), lent).map(|nodes| assert_eq!(3 * nodes, needed))
+        }));
+
+        let judge = |device: &Table, start: usize, table: &Table| {
+            let verdict = trial(set_up.as_ref().unwrap(), (device, start), (table, 0));
+            match verdict {
+                Verdict::Passes => Vec::new(),
+                Verdict::Fails(word) => word,
+            }
+        };
+        let outcome = |result: Outcome, word: usize| match result {
+            Outcome::Passes => assert_eq!(word, 0),
+            Outcome::Fails(length) => assert_eq!(length, word),
+        };
+        let expected = compiled.and_then(|table| {
+            let device_table = device_table.clone()?;
+            Ok(judge(&device_table, device.start, &table))
+        });
+        let word = expected.as_ref().map_or(0, Vec::len);
+        let lent = buffer(&mut g, WORD_BYTES);
+        tallies[3].add(&on_lent(lent, expected, WORD_BYTES, |lent| {
+            trial_of_rule(&raw, device.lent(), &rule, lent).map(|result| outcome(result, word))
+        }));
+
+        let other = if g.once_in(4) { g.damaged_table(&good) } else { g.table(&good) };
+        let expected = set_up.clone().and_then(|set_up| {
+            let table = Lent { start: 0, ..other.lent() }.table(&set_up)?;
+            let device_table = device_table?;
+            Ok(judge(&device_table, device.start, &table))
+        });
+        let word = expected.as_ref().map_or(0, Vec::len);
+        let lent = buffer(&mut g, WORD_BYTES);
+        tallies[4].add(&on_lent(lent, expected, WORD_BYTES, |lent| {
+            trial_of_table(&raw, device.lent(), other.states, &other.bytes, lent).map(|result| outcome(result, word))
+        }));
+    }
+    tallies[0].has(&[0, 1, 2, 3, 5, 6, 7, 8, 9, 10, 13]);
+    tallies[1].has(&[0, 1, 2, 3, 5, 6, 7, 8, 9, 13]);
+    tallies[2].has(&[0, 1, 2, 3, 11, 12, 13]);
+    tallies[3].has(&[0, 1, 2, 3, 5, 6, 7, 8, 9, 10, 11, 13]);
+    tallies[4].has(&[0, 1, 2, 3, 11, 13]);
+}
+
+#[test]
+fn reading_into_lent_memory() {
+    let mut tally = Tally::default();
+    for seed in seeds(1500) {
+        let mut g = Generator::new(seed);
+        let text = if g.once_in(2) { g.file() } else { g.loose_file() };
+        let result = read(&text);
+        let (meet_bytes, rule_bytes) = match &result {
+            Ok(file) => (file.set_up.raw().meet.clone(), file.rule.to_bytes()),
+            Err(_) => (vec![0; 4], vec![0; 9]),
+        };
+        let (mut meet, mut rule) = (buffer(&mut g, meet_bytes.len()), buffer(&mut g, rule_bytes.len()));
+        let (meet_before, rule_before) = (meet.clone(), rule.clone());
+        let sizes = channel_file::read_into(&text, &mut meet, &mut rule);
+        tally.add(&sizes);
+        match (result, sizes) {
+            (Ok(file), Ok(sizes)) => {
+                let raw = file.set_up.raw();
+                assert_eq!((sizes.events, sizes.values, sizes.top), (raw.events, raw.values, raw.top));
+                assert_eq!(3 * sizes.nodes, rule_bytes.len());
+                assert_eq!(meet, [&meet_bytes, &meet_before[meet_bytes.len()..]].concat());
+                assert_eq!(rule, [&rule_bytes, &rule_before[rule_bytes.len()..]].concat());
+            }
+            (result, sizes) => {
+                assert_eq!(sizes.unwrap_err(), result.err().unwrap_or(Refusal::new(13)), "seed {seed}");
+                assert!(sizes != Err(Refusal::new(13)) || meet.len() < meet_bytes.len() || rule.len() < rule_bytes.len());
+                assert_eq!((meet, rule), (meet_before, rule_before));
+            }
+        }
+    }
+    tally.has(&[0, 1, 2, 3, 5, 6, 7, 8, 9, 13]);
+}
+
+/// Set-ups of every size are drawn, orders that are no chain among them.
+#[test]
+fn set_ups_of_every_size_are_drawn() {
+    let (mut events, mut values, mut apart) = ([0; 17], [0; 17], 0);
+    for seed in 0..1500 {
+        let set_up = Generator::new(seed).set_up();
+        events[set_up.events()] += 1;
+        values[set_up.values()] += 1;
+        let all = 0..set_up.values() as u8;
+        let is_chain = all.clone().all(|b| all.clone().all(|c| set_up.at_or_below(b, c) || set_up.at_or_below(c, b)));
+        apart += usize::from(!is_chain);
+    }
+    assert!(events[1..].iter().all(|&count| count > 2), "{events:?}");
+    assert!(values[1..].iter().all(|&count| count > 2), "{values:?}");
+    assert!(apart > 500, "{apart}");
+}
+
+#[test]
+fn equal_seeds_give_equal_inputs() {
+    let draw = |seed: u64| {
+        let mut g = Generator::new(seed);
+        let set_up = g.set_up();
+        (g.rule(&set_up).to_bytes(), g.table(&set_up), g.calls(&set_up, 20), g.file(), g.damaged_file(), g.loose_file())
+    };
+    assert!((0..50).all(|seed| draw(seed) == draw(seed)));
+    assert!((0..50).all(|seed| draw(seed) != draw(seed + 1)));
+    for length in 100..200 {
+        let text = Generator::new(length as u64).long_file(length);
+        assert!(text.len() == length && in_form(&text));
+    }
+}
