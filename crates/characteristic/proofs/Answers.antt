@@ -16,7 +16,7 @@ use Rattle.refusal.specs.declared.Judgement.the-variants.{Accepted, Refused}
 use Rattle.refusal.specs.declared.Counted.{Counted}
 use Rattle.refusal.specs.declared.Counted.the-variants.{Refused as Uncounted}
 use Rattle.refusal.specs.Refusal.{or-else, judgement, counted}
-use Rattle.refusal.proofs.Refusals.{judgement-accepted}
+use Rattle.refusal.proofs.Refusals.{judgement-accepted, judgement-refused}
 use Rattle.values.specs.Setup.{Setup, setup-refusal, WellFormed}
 use Rattle.values.proofs.Setups.{setup-accepted}
 use Rattle.formulas.specs.NodeBytes.{encode-formula, three-bytes}
@@ -26,11 +26,6 @@ use Rattle.machines.proofs.TableRefusals.{none-in-order, accepted-table}
 use Rattle.characteristic.specs.RuleOfTable.{IsRuleOf, output-refusal, after-call, rule-of, write-refusal, write-answer, write-contents}
 use Rattle.characteristic.specs.NodeOutput.{Answered}
 use Rattle.characteristic.proofs.Outputs.{refused-answer}
-
-judgement-refused : (a : Option Refusal) (reason : Refusal) → judgement a ≡ Refused reason → a ≡ some reason
-unfolding judgement
-judgement-refused none reason e = let z : _≡_ {A = ℕ} 0 1 = cc in absurd (omega arith)
-judgement-refused (some refusal) reason e = cc
 
 module _ (state-limit node-limit : ℕ) (s : Setup) (states start : ℕ) (table : List ℕ) where
   -- The first refusal, one part after the other.

@@ -19,7 +19,7 @@ use Rattle.refusal.specs.declared.Refusal.{Refusal}
 use Rattle.refusal.specs.declared.Counted.the-variants.{Count}
 use Rattle.refusal.specs.Refusal.{Condition, plain, First, or-else, plain-unless, counted, has-place, HasNumbers, part-of, order, InOrder}
 use Rattle.refusal.specs.RefusalClaims.{AllFunctional}
-use Rattle.refusal.proofs.Refusals.{plain-first, plain-functional, plain-number, first-append, first-unique, or-else-none, plain-none}
+use Rattle.refusal.proofs.Refusals.{plain-first, plain-functional, plain-number, first-then, first-append, first-unique, or-else-none, plain-none}
 use Rattle.values.specs.Setup.{Setup, setup-conditions, setup-refusal, WellFormed}
 use Rattle.values.proofs.Setups.{setup-correct, setup-accepted}
 use Rattle.formulas.specs.NodeBytes.{encode-formula, three-bytes}
@@ -33,18 +33,6 @@ use Rattle.characteristic.specs.RuleOfTable.{IsRuleOf, TooManyNodes, Buf
 use Rattle.characteristic.specs.Claims.{WriteRefusalClaim, RefusedClaim, RuleWritten, Written, WrittenClaim}
 use Rattle.characteristic.proofs.Outputs.{refused-answer}
 use Rattle.characteristic.proofs.Answers.{is-rule, runs, last-event, start-within}
-
--- Conditions one after the other, where the later ones are judged only if the earlier ones are not met.
-first-then :
-    (cs ds : List Condition) (a b : Option Refusal) → First cs a → (a ≡ none → First ds b) → First (cs ++ ds) (or-else a b)
-unfolding First or-else
-first-then [] ds a b x y = none-first a x
-  where
-    none-first : (a : Option Refusal) → a ≡ none → First ds (or-else a b)
-    none-first none e = y x
-    none-first (some r) e = absurd (Option·some-ne-none r e)
-first-then (C ∷ cs) ds a b (inl (r, x, e)) y = inl (r, x, ap (λ o. or-else o b) e)
-first-then (C ∷ cs) ds a b (inr (unmet, x)) y = inr (unmet, first-then cs ds a b x y)
 
 module _ (state-limit node-limit : ℕ) (s : Setup) (states start : ℕ) (table : List ℕ) where
   -- 12 and 13, where the formula is the rule.

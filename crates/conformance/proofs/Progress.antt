@@ -15,13 +15,13 @@ use lib.ListN.{length, getD, drop, drop-of-length-le}
 use lib.Seq.{drop-cons}
 use Rattle.theory.specs.MealyMachine.{Machine, Word}
 use Rattle.theory.specs.Exploration.{reached, add-events, explore, explored}
-use Rattle.theory.specs.Conformance.{same-pair, bad-event, or-else, first-bad, bad-pair, in-play-order, counterexample}
-use Rattle.theory.proofs.Numbers.{digits-equal, pigeonhole}
-use Rattle.theory.proofs.Exploration.{Grows, Kept, explore-grows, invariant}
+use Rattle.theory.specs.Conformance.{same-pair, next-pair, bad-event, or-else, first-bad, bad-pair, in-play-order, counterexample}
+use Rattle.theory.proofs.Exploration.{Grows, explore-grows}
+use Rattle.theory.proofs.Conformance.{same-pair-iff, few-pairs}
 use Rattle.values.specs.declared.ValueKind.the-variants.{Numbered}
 use Rattle.values.specs.ValueKind.{at-or-below}
 use Rattle.machines.specs.TableBytes.{machine-of}
-use Rattle.conformance.specs.PairQueue.{Queue, Holds, pair-step, at-or-below-on, FirstBadEvent, Ready, successors, Expandable, Expanded, FailsAt, Searchable}
+use Rattle.conformance.specs.PairQueue.{Queue, Holds, at-or-below-on, FirstBadEvent, Ready, successors, Expandable, Expanded, FailsAt, Searchable}
 use Rattle.conformance.proofs.Queues.{same-pair-self, same-pair-true}
 use Rattle.conformance.proofs.Successors.{part-grows}
 
@@ -80,56 +80,6 @@ module _ {S : Type 0} (same : S → S → Bool) (next : S → ℕ → S) (start 
       ap (λ b. cond b (explore same next start events c (suc i) (add-events same next start events zero P (getD P i []))) P)
       (le-ltb i (length P) h)
 
-same-pair-iff : (x y : ℕ × ℕ) → T (same-pair x y) ↔ (x ≡ y)
-same-pair-iff x y = (
-  (λ h. let e : (x .0 ≡ y .0) × (x .1 ≡ y .1) = same-pair-true x y (is-true (same-pair x y) h) in λ i. (e .0 i, e .1 i)),
-  λ e. subst (λ z. T (same-pair x z)) e (subst⁻¹ T (same-pair-self (x .0) (x .1)) tt),
-)
-  where
-    is-true : (b : Bool) → T b → b ≡ true
-    is-true true h = refl
-    is-true false h = absurd h
-
--- There are no more pairs of states than n × k.
-module _ {size events n k : ℕ} {device table : List ℕ} (ready : Ready size events n k device table) (s : ℕ) (s-in : s < n) (t-in : 0 < k) where
-  abbrev step : ℕ × ℕ → ℕ → ℕ × ℕ
-  step = pair-step (machine-of events device) (machine-of events table)
-
-  abbrev state : List ℕ → ℕ × ℕ
-  state w = reached step (s, zero) w
-
-  abbrev all-words : List (List ℕ)
-  all-words = explored same-pair step (s, zero) events (n * k)
-
-  pair-in : (w : List ℕ) → Word events w → (state w .0 < n) × (state w .1 < k)
-  pair-in [] v = (s-in, t-in)
-  pair-in (e ∷ w) v =
-      let r : (state w .0 < n) × (state w .1 < k) = pair-in w (v .1) in
-      (ready .device-nexts (state w .0) e (r .0) (v .0), ready .table-nexts (state w .1) e (r .1) (v .0))
-
-  pub few-words : length all-words ≤ n * k
-  few-words = pigeonhole (n * k) (length all-words) number in-range different
-    where
-      number : ℕ → ℕ
-      number l = state (getD all-words l []) .0 * k + state (getD all-words l []) .1
-
-      kept : Kept same-pair same-pair-iff step (s, zero) events all-words
-      kept = invariant same-pair same-pair-iff step (s, zero) events (n * k)
-
-      at-in : (l : ℕ) → l < length all-words → (state (getD all-words l []) .0 < n) × (state (getD all-words l []) .1 < k)
-      at-in l h = pair-in (getD all-words l []) (kept .1 .words l h)
-
-      in-range : (l : ℕ) → l < length all-words → number l < n * k
-      in-range l h =
-          let r = at-in l h in
-          omega (arith, r .1, mul-le-mul-right k (r .0), suc-mul (state (getD all-words l []) .0) k)
-
-      different : (j l : ℕ) → j < l → l < length all-words → ¬ (number j ≡ number l)
-      different j l u h e =
-          let d = digits-equal k (state (getD all-words j []) .0) (state (getD all-words l []) .0) (state (getD all-words j []) .1)
-          (state (getD all-words l []) .1) (at-in j (omega arith) .1) (at-in l h .1) e in
-          kept .1 .different j l u h (λ i. (d .0 i, d .1 i))
-
 -- What holds when i pairs have been taken from the queue and none of them failed.
 module _ {size events values k : ℕ} {device table : List ℕ} {a₀ : Queue} (meet : List ℕ) (x : Searchable size events values k device table a₀) where
   abbrev limit : ℕ
@@ -148,24 +98,24 @@ module _ {size events values k : ℕ} {device table : List ℕ} {a₀ : Queue} (
   start = (x .s, zero)
 
   abbrev Q : List (List ℕ)
-  Q = explored same-pair (pair-step m q) start events limit
+  Q = explored same-pair (next-pair m q) start events limit
 
   abbrev first-from : List (List ℕ) → Option (List ℕ)
-  first-from P = first-bad (pair-step m q) start (bad-pair below m q) events P
+  first-from P = first-bad (next-pair m q) start (bad-pair below m q) events P
 
   pub record Progress (i count : ℕ) (a : Queue) : Type 0 where
     pub words : List (List ℕ)
     pub held : Holds (x .n) k m q start words a
     pub counted : count ≡ length words
     pub at-most : i ≤ count
-    pub on-way : explore same-pair (pair-step m q) start events (limit - i) i words ≡ Q
+    pub on-way : explore same-pair (next-pair m q) start events (limit - i) i words ≡ Q
     pub passed : first-from (drop i Q) ≡ first-from Q
 
   Q-few : length Q ≤ limit
-  Q-few = few-words (x .ready) (x .s) (x .start-in) (x .some-states)
+  Q-few = few-pairs events (x .n) k m q (x .ready .device-nexts) (x .ready .table-nexts) (x .s) zero (x .start-in) (x .some-states)
 
-  grows : (c i : ℕ) (P : List (List ℕ)) → Grows P (explore same-pair (pair-step m q) start events c i P)
-  grows c i P = explore-grows same-pair same-pair-iff (pair-step m q) start events c i P
+  grows : (c i : ℕ) (P : List (List ℕ)) → Grows P (explore same-pair (next-pair m q) start events c i P)
+  grows c i P = explore-grows same-pair same-pair-iff (next-pair m q) start events c i P
 
   pub progress-start : Progress zero 1 a₀
   progress-start =
@@ -175,7 +125,7 @@ module _ {size events values k : ℕ} {device table : List ℕ} {a₀ : Queue} (
         held = x .held;
         counted = refl;
         at-most = omega arith;
-        on-way = ap (λ c. explore same-pair (pair-step m q) start events c zero ([] ∷ [])) z;
+        on-way = ap (λ c. explore same-pair (next-pair m q) start events c zero ([] ∷ [])) z;
         passed = refl;
       }
 
@@ -190,7 +140,7 @@ module _ {size events values k : ℕ} {device table : List ℕ} {a₀ : Queue} (
     pub found-none : count ≤ i → counterexample below m q events (x .n) k (x .s) zero ≡ none
     found-none h =
         let z : length (p .words) ≤ i = omega (arith, p .counted) in
-        let is : p .words ≡ Q = sym (explore-end same-pair (pair-step m q) start events (limit - i) i (p .words) z) ∙ p .on-way in
+        let is : p .words ≡ Q = sym (explore-end same-pair (next-pair m q) start events (limit - i) i (p .words) z) ∙ p .on-way in
         ap in-play-order (sym (p .passed) ∙ ap first-from (ap (drop i) (sym is) ∙ drop-of-length-le (p .words) z))
 
     module _ (h : i < count) where
@@ -203,9 +153,9 @@ module _ {size events values k : ℕ} {device table : List ℕ} {a₀ : Queue} (
       abbrev after : List (List ℕ)
       after = successors events device table start (p .words) i
 
-      step-way : explore same-pair (pair-step m q) start events (limit - suc i) (suc i) after ≡ Q
+      step-way : explore same-pair (next-pair m q) start events (limit - suc i) (suc i) after ≡ Q
       step-way =
-          sym (explore-step same-pair (pair-step m q) start events limit i (p .words) i-in (omega (arith, i-in, words-few))) ∙ p .on-way
+          sym (explore-step same-pair (next-pair m q) start events limit i (p .words) i-in (omega (arith, i-in, words-few))) ∙ p .on-way
 
       after-grow : Grows after Q
       after-grow = subst (Grows after) step-way (grows (limit - suc i) (suc i) after)
@@ -238,7 +188,7 @@ module _ {size events values k : ℕ} {device table : List ℕ} {a₀ : Queue} (
 
         bad-is :
             (e : ℕ) (b : Bool) → at-or-below-on events values meet device table s t e ≡ b →
-            bad-pair below m q (reached (pair-step m q) start w) e ≡ not b
+            bad-pair below m q (reached (next-pair m q) start w) e ≡ not b
         unfolding at-or-below-on
         bad-is e b z =
             ap₂ (λ u v. not (below (m .value u e) (q .value v e))) (sym (s-is ∙ p .held .device-at i i-in)) (sym (t-is ∙ p .held .table-at i i-in))
@@ -247,10 +197,10 @@ module _ {size events values k : ℕ} {device table : List ℕ} {a₀ : Queue} (
         taken-word : getD Q i [] ≡ w
         taken-word = words-grow .1 i i-in
 
-        here : first-from (drop i Q) ≡ or-else (bad-event (pair-step m q) start (bad-pair below m q) events zero w) (first-from (drop (suc i) Q))
+        here : first-from (drop i Q) ≡ or-else (bad-event (next-pair m q) start (bad-pair below m q) events zero w) (first-from (drop (suc i) Q))
         here =
-            first-at (pair-step m q) start (bad-pair below m q) events Q i (omega (arith, i-in, words-grow .0))
-            ∙ ap (λ u. or-else (bad-event (pair-step m q) start (bad-pair below m q) events zero u) (first-from (drop (suc i) Q))) taken-word
+            first-at (next-pair m q) start (bad-pair below m q) events Q i (omega (arith, i-in, words-grow .0))
+            ∙ ap (λ u. or-else (bad-event (next-pair m q) start (bad-pair below m q) events zero u) (first-from (drop (suc i) Q))) taken-word
 
         module _ (e : ℕ) (judged : FirstBadEvent events (at-or-below-on events values meet device table s t) e) where
           -- The pair fails.
@@ -269,7 +219,7 @@ module _ {size events values k : ℕ} {device table : List ℕ} {a₀ : Queue} (
                     ap in-play-order
                     (sym (p .passed) ∙ here
                     ∙ ap (λ o. or-else o (first-from (drop (suc i) Q)))
-                    (bad-first (pair-step m q) start (bad-pair below m q) e w (bad-is e false (judged .bad l)) events zero (omega arith) (omega arith)
+                    (bad-first (next-pair m q) start (bad-pair below m q) e w (bad-is e false (judged .bad l)) events zero (omega arith) (omega arith)
                     (λ c u v. bad-is c true (judged .before c v))));
               }
 
@@ -287,9 +237,9 @@ module _ {size events values k : ℕ} {device table : List ℕ} {a₀ : Queue} (
                 passed =
                     sym (here
                     ∙ ap (λ o. or-else o (first-from (drop (suc i) Q)))
-                    (bad-none (pair-step m q) start (bad-pair below m q) events zero w (λ c u v. bad-is c true (judged .before c (omega arith)))))
+                    (bad-none (next-pair m q) start (bad-pair below m q) events zero w (λ c u v. bad-is c true (judged .before c (omega arith)))))
                     ∙ p .passed;
               })
             where
               more : length (p .words) ≤ length after
-              more = part-grows same-pair (pair-step m q) start (p .words) w events
+              more = part-grows same-pair (next-pair m q) start (p .words) w events

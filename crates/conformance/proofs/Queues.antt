@@ -14,9 +14,9 @@ use lib.Seq.{getD-append-seam, getD-set-same, getD-set-other}
 use mir.Facts.{and-yes}
 use Rattle.theory.specs.MealyMachine.{Machine}
 use Rattle.theory.specs.Exploration.{reached, has-state, add}
-use Rattle.theory.specs.Conformance.{same-pair}
+use Rattle.theory.specs.Conformance.{same-pair, next-pair}
 use Rattle.theory.proofs.Numbers.{digits-equal}
-use Rattle.conformance.specs.PairQueue.{Queue, Sized, Linked, Holds, pair-step, flag, is-new, push, pushed, pushed-count}
+use Rattle.conformance.specs.PairQueue.{Queue, Sized, Linked, Holds, flag, is-new, push, pushed, pushed-count}
 
 module _ (a : Queue) (count place : ℕ) where
   pub pushed-not : (s t parent e : ℕ) → (getD (a .flags) place 0 ≡ 0 → ⊥) → pushed a count place s t parent e ≡ a
@@ -125,13 +125,13 @@ same-pair-true x y e =
 
 module _ (n k : ℕ) (m q : Machine ℕ ℕ) (start : ℕ × ℕ) where
   abbrev state : List ℕ → ℕ × ℕ
-  state w = reached (pair-step m q) start w
+  state w = reached (next-pair m q) start w
 
   abbrev has : List (List ℕ) → ℕ × ℕ → Bool
-  has P x = has-state same-pair (pair-step m q) start P x
+  has P x = has-state same-pair (next-pair m q) start P x
 
   abbrev with-word : List (List ℕ) → List ℕ → List (List ℕ)
-  with-word P w = add same-pair (pair-step m q) start P w
+  with-word P w = add same-pair (next-pair m q) start P w
 
   has-end : (P : List (List ℕ)) (v : List ℕ) (x : ℕ × ℕ) → has (P ++ (v ∷ [])) x ≡ (has P x || same-pair (state v) x)
   has-end [] v x = or-false (same-pair (state v) x)

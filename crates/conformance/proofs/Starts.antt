@@ -10,7 +10,7 @@ use native.Mathlib.Omega.{arith}
 use lib.ListN.{length, getD, set, replicate, length-set, length-reverse, length-replicate, getD-replicate}
 use lib.Seq.{getD-set-same, getD-set-other}
 use Rattle.theory.specs.Exploration.{reached, has-state}
-use Rattle.theory.specs.Conformance.{same-pair, counterexample}
+use Rattle.theory.specs.Conformance.{same-pair, next-pair, counterexample}
 use Rattle.theory.proofs.Numbers.{digits-equal}
 use Rattle.values.specs.declared.ValueKind.the-variants.{Numbered}
 use Rattle.values.specs.ValueKind.{at-or-below}
@@ -20,7 +20,7 @@ use Rattle.conformance.specs.declared.Verdict.the-variants.{Pass, Fail}
 use Rattle.conformance.specs.declared.Failure.{Failure}
 use Rattle.conformance.specs.declared.Failure.the-variants.{Nowhere, At}
 use Rattle.conformance.specs.Trial.{outcome, shown}
-use Rattle.conformance.specs.PairQueue.{Queue, queue, Sized, flag, pair-step, Searchable, Searched, Located, Tried, Answers, FailsAt, Zeros}
+use Rattle.conformance.specs.PairQueue.{Queue, queue, Sized, flag, Searchable, Searched, Located, Tried, Answers, FailsAt, Zeros}
 use Rattle.conformance.proofs.Queues.{same-pair-self, same-pair-true, or-false}
 use Rattle.conformance.proofs.Words.{short-word, put-last}
 
@@ -76,7 +76,7 @@ module _ {size events values k : ℕ} {table : List ℕ} {s : ℕ} {device buffe
       }
     where
       state : List ℕ → ℕ × ℕ
-      state w = reached (pair-step (machine-of events device) (machine-of events table)) (s, zero) w
+      state w = reached (next-pair (machine-of events device) (machine-of events table)) (s, zero) w
 
       word : ℕ → List ℕ
       word j = getD ([] ∷ []) j []
@@ -103,7 +103,7 @@ module _ {size events values k : ℕ} {table : List ℕ} {s : ℕ} {device buffe
       flagged′ :
           (u v : ℕ) → u < x .n → v < k → (b : Bool) → same-pair (s, zero) (u, v) ≡ b →
           getD (set f (s * k) 1) (u * k + v) 0
-          ≡ flag (has-state same-pair (pair-step (machine-of events device) (machine-of events table)) (s, zero) ([] ∷ []) (u, v))
+          ≡ flag (has-state same-pair (next-pair (machine-of events device) (machine-of events table)) (s, zero) ([] ∷ []) (u, v))
       flagged′ u v hu hv true z =
           let e : (s ≡ u) × (zero ≡ v) = same-pair-true (s, zero) (u, v) z in
           let place : u * k + v ≡ s * k = omega (arith, ap (λ y. y * k) (e .0), e .1) in

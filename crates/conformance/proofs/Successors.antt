@@ -11,27 +11,14 @@ use borrow.Author.Tests.{eqb-true}
 use lib.ListN.{length, getD, length-append, List·getD-append}
 use Rattle.theory.specs.MealyMachine.{Machine}
 use Rattle.theory.specs.Exploration.{reached, has-state, add, add-events}
-use Rattle.theory.specs.Conformance.{same-pair}
+use Rattle.theory.proofs.Exploration.{add-grows, add-events-grows}
+use Rattle.theory.specs.Conformance.{same-pair, next-pair}
 use Rattle.machines.specs.TableBytes.{machine-of}
-use Rattle.conformance.specs.PairQueue.{Queue, Sized, Holds, pair-step, is-new, pushed, pushed-count, Expandable, successors}
+use Rattle.conformance.specs.PairQueue.{Queue, Sized, Holds, is-new, pushed, pushed-count, Expandable, successors}
 use Rattle.conformance.proofs.Queues.{push-room, push-holds}
 
 -- Adding words, to any list and over any states.
 module _ {S : Type 0} (same : S → S → Bool) (next : S → ℕ → S) (start : S) where
-  add-length : (P : List (List ℕ)) (w : List ℕ) → length P ≤ length (add same next start P w)
-  add-length P w = go (has-state same next start P (reached next start w))
-    where
-      go : (b : Bool) → length P ≤ length (cond b P (P ++ (w ∷ [])))
-      go true = omega arith
-      go false = omega (arith, length-append P (w ∷ []))
-
-  add-keeps : (P : List (List ℕ)) (w : List ℕ) (l : ℕ) → l < length P → getD (add same next start P w) l [] ≡ getD P l []
-  add-keeps P w l h = go (has-state same next start P (reached next start w))
-    where
-      go : (b : Bool) → getD (cond b P (P ++ (w ∷ []))) l [] ≡ getD P l []
-      go true = refl
-      go false = List·getD-append P (w ∷ []) [] l h
-
   abbrev added : ℕ → ℕ → List (List ℕ) → List ℕ → List (List ℕ)
   added c a P w = add-events same next start c a P w
 
@@ -50,7 +37,7 @@ module _ {S : Type 0} (same : S → S → Bool) (next : S → ℕ → S) (start 
     part-more e = ap part (add-one e) ∙ add-last e zero P w ∙ ap (λ x. add same next start (part e) (x ∷ w)) (omega arith)
 
     part-next : (e : ℕ) → length (part e) ≤ length (part (e + 1))
-    part-next e = subst⁻¹ (λ Q. length (part e) ≤ length Q) (part-more e) (add-length (part e) (e ∷ w))
+    part-next e = subst⁻¹ (λ Q. length (part e) ≤ length Q) (part-more e) (add-grows same next start (part e) (e ∷ w) .0)
 
     pub part-length : (e d : ℕ) → length (part e) ≤ length (part (e + d))
     part-length e zero = let z : e + zero ≡ e = omega arith in subst⁻¹ (λ x. length (part e) ≤ length (part x)) z (omega arith)
@@ -59,14 +46,10 @@ module _ {S : Type 0} (same : S → S → Bool) (next : S → ℕ → S) (start 
         subst⁻¹ (λ x. length (part e) ≤ length (part x)) z (omega (arith, part-length e d, part-next (e + d)))
 
     pub part-grows : (e : ℕ) → length P ≤ length (part e)
-    part-grows e = let z : zero + e ≡ e = omega arith in subst (λ x. length P ≤ length (part x)) z (part-length zero e)
+    part-grows e = add-events-grows same next start e zero P w .0
 
     pub part-keeps : (l : ℕ) → l < length P → (e : ℕ) → getD (part e) l [] ≡ getD P l []
-    part-keeps l h zero = refl
-    part-keeps l h (suc e) =
-        ap (λ Q. getD Q l []) (add-last e zero P w)
-        ∙ add-keeps (part e) ((zero + e) ∷ w) l (omega (arith, part-grows e))
-        ∙ part-keeps l h e
+    part-keeps l h e = add-events-grows same next start e zero P w .1 l h
 
 -- One turn of the loop over the events.
 module _ (n k : ℕ) (m q : Machine ℕ ℕ) (start : ℕ × ℕ) (size : ℕ) (P : List (List ℕ)) (i : ℕ) (i-in : i < length P) where
@@ -74,28 +57,28 @@ module _ (n k : ℕ) (m q : Machine ℕ ℕ) (start : ℕ × ℕ) (size : ℕ) (
   w = getD P i []
 
   abbrev parts : ℕ → List (List ℕ)
-  parts e = add-events same-pair (pair-step m q) start e zero P w
+  parts e = add-events same-pair (next-pair m q) start e zero P w
 
   has-i : (e : ℕ) → i < length (parts e)
-  has-i e = omega (arith, part-grows same-pair (pair-step m q) start P w e)
+  has-i e = omega (arith, part-grows same-pair (next-pair m q) start P w e)
 
   word-i : (e : ℕ) → getD (parts e) i [] ≡ w
-  word-i e = part-keeps same-pair (pair-step m q) start P w i i-in e
+  word-i e = part-keeps same-pair (next-pair m q) start P w i i-in e
 
   module _ (a : Queue) (sized : Sized size a) (events e : ℕ) (e-in : e < events) (held : Holds n k m q start (parts e) a)
       (pairs : n * k ≤ size) (fits : length (parts events) ≤ size) (x y : ℕ)
-      (x-is : x ≡ m .next (reached (pair-step m q) start w .0) e) (y-is : y ≡ q .next (reached (pair-step m q) start w .1) e)
+      (x-is : x ≡ m .next (reached (next-pair m q) start w .0) e) (y-is : y ≡ q .next (reached (next-pair m q) start w .1) e)
       (x-in : x < n) (y-in : y < k) (count : ℕ) (counted : count ≡ length (parts e)) where
-    next-state : reached (pair-step m q) start (e ∷ getD (parts e) i []) ≡ (x, y)
-    next-state = ap (λ u. reached (pair-step m q) start (e ∷ u)) (word-i e) ∙ (λ j. (sym x-is j, sym y-is j))
+    next-state : reached (next-pair m q) start (e ∷ getD (parts e) i []) ≡ (x, y)
+    next-state = ap (λ u. reached (next-pair m q) start (e ∷ u)) (word-i e) ∙ (λ j. (sym x-is j, sym y-is j))
 
     abbrev more : List (List ℕ)
-    more = add same-pair (pair-step m q) start (parts e) (e ∷ getD (parts e) i [])
+    more = add same-pair (next-pair m q) start (parts e) (e ∷ getD (parts e) i [])
 
     more-is : parts (e + 1) ≡ more
     more-is =
-        part-more same-pair (pair-step m q) start P w e
-        ∙ ap (λ u. add same-pair (pair-step m q) start (parts e) (e ∷ u)) (sym (word-i e))
+        part-more same-pair (next-pair m q) start P w e
+        ∙ ap (λ u. add same-pair (next-pair m q) start (parts e) (e ∷ u)) (sym (word-i e))
 
     more-fits : length more ≤ size
     more-fits = go (events - (e + 1)) (omega arith)
@@ -105,7 +88,7 @@ module _ (n k : ℕ) (m q : Machine ℕ ℕ) (start : ℕ × ℕ) (size : ℕ) (
             omega (
               arith,
               ap length more-is,
-              part-length same-pair (pair-step m q) start P w (e + 1) d,
+              part-length same-pair (next-pair m q) start P w (e + 1) d,
               ap (λ u. length (parts u)) z,
             )
 
@@ -127,16 +110,16 @@ module _ (n k : ℕ) (m q : Machine ℕ ℕ) (start : ℕ × ℕ) (size : ℕ) (
 -- What holds at each turn, of whatever words the arrays held at first.
 pub record Turned {size events k : ℕ} {device table : List ℕ} {i count : ℕ} {a₀ : Queue}
     (x : Expandable size events k device table i count a₀) (s t e r : ℕ) (a : Queue) : Type 0 where
-  pub s-is : s ≡ reached (pair-step (machine-of events device) (machine-of events table)) (x .start) (getD (x .words) i []) .0
-  pub t-is : t ≡ reached (pair-step (machine-of events device) (machine-of events table)) (x .start) (getD (x .words) i []) .1
+  pub s-is : s ≡ reached (next-pair (machine-of events device) (machine-of events table)) (x .start) (getD (x .words) i []) .0
+  pub t-is : t ≡ reached (next-pair (machine-of events device) (machine-of events table)) (x .start) (getD (x .words) i []) .1
   pub s-in : s < x .n
   pub t-in : t < k
   pub held :
       Holds (x .n) k (machine-of events device) (machine-of events table) (x .start)
-      (add-events same-pair (pair-step (machine-of events device) (machine-of events table)) (x .start) e zero (x .words) (getD (x .words) i [])) a
+      (add-events same-pair (next-pair (machine-of events device) (machine-of events table)) (x .start) e zero (x .words) (getD (x .words) i [])) a
   pub counted :
       r
-      ≡ length (add-events same-pair (pair-step (machine-of events device) (machine-of events table)) (x .start) e zero (x .words) (getD (x .words) i []))
+      ≡ length (add-events same-pair (next-pair (machine-of events device) (machine-of events table)) (x .start) e zero (x .words) (getD (x .words) i []))
 
 module _ {size events k : ℕ} {device table : List ℕ} {i count : ℕ} {a₀ : Queue} (x : Expandable size events k device table i count a₀) where
   abbrev m : Machine ℕ ℕ
@@ -149,7 +132,7 @@ module _ {size events k : ℕ} {device table : List ℕ} {i count : ℕ} {a₀ :
   i-in = subst (λ c. i < c) (x .counted) (x .taken)
 
   pub place-small : i < size
-  place-small = omega (arith, i-in, part-grows same-pair (pair-step m q) (x .start) (x .words) (getD (x .words) i []) events, x .room)
+  place-small = omega (arith, i-in, part-grows same-pair (next-pair m q) (x .start) (x .words) (getD (x .words) i []) events, x .room)
 
   pub turned-start :
       (s t : ℕ) → s ≡ getD (a₀ .device-queue) i 0 → t ≡ getD (a₀ .table-queue) i 0 → Turned x s t zero count a₀
@@ -203,6 +186,6 @@ module _ {size events k : ℕ} {device table : List ℕ} {i count : ℕ} {a₀ :
         Holds (x .n) k m q (x .start) (successors events device table (x .start) (x .words) i) a
         × (r ≡ length (successors events device table (x .start) (x .words) i))
     turned-end z = (
-      subst (λ c. Holds (x .n) k m q (x .start) (add-events same-pair (pair-step m q) (x .start) c zero (x .words) (getD (x .words) i [])) a) z (h .held),
-      h .counted ∙ ap (λ c. length (add-events same-pair (pair-step m q) (x .start) c zero (x .words) (getD (x .words) i []))) z,
+      subst (λ c. Holds (x .n) k m q (x .start) (add-events same-pair (next-pair m q) (x .start) c zero (x .words) (getD (x .words) i [])) a) z (h .held),
+      h .counted ∙ ap (λ c. length (add-events same-pair (next-pair m q) (x .start) c zero (x .words) (getD (x .words) i []))) z,
     )

@@ -10,7 +10,7 @@ use lib.Dec.{eqb}
 use lib.ListN.{length, getD, set}
 use Rattle.theory.specs.MealyMachine.{Machine}
 use Rattle.theory.specs.Exploration.{reached, has-state, add-events}
-use Rattle.theory.specs.Conformance.{same-pair, counterexample}
+use Rattle.theory.specs.Conformance.{same-pair, next-pair, counterexample}
 use Rattle.machines.specs.TableBytes.{machine-of}
 use Rattle.machines.specs.StoredEntries.{put}
 use Rattle.values.specs.declared.ValueKind.the-variants.{Numbered}
@@ -19,10 +19,6 @@ use Rattle.conformance.specs.declared.Verdict.{Verdict}
 use Rattle.conformance.specs.declared.Failure.{Failure}
 use Rattle.conformance.specs.declared.Failure.the-variants.{Nowhere, At}
 use Rattle.conformance.specs.Trial.{outcome, shown}
-
--- The pair of states after an event.
-abbrev pub pair-step : Machine ℕ ℕ → Machine ℕ ℕ → ℕ × ℕ → ℕ → ℕ × ℕ
-pair-step m q x e = (m .next (x .0) e, q .next (x .1) e)
 
 -- On an event in a pair of states the device's value is at or below the table's.
 unfoldable pub at-or-below-on : ℕ → ℕ → List ℕ → List ℕ → List ℕ → ℕ → ℕ → ℕ → Bool
@@ -70,12 +66,12 @@ flag false = 0
 module _ (n k : ℕ) (m q : Machine ℕ ℕ) (start : ℕ × ℕ) where
   pub record Holds (P : List (List ℕ)) (a : Queue) : Type 0 where
     pub linked : Linked P (a .parents) (a .last-events)
-    pub device-at : (l : ℕ) → l < length P → getD (a .device-queue) l 0 ≡ reached (pair-step m q) start (getD P l []) .0
-    pub table-at : (l : ℕ) → l < length P → getD (a .table-queue) l 0 ≡ reached (pair-step m q) start (getD P l []) .1
+    pub device-at : (l : ℕ) → l < length P → getD (a .device-queue) l 0 ≡ reached (next-pair m q) start (getD P l []) .0
+    pub table-at : (l : ℕ) → l < length P → getD (a .table-queue) l 0 ≡ reached (next-pair m q) start (getD P l []) .1
     pub device-in : (l : ℕ) → l < length P → getD (a .device-queue) l 0 < n
     pub table-in : (l : ℕ) → l < length P → getD (a .table-queue) l 0 < k
     pub flagged :
-        (s t : ℕ) → s < n → t < k → getD (a .flags) (s * k + t) 0 ≡ flag (has-state same-pair (pair-step m q) start P (s, t))
+        (s t : ℕ) → s < n → t < k → getD (a .flags) (s * k + t) 0 ≡ flag (has-state same-pair (next-pair m q) start P (s, t))
 
 -- The queue with a pair at its end, where it is not in it yet; and how many pairs it has then.
 abbrev pub is-new : Queue → ℕ → Bool
@@ -104,7 +100,7 @@ pub record Ready (size events n k : ℕ) (device table : List ℕ) : Type 0 wher
 -- The list of words with the successors of word i.
 abbrev pub successors : ℕ → List ℕ → List ℕ → ℕ × ℕ → List (List ℕ) → ℕ → List (List ℕ)
 successors events device table start P i =
-    add-events same-pair (pair-step (machine-of events device) (machine-of events table)) start events zero P (getD P i [])
+    add-events same-pair (next-pair (machine-of events device) (machine-of events table)) start events zero P (getD P i [])
 
 -- The arrays hold `count` pairs, and pair i's successors fit in.
 pub record Expandable (size events k : ℕ) (device table : List ℕ) (i count : ℕ) (a : Queue) : Type 0 where

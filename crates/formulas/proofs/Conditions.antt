@@ -18,7 +18,7 @@ use Rattle.refusal.specs.Refusal.{Condition, plain, at-lowest, First, or-else, 
 use Rattle.refusal.specs.RefusalClaims.{Functional, AllFunctional, NoneMet}
 use Rattle.refusal.specs.declared.Refusal.{Refusal}
 use Rattle.refusal.specs.declared.Refusal.the-variants.{Plain, At}
-use Rattle.refusal.proofs.Refusals.{plain-functional, at-lowest-functional, or-else-none}
+use Rattle.refusal.proofs.Refusals.{plain-functional, at-lowest-functional, first-one, first-cons, or-else-none, plain-none}
 use Rattle.formulas.specs.NodeBytes.{NodeCode, encode-all, encode-formula}
 use Rattle.formulas.specs.RuleConditions.{Unbound, InClosedPosition, closed-to-variable, NodeFits, node-count, node-at, CountAtFault, NodeAtFault, RunOut, LeftOver, OfFormula, rule-conditions}
 use Rattle.formulas.specs.RuleReading.{lowest-from, kind-of, end-fault, node-of, nodes-from, formula-read, lowest-unbound, lowest-closed}
@@ -30,30 +30,11 @@ use Rattle.formulas.proofs.Decoding.{CountFits, count-facts}
 use Rattle.formulas.proofs.Encoding.{All, all-append, all-left, all-right, encode-append, formula-unique, formula-length, every-node, bytes-from}
 use Rattle.formulas.proofs.Variables.{Answered, unbound-answered, closed-answered, unbound-fault, fault-unbound, closed-fault, fault-closed, free-below, below-free, may-stand, stand-may}
 
--- One condition more in front, answered before the others.
-first-cons :
-    (C : Condition) (cs : List Condition) (a b : Option Refusal) → ((r : Refusal) → a ≡ some r → C r) → (a ≡ none → (r : Refusal) → ¬ C r)
-    → (a ≡ none → First cs b) → First (C ∷ cs) (or-else a b)
-unfolding First or-else
-first-cons C cs (some r) b met unmet later = inl (r, met r refl, refl)
-first-cons C cs none b met unmet later = inr (unmet refl, later refl)
-
-first-last :
-    (C : Condition) (a : Option Refusal) → ((r : Refusal) → a ≡ some r → C r) → (a ≡ none → (r : Refusal) → ¬ C r) → First (C ∷ []) a
-unfolding First
-first-last C (some r) met unmet = inl (r, met r refl, refl)
-first-last C none met unmet = inr (unmet refl, refl)
-
 -- The answers of the two kinds of condition.
 plain-met : (t : Bool) (n : ℕ) (r : Refusal) → plain-unless t n ≡ some r → (t ≡ false) × (r ≡ Plain n)
 unfolding plain-unless
 plain-met true n r e = absurd (Option·some-ne-none r (sym e))
 plain-met false n r e = let d : Plain n ≡ r = cc in (refl, sym d)
-
-plain-unmet : (t : Bool) (n : ℕ) → plain-unless t n ≡ none → t ≡ true
-unfolding plain-unless
-plain-unmet true n e = refl
-plain-unmet false n e = absurd (Option·some-ne-none (Plain n) e)
 
 place-met : (o : Option ℕ) (n : ℕ) (r : Refusal) → at-found o n ≡ some r → (p : ℕ) × (o ≡ some p) × (r ≡ At n p)
 unfolding at-found
@@ -103,10 +84,10 @@ module _ {B : Type 0} (events : ℕ) (In : B → Type 0) where
 
 module _ {B : Type 0} (width : ℕ) (encode : Node B → List ℕ) (code : NodeCode width encode) (limit events : ℕ) (In : B → Type 0) (bytes : List ℕ) where
   abbrev count : ℕ
-  count = node-count width encode limit events In bytes
+  count = node-count width bytes
 
   abbrev at : ℕ → List ℕ
-  at = node-at width encode limit events In bytes
+  at = node-at width bytes
 
   -- 7 for bytes that are the nodes of a formula, and with nodes left over or missing.
   not-run-out : (φ : Formula B) → bytes ≡ encode-formula encode φ → (r : Refusal) → ¬ RunOut width encode limit events In bytes r
@@ -354,7 +335,7 @@ module _ {B : Type 0} (width : ℕ) (encode : Node B → List ℕ) (code : NodeC
             (λ r e. (read, formula-there, answered-met (Unbound read) 8 (lowest-unbound 0 0 read) (unbound-answered read) r e))
             (λ e r m. answered-unmet (Unbound read) 8 (lowest-unbound 0 0 read) (unbound-answered read) e r (of-read (λ φ. at-lowest 8 (Unbound φ)) r m))
             (λ e.
-            first-last
+            first-one
             (OfFormula width encode limit events In bytes (λ φ. at-lowest 9 (InClosedPosition φ)))
             (at-found (lowest-closed closed-to-variable 0 read) 9)
             (λ r d. (read, formula-there, answered-met (InClosedPosition read) 9 (lowest-closed closed-to-variable 0 read) (closed-answered read) r d))
@@ -395,8 +376,8 @@ module _ {B : Type 0} (width : ℕ) (encode : Node B → List ℕ) (code : NodeC
         (λ r e.
         let w = plain-met (count-fits width limit (length bytes)) 5 r e in
         (λ f. clash (sym (w .0) ∙ count-true width limit (length bytes) (record { whole = f .0; some-node = f .1; within = f .2 })), w .1))
-        (λ e r m. let f = count-facts width limit (length bytes) (plain-unmet (count-fits width limit (length bytes)) 5 e) in m .0 (f .whole, f .some-node, f .within))
-        (λ e. first-later (count-facts width limit (length bytes) (plain-unmet (count-fits width limit (length bytes)) 5 e)))
+        (λ e r m. let f = count-facts width limit (length bytes) (plain-none (count-fits width limit (length bytes)) 5 e) in m .0 (f .whole, f .some-node, f .within))
+        (λ e. first-later (count-facts width limit (length bytes) (plain-none (count-fits width limit (length bytes)) 5 e)))
       where
         clash : false ≡ true → ⊥
         clash x = let z : _≡_ {A = ℕ} 0 1 = cc in omega arith
@@ -447,7 +428,7 @@ module _ {B : Type 0} (width : ℕ) (encode : Node B → List ℕ) (code : NodeC
         let a = or-else-none (plain-unless (count-fits width limit (length bytes)) 5) (or-else (at-found misfits 6) (or-else (at-found (end-fault kind 1 count 0) 7) (variables-refusal read))) e in
         let b = or-else-none (at-found misfits 6) (or-else (at-found (end-fault kind 1 count 0) 7) (variables-refusal read)) (a .1) in
         let c = or-else-none (at-found (end-fault kind 1 count 0) 7) (variables-refusal read) (b .1) in
-        let f = count-facts width limit (length bytes) (plain-unmet (count-fits width limit (length bytes)) 5 (a .0)) in
+        let f = count-facts width limit (length bytes) (plain-none (count-fits width limit (length bytes)) 5 (a .0)) in
         let m = place-unmet misfits 6 (b .0) in
         let n = place-unmet (end-fault kind 1 count 0) 7 (c .0) in
         (formula-there f m n, accepted-there f m n (c .1))

@@ -76,7 +76,7 @@ module _ (events values : ℕ) (bytes : List ℕ) where
   node i = node-of (kind-of (kind-at bytes i)) (first-at bytes i) (second-at bytes i)
 
   abbrev at : ℕ → List ℕ
-  at = node-at 3 three-bytes 256 events (Below values) bytes
+  at = node-at 3 bytes
 
   sound : (i : ℕ) → i < length bytes / 3 → fit i ≡ true → (at i ≡ three-bytes (node i)) × NodeFits events (Below values) (node i)
   sound i h e =

@@ -44,27 +44,27 @@ NodeFits events In (output-node e b) = (e < events) × In b
 NodeFits events In conjunction-node = Unit {0}
 NodeFits events In greatest-node = Unit {0}
 
+-- How many whole nodes of so many bytes there are, and the bytes of node i.
+abbrev pub node-count : ℕ → List ℕ → ℕ
+node-count width bytes = length bytes / width
+
+abbrev pub node-at : ℕ → List ℕ → ℕ → List ℕ
+node-at width bytes i = take width (drop (i * width) bytes)
+
 module _ {B : Type 0} (width : ℕ) (encode : Node B → List ℕ) (limit events : ℕ) (In : B → Type 0) (bytes : List ℕ) where
-  abbrev pub node-count : ℕ
-  node-count = length bytes / width
-
-  -- The bytes of node i.
-  abbrev pub node-at : ℕ → List ℕ
-  node-at i = take width (drop (i * width) bytes)
-
   -- 5: no nodes, over the limit, or bytes left over after the last whole node.
   abbrev pub CountAtFault : Type 0
-  CountAtFault = ¬ ((length bytes % width ≡ 0) × (0 < node-count) × (node-count ≤ limit))
+  CountAtFault = ¬ ((length bytes % width ≡ 0) × (0 < node-count width bytes) × (node-count width bytes ≤ limit))
 
   -- 6: unknown kind, event or value too large, unused field not 0: the bytes of node i are those of no node that fits.
   abbrev pub NodeAtFault : ℕ → Type 0
-  NodeAtFault i = (i < node-count) × ((n : Node B) → node-at i ≡ encode n → ¬ NodeFits events In n)
+  NodeAtFault i = (i < node-count width bytes) × ((n : Node B) → node-at width bytes i ≡ encode n → ¬ NodeFits events In n)
 
   -- 7: the nodes run out: they begin the nodes of a formula and stop short of its end; place = node count.
   abbrev pub RunOut : Refusal → Type 0
   RunOut r =
       (φ : Formula B) × (n : Node B) × (ns : List (Node B)) × (bytes ++ encode-all encode (n ∷ ns) ≡ encode-formula encode φ)
-      × (r ≡ At 7 node-count)
+      × (r ≡ At 7 (node-count width bytes))
 
   -- 7: nodes are left over after a whole formula; place = first of them.
   abbrev pub LeftOver : Refusal → Type 0

@@ -75,9 +75,9 @@ bounds n v c k q e L N p h g l =
     let f : InOrder n v (loaded-at (rows-start c) n k q L N) =
     in-order-of-test n v (loaded-at (rows-start c) n k q L N) (rw (held-some c n k q L N h g) at (p .1)) in
     record {
-      state = f .current-in;
-      row = entries-fit q n (omega (arith, f .current-in, f .few-states)) (p .0);
-      place = omega (arith, rows-in c h, entries-fit k n (f .few-states) (p .0), index-below n k q e (f .current-in) l);
+      state = f .start-in;
+      row = entries-fit q n (omega (arith, f .start-in, f .few-states)) (p .0);
+      place = omega (arith, rows-in c h, entries-fit k n (f .few-states) (p .0), index-below n k q e (f .start-in) l);
     }
 
 abbrev pub IsGo : Decision → Type 0

@@ -1,6 +1,6 @@
 -- What channels hold; the tests of refusal 17 decide the printed condition.
 -- Assumes nothing.
-use mathlib.Core.Path.{_≡_, refl, sym, _∙_, ap, ap₂, subst, subst⁻¹}
+use mathlib.Core.Path.{_≡_, refl, sym, _∙_, ap, ap₂, subst⁻¹}
 use mathlib.Core.Bool.{Bool, true, false, _&&_, and-false, cond}
 use mathlib.Core.List.{List}
 use mathlib.Core.Option.{Option, none, some}
@@ -20,7 +20,10 @@ use Rattle.values.specs.Setup.{Setup, setup, WellFormed, events-test, values-te
 use Rattle.values.proofs.Setups.{setup-accepted}
 use Rattle.channel_log.specs.Calls.{channel-refusal, empty-refusal}
 use Rattle.channel_log.specs.Recorded.{Loaded}
+use Rattle.machines.specs.TableBytes.{two-bytes}
 use Rattle.machines.proofs.EntryIndex.{index-below, every-entry}
+use Rattle.machines.proofs.EntryBytes.{table-length}
+use Rattle.machines.proofs.TableRoundTrip.{two-bytes-length}
 use Rattle.recorder.specs.Channels.{part, table-at, loaded-at, rows-start, held}
 use Rattle.recorder.specs.ToolFault.{InOrder, passed, setup-test, entries-test, loaded-test, channel-test}
 use Rattle.recorder.proofs.Rows.{getD-part}
@@ -176,12 +179,10 @@ module _ (n v : ℕ) (x : Loaded ℕ) where
       record {
         some-states = ltb-true 0 k (and-left (ltb 0 k) (leb k 64 && (ltb (x .current) k && last)) h);
         few-states = leb-true k 64 (and-left (leb k 64) (ltb (x .current) k && last) a);
-        entries =
-            record {
-              value-in = λ l p e q. ltb-true (x .table .value l e) v (and-left (ltb (x .table .value l e) v) (ltb (x .table .next l e) k) (entries l e p q));
-              next-in = λ l p e q. ltb-true (x .table .next l e) k (and-right (ltb (x .table .value l e) v) (ltb (x .table .next l e) k) (entries l e p q));
-            };
-        current-in = ltb-true (x .current) k (and-left (ltb (x .current) k) last b);
+        entry-count = table-length ℕ two-bytes 2 two-bytes-length n (x .table) k;
+        start-in = ltb-true (x .current) k (and-left (ltb (x .current) k) last b);
+        values-in = λ l e p q. ltb-true (x .table .value l e) v (and-left (ltb (x .table .value l e) v) (ltb (x .table .next l e) k) (entries l e p q));
+        nexts-in = λ l e p q. ltb-true (x .table .next l e) k (and-right (ltb (x .table .value l e) v) (ltb (x .table .next l e) k) (entries l e p q));
       }
 
   pub test-of-in-order : InOrder n v x → loaded-test n v x ≡ true
@@ -189,10 +190,10 @@ module _ (n v : ℕ) (x : Loaded ℕ) where
   test-of-in-order f =
       and-both (lt-ltb 0 k (f .some-states))
       (and-both (le-leb k 64 (f .few-states))
-      (and-both (lt-ltb (x .current) k (f .current-in))
+      (and-both (lt-ltb (x .current) k (f .start-in))
       (every-of k (λ l. every n (λ e. ltb (x .table .value l e) v && ltb (x .table .next l e) k))
       (λ l p. every-of n (λ e. ltb (x .table .value l e) v && ltb (x .table .next l e) k)
-      (λ e q. and-both (lt-ltb (x .table .value l e) v (f .entries .value-in l p e q)) (lt-ltb (x .table .next l e) k (f .entries .next-in l p e q)))))))
+      (λ e q. and-both (lt-ltb (x .table .value l e) v (f .values-in l e p q)) (lt-ltb (x .table .next l e) k (f .nexts-in l e p q)))))))
 
 -- Where the tests of a loaded channel fail, and where only its entries are left.
 module _ (at n v k q : ℕ) (L N : List ℕ) where
@@ -217,4 +218,4 @@ flat-next n v at k q L N f i h =
     ltb-true (getD N (at + i) 0) k
     (and-right (ltb (getD L (at + i) 0) v) (ltb (getD N (at + i) 0) k)
     (every-at (k * n) (λ i. ltb (getD L (at + i) 0) v && ltb (getD N (at + i) 0) k)
-    (sym (entries-only at n v k q L N (f .some-states) (f .few-states) (f .current-in)) ∙ test-of-in-order n v (loaded-at at n k q L N) f) i h))
+    (sym (entries-only at n v k q L N (f .some-states) (f .few-states) (f .start-in)) ∙ test-of-in-order n v (loaded-at at n k q L N) f) i h))

@@ -12,11 +12,3 @@ pub mod Loads
 pub mod Runs
 -- A sequence of events is the event call repeated.
 pub mod Replays
--- Each call's effect on the channels.
-pub mod View
--- A sound tool stays sound.
-pub mod Keeps
--- The claims.
-pub mod Claims
--- The refusal of a call is the first that its conditions give.
-pub mod CallRefusals

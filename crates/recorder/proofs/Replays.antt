@@ -13,12 +13,11 @@ use lib.ListN.{length, getD, set, drop, length-set}
 use lib.Seq.{paste, take-all, getD-set-same, set-getD, set-set}
 use Rattle.theory.specs.MealyMachine.{Machine, Word, after}
 use Rattle.theory.specs.ValueSetClaims.{every}
-use Rattle.theory.proofs.ValueSets.{and-left, and-right, and-both, every-at}
+use Rattle.theory.proofs.ValueSets.{and-left, and-both, every-at}
 use Rattle.refusal.specs.declared.Refusal.{Refusal}
 use Rattle.refusal.specs.declared.Refusal.the-variants.{Plain}
 use Rattle.refusal.specs.Refusal.{or-else, plain-unless}
-use Rattle.refusal.proofs.Refusals.{or-else-none, plain-none}
-use Rattle.channel_log.specs.Calls.{event, Reply, accepted, returned, channel-refusal, empty-refusal, on-event, event-reply, replies, final}
+use Rattle.channel_log.specs.Calls.{event, Reply, accepted, returned, empty-refusal, on-event, event-reply, replies, final}
 use Rattle.channel_log.specs.Recorded.{Loaded}
 use Rattle.recorder.specs.declared.Tool.{Tool}
 use Rattle.recorder.specs.declared.Decision.{Decision}
@@ -26,10 +25,10 @@ use Rattle.recorder.specs.declared.Decision.the-variants.{Refuse, Go}
 use Rattle.recorder.specs.Channels.{setup-of, table-at, loaded-at, rows-start, channels}
 use Rattle.recorder.specs.ToolFault.{InOrder, setup-test, channel-test, tool-test}
 use Rattle.recorder.specs.Tool.{with-current, next-state, content, settled-tool, called}
-use Rattle.recorder.specs.Replay.{event-calls, returned-values, replay-refusal, put, replay-settled, replayed, ReplayClaim}
+use Rattle.recorder.specs.Replay.{event-calls, returned-values, replay-refusal, put, replay-settled, replayed}
 use Rattle.recorder.specs.Decisions.{decide, restart-decision, replay-decision, plain-reply, outputs, Runnable}
 use Rattle.recorder.proofs.Rows.{rows-in, entries-fit}
-use Rattle.recorder.proofs.Held.{held-some, empty-held, in-order-of-test, test-of-in-order, tests-split, flat-next, IsNone, channel-below}
+use Rattle.recorder.proofs.Held.{held-some, empty-held, in-order-of-test, test-of-in-order, tests-split, flat-next}
 use Rattle.recorder.proofs.Decided.{IsGo, tested, tested-same}
 use Rattle.recorder.proofs.Runs.{length-outputs}
 
@@ -96,8 +95,10 @@ ready-next t c e g l =
           (record {
             some-states = f .some-states;
             few-states = f .few-states;
-            entries = f .entries;
-            current-in = f .entries .next-in (state-of t c) (f .current-in) e l;
+            entry-count = f .entry-count;
+            start-in = f .nexts-in (state-of t c) e (f .start-in) l;
+            values-in = f .values-in;
+            nexts-in = f .nexts-in;
           });
     }
 
@@ -124,7 +125,7 @@ values-back : (l : List ℕ) → returned-values (map returned l) ≡ l
 values-back [] = refl
 values-back (v ∷ l) = ap (λ l. v ∷ l) (values-back l)
 
-word-of-test :
+pub word-of-test :
     (n : ℕ) (w : List ℕ) → ((i : ℕ) → i < length w → getD w i 0 < n) → Word n w
 word-of-test n [] h = tt
 word-of-test n (e ∷ w) h = (h 0 (omega arith), word-of-test n w (λ i l. h (suc i) (omega arith)))
@@ -274,7 +275,7 @@ module _ (t : Tool) (c : ℕ) (word out : List ℕ) (d : Decision) (s i j : Bool
           few-events = split .0;
           value-length = vl;
           next-length = nl;
-          state = facts .current-in;
+          state = facts .start-in;
           nexts = nexts;
           word-in = events-in;
           fits = leb-true (length word) (length out) (sym e-fits ∙ passed .fits);
@@ -312,40 +313,3 @@ module _ (t : Tool) (c : ℕ) (word out : List ℕ) (d : Decision) (s i j : Bool
         (pasted-put out (outputs (table-of t c) (state-of t c) word) (length word) (length-outputs (table-of t c) (state-of t c) word))
         ∙ sym (ap₂ (λ u l. ((accepted, u), put l out)) (run .1) (ap returned-values (run .0) ∙ values-back (outputs (table-of t c) (state-of t c) word)))
         ∙ sym (ap (replay-settled t c word out) (refusal-is ∙ ap refusal-of went))
-
-loaded-below : (t : Tool) (c : ℕ) → c < 8 → empty-refusal (channels t c) ≡ none → 0 < getD (t .states) c 0
-loaded-below t c h e =
-    go (ltb 0 (getD (t .states) c 0)) refl
-    (sym (empty-held c (t .events) (getD (t .states) c 0) (getD (t .current) c 0) (t .value) (t .next) h) ∙ e)
-  where
-    go : (b : Bool) → ltb 0 (getD (t .states) c 0) ≡ b → cond b none (some (Plain 15)) ≡ none → 0 < getD (t .states) c 0
-    go true p x = ltb-true 0 (getD (t .states) c 0) p
-    go false p x = absurd (subst⁻¹ IsNone x tt)
-
--- No event call of an accepted sequence is refused: each returns its value.
-pub replay-repeated : ReplayClaim
-replay-repeated t l c word buffer h =
-    let P = plain-unless (tool-test t (event c 0)) 17 in
-    let O = plain-unless (every (length word) (λ i. ltb (getD word i 0) (t .events))) 16 in
-    let F = plain-unless (leb (length word) (length buffer)) 13 in
-    let a = or-else-none P (or-else (channel-refusal c) (or-else (empty-refusal (channels t c)) (or-else O F))) h in
-    let b = or-else-none (channel-refusal c) (or-else (empty-refusal (channels t c)) (or-else O F)) (a .1) in
-    let d = or-else-none (empty-refusal (channels t c)) (or-else O F) (b .1) in
-    let e = or-else-none O F (d .1) in
-    let sound : tool-test t (event c 0) ≡ true = plain-none (tool-test t (event c 0)) 17 (a .0) in
-    let lt8 : c < 8 = channel-below c (b .0) in
-    let loaded : 0 < getD (t .states) c 0 = loaded-below t c lt8 (d .0) in
-    let words : every (length word) (λ i. ltb (getD word i 0) (t .events)) ≡ true =
-    plain-none (every (length word) (λ i. ltb (getD word i 0) (t .events))) 16 (e .0) in
-    let r =
-    repeated word t c
-    (record {
-      setup-passes = and-left (setup-test (setup-of t)) (channel-test (t .events) (t .values) (channels t c)) sound;
-      channel = lt8;
-      current-length = l;
-      loaded = loaded;
-      in-order = and-right (setup-test (setup-of t)) (channel-test (t .events) (t .values) (channels t c)) sound;
-    })
-    (word-of-test (t .events) word
-    (λ i p. ltb-true (getD word i 0) (t .events) (every-at (length word) (λ i. ltb (getD word i 0) (t .events)) words i p))) in
-    (outputs (table-of t c) (state-of t c) word, r .0, length-outputs (table-of t c) (state-of t c) word)

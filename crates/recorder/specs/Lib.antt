@@ -7,11 +7,7 @@ pub mod ToolFault
 pub mod CompiledRule
 -- What each call answers, and the tool that it returns.
 pub mod Tool
--- When a call is refused, as conditions in document 01's order.
-pub mod CallConditions
 -- A sequence of events on one channel.
 pub mod Replay
 -- What the private functions decide before anything is written.
 pub mod Decisions
--- What is claimed.
-pub mod Claims

@@ -1,6 +1,5 @@
 -- A sequence of events on one channel into a lent buffer: the event call repeated (document 01, "Tool"), all or nothing.
 -- Assumes nothing.
-use mathlib.Core.Path.{_≡_}
 use mathlib.Core.List.{List, [], _∷_, _++_, map}
 use mathlib.Core.Option.{Option, none, some}
 use Prim.Native.Nat.{ℕ}
@@ -51,9 +50,3 @@ replayed t c word buffer = replay-settled t c word buffer (replay-refusal t c wo
 
 abbrev pub replay-answer : Answer → List ℕ → (Reply ℕ × Tool) × List ℕ
 replay-answer r buffer = (answer r, buffer)
-
--- Replay is the event call repeated: where it is accepted, on a tool with its eight current states, every event call returns a value.
-abbrev pub ReplayClaim : Type 0
-ReplayClaim =
-    (t : Tool) → length (t .current) ≡ 8 → (c : ℕ) (word buffer : List ℕ) → replay-refusal t c word buffer ≡ none →
-    (values : List ℕ) × (replies called (event-calls c word) t ≡ map returned values) × (length values ≡ length word)

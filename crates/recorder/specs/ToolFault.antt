@@ -2,28 +2,26 @@
 -- any loaded one) has a table failing 11's limits or a current state outside it").
 -- Assumes nothing.
 use mathlib.Core.Path.{_≡_}
-use mathlib.Core.Logic.{_↔_}
 use mathlib.Core.Bool.{Bool, true, false, _&&_}
 use mathlib.Core.Option.{Option, none, some}
-use Prim.Native.Nat.{ℕ, _≤_, _<_}
+use Prim.Native.Nat.{ℕ}
 use lib.Dec.{ltb, leb}
-use Rattle.theory.specs.MealyMachine.{Machine, Runs, States}
+use Rattle.theory.specs.MealyMachine.{Machine}
 use Rattle.theory.specs.ValueSets.{Below}
 use Rattle.theory.specs.ValueSetClaims.{every}
 use Rattle.refusal.specs.declared.Refusal.{Refusal}
 use Rattle.values.specs.Setup.{Setup, WellFormed, setup-refusal}
+use Rattle.machines.specs.TableBytes.{table-bytes, two-bytes, TableInOrder}
 use Rattle.synthesis.specs.Compilation.{state-limit}
 use Rattle.channel_log.specs.Calls.{Call, load, event, restart, restart-all, clear}
 use Rattle.channel_log.specs.Recorded.{Loaded}
 use Rattle.recorder.specs.declared.Tool.{Tool}
 use Rattle.recorder.specs.Channels.{setup-of, channels}
 
--- A loaded channel's table is within 11's limits, and its current state is one of the table's.
-pub record InOrder (events values : ℕ) (x : Loaded ℕ) : Type 0 where
-  pub some-states : 0 < x .states
-  pub few-states : x .states ≤ state-limit
-  pub entries : Runs events (Below values) (States (x .states)) (x .table)
-  pub current-in : x .current < x .states
+-- A loaded channel's table is one that 11 does not refuse, its current state taken as the start.
+abbrev pub InOrder : ℕ → ℕ → Loaded ℕ → Type 0
+InOrder events values x =
+    TableInOrder 2 state-limit events (Below values) (x .states) (x .current) (table-bytes two-bytes events (x .table) (x .states)) (x .table)
 
 -- The channels that 17 looks at: the named one; for restart all, each.
 abbrev pub LooksAt : Call ℕ → ℕ → Type 0
@@ -70,7 +68,3 @@ named-test t (clear c) = channel-test (t .events) (t .values) (channels t c)
 
 abbrev pub tool-test : Tool → Call ℕ → Bool
 tool-test t call = setup-test (setup-of t) && named-test t call
-
--- The tests pass exactly where 17 is not met.
-abbrev pub ToolTestClaim : Type 0
-ToolTestClaim = (t : Tool) (call : Call ℕ) → (tool-test t call ≡ true) ↔ ¬ ToolFault t call

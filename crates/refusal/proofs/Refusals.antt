@@ -4,14 +4,14 @@ use mathlib.Core.Path.{_≡_, refl, sym, _∙_, ap, subst}
 use mathlib.Core.Logic.{inl, inr}
 use mathlib.Core.Bool.{Bool, true, false, true≢false}
 use mathlib.Core.Option.{Option, none, some, Option·some-ne-none}
-use mathlib.Core.List.{[], _∷_}
+use mathlib.Core.List.{List, [], _∷_, _++_}
 use Prim.Native.Nat.{ℕ, _<_}
 use native.Mathlib.Omega.{arith}
 use Rattle.refusal.specs.declared.Refusal.{Refusal}
 use Rattle.refusal.specs.declared.Refusal.the-variants.{Plain, At}
-use Rattle.refusal.specs.declared.Judgement.the-variants.{Accepted}
-use Rattle.refusal.specs.declared.Counted.the-variants.{Count}
-use Rattle.refusal.specs.Refusal.{number, place, has-place, HasNumber, plain, Lowest, at-lowest, First, or-else, plain-unless, at-found, judgement, counted}
+use Rattle.refusal.specs.declared.Judgement.the-variants.{Accepted, Refused}
+use Rattle.refusal.specs.declared.Counted.the-variants.{Count, Refused as Uncounted}
+use Rattle.refusal.specs.Refusal.{number, place, has-place, HasNumber, HasNumbers, Condition, plain, Lowest, at-lowest, First, or-else, plain-unless, at-found, judgement, counted}
 use Rattle.refusal.specs.RefusalClaims.{Functional, AllFunctional, LowestUniqueClaim, FirstUniqueClaim, FirstAppendClaim, NoneMet, AcceptedClaim}
 
 -- Conditions without a place: at most one refusal, of their number.
@@ -73,16 +73,31 @@ accepted-exactly (C ∷ cs) a (inl (r, x, d)) =
 accepted-exactly (C ∷ cs) a (inr (unmet, x)) =
     (λ e. (unmet, accepted-exactly cs a x .0 e), λ none-met. accepted-exactly cs a x .1 (none-met .1))
 
--- A check accepts exactly if there is no refusal.
+-- What an answer was made from: a check accepts exactly if there is no refusal.
 pub judgement-accepted : (a : Option Refusal) → judgement a ≡ Accepted → a ≡ none
 unfolding judgement
 judgement-accepted none e = refl
 judgement-accepted (some r) e = let z : _≡_ {A = ℕ} 0 1 = cc in absurd (omega arith)
 
+pub judgement-refused : (a : Option Refusal) (r : Refusal) → judgement a ≡ Refused r → a ≡ some r
+unfolding judgement
+judgement-refused none r e = let z : _≡_ {A = ℕ} 0 1 = cc in absurd (omega arith)
+judgement-refused (some s) r e = cc
+
 pub counted-accepted : (a : Option Refusal) (n m : ℕ) → counted a n ≡ Count m → (a ≡ none) × (n ≡ m)
 unfolding counted
 counted-accepted none n m e = (refl, cc)
 counted-accepted (some r) n m e = let z : _≡_ {A = ℕ} 0 1 = cc in absurd (omega arith)
+
+pub counted-refused : (a : Option Refusal) (n : ℕ) (r : Refusal) → counted a n ≡ Uncounted r → a ≡ some r
+unfolding counted
+counted-refused none n r e = let z : _≡_ {A = ℕ} 0 1 = cc in absurd (omega arith)
+counted-refused (some s) n r e = cc
+
+pub or-else-assoc : (a b c : Option Refusal) → or-else a (or-else b c) ≡ or-else (or-else a b) c
+unfolding or-else
+or-else-assoc none b c = refl
+or-else-assoc (some r) b c = refl
 
 -- There is no refusal exactly if no part has one.
 pub or-else-none : (a b : Option Refusal) → or-else a b ≡ none → (a ≡ none) × (b ≡ none)
@@ -95,12 +110,49 @@ unfolding plain-unless
 plain-none true n e = refl
 plain-none false n e = absurd (Option·some-ne-none (Plain n) e)
 
-pub first-append : FirstAppendClaim
+-- Lists of conditions, one after the other: the second is judged where the first gives no refusal.
+pub first-then :
+    (cs ds : List Condition) (a b : Option Refusal) → First cs a → (a ≡ none → First ds b) → First (cs ++ ds) (or-else a b)
 unfolding First or-else
-first-append [] ds a b x y = first-none a x
+first-then [] ds a b x y = first-none a x
   where
     first-none : (a : Option Refusal) → a ≡ none → First ds (or-else a b)
-    first-none none e = y
+    first-none none e = y x
     first-none (some r) e = absurd (Option·some-ne-none r e)
-first-append (C ∷ cs) ds a b (inl (r, x, e)) y = inl (r, x, ap (λ o. or-else o b) e)
-first-append (C ∷ cs) ds a b (inr (unmet, x)) y = inr (unmet, first-append cs ds a b x y)
+first-then (C ∷ cs) ds a b (inl (r, x, e)) y = inl (r, x, ap (λ o. or-else o b) e)
+first-then (C ∷ cs) ds a b (inr (unmet, x)) y = inr (unmet, first-then cs ds a b x y)
+
+pub first-append : FirstAppendClaim
+first-append cs ds a b x y = first-then cs ds a b x (λ e. y)
+
+-- One condition, from an answer that it decides; and one more in front of others.
+pub first-one :
+    (C : Condition) (a : Option Refusal) → ((r : Refusal) → a ≡ some r → C r) → (a ≡ none → (r : Refusal) → ¬ C r) → First (C ∷ []) a
+unfolding First
+first-one C (some r) met unmet = inl (r, met r refl, refl)
+first-one C none met unmet = inr (unmet refl, refl)
+
+pub first-cons :
+    (C : Condition) (cs : List Condition) (a b : Option Refusal) → ((r : Refusal) → a ≡ some r → C r) → (a ≡ none → (r : Refusal) → ¬ C r)
+    → (a ≡ none → First cs b) → First (C ∷ cs) (or-else a b)
+first-cons C cs a b met unmet later = first-then (C ∷ []) cs a b (first-one C a met unmet) later
+
+-- What follows a condition that is not met.
+pub first-rest : (C : Condition) (cs : List Condition) (a : Option Refusal) → ((r : Refusal) → ¬ C r) → First (C ∷ cs) a → First cs a
+unfolding First
+first-rest C cs a unmet (inl (r, met, e)) = absurd (unmet r met)
+first-rest C cs a unmet (inr (u, rest)) = rest
+
+-- Two lists of conditions that each give at most one refusal, and each their numbers.
+pub functional-append : (cs ds : List Condition) → AllFunctional cs → AllFunctional ds → AllFunctional (cs ++ ds)
+unfolding AllFunctional
+functional-append [] ds x y = y
+functional-append (C ∷ cs) ds x y = (x .0, functional-append cs ds (x .1) y)
+
+pub numbers-append :
+    (ns ms : List ℕ) (cs ds : List Condition) → HasNumbers ns cs → HasNumbers ms ds → HasNumbers (ns ++ ms) (cs ++ ds)
+unfolding HasNumbers
+numbers-append [] ms [] ds x y = y
+numbers-append [] ms (C ∷ cs) ds x y = absurd x
+numbers-append (n ∷ ns) ms [] ds x y = absurd x
+numbers-append (n ∷ ns) ms (C ∷ cs) ds x y = (x .0, numbers-append ns ms cs ds (x .1) y)

@@ -93,12 +93,6 @@ few-events events h = leb-true events event-limit (right (leb 1 events) (leb eve
     right true b h = h
     right false b h = absurd (false≢true h)
 
--- What a judgement was made from.
-pub judgement-refused : (a : Option Refusal) (r : Refusal) → judgement a ≡ RefusedJudgement r → a ≡ some r
-unfolding judgement
-judgement-refused none r e = let z : _≡_ {A = ℕ} 0 1 = cc in absurd (omega arith)
-judgement-refused (some s) r e = cc
-
 -- 1, then 5 to 9, as the code judges them.
 module _ (kind : ValueKind) (events : ℕ) (rule : List ℕ) where
   abbrev first-answer : Judgement

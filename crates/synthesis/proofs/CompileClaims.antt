@@ -24,7 +24,7 @@ use Rattle.refusal.specs.declared.Refusal.{Refusal}
 use Rattle.refusal.specs.declared.Refusal.the-variants.{Plain}
 use Rattle.refusal.specs.Refusal.{Condition, plain, First, HasNumbers, has-place, part-of, order, InOrder, or-else, plain-unless}
 use Rattle.refusal.specs.RefusalClaims.{AllFunctional}
-use Rattle.refusal.proofs.Refusals.{plain-functional, plain-number, plain-first, first-unique, or-else-none, plain-none}
+use Rattle.refusal.proofs.Refusals.{plain-functional, plain-number, plain-first, first-unique, first-then, functional-append, numbers-append, or-else-none, or-else-assoc, plain-none}
 use Rattle.values.specs.declared.ValueKind.{ValueKind}
 use Rattle.values.specs.declared.ValueKind.the-variants.{Numbered}
 use Rattle.values.specs.ValueKind.{meetOf}
@@ -48,38 +48,8 @@ use Rattle.synthesis.proofs.Compilation.{flat-at, few-events}
 use Rattle.synthesis.proofs.CompiledTable.{few-states, is-table}
 use Rattle.synthesis.proofs.LentTable.{laws, few}
 
--- Lists of conditions, one after the other: the second is judged where the first gives no refusal.
-first-then :
-    (cs ds : List Condition) (a b : Option Refusal) → First cs a → (a ≡ none → First ds b) → First (cs ++ ds) (or-else a b)
-unfolding First or-else
-first-then [] ds a b x y = go a x
-  where
-    go : (a : Option Refusal) → a ≡ none → First ds (or-else a b)
-    go none e = y (x ∙ refl)
-    go (some r) e = absurd (Option·some-ne-none r e)
-first-then (C ∷ cs) ds a b (inl (r, x, e)) y = inl (r, x, ap (λ o. or-else o b) e)
-first-then (C ∷ cs) ds a b (inr (unmet, x)) y = inr (unmet, first-then cs ds a b x y)
-
-functional-append : (cs ds : List Condition) → AllFunctional cs → AllFunctional ds → AllFunctional (cs ++ ds)
-unfolding AllFunctional
-functional-append [] ds x y = y
-functional-append (C ∷ cs) ds x y = (x .0, functional-append cs ds (x .1) y)
-
-numbers-append :
-    (ns ms : List ℕ) (cs ds : List Condition) → HasNumbers ns cs → HasNumbers ms ds → HasNumbers (ns ++ ms) (cs ++ ds)
-unfolding HasNumbers
-numbers-append [] ms [] ds x y = y
-numbers-append [] ms (C ∷ cs) ds x y = absurd x
-numbers-append (n ∷ ns) ms [] ds x y = absurd x
-numbers-append (n ∷ ns) ms (C ∷ cs) ds x y = (x .0, numbers-append ns ms cs ds (x .1) y)
-
-or-else-assoc : (a b c : Option Refusal) → or-else a (or-else b c) ≡ or-else (or-else a b) c
-unfolding or-else
-or-else-assoc none b c = refl
-or-else-assoc (some r) b c = refl
-
 -- Machines with the same entries are the same table.
-table-agrees :
+pub table-agrees :
     (meet : ℕ → ℕ → ℕ) (top events : ℕ) (φ : Formula ℕ) (n : ℕ) (t u : Machine ℕ ℕ) → Agree events n u t →
     IsTableOf meet top events φ n t → IsTableOf meet top events φ n u
 table-agrees meet top events φ n t u a (m, first, of, k) = (m, first, of, moved)

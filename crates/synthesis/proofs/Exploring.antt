@@ -15,6 +15,7 @@ use lib.ListN.{length, getD, set, length-append, List·getD-append}
 use lib.Seq.{getD-append-seam, getD-set-same, getD-set-other}
 use Rattle.theory.specs.Exploration.{reached, has-state, add, add-events, explore, index, bits, same-bits}
 use Rattle.theory.proofs.BitSets.{same-bits-iff}
+use Rattle.theory.proofs.Exploration.{add-grows}
 use Rattle.synthesis.specs.NodeWords.{set-at, bits-at, Stored}
 use Rattle.synthesis.specs.Exploring.{stepped, next-bits, Found, state-of, events-to, Entry, Kept, Expanded, sequences}
 use Rattle.synthesis.proofs.NodeWords.{member-bits-at, stored-there, stored-else, bits-of}
@@ -77,18 +78,6 @@ module _ (next : List Bool → ℕ → List Bool) (start : List Bool) where
 
   end-length : (P : Seqs) (w : List ℕ) → length (P ++ (w ∷ [])) ≡ length P + 1
   end-length P w = length-append P (w ∷ [])
-
-  add-grows :
-      (P : Seqs) (w : List ℕ) →
-      (length P ≤ length (plus P w)) × ((j : ℕ) → j < length P → getD (plus P w) j [] ≡ getD P j [])
-  add-grows P w = go (in? P (st w))
-    where
-      go :
-          (b : Bool) →
-          (length P ≤ length (cond b P (P ++ (w ∷ []))))
-          × ((j : ℕ) → j < length P → getD (cond b P (P ++ (w ∷ []))) j [] ≡ getD P j [])
-      go true = (omega arith, λ j h. refl)
-      go false = (omega (arith, end-length P w), λ j h. List·getD-append P (w ∷ []) [] j h)
 
   -- The number of the first sequence that reaches x.
   index-at :
@@ -225,17 +214,17 @@ module _ (next : List Bool → ℕ → List Bool) (start : List Bool) where
         arith,
         ap (λ x. length (events-to next start x P w)) e,
         upto-grows c d P w,
-        add-grows (events-to next start (c + d) P w) ((c + d) ∷ w) .0,
+        add-grows same-bits next start (events-to next start (c + d) P w) ((c + d) ∷ w) .0,
       )
 
   upto-at : (c : ℕ) (P : Seqs) (w : List ℕ) (i : ℕ) → i < length P → getD (events-to next start c P w) i [] ≡ getD P i []
   upto-at zero P w i h = refl
   upto-at (suc c) P w i h =
-      add-grows (events-to next start c P w) (c ∷ w) .1 i (omega (arith, h, len c)) ∙ upto-at c P w i h
+      add-grows same-bits next start (events-to next start c P w) (c ∷ w) .1 i (omega (arith, h, len c)) ∙ upto-at c P w i h
     where
       len : (c : ℕ) → length P ≤ length (events-to next start c P w)
       len zero = omega arith
-      len (suc c) = omega (arith, len c, add-grows (events-to next start c P w) (c ∷ w) .0)
+      len (suc c) = omega (arith, len c, add-grows same-bits next start (events-to next start c P w) (c ∷ w) .0)
 
   add-events-to :
       (c e : ℕ) (P : Seqs) (w : List ℕ) →

@@ -20,7 +20,7 @@ use Rattle.refusal.specs.declared.Refusal.the-variants.{Plain}
 use Rattle.refusal.specs.declared.Judgement.the-variants.{Accepted as AcceptedJudgement, Refused as RefusedJudgement}
 use Rattle.refusal.specs.declared.Counted.the-variants.{Count, Refused}
 use Rattle.refusal.specs.Refusal.{or-else, plain-unless, judgement, counted}
-use Rattle.refusal.proofs.Refusals.{judgement-accepted, counted-accepted, or-else-none, plain-none}
+use Rattle.refusal.proofs.Refusals.{judgement-accepted, judgement-refused, counted-accepted, counted-refused, or-else-none, plain-none}
 use Rattle.values.specs.declared.ValueKind.the-variants.{Numbered}
 use Rattle.values.specs.ValueKind.{meetOf}
 use Rattle.values.specs.Setup as S
@@ -36,13 +36,8 @@ use Rattle.machines.proofs.Stores.{stored-table, storable-room, after-none, aft
 use Rattle.machines.proofs.EntryIndex.{state-below, event-below}
 use Rattle.synthesis.specs.declared.Compiled.{Compiled}
 use Rattle.synthesis.specs.Compilation.{value-count, rule-states, rule-table, rule-table-refusal, compile-rule-refusal, entry-count, flat, compiled-within, compiled, setup-states, setup-table, compile-refusal, contents-after, compile-contents}
-use Rattle.synthesis.proofs.Compilation.{judgement-refused, flat-at}
+use Rattle.synthesis.proofs.Compilation.{flat-at}
 use Rattle.synthesis.proofs.CompiledTable.{table-runs}
-
-counted-refused : (a : Option Refusal) (n : ℕ) (r : Refusal) → counted a n ≡ Refused r → a ≡ some r
-unfolding counted
-counted-refused none n r e = let z : _≡_ {A = ℕ} 0 1 = cc in absurd (omega arith)
-counted-refused (some q) n r e = cc
 
 -- What an accepted set-up and an accepted rule are.
 module _ (s : Setup) (ok : setup-refusal s ≡ none) where

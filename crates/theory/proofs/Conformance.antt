@@ -23,6 +23,56 @@ use Rattle.theory.proofs.Exploration.{at, Kept, invariant}
 use Rattle.theory.proofs.ReachableStates.{reached-reverse}
 use Rattle.theory.proofs.FirstBad.{Answer, answer}
 
+pub same-pair-iff : (x y : ℕ × ℕ) → T (same-pair x y) ↔ (x ≡ y)
+same-pair-iff x y = (
+  (λ h. λ i. (eqb→eq (x .0) (y .0) (both h .0) i, eqb→eq (x .1) (y .1) (both h .1) i)),
+  λ e. subst (λ z. T (same-pair x z)) e (self x),
+)
+  where
+    both : T (same-pair x y) → T (eqb (x .0) (y .0)) × T (eqb (x .1) (y .1))
+    both h = and-yes (eqb (x .0) (y .0)) (eqb (x .1) (y .1)) h
+
+    self : (z : ℕ × ℕ) → T (same-pair z z)
+    self z = yes-and (eqb (z .0) (z .0)) (eqb (z .1) (z .1)) (eqb-refl (z .0)) (eqb-refl (z .1))
+
+-- There are no more pairs of states than n × k, where the events lead from states to states.
+module _ {B : Type 0} (events n k : ℕ) (m q : Machine ℕ B) (m-in : (s e : ℕ) → s < n → e < events → m .next s e < n)
+    (q-in : (t e : ℕ) → t < k → e < events → q .next t e < k) (s t : ℕ) (s-in : s < n) (t-in : t < k) where
+  abbrev pair-of : List ℕ → ℕ × ℕ
+  pair-of w = reached (next-pair m q) (s, t) w
+
+  abbrev words : List (List ℕ)
+  words = explored same-pair (next-pair m q) (s, t) events (n * k)
+
+  pair-in : (w : List ℕ) → Word events w → (pair-of w .0 < n) × (pair-of w .1 < k)
+  pair-in [] v = (s-in, t-in)
+  pair-in (e ∷ w) v =
+      let r : (pair-of w .0 < n) × (pair-of w .1 < k) = pair-in w (v .1) in
+      (m-in (pair-of w .0) e (r .0) (v .0), q-in (pair-of w .1) e (r .1) (v .0))
+
+  pub few-pairs : length words ≤ n * k
+  few-pairs = pigeonhole (n * k) (length words) number in-range different
+    where
+      number : ℕ → ℕ
+      number l = pair-of (at words l) .0 * k + pair-of (at words l) .1
+
+      inv : Kept same-pair same-pair-iff (next-pair m q) (s, t) events words
+      inv = invariant same-pair same-pair-iff (next-pair m q) (s, t) events (n * k)
+
+      at-in : (l : ℕ) → l < length words → (pair-of (at words l) .0 < n) × (pair-of (at words l) .1 < k)
+      at-in l h = pair-in (at words l) (inv .1 .words l h)
+
+      in-range : (l : ℕ) → l < length words → number l < n * k
+      in-range l h =
+          let r = at-in l h in
+          omega (arith, r .1, mul-le-mul-right k (r .0), suc-mul (pair-of (at words l) .0) k)
+
+      different : (j l : ℕ) → j < l → l < length words → ¬ (number j ≡ number l)
+      different j l u h e =
+          let d = digits-equal k (pair-of (at words j) .0) (pair-of (at words l) .0) (pair-of (at words j) .1) (pair-of (at words l) .1)
+          (at-in j (omega arith) .1) (at-in l h .1) e in
+          inv .1 .different j l u h (λ i. (d .0 i, d .1 i))
+
 module _ {B : Type 0} (In : B → Type 0) (meet : B → B → B) (at-or-below : B → B → Bool)
     (decides : (b c : B) → T (at-or-below b c) ↔ AtOrBelow meet b c) (events n : ℕ) (m : Machine ℕ B) (k : ℕ) (q : Machine ℕ B)
     (runs-m : Runs events In (States n) m) (runs-q : Runs events In (States k) q) where
@@ -39,64 +89,20 @@ module _ {B : Type 0} (In : B → Type 0) (meet : B → B → B) (at-or-below : 
       stable true f = tt
       stable false f = f tt
 
-  same-pair-iff : (x y : ℕ × ℕ) → T (same-pair x y) ↔ (x ≡ y)
-  same-pair-iff x y = (
-    (λ h. λ i. (eqb→eq (x .0) (y .0) (both h .0) i, eqb→eq (x .1) (y .1) (both h .1) i)),
-    λ e. subst (λ z. T (same-pair x z)) e (self x),
-  )
-    where
-      both : T (same-pair x y) → T (eqb (x .0) (y .0)) × T (eqb (x .1) (y .1))
-      both h = and-yes (eqb (x .0) (y .0)) (eqb (x .1) (y .1)) h
-
-      self : (z : ℕ × ℕ) → T (same-pair z z)
-      self z = yes-and (eqb (z .0) (z .0)) (eqb (z .1) (z .1)) (eqb-refl (z .0)) (eqb-refl (z .1))
-
   module _ (s t : ℕ) (s-in : s < n) (t-in : t < k) where
     abbrev pair-after : List ℕ → ℕ × ℕ
-    pair-after w = reached (next-pair at-or-below m q) (s, t) w
+    pair-after w = reached (next-pair m q) (s, t) w
 
-    abbrev left : List ℕ → ℕ
-    left w = reached (m .next) s w
-
-    abbrev right : List ℕ → ℕ
-    right w = reached (q .next) t w
-
-    pair-after-is : (w : List ℕ) → pair-after w ≡ (left w, right w)
+    pair-after-is : (w : List ℕ) → pair-after w ≡ (reached (m .next) s w, reached (q .next) t w)
     pair-after-is [] = refl
-    pair-after-is (e ∷ w) = ap (λ x. next-pair at-or-below m q x e) (pair-after-is w)
-
-    pair-in : (w : List ℕ) → Word events w → (left w < n) × (right w < k)
-    pair-in [] v = (s-in, t-in)
-    pair-in (e ∷ w) v =
-        let r : (left w < n) × (right w < k) = pair-in w (v .1) in
-        (runs-m .next-in (left w) (r .0) e (v .0), runs-q .next-in (right w) (r .1) e (v .0))
+    pair-after-is (e ∷ w) = ap (λ x. next-pair m q x e) (pair-after-is w)
 
     abbrev P : List (List ℕ)
-    P = explored (same-pair) (next-pair at-or-below m q) (s, t) events (n * k)
+    P = explored same-pair (next-pair m q) (s, t) events (n * k)
 
-    -- There are no more pairs of states than n × k.
-    pair-number : ℕ → ℕ
-    pair-number l = left (at P l) * k + right (at P l)
-
-    few-pairs : length P ≤ n * k
-    unfolding pair-number
-    few-pairs = pigeonhole (n * k) (length P) pair-number in-range different
-      where
-        inv : Kept (same-pair) same-pair-iff (next-pair at-or-below m q) (s, t) events P
-        inv = invariant (same-pair) same-pair-iff (next-pair at-or-below m q) (s, t) events (n * k)
-
-        in-range : (l : ℕ) → l < length P → pair-number l < n * k
-        in-range l h =
-            let r : (left (at P l) < n) × (right (at P l) < k) = pair-in (at P l) (inv .1 .words l h) in
-            omega (arith, r .1, mul-le-mul-right k (r .0), suc-mul (left (at P l)) k)
-
-        different : (j l : ℕ) → j < l → l < length P → ¬ (pair-number j ≡ pair-number l)
-        different j l u h e =
-            let low-j : right (at P j) < k = pair-in (at P j) (inv .1 .words j (omega arith)) .1 in
-            let low-l : right (at P l) < k = pair-in (at P l) (inv .1 .words l h) .1 in
-            let d : (left (at P j) ≡ left (at P l)) × (right (at P j) ≡ right (at P l))
-            = digits-equal k (left (at P j)) (left (at P l)) (right (at P j)) (right (at P l)) low-j low-l e in
-            inv .1 .different j l u h (pair-after-is (at P j) ∙ (λ i. (d .0 i, d .1 i)) ∙ sym (pair-after-is (at P l)))
+    few : length P ≤ n * k
+    few =
+        few-pairs events n k m q (λ l e h i. runs-m .next-in l h e i) (λ l e h i. runs-q .next-in l h e i) s t s-in t-in
 
     -- A word in order of play: the test strikes exactly where the value is not at or below.
     abbrev BelowAfter : List ℕ → ℕ → Type 0
@@ -116,7 +122,7 @@ module _ {B : Type 0} (In : B → Type 0) (meet : B → B → B) (at-or-below : 
 
     abbrev PairAnswer : Option (List ℕ) → Type 0
     PairAnswer o =
-        Answer (next-pair at-or-below m q) (s, t) (bad-pair at-or-below m q) events (same-pair) same-pair-iff (n * k) o
+        Answer (next-pair m q) (s, t) (bad-pair at-or-below m q) events same-pair same-pair-iff (n * k) o
 
     -- What each answer says.
     abbrev Says : Option (List ℕ) → Type 0
@@ -147,7 +153,7 @@ module _ {B : Type 0} (In : B → Type 0) (meet : B → B → B) (at-or-below : 
           subst (λ x. FirstCounterexample events meet m q s t x × (0 < length x) × (length x ≤ n * k)) p (
             record { fails = fails; first = first },
             omega (arith, length-reverse u, ap length is),
-            omega (arith, length-reverse u, f .5, few-pairs),
+            omega (arith, length-reverse u, f .5, few),
           ),
     )
       where
@@ -187,8 +193,8 @@ module _ {B : Type 0} (In : B → Type 0) (meet : B → B → B) (at-or-below : 
 
     pub conformance : Says (counterexample at-or-below m q events n k s t)
     conformance =
-        go (first-bad (next-pair at-or-below m q) (s, t) (bad-pair at-or-below m q) events P)
-        (answer (next-pair at-or-below m q) (s, t) (bad-pair at-or-below m q) events (same-pair) same-pair-iff (n * k) few-pairs)
+        go (first-bad (next-pair m q) (s, t) (bad-pair at-or-below m q) events P)
+        (answer (next-pair m q) (s, t) (bad-pair at-or-below m q) events same-pair same-pair-iff (n * k) few)
       where
         go : (o : Option (List ℕ)) → PairAnswer o → Says (in-play-order o)
         go none f = says-none f

@@ -44,6 +44,21 @@ grows-trans P Q R g h = (omega (arith, g .0, h .0), λ l u. h .1 l (omega (arith
 less-times : (base x : ℕ) → 0 < base → x ≤ x * base
 less-times base x h = omega (arith, mul-le-mul-left x h)
 
+-- Sequences added to a list: it only grows.
+module _ {S : Type 0} (same : S → S → Bool) (next : S → ℕ → S) (start : S) where
+  pub add-grows : (P : List (List ℕ)) (w : List ℕ) → Grows P (add same next start P w)
+  add-grows P w = go (has-state same next start P (reached next start w))
+    where
+      go : (b : Bool) → Grows P (cond b P (P ++ (w ∷ [])))
+      go true = grows-refl P
+      go false = (omega (arith, length-end P w), λ l u. at-before P w l u)
+
+  pub add-events-grows : (c e : ℕ) (P : List (List ℕ)) (w : List ℕ) → Grows P (add-events same next start c e P w)
+  add-events-grows zero e P w = grows-refl P
+  add-events-grows (suc c) e P w =
+      grows-trans P (add same next start P (e ∷ w)) (add-events same next start (suc c) e P w)
+      (add-grows P (e ∷ w)) (add-events-grows c (suc e) (add same next start P (e ∷ w)) w)
+
 module _ {S : Type 0} (same : S → S → Bool) (same-iff : (x y : S) → T (same x y) ↔ (x ≡ y))
     (next : S → ℕ → S) (start : S) (events : ℕ) where
   abbrev state : List ℕ → S
@@ -249,20 +264,6 @@ module _ {S : Type 0} (same : S → S → Bool) (same-iff : (x y : S) → T (sam
   abbrev explore-from : ℕ → ℕ → Sequences → Sequences
   explore-from k i P = explore same next start events k i P
 
-  -- The list only grows.
-  add-grows : (P : Sequences) (w : List ℕ) → Grows P (add same next start P w)
-  add-grows P w = go (has-state same next start P (state w))
-    where
-      go : (b : Bool) → Grows P (cond b P (P ++ (w ∷ [])))
-      go true = grows-refl P
-      go false = (omega (arith, length-end P w), λ l u. at-before P w l u)
-
-  add-events-grows : (c e : ℕ) (P : Sequences) (w : List ℕ) → Grows P (add-events same next start c e P w)
-  add-events-grows zero e P w = grows-refl P
-  add-events-grows (suc c) e P w =
-      grows-trans P (add same next start P (e ∷ w)) (add-events same next start (suc c) e P w)
-      (add-grows P (e ∷ w)) (add-events-grows c (suc e) (add same next start P (e ∷ w)) w)
-
   pub explore-grows : (k i : ℕ) (P : Sequences) → Grows P (explore-from k i P)
   explore-grows zero i P = grows-refl P
   explore-grows (suc k) i P = go (ltb i (length P)) (explore-grows k (suc i) (successors P i))
@@ -274,7 +275,7 @@ module _ {S : Type 0} (same : S → S → Bool) (same-iff : (x y : S) → T (sam
       go true g =
           grows-trans P (successors P i)
           (explore-from k (suc i) (successors P i))
-          (add-events-grows events zero P (at P i)) g
+          (add-events-grows same next start events zero P (at P i)) g
       go false g = grows-refl P
 
   add-events-invariant :
@@ -284,7 +285,7 @@ module _ {S : Type 0} (same : S → S → Bool) (same-iff : (x y : S) → T (sam
   add-events-invariant (suc c) e P i w hi q h v =
       let Q : Sequences = add same next start P (e ∷ w) in
       let r : Invariant (suc (rank (e ∷ w))) Q = add-invariant P i e w hi q (omega arith) v in
-      let g : Grows P Q = add-grows P (e ∷ w) in
+      let g : Grows P Q = add-grows same next start P (e ∷ w) in
       let p : suc (rank (e ∷ w)) ≡ rank (suc e ∷ w) = omega arith in
       add-events-invariant c (suc e) Q i w (omega (arith, hi, g .0)) (g .1 i hi ∙ q) (omega arith) (subst (λ x. Invariant x Q) p r)
 
@@ -360,7 +361,7 @@ module _ {S : Type 0} (same : S → S → Bool) (same-iff : (x y : S) → T (sam
       ready : i < length P → Ready (suc i) (successors P i)
       ready h =
           let R : Sequences = successors P i in
-          let g : Grows P R = add-events-grows events zero P (at P i) in
+          let g : Grows P R = add-events-grows same next start events zero P (at P i) in
           let t : Invariant (rank (events ∷ at P i)) R = add-events-invariant events zero P i (at P i) h refl (omega arith) (r .0 h) in
           after-events R i (omega (arith, g .0, h)) (subst⁻¹ (λ x. Invariant (rank (events ∷ x)) R) (g .1 i h) t)
 

@@ -47,14 +47,15 @@ module _ {S : Type 0} (next : S → ℕ → S) (start : S) (bad : S → ℕ → 
   first-bad events [] = none
   first-bad events (w ∷ P) = or-else (bad-event events zero w) (first-bad events P)
 
-module _ {B : Type 0} (at-or-below : B → B → Bool) (m q : Machine ℕ B) where
-  abbrev pub next-pair : ℕ × ℕ → ℕ → ℕ × ℕ
-  next-pair x e = (m .next (x .0) e, q .next (x .1) e)
+-- The pair of states after an event.
+abbrev pub next-pair : {B : Type 0} → Machine ℕ B → Machine ℕ B → ℕ × ℕ → ℕ → ℕ × ℕ
+next-pair m q x e = (m .next (x .0) e, q .next (x .1) e)
 
+module _ {B : Type 0} (at-or-below : B → B → Bool) (m q : Machine ℕ B) where
   abbrev pub bad-pair : ℕ × ℕ → ℕ → Bool
   bad-pair x e = not (at-or-below (m .value (x .0) e) (q .value (x .1) e))
 
   -- The first word on which a table of n states fails against one of k states.
   abbrev pub counterexample : ℕ → ℕ → ℕ → ℕ → ℕ → Option (List ℕ)
   counterexample events n k s t =
-      in-play-order (first-bad next-pair (s, t) bad-pair events (explored same-pair next-pair (s, t) events (n * k)))
+      in-play-order (first-bad (next-pair m q) (s, t) bad-pair events (explored same-pair (next-pair m q) (s, t) events (n * k)))

@@ -2,8 +2,8 @@
 -- Assumes nothing.
 use mathlib.Core.Path.{sym, _∙_}
 use native.Mathlib.Omega.{arith}
-use Rattle.refusal.proofs.Refusals.{judgement-accepted}
-use Rattle.synthesis.proofs.Compilation.{judgement-refused, few, few-nodes, compiled-refused, compiled-many, compiled-table}
+use Rattle.refusal.proofs.Refusals.{judgement-accepted, judgement-refused}
+use Rattle.synthesis.proofs.Compilation.{few, few-nodes, compiled-refused, compiled-many, compiled-table}
 use borrow.Author.Needs.{needs}
 use Rattle.synthesis.proofs.compile_rule.Statement.{statement}
 use Rattle.synthesis.proofs.compile_rule.Tie as tie

@@ -1,6 +1,6 @@
 -- The refusal of a call is the first that its conditions give.
 -- Assumes nothing.
-use mathlib.Core.Path.{_≡_, refl, ap, subst}
+use mathlib.Core.Path.{_≡_, refl, sym, _∙_, ap, subst}
 use mathlib.Core.Logic.{inl, inr}
 use mathlib.Core.Bool.{Bool, true, false, cond}
 use mathlib.Core.List.{List, [], _∷_}
@@ -14,26 +14,30 @@ use Rattle.theory.proofs.ValueSets.{and-left}
 use Rattle.refusal.specs.declared.Refusal.{Refusal}
 use Rattle.refusal.specs.declared.Refusal.the-variants.{Plain}
 use Rattle.refusal.specs.Refusal.{HasNumbers, has-place, part-of, order, InOrder, Condition, plain, First, or-else, plain-unless}
-use Rattle.refusal.proofs.Refusals.{plain-number, plain-first, first-append}
+use Rattle.refusal.proofs.Refusals.{plain-functional, plain-number, plain-first, first-unique, first-append, first-rest, functional-append}
+use Rattle.refusal.specs.RefusalClaims.{AllFunctional}
 use Rattle.values.specs.Setup.{Setup, setup, EventsFault, setup-refusal}
+use Rattle.values.specs.ValueKind.{meetOf}
 use Rattle.values.specs.declared.ValueKind.the-variants.{Numbered}
 use Rattle.formulas.specs.NodeBytes.{three-bytes}
 use Rattle.formulas.specs.RuleRefusal.{node-width, node-limit}
-use Rattle.formulas.proofs.RuleClaims.{in-order}
-use Rattle.synthesis.specs.Compilation.{value-count}
+use Rattle.formulas.proofs.ThreeBytes.{three-bytes-code}
+use Rattle.formulas.proofs.RuleClaims.{functional, in-order}
+use Rattle.synthesis.specs.Compilation.{state-limit, value-count}
+use Rattle.synthesis.specs.Claims.{three-byte-conditions, states-condition}
 use Rattle.synthesis.proofs.LentTable.{well-formed, laws}
 use Rattle.synthesis.proofs.CompileClaims.{compile-rule-claim}
 use Rattle.channel_log.specs.Calls.{Call, load, event, restart, restart-all, clear, channel-refusal, empty-refusal, on-event}
 use Rattle.channel_log.specs.Recorded.{Loaded}
 use Rattle.recorder.specs.declared.Tool.{Tool}
 use Rattle.recorder.specs.Channels.{setup-of, channels}
 use Rattle.recorder.specs.ToolFault.{ToolFault, setup-test, named-test, tool-test}
 use Rattle.recorder.specs.CompiledRule.{rule-judged}
 use Rattle.recorder.specs.Tool.{content, tool-refusal}
-use Rattle.recorder.specs.CallConditions.{call-numbers, rule-conditions-of, channel-condition, empty-condition, event-condition, call-conditions, CallRefusalClaim}
+use Rattle.recorder_claims.specs.CallConditions.{call-numbers, rule-conditions-of, channel-condition, empty-condition, event-condition, call-conditions, CallRefusalClaim}
 use Rattle.recorder.proofs.Held.{accepted-of-test}
 use Rattle.recorder.proofs.CompiledRules.{answer-is}
-use Rattle.recorder.proofs.Claims.{fault-of, tool-tested}
+use Rattle.recorder_claims.proofs.Claims.{fault-of, tool-tested}
 
 -- A test and what it says, as a number.
 test-first : (n : ℕ) (Met : Type 0) (b : Bool) → (b ≡ false → Met) → (b ≡ true → ¬ Met) → First (plain n Met ∷ []) (cond b none (some (Plain n)))
@@ -70,12 +74,6 @@ no-conditions = refl
 settled-17 : (b : Bool) → b ≡ false → (later : Option Refusal) → or-else (plain-unless b 17) later ≡ some (Plain 17)
 unfolding or-else plain-unless
 settled-17 b p later = ap (λ b. or-else (plain-unless b 17) later) p
-
--- What follows a condition that is not met.
-first-rest : (C : Condition) (cs : List Condition) (a : Option Refusal) → ((r : Refusal) → ¬ C r) → First (C ∷ cs) a → First cs a
-unfolding First
-first-rest C cs a unmet (inl (r, met, e)) = absurd (unmet r met)
-first-rest C cs a unmet (inr (u, rest)) = rest
 
 -- 5 to 10 beside an accepted set-up.
 rule-first : (s : Setup) (r : List ℕ) → setup-refusal s ≡ none → First (rule-conditions-of s r) (rule-judged s r)
@@ -156,5 +154,34 @@ call-ordered t (restart c) =
 call-ordered t restart-all = record { numbered = (plain-number 17 _ refl, tt); ordered = refl }
 call-ordered t (clear c) = record { numbered = (plain-number 17 _ refl, (plain-number 14 _ refl, tt)); ordered = refl }
 
+call-functional : (t : Tool) (call : Call ℕ) → AllFunctional (call-conditions t call)
+unfolding AllFunctional call-conditions rule-conditions-of
+call-functional t (load c r) =
+    let s = setup-of t in (
+      plain-functional 17 (ToolFault t (load c r)),
+      (
+        plain-functional 14 (¬ (c < 8)),
+        functional-append (three-byte-conditions (s .events) (s .values) r)
+            (states-condition (meetOf (Numbered (s .values)) (s .meet)) (s .top) (s .events) (s .values) r state-limit ∷ [])
+            (functional ℕ node-width three-bytes three-bytes-code node-limit (s .events) (Below (s .values)) r)
+            ((λ q p x y. x .2 .1 ∙ sym (y .2 .1)), tt),
+      ),
+    )
+call-functional t (event c e) = (
+  plain-functional 17 (ToolFault t (event c e)),
+  (plain-functional 14 (¬ (c < 8)), (plain-functional 15 (channels t c ≡ none), (plain-functional 16 (¬ (e < t .events)), tt))),
+)
+call-functional t (restart c) = (
+  plain-functional 17 (ToolFault t (restart c)),
+  (plain-functional 14 (¬ (c < 8)), (plain-functional 15 (channels t c ≡ none), tt)),
+)
+call-functional t restart-all = (plain-functional 17 (ToolFault t restart-all), tt)
+call-functional t (clear c) = (plain-functional 17 (ToolFault t (clear c)), (plain-functional 14 (¬ (c < 8)), tt))
+
 pub call-refusals : CallRefusalClaim
-call-refusals = record { first = call-first; ordered = call-ordered }
+call-refusals =
+    record {
+      first = call-first;
+      only = λ t call answer h. first-unique (call-conditions t call) (call-functional t call) answer (tool-refusal t call) h (call-first t call);
+      ordered = call-ordered;
+    }

@@ -3,8 +3,9 @@
 -- Assumes nothing.
 use mathlib.Core.Path.{_≡_}
 use mathlib.Core.List.{List, [], _∷_, _++_}
-use mathlib.Core.Option.{none}
+use mathlib.Core.Option.{Option, none}
 use Prim.Native.Nat.{ℕ, _<_}
+use Rattle.refusal.specs.declared.Refusal.{Refusal}
 use Rattle.refusal.specs.Refusal.{Condition, plain, First, InOrder}
 use Rattle.values.specs.Setup.{Setup}
 use Rattle.values.specs.ValueKind.{meetOf}
@@ -49,7 +50,10 @@ call-numbers (restart c) = 17 ∷ 14 ∷ 15 ∷ []
 call-numbers restart-all = 17 ∷ []
 call-numbers (clear c) = 17 ∷ 14 ∷ []
 
--- The refusal that a call replies, or none, is the first that its conditions give; they stand in document 01's order.
+-- The refusal that a call replies, or none, is the first that its conditions give; there is no other answer; they stand in document
+-- 01's order.
 pub record CallRefusalClaim : Type 0 where
   pub first : (t : Tool) (call : Call ℕ) → First (call-conditions t call) (tool-refusal t call)
+  pub only :
+      (t : Tool) (call : Call ℕ) (answer : Option Refusal) → First (call-conditions t call) answer → answer ≡ tool-refusal t call
   pub ordered : (t : Tool) (call : Call ℕ) → InOrder (call-numbers call) (call-conditions t call)

@@ -1,14 +1,14 @@
--- The claims of `specs/Claims.antt` and of refusal 17.
+-- The claims of `specs/Claims.antt`.
 -- Assumes nothing.
 use mathlib.Core.Path.{_≡_, refl, sym, _∙_, ap, subst, subst⁻¹, fun-ext}
 use mathlib.Core.Logic.{⊎-elim}
-use mathlib.Core.Bool.{Bool, true, false, false≢true}
+use mathlib.Core.Bool.{Bool, true, false, false≢true, cond}
 use mathlib.Core.Option.{Option, none, some}
-use Prim.Native.Nat.{ℕ}
+use Prim.Native.Nat.{ℕ, _<_}
 use native.Mathlib.Omega.{arith}
 use borrow.Author.Tests.{ltb-true, ltb-false}
-use lib.Dec.{ltb}
-use lib.ListN.{take, length-replicate}
+use lib.Dec.{ltb, leb}
+use lib.ListN.{take, length-replicate, length, getD}
 use Rattle.theory.specs.ValueSets.{Below}
 use Rattle.theory.specs.ValueSetClaims.{every}
 use Rattle.theory.proofs.ValueSets.{and-left, and-right, and-failed, and-cases, every-at, every-some}
@@ -18,19 +18,24 @@ use Rattle.values.specs.Setup.{Setup, setup, setup-refusal, events-test}
 use Rattle.values.proofs.Setups.{square-small}
 use Rattle.formulas.specs.RuleRefusal.{formula-of}
 use Rattle.synthesis.proofs.LentTable.{well-formed, laws}
-use Rattle.channel_log.specs.Calls.{Call, load, event, restart, restart-all, clear, all-empty, call-refusal, accepted-reply}
+use Rattle.channel_log.specs.Calls.{Call, load, event, restart, restart-all, clear, all-empty, call-refusal, accepted-reply, channel-refusal, empty-refusal}
 use Rattle.channel_log.specs.Recorded.{Loaded}
 use Rattle.channel_log.proofs.Record.{Not, record-claim, independence-claim}
 use Rattle.recorder.specs.declared.Tool.{Tool}
 use Rattle.recorder.specs.Channels.{setup-of, channels}
-use Rattle.recorder.specs.ToolFault.{LooksAt, ToolFault, setup-fails, channel-fails, setup-test, channel-test, named-test, tool-test, ToolTestClaim}
+use Rattle.recorder.specs.ToolFault.{LooksAt, ToolFault, setup-fails, channel-fails, setup-test, channel-test, named-test, tool-test}
 use Rattle.recorder.specs.CompiledRule.{rule-judged, loaded-rule}
 use Rattle.recorder.specs.Tool.{content, effect-on, settled-tool, called, padded, empty-tool, new-tool, blank-tool}
-use Rattle.recorder.specs.Claims.{setup-meet, ToolRecordClaim, ToolIndependenceClaim, BlankClaim}
+use Rattle.recorder_claims.specs.Claims.{setup-meet, ToolRecordClaim, ToolIndependenceClaim, BlankClaim, ToolTestClaim, ReplayClaim}
 use Rattle.recorder.proofs.Rows.{getD-zeros, take-padded}
-use Rattle.recorder.proofs.Held.{held-above, held-empty, well-formed-of-test, test-of-well-formed, in-order-of-test, test-of-in-order}
-use Rattle.recorder.proofs.CompiledRules.{rule-well-formed, rule-table-is, NumberBelow, refusal-below, judged-below-17}
-use Rattle.recorder.proofs.Keeps.{Sound, keeps}
+use Rattle.recorder.proofs.Held.{held-above, held-empty, well-formed-of-test, test-of-well-formed, in-order-of-test, test-of-in-order, empty-held, IsNone, channel-below}
+use Rattle.recorder_claims.proofs.LoadedRules.{rule-well-formed, rule-table-is, NumberBelow, refusal-below, judged-below-17}
+use Rattle.recorder_claims.proofs.Keeps.{Sound, keeps}
+use Rattle.refusal.specs.declared.Refusal.the-variants.{Plain}
+use Rattle.refusal.proofs.Refusals.{or-else-none, plain-none}
+use Rattle.recorder.specs.Decisions.{outputs}
+use Rattle.recorder.proofs.Runs.{length-outputs}
+use Rattle.recorder.proofs.Replays.{table-of, state-of, word-of-test, repeated}
 
 module _ (s : Setup) (ok : setup-refusal s ≡ none) where
   tool-setup : setup-of (new-tool s) ≡ s
@@ -139,3 +144,41 @@ tool-tested t call = (no-fault t call, λ f. go (tool-test t call) refl f)
     go : (b : Bool) → tool-test t call ≡ b → ¬ ToolFault t call → tool-test t call ≡ true
     go true e f = e
     go false e f = absurd (f (fault-of t call e))
+
+-- A channel that 15 does not refuse.
+loaded-below : (t : Tool) (c : ℕ) → c < 8 → empty-refusal (channels t c) ≡ none → 0 < getD (t .states) c 0
+loaded-below t c h e =
+    go (ltb 0 (getD (t .states) c 0)) refl
+    (sym (empty-held c (t .events) (getD (t .states) c 0) (getD (t .current) c 0) (t .value) (t .next) h) ∙ e)
+  where
+    go : (b : Bool) → ltb 0 (getD (t .states) c 0) ≡ b → cond b none (some (Plain 15)) ≡ none → 0 < getD (t .states) c 0
+    go true p x = ltb-true 0 (getD (t .states) c 0) p
+    go false p x = absurd (subst⁻¹ IsNone x tt)
+
+-- No event call of an accepted sequence is refused: each returns its value.
+pub replay-repeated : ReplayClaim
+replay-repeated t l c word buffer h =
+    let P = plain-unless (tool-test t (event c 0)) 17 in
+    let O = plain-unless (every (length word) (λ i. ltb (getD word i 0) (t .events))) 16 in
+    let F = plain-unless (leb (length word) (length buffer)) 13 in
+    let a = or-else-none P (or-else (channel-refusal c) (or-else (empty-refusal (channels t c)) (or-else O F))) h in
+    let b = or-else-none (channel-refusal c) (or-else (empty-refusal (channels t c)) (or-else O F)) (a .1) in
+    let d = or-else-none (empty-refusal (channels t c)) (or-else O F) (b .1) in
+    let e = or-else-none O F (d .1) in
+    let sound : tool-test t (event c 0) ≡ true = plain-none (tool-test t (event c 0)) 17 (a .0) in
+    let lt8 : c < 8 = channel-below c (b .0) in
+    let loaded : 0 < getD (t .states) c 0 = loaded-below t c lt8 (d .0) in
+    let words : every (length word) (λ i. ltb (getD word i 0) (t .events)) ≡ true =
+    plain-none (every (length word) (λ i. ltb (getD word i 0) (t .events))) 16 (e .0) in
+    let r =
+    repeated word t c
+    (record {
+      setup-passes = and-left (setup-test (setup-of t)) (channel-test (t .events) (t .values) (channels t c)) sound;
+      channel = lt8;
+      current-length = l;
+      loaded = loaded;
+      in-order = and-right (setup-test (setup-of t)) (channel-test (t .events) (t .values) (channels t c)) sound;
+    })
+    (word-of-test (t .events) word
+    (λ i p. ltb-true (getD word i 0) (t .events) (every-at (length word) (λ i. ltb (getD word i 0) (t .events)) words i p))) in
+    (outputs (table-of t c) (state-of t c) word, r .0, length-outputs (table-of t c) (state-of t c) word)

@@ -17,15 +17,15 @@ use Rattle.values.specs.Setup.{Setup, setup, setup-refusal}
 use Rattle.channel_log.specs.Calls.{Call, load, event, restart, restart-all, clear, Reply, Channels, with-channel, map-option, channel-refusal, empty-refusal, on-event, call-refusal, accepted-reply, effect, settled, step}
 use Rattle.channel_log.specs.Recorded.{Loaded, at-state, recorded}
 use Rattle.channel_log.proofs.Record.{not-large}
 use Rattle.recorder.specs.declared.Tool.{Tool}
 use Rattle.recorder.specs.Channels.{setup-of, rows-size, rows-start, channels}
 use Rattle.recorder.specs.ToolFault.{InOrder, setup-test, channel-test, named-test, tool-test}
 use Rattle.recorder.specs.CompiledRule.{rule-judged, states-of-rule, values-of-rule, nexts-of-rule, loaded-rule}
 use Rattle.recorder.specs.Tool.{with-current, with-rows, stored-rows, next-state, content, effect-on, settled-tool, called}
 use Rattle.recorder.proofs.Rows.{rows-in}
 use Rattle.recorder.proofs.Held.{IsNone, channel-below, test-of-accepted, few-events, in-order-of-test, test-of-in-order}
-use Rattle.recorder.proofs.CompiledRules.{rule-in-order, few-states, length-values, length-nexts}
-use Rattle.recorder.proofs.View.{current-view, restarted-view, cleared-view, loaded-view}
+use Rattle.recorder_claims.proofs.LoadedRules.{rule-in-order, length-values, length-nexts}
+use Rattle.recorder_claims.proofs.View.{current-view, restarted-view, cleared-view, loaded-view}
 
 -- The tool has set-up s, which is accepted, arrays of their lengths, and channels that 17 does not refuse.
 pub record Sound (s : Setup) (t : Tool) : Type 0 where
@@ -51,7 +51,14 @@ moved-in-order : (n v : ℕ) (x : Loaded ℕ) (q : ℕ) → channel-test n v (so
 moved-in-order n v x q h g =
     let f = in-order-of-test n v x h in
     test-of-in-order n v (at-state x q)
-    (record { some-states = f .some-states; few-states = f .few-states; entries = f .entries; current-in = g })
+    (record {
+      some-states = f .some-states;
+      few-states = f .few-states;
+      entry-count = f .entry-count;
+      start-in = g;
+      values-in = f .values-in;
+      nexts-in = f .nexts-in;
+    })
 
 restarted-in-order : (n v : ℕ) (o : Option (Loaded ℕ)) → channel-test n v o ≡ true → channel-test n v (map-option (λ x. at-state x 0) o) ≡ true
 restarted-in-order n v none h = refl
@@ -63,7 +70,7 @@ event-in-order :
 event-in-order n v e none g h = refl
 event-in-order n v e (some x) g h =
     let f = in-order-of-test n v x h in
-    moved-in-order n v x (x .table .next (x .current) e) h (f .entries .next-in (x .current) (f .current-in) e g)
+    moved-in-order n v x (x .table .next (x .current) e) h (f .nexts-in (x .current) e (f .start-in) g)
 
 next-same :
     (e : ℕ) (o : Option (Loaded ℕ)) →

@@ -1,0 +1,10 @@
+-- Each call's effect on the channels.
+pub mod View
+-- What a load stores.
+pub mod LoadedRules
+-- A sound tool stays sound.
+pub mod Keeps
+-- The claims.
+pub mod Claims
+-- The refusal of a call is the first that its conditions give.
+pub mod CallRefusals

@@ -1,0 +1,5 @@
+-- In reading order.
+-- When a call is refused, as conditions in document 01's order.
+pub mod CallConditions
+-- What is claimed of the tool and its calls.
+pub mod Claims
