@@ -1,17 +1,16 @@
 -- The answer of a call and the buffer afterwards, from the answers of its parts; the rule of an accepted table is the written one.
 -- Assumes nothing.
-use mathlib.Core.Path.{_≡_, refl, sym, _∙_, ap, ap₂}
+use mathlib.Core.Path.{_≡_, sym, _∙_, ap}
 use mathlib.Core.Option.{Option, none, some}
-use mathlib.Core.List.{List, []}
+use mathlib.Core.List.{List}
 use Prim.Native.Nat.{ℕ, suc, _-_, _≤_, _<_}
 use native.Mathlib.Omega.{arith}
 use lib.ListN.{length}
-use Rattle.theory.specs.Formula.{Formula, size}
+use Rattle.theory.specs.Formula.{size}
 use Rattle.theory.specs.MealyMachine.{Runs, States}
 use Rattle.theory.specs.ValueSets.{Below}
 use Rattle.theory.proofs.CharacteristicFormula.{written-writes}
 use Rattle.refusal.specs.declared.Refusal.{Refusal}
-use Rattle.refusal.specs.declared.Judgement.{Judgement}
 use Rattle.refusal.specs.declared.Judgement.the-variants.{Accepted, Refused}
 use Rattle.refusal.specs.declared.Counted.{Counted}
 use Rattle.refusal.specs.declared.Counted.the-variants.{Refused as Uncounted}

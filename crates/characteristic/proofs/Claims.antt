@@ -1,11 +1,9 @@
 -- The claims on the rule of a table.
 -- Assumes nothing.
-use mathlib.Core.Path.{_≡_, refl, sym, _∙_, ap, subst}
-use mathlib.Core.Logic.{_⊎_, inl, inr}
-use mathlib.Core.Bool.{Bool, true, false}
-use mathlib.Core.Option.{Option, none, some, Option·some-ne-none}
-use mathlib.Core.List.{List, [], _∷_, _++_}
-use Prim.Native.Nat.{ℕ, suc, _*_, _≤_, _<_, _-_}
+use mathlib.Core.Path.{_≡_, refl, sym, ap}
+use mathlib.Core.Option.{none}
+use mathlib.Core.List.{List, [], _∷_}
+use Prim.Native.Nat.{ℕ, _*_, _≤_, _-_}
 use native.Mathlib.Omega.{arith}
 use lib.ListN.{length}
 use lib.Dec.{leb}
@@ -15,12 +13,10 @@ use Rattle.theory.specs.ReachableStates.{StatesAtMost}
 use Rattle.theory.specs.ValueSets.{Below, meetAt}
 use Rattle.theory.proofs.Claims.{characteristic}
 use Rattle.theory.proofs.CharacteristicFormula.{writes-one, writes-accepted, few-binders}
-use Rattle.refusal.specs.declared.Refusal.{Refusal}
-use Rattle.refusal.specs.declared.Counted.the-variants.{Count}
-use Rattle.refusal.specs.Refusal.{Condition, plain, First, or-else, plain-unless, counted, has-place, HasNumbers, part-of, order, InOrder}
+use Rattle.refusal.specs.Refusal.{plain, First, plain-unless, counted, has-place, HasNumbers, part-of, order, InOrder}
 use Rattle.refusal.specs.RefusalClaims.{AllFunctional}
 use Rattle.refusal.proofs.Refusals.{plain-first, plain-functional, plain-number, first-then, first-append, first-unique, or-else-none, plain-none}
-use Rattle.values.specs.Setup.{Setup, setup-conditions, setup-refusal, WellFormed}
+use Rattle.values.specs.Setup.{Setup, setup-conditions, setup-refusal}
 use Rattle.values.proofs.Setups.{setup-correct, setup-accepted}
 use Rattle.formulas.specs.NodeBytes.{encode-formula, three-bytes}
 use Rattle.formulas.proofs.Encoding.{formula-length}

@@ -1,19 +1,17 @@
 -- The search over the queue is breadth-first exploration: it stops at the first failing word, or has looked at all pairs.
 -- Assumes nothing.
-use mathlib.Core.Path.{_≡_, refl, sym, _∙_, ap, ap₂, subst, subst⁻¹}
+use mathlib.Core.Path.{_≡_, refl, sym, _∙_, ap, ap₂, subst}
 use mathlib.Core.Bool.{Bool, true, false, not, cond}
-use mathlib.Core.Logic.{_↔_}
 use mathlib.Core.List.{List, [], _∷_}
 use mathlib.Core.Option.{Option, none, some}
 use Prim.Native.Nat.{ℕ, zero, suc, _+_, _*_, _-_, _≤_, _<_}
-use native.Mathlib.Nat.{mul-le-mul-right, suc-mul}
 use native.Mathlib.Numerals.{add-one}
 use native.Mathlib.Omega.{arith}
 use borrow.Author.Tests.{eqb-true, eqb-false, lt-ltb, le-ltb}
-use lib.Dec.{T, eqb}
+use lib.Dec.{eqb}
 use lib.ListN.{length, getD, drop, drop-of-length-le}
 use lib.Seq.{drop-cons}
-use Rattle.theory.specs.MealyMachine.{Machine, Word}
+use Rattle.theory.specs.MealyMachine.{Machine}
 use Rattle.theory.specs.Exploration.{reached, add-events, explore, explored}
 use Rattle.theory.specs.Conformance.{same-pair, next-pair, bad-event, or-else, first-bad, bad-pair, in-play-order, counterexample}
 use Rattle.theory.proofs.Exploration.{Grows, explore-grows}
@@ -21,8 +19,7 @@ use Rattle.theory.proofs.Conformance.{same-pair-iff, few-pairs}
 use Rattle.values.specs.declared.ValueKind.the-variants.{Numbered}
 use Rattle.values.specs.ValueKind.{at-or-below}
 use Rattle.machines.specs.TableBytes.{machine-of}
-use Rattle.conformance.specs.PairQueue.{Queue, Holds, at-or-below-on, FirstBadEvent, Ready, successors, Expandable, Expanded, FailsAt, Searchable}
-use Rattle.conformance.proofs.Queues.{same-pair-self, same-pair-true}
+use Rattle.conformance.specs.PairQueue.{Queue, Holds, at-or-below-on, FirstBadEvent, successors, Expandable, Expanded, FailsAt, Searchable}
 use Rattle.conformance.proofs.Successors.{part-grows}
 
 -- What exploration and the first bad word compute, step by step.

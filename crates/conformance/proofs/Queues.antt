@@ -1,6 +1,6 @@
 -- The queue's arrays after a pair is pushed hold the words with one more.
 -- Assumes nothing.
-use mathlib.Core.Path.{_≡_, refl, sym, _∙_, ap, ap₂, subst, subst⁻¹}
+use mathlib.Core.Path.{_≡_, refl, sym, _∙_, ap, ap₂, subst⁻¹}
 use mathlib.Core.Bool.{Bool, true, false, cond, _||_}
 use mathlib.Core.Logic.{_⊎_, inl, inr}
 use mathlib.Core.List.{List, [], _∷_, _++_}
@@ -16,6 +16,7 @@ use Rattle.theory.specs.MealyMachine.{Machine}
 use Rattle.theory.specs.Exploration.{reached, has-state, add}
 use Rattle.theory.specs.Conformance.{same-pair, next-pair}
 use Rattle.theory.proofs.Numbers.{digits-equal}
+use Rattle.theory.proofs.Exploration.{length-end}
 use Rattle.conformance.specs.PairQueue.{Queue, Sized, Linked, Holds, flag, is-new, push, pushed, pushed-count}
 
 module _ (a : Queue) (count place : ℕ) where
@@ -61,9 +62,6 @@ spot P v l h = go (eq-or-lt-of-le {n = suc l} {m = suc (length P)} (omega (arith
     go : (suc l ≡ suc (length P)) ⊎ (suc l < suc (length P)) → Spot P v l
     go (inl q) = new (suc-inj q) (ap (λ i. getD (P ++ (v ∷ [])) i []) (suc-inj q) ∙ getD-append-seam P v [] [])
     go (inr u) = old (le-of-suc-le-suc u) (List·getD-append P (v ∷ []) [] l (le-of-suc-le-suc u))
-
-length-end : (P : List (List ℕ)) (v : List ℕ) → length (P ++ (v ∷ [])) ≡ suc (length P)
-length-end P v = omega (arith, length-append P (v ∷ []))
 
 -- The words with one more, which is its parent's with one event more.
 linked-push :

@@ -33,9 +33,6 @@ module _ {size events values k : ℕ} {table : List ℕ} {s : ℕ} {device buffe
   pub start-place : s * k < size
   start-place = omega (arith, x .some-states, mul-le-mul-right k (x .start-in), suc-mul s k, x .ready .few-pairs)
 
-  pub start-small : s < 256
-  start-small = omega (arith, x .start-in, x .ready .few-device-states)
-
 module _ {size events values k : ℕ} {table : List ℕ} {s : ℕ} {device buffer : List ℕ} (x : Tried size events values k table s device buffer)
     (d t p l f : List ℕ) (d-is : Zeros size d) (t-is : Zeros size t) (p-is : Zeros size p) (l-is : Zeros size l) (f-is : Zeros size f) where
   abbrev started : Queue

@@ -1,16 +1,16 @@
 -- Pushing the successors of a pair, event by event, adds their words.
 -- Assumes nothing.
-use mathlib.Core.Path.{_≡_, refl, sym, _∙_, ap, subst, subst⁻¹}
-use mathlib.Core.Bool.{Bool, true, false, cond}
-use mathlib.Core.List.{List, [], _∷_, _++_}
+use mathlib.Core.Path.{_≡_, sym, _∙_, ap, subst, subst⁻¹}
+use mathlib.Core.Bool.{Bool, true}
+use mathlib.Core.List.{List, [], _∷_}
 use Prim.Native.Nat.{ℕ, zero, suc, _+_, _*_, _-_, _≤_, _<_}
 use native.Mathlib.Nat.{mul-le-mul-right, suc-mul}
 use native.Mathlib.Numerals.{add-one}
 use native.Mathlib.Omega.{arith}
 use borrow.Author.Tests.{eqb-true}
-use lib.ListN.{length, getD, length-append, List·getD-append}
+use lib.ListN.{length, getD}
 use Rattle.theory.specs.MealyMachine.{Machine}
-use Rattle.theory.specs.Exploration.{reached, has-state, add, add-events}
+use Rattle.theory.specs.Exploration.{reached, add, add-events}
 use Rattle.theory.proofs.Exploration.{add-grows, add-events-grows}
 use Rattle.theory.specs.Conformance.{same-pair, next-pair}
 use Rattle.machines.specs.TableBytes.{machine-of}

@@ -32,9 +32,6 @@ module _ (P : List (List ℕ)) (parents last-events : List ℕ) (v : Linked P pa
       within (suc f) l h u = step l u (λ j k x. within f j (omega arith) x)
 
   module _ (j : ℕ) (j-in : j < length P) where
-    pub parent-in : ¬ (j ≡ 0) → parent j < length P
-    parent-in f = omega (arith, v .earlier j (omega arith) j-in)
-
     pub parent-less : ¬ (j ≡ 0) → parent j < j
     parent-less f = v .earlier j (omega arith) j-in
 

@@ -1,4 +1,5 @@
--- What is claimed of a trial, for every limit on the device's and the table's states; proofs/TrialClaims has a proof of each.
+-- What is claimed of a trial (document 01, "Trial"), for every limit on the device's and the table's states; proofs/TrialClaims has a
+-- proof of each.
 -- Assumes nothing.
 use mathlib.Core.Path.{_≡_}
 use mathlib.Core.Logic.{_↔_}

@@ -45,15 +45,6 @@ module _ (n : ℕ) (l : List ℕ) (h : length l ≤ n) where
       ap (λ x. getD (x ++ replicate (n - length l) 0) i 0) (take-all n l h)
       ∙ List·getD-append l (replicate (n - length l) 0) 0 i g
 
-  pub padded-after : (i : ℕ) → length l ≤ i → getD (padded n l) i 0 ≡ 0
-  unfolding padded
-  padded-after i g =
-      let e : i ≡ length l + (i - length l) = omega arith in
-      ap (λ x. getD (x ++ replicate (n - length l) 0) i 0) (take-all n l h)
-      ∙ ap (λ x. getD (l ++ replicate (n - length l) 0) x 0) e
-      ∙ getD-append-add l (replicate (n - length l) 0) (i - length l) 0
-      ∙ getD-zeros (n - length l) (i - length l)
-
   pub take-padded : take (length l) (padded n l) ≡ l
   take-padded =
       let a : length (take (length l) (padded n l)) ≡ length l = length-take-le (length l) (padded n l) (omega (arith, length-padded)) in

@@ -1,4 +1,5 @@
--- What the private functions of the calls decide before anything is written.
+-- What the private functions of the calls decide before anything is written: refusals 14 to 17 (document 01, "Who can cause a
+-- refusal"), or the value and the next state.
 -- Assumes nothing.
 use mathlib.Core.Path.{_≡_}
 use mathlib.Core.Bool.{Bool, true, false, cond}

@@ -49,14 +49,6 @@ unfolding First plain-unless
 plain-first n Met true met unmet = inr (λ r m. unmet refl (m .0), refl)
 plain-first n Met false met unmet = inl (Plain n, (met refl, refl), refl)
 
--- The twin of a condition with a place, from a search that finds the lowest.
-pub at-first :
-    (n : ℕ) (Met : ℕ → Type 0) (found : Option ℕ) → ((p : ℕ) → found ≡ some p → Lowest Met p) → (found ≡ none → (i : ℕ) → ¬ Met i)
-    → First (at-lowest n Met ∷ []) (at-found found n)
-unfolding First at-found
-at-first n Met none lowest nowhere = inr (λ r m. nowhere refl (m .0) (m .1 .holds), refl)
-at-first n Met (some p) lowest nowhere = inl (At n p, (p, lowest p refl, refl), refl)
-
 pub first-unique : FirstUniqueClaim
 unfolding First AllFunctional
 first-unique [] f a b x y = x ∙ sym y

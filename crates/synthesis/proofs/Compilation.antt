@@ -1,6 +1,6 @@
 -- The answers of the compilers, case by case.
 -- Assumes nothing.
-use mathlib.Core.Path.{_≡_, refl, sym, _∙_, ap, ap₂, subst}
+use mathlib.Core.Path.{_≡_, sym, _∙_, ap, ap₂, subst}
 use mathlib.Core.Bool.{Bool, true, false, _&&_, cond, and-false, false≢true}
 use mathlib.Core.List.{List}
 use mathlib.Core.Option.{Option, none, some}
@@ -20,7 +20,7 @@ use Rattle.refusal.specs.declared.Counted.the-variants.{Count, Refused}
 use Rattle.refusal.specs.declared.Judgement.{Judgement}
 use Rattle.refusal.specs.declared.Judgement.the-variants.{Refused as RefusedJudgement}
 use Rattle.refusal.specs.Refusal.{or-else, plain-unless, judgement, counted}
-use Rattle.refusal.proofs.Refusals.{or-else-none, plain-none}
+use Rattle.refusal.proofs.Refusals.{or-else-none, or-else-assoc, plain-none}
 use Rattle.values.specs.declared.ValueKind.{ValueKind}
 use Rattle.values.specs.ValueKind.{meetOf}
 use Rattle.values.specs.Setup.{events-test, event-limit}
@@ -129,15 +129,10 @@ module _ (limit : ℕ) (kind : ValueKind) (events top : ℕ) (table rule : List 
   abbrev states : ℕ
   states = rule-states kind events top table rule limit
 
-  or-assoc : (a b c : Option Refusal) → or-else a (or-else b c) ≡ or-else (or-else a b) c
-  unfolding or-else
-  or-assoc none b c = refl
-  or-assoc (some r) b c = refl
-
   refusal-is : compile-rule-refusal kind events top table rule limit ≡ or-else judged (plain-unless (leb states limit) 10)
   unfolding compile-rule-refusal rule-table-refusal
   refusal-is =
-      or-assoc (plain-unless (events-test events) 1) (rule-refusal events (value-count kind) rule)
+      or-else-assoc (plain-unless (events-test events) 1) (rule-refusal events (value-count kind) rule)
       (plain-unless (leb states limit) 10)
 
   -- By the refusal.

@@ -23,7 +23,6 @@ use Rattle.refusal.specs.Refusal.{or-else, plain-unless, judgement, counted}
 use Rattle.refusal.proofs.Refusals.{judgement-accepted, judgement-refused, counted-accepted, counted-refused, or-else-none, plain-none}
 use Rattle.values.specs.declared.ValueKind.the-variants.{Numbered}
 use Rattle.values.specs.ValueKind.{meetOf}
-use Rattle.values.specs.Setup as S
 use Rattle.values.specs.Setup.{Setup, setup, setup-refusal, events-test}
 use Rattle.values.proofs.Setups.{setup-accepted}
 use Rattle.values.proofs.ValueKinds.{value-kinds}
@@ -38,6 +37,7 @@ use Rattle.synthesis.specs.declared.Compiled.{Compiled}
 use Rattle.synthesis.specs.Compilation.{value-count, rule-states, rule-table, rule-table-refusal, compile-rule-refusal, entry-count, flat, compiled-within, compiled, setup-states, setup-table, compile-refusal, contents-after, compile-contents}
 use Rattle.synthesis.proofs.Compilation.{flat-at}
 use Rattle.synthesis.proofs.CompiledTable.{table-runs}
+use Rattle.values.specs.Setup as S
 
 -- What an accepted set-up and an accepted rule are.
 module _ (s : Setup) (ok : setup-refusal s ≡ none) where

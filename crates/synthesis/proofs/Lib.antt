@@ -6,6 +6,7 @@ pub mod NodeWalks
 pub mod Binding
 pub mod DemandRows
 pub mod Stepping
+pub mod KeptDemands
 pub mod Exploring
 pub mod TableEntries
 pub mod FormulaTable

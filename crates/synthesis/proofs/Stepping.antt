@@ -75,11 +75,11 @@ module _ (kinds firsts : List ℕ) (k e i : ℕ) (x : Bool) where
   test-both h q =
       sym (ap (λ t. x && t) (ap₂ (λ a b. a && b) (eq-eqb (field kinds i) k h) (eq-eqb (field firsts i) e q)) ∙ and-true x)
 
-below-more : (i : ℕ) (σ : List ℕ) → AllBelow i σ → AllBelow (suc i) σ
+pub below-more : (i : ℕ) (σ : List ℕ) → AllBelow i σ → AllBelow (suc i) σ
 below-more i [] u = tt
 below-more i (x ∷ σ) u = (omega (arith, u .0), below-more i σ (u .1))
 
-below-far : (i n : ℕ) (σ : List ℕ) → AllBelow i σ → AllBelow (i + n) σ
+pub below-far : (i n : ℕ) (σ : List ℕ) → AllBelow i σ → AllBelow (i + n) σ
 below-far i n [] u = tt
 below-far i n (x ∷ σ) u = (omega (arith, u .0), below-far i n σ (u .1))
 

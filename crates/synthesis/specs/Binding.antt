@@ -1,4 +1,4 @@
--- The walk that gives each variable node its binder's node.
+-- The walk that gives each variable node its binder's node (document 01, "Table of a rule": X demands what its binder does).
 -- Assumes nothing.
 use mathlib.Core.Path.{_≡_}
 use mathlib.Core.List.{List}

@@ -1,4 +1,4 @@
--- Each node's demands, kept in rows.
+-- Each node's demands, kept in rows (document 01, "Table of a rule": "the demands of a node").
 -- Assumes nothing.
 use mathlib.Core.Path.{_≡_}
 use mathlib.Core.List.{List, [], _∷_, map}

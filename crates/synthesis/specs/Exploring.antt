@@ -1,4 +1,5 @@
--- The machine of the rows, node by node, its sets as bits; and what the loops over states keep.
+-- The machine of the rows, node by node, its sets as bits; and what the loops over states keep (document 01, "Table of a rule": the
+-- states reached, and the next state of each).
 -- Assumes nothing.
 use mathlib.Core.Path.{_≡_}
 use mathlib.Core.Bool.{Bool, false, _&&_, _||_}

@@ -9,5 +9,6 @@ pub mod NodeWalks
 pub mod Binding
 pub mod DemandRows
 pub mod Exploring
+pub mod KeptDemands
 pub mod TableEntries
 pub mod MadeTable

@@ -1,4 +1,4 @@
-// The values of a table, by state and then event.
+// The values of a table, by state and then event (document 01, "Table of a rule").
 use crate::node_sets::active;
 use crate::numbers::entry_at;
 use formulas::OUTPUT;

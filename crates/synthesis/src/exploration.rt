@@ -1,4 +1,4 @@
-// The states that event sequences reach, in document 01's order, and the next state of each on each event.
+// The states that event sequences reach, in document 01's order ("Table of a rule"), and the next state of each on each event.
 use crate::node_sets::active;
 use crate::node_sets::same;
 use crate::node_sets::store;

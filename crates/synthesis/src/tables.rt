@@ -1,4 +1,4 @@
-// The table of the formula whose nodes these are.
+// The table of the formula whose nodes these are (document 01, "Table of a rule").
 use crate::demands::bind;
 use crate::demands::fill_rows;
 use crate::entries::fill_values;

@@ -25,7 +25,7 @@ Sequences = List (List ℕ)
 abbrev pub at : List (List ℕ) → ℕ → List ℕ
 at P l = getD P l []
 
-length-end : (P : Sequences) (w : List ℕ) → length (P ++ (w ∷ [])) ≡ suc (length P)
+pub length-end : (P : List (List ℕ)) (w : List ℕ) → length (P ++ (w ∷ [])) ≡ suc (length P)
 length-end P w = omega (arith, length-append P (w ∷ []))
 
 at-before : (P : Sequences) (w : List ℕ) (l : ℕ) → l < length P → at (P ++ (w ∷ [])) l ≡ at P l

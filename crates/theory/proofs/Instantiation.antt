@@ -121,9 +121,3 @@ module _ {B : Type 0} where
           guarded = guarded-instantiate zero ρ φ g w;
           fits = fits-instantiate zero ρ φ g f;
         }
-
-  -- The whole binder put for the variable of its part is one more formula of the list.
-  pub instantiate-unfolded :
-      (ρ : List (Formula B)) (φ : Formula B) →
-      unfolded (instantiate 1 ρ φ) ≡ instantiate zero (greatest (instantiate 1 ρ φ) ∷ ρ) φ
-  instantiate-unfolded ρ φ = refl

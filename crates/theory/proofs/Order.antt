@@ -5,9 +5,6 @@ use mathlib.Core.Logic.{_↔_}
 use Rattle.theory.specs.Semilattice.{MeetSemilattice, AtOrBelow}
 
 module _ {B : Type 0} (In : B → Type 0) (meet : B → B → B) (top : B) (L : MeetSemilattice In meet top) where
-  pub below-refl : (a : B) → In a → AtOrBelow meet a a
-  below-refl a ha = L .idempotent a ha
-
   pub below-top : (a : B) → In a → AtOrBelow meet a top
   below-top a ha = L .neutral a ha
 
@@ -15,9 +12,6 @@ module _ {B : Type 0} (In : B → Type 0) (meet : B → B → B) (top : B) (L : 
       (a b c : B) → In a → In b → In c → AtOrBelow meet a b → AtOrBelow meet b c → AtOrBelow meet a c
   below-trans a b c ha hb hc p q =
       ap (λ x. meet x c) (sym p) ∙ L .associative a b c ha hb hc ∙ ap (meet a) q ∙ p
-
-  pub below-antisym : (a b : B) → In a → In b → AtOrBelow meet a b → AtOrBelow meet b a → a ≡ b
-  below-antisym a b ha hb p q = sym p ∙ L .commutative a b ha hb ∙ q
 
   pub top-meet : (a : B) → In a → meet top a ≡ a
   top-meet a h = L .commutative top a (L .top-in) h ∙ L .neutral a h

@@ -150,8 +150,3 @@ module _ {B : Type 0} where
       ∙ decode-nodes χ (size φ + size χ) ns (omega arith)
       in
       (ap (λ x. x .0) q, ap (λ x. x .1) q)
-
-  -- A formula is determined by its nodes.
-  pub nodes-injective : (φ χ : Formula B) → nodes φ ≡ nodes χ → φ ≡ χ
-  nodes-injective φ χ p =
-      nodes-prefix φ χ [] [] (append-nil (nodes φ) ∙ p ∙ sym (append-nil (nodes χ))) .0

@@ -135,11 +135,6 @@ number-injective events v w hv hw e = go (placement v w)
     go (second b) = absurd (omega (arith, before-number events hw b))
 
 -- The order of words is the order of their numbers.
-pub before-iff-number :
-    (events : ℕ) (v w : List ℕ) → Word events v → Word events w →
-    Before v w ↔ (number events v < number events w)
-before-iff-number events v w hv hw = (before-number events hv, number-before events v w hv hw)
-
 pub no-later-iff-number :
     (events : ℕ) (v w : List ℕ) → Word events v → Word events w →
     NoLater v w ↔ (number events v ≤ number events w)
@@ -177,11 +172,3 @@ pub no-later-antisymmetric : (v w : List ℕ) → NoLater v w → NoLater w v �
 no-later-antisymmetric v w (inl e) k = e
 no-later-antisymmetric v w (inr b) (inl e) = sym e
 no-later-antisymmetric v w (inr b) (inr c) = absurd (before-asymmetric v w b c)
-
-pub before-total : (v w : List ℕ) → (v ≡ w) ⊎ (Before v w ⊎ Before w v)
-before-total v w = go (placement v w)
-  where
-    go : Placement v w → (v ≡ w) ⊎ (Before v w ⊎ Before w v)
-    go (first b) = inr (inl b)
-    go (same e) = inl e
-    go (second b) = inr (inr b)

@@ -1,0 +1,152 @@
+-- The rows that the compiler keeps are the nodes' demands, and every next state is a union of them (document 02, F-3).
+-- Assumes nothing.
+use mathlib.Core.Path.{_≡_, refl, _∙_, ap, ap₂, subst, subst⁻¹}
+use mathlib.Core.Logic.{_↔_}
+use mathlib.Core.Option.{none}
+use mathlib.Core.List.{List, [], _∷_, map}
+use Prim.Native.Nat.{ℕ, suc, _+_, _≤_}
+use native.Mathlib.Omega.{arith}
+use lib.Dec.{T}
+use Rattle.theory.specs.ValueSets.{Below}
+use Rattle.theory.specs.Formula.{Formula, transition, greatest, size, Guarded}
+use Rattle.theory.specs.PrefixCode.{Stands, root, part-of-transition, left-part, right-part, part-of-greatest}
+use Rattle.theory.specs.Demands.{NodeSet, Demands}
+use Rattle.theory.specs.DemandSets.{demands, moved}
+use Rattle.theory.proofs.Binders.{binder-demands}
+use Rattle.theory.proofs.Demands.{demands-iff, is-next-set}
+use Rattle.theory.proofs.Claims.{grammar}
+use Rattle.formulas.specs.NodeArrays.{decoded}
+use Rattle.formulas.specs.NodeReading.{Reads}
+use Rattle.formulas.specs.NodeWalks.{field}
+use Rattle.formulas.specs.RuleRefusal.{rule-refusal, formula-of}
+use Rattle.formulas.specs.Claims.{AcceptedFormula}
+use Rattle.formulas.proofs.Walking.{size-positive}
+use Rattle.formulas.proofs.RuleClaims.{accepted-formula-of, decoded-reads}
+use Rattle.synthesis.specs.NodeWords.{row}
+use Rattle.synthesis.specs.NodeWalks.{Binds}
+use Rattle.synthesis.specs.Binding.{AllBound}
+use Rattle.synthesis.specs.DemandRows.{AllBelow, RowsTo}
+use Rattle.synthesis.specs.Exploring.{stepped}
+use Rattle.synthesis.specs.KeptDemands.{KeptRows, KeptDemandsClaim, KeptUnionClaim}
+use Rattle.synthesis.proofs.Stepping.{below-more, below-far, stepped-moved}
+
+module _ (kinds firsts b rows : List ℕ) (value : ℕ → ℕ) (φ : Formula ℕ) (filled : RowsTo kinds b (size φ) rows (size φ))
+    (read : Reads (field kinds) (field firsts) value 0 φ) (guarded : Guarded φ) (bound : Binds (field b) [] 0 φ) where
+  -- What a part that stands at node i below the binders bs brings with it.
+  record Part (i : ℕ) (bs : List ℕ) (ψ : Formula ℕ) : Type 0 where
+    reads : Reads (field kinds) (field firsts) value i ψ
+    fits : i + size ψ ≤ size φ
+    guards : Guarded ψ
+    binds : Binds (field b) bs i ψ
+    below : AllBelow i bs
+
+  part : {i : ℕ} {bs : List ℕ} {ψ : Formula ℕ} → Stands φ i bs ψ → Part i bs ψ
+  part root = record { reads = read; fits = omega arith; guards = guarded; binds = bound; below = tt }
+  part (part-of-transition {i = i} {bs = bs} s) =
+      let p = part s in
+      record {
+        reads = p .reads .2;
+        fits = omega (arith, p .fits);
+        guards = p .guards;
+        binds = p .binds;
+        below = below-more i bs (p .below);
+      }
+  part (left-part {i = i} {bs = bs} s) =
+      let p = part s in
+      record {
+        reads = p .reads .1;
+        fits = omega (arith, p .fits);
+        guards = p .guards .0;
+        binds = p .binds .0;
+        below = below-more i bs (p .below);
+      }
+  part (right-part {i = i} {bs = bs} {ψ = ψ} s) =
+      let p = part s in
+      record {
+        reads = p .reads .2;
+        fits = omega (arith, p .fits);
+        guards = p .guards .1;
+        binds = p .binds .1;
+        below = below-far (suc i) (size ψ) bs (below-more i bs (p .below));
+      }
+  part (part-of-greatest {i = i} {bs = bs} s) =
+      let p = part s in
+      record {
+        reads = p .reads .1;
+        fits = omega (arith, p .fits);
+        guards = p .guards .1;
+        binds = p .binds;
+        below = (omega arith, below-more i bs (p .below));
+      }
+
+  row-is : {i : ℕ} {bs : List ℕ} {ψ : Formula ℕ} → Stands φ i bs ψ → row rows i ≡ demands (map (row rows) bs) i ψ
+  row-is {i} {bs} {ψ} s =
+      let p = part s in
+      filled i (omega (arith, p .fits, size-positive ψ)) (field firsts) value ψ bs (p .reads) (p .fits) (p .guards) (p .binds) (p .below)
+
+  binders-are : {i : ℕ} {bs : List ℕ} {ψ : Formula ℕ} (s : Stands φ i bs ψ) → map (row rows) bs ≡ binder-demands φ s
+  binders-are root = refl
+  binders-are (part-of-transition s) = binders-are s
+  binders-are (left-part s) = binders-are s
+  binders-are (right-part s) = binders-are s
+  binders-are (part-of-greatest {i = i} {ψ = ψ} s) =
+      ap₂ _∷_ (row-is s ∙ ap (λ ρ. demands ρ i (greatest ψ)) (binders-are s)) (binders-are s)
+
+  kept : {i : ℕ} {bs : List ℕ} {ψ : Formula ℕ} → Stands φ i bs ψ → (d : ℕ) → T (row rows i d) ↔ Demands φ i d
+  kept {i} {bs} {ψ} s d =
+      subst⁻¹ (λ D. T (D d) ↔ Demands φ i d) (row-is s ∙ ap (λ ρ. demands ρ i ψ) (binders-are s)) (demands-iff φ guarded s d)
+
+  united :
+      (D : NodeSet) (e d : ℕ) →
+      T (stepped kinds firsts rows (size φ) D e d)
+      ↔ ((i : ℕ) × (bs : List ℕ) × (ψ : Formula ℕ) × T (D i) × Stands φ i bs (transition e ψ) × T (row rows (suc i) d))
+  united D e d =
+      let same : stepped kinds firsts rows (size φ) D e ≡ moved D e [] 0 φ = stepped-moved kinds firsts b rows value φ filled read guarded bound D e in
+      let next = is-next-set φ guarded D e d in (
+        (λ h. let n = next .0 (subst (λ C. T (C d)) same h) in (n .0, n .1, n .2, n .3, n .4, kept (part-of-transition (n .4)) d .1 (n .5))),
+        λ n. subst⁻¹ (λ C. T (C d)) same (next .1 (n .0, n .1, n .2, n .3, n .4, kept (part-of-transition (n .4)) d .0 (n .5))),
+      )
+
+-- The nodes of a rule that 5 to 9 let through.
+module _ (events values : ℕ) (rule stack binders rows : List ℕ) (ok : rule-refusal events values rule ≡ none)
+    (k : KeptRows rule stack binders rows) where
+  abbrev φ₀ : Formula ℕ
+  φ₀ = formula-of rule
+
+  abbrev there : AcceptedFormula events values rule φ₀
+  there = accepted-formula-of events values rule ok
+
+  counted : decoded rule .count ≡ size φ₀
+  counted = decoded-reads rule φ₀ (there .written) (there .accepted .within) .counted
+
+  reads₀ : Reads (field (decoded rule .kinds)) (field (decoded rule .firsts)) (field (decoded rule .values)) 0 φ₀
+  reads₀ = decoded-reads rule φ₀ (there .written) (there .accepted .within) .reads
+
+  guarded₀ : Guarded φ₀
+  guarded₀ = grammar ℕ 256 events (Below values) φ₀ (there .accepted) .guarded
+
+  filled₀ : RowsTo (decoded rule .kinds) binders (size φ₀) rows (size φ₀)
+  filled₀ = subst (λ n. RowsTo (decoded rule .kinds) binders n rows n) counted (k .filled)
+
+  binds₀ : Binds (field binders) [] 0 φ₀
+  unfolding AllBound
+  binds₀ =
+      k .bound (field (decoded rule .values)) φ₀ [] reads₀ (omega (arith, counted)) (there .accepted .closed)
+      (record { deep = refl; at = λ k h. absurd (omega arith) })
+
+  kept₀ : (i : ℕ) (bs : List ℕ) (ψ : Formula ℕ) → Stands φ₀ i bs ψ → (d : ℕ) → T (row rows i d) ↔ Demands φ₀ i d
+  kept₀ i bs ψ s d =
+      kept (decoded rule .kinds) (decoded rule .firsts) binders rows (field (decoded rule .values)) φ₀ filled₀ reads₀ guarded₀ binds₀ s d
+
+pub kept-demands : KeptDemandsClaim
+kept-demands events values rule stack binders rows ok k = kept₀ events values rule stack binders rows ok k
+
+pub kept-union : KeptUnionClaim
+kept-union events values rule stack binders rows ok k D e d =
+    subst⁻¹
+    (λ n. T (stepped (decoded rule .kinds) (decoded rule .firsts) rows n D e d)
+    ↔ ((i : ℕ) × (bs : List ℕ) × (ψ : Formula ℕ) × T (D i) × Stands (formula-of rule) i bs (transition e ψ) × T (row rows (suc i) d)))
+    (counted events values rule stack binders rows ok k)
+    (united (decoded rule .kinds) (decoded rule .firsts) binders rows (field (decoded rule .values)) (formula-of rule)
+    (filled₀ events values rule stack binders rows ok k) (reads₀ events values rule stack binders rows ok k)
+    (guarded₀ events values rule stack binders rows ok k) (binds₀ events values rule stack binders rows ok k) D e d)
