@@ -1,17 +1,19 @@
 -- What a caller of check_form knows, and what follows for the stretch of tokens and for storing.
 -- Assumes nothing.
 use Prim.Native.Nat.{ℕ, suc, _+_, _-_, _*_, _≤_, _<_}
-use mathlib.Core.Path.{_≡_, refl, sym, ap, _∙_, subst}
+use mathlib.Core.Path.{_≡_, refl, sym, ap, ap₂, _∙_, subst}
+use mathlib.Core.Logic.{_⊎_, inl, inr}
 use mathlib.Core.List.{List, [], _∷_, _++_}
-use mathlib.Core.Bool.{Bool, cond}
+use mathlib.Core.Bool.{Bool, true, false, cond, _&&_, and-false}
 use native.Mathlib.Omega.{arith}
-use borrow.Author.Tests.{lt-ltb, le-ltb}
+use borrow.Author.Tests.{le-leb, lt-leb}
+use lib.Dec.{leb}
 use lib.ListN.{length, drop}
 use Rattle.text_format.specs.Format.{Parsed, ok, bad, Format, Outcome, contents, refused}
 use Rattle.channel_file.specs.ChannelFile.{Token, Contents, text, Shows}
 use Rattle.channel_file.specs.FileFormat.{entries, tokens}
 use Rattle.channel_file.specs.Reading.{read-file, meet-start, rule-start, stretch, tokens-stretch, checked}
-use Rattle.channel_file.specs.Bytes.{node, entry, encoded, meet-bytes, rule-bytes, put-in, stored-reply, stored-buffer, Stores}
+use Rattle.channel_file.specs.Bytes.{node, entry, encoded, meet-bytes, rule-bytes, put-in, fits, stored-reply, stored-meet, stored-rule, Stores}
 use Rattle.channel_file.specs.Steps.{SpansTokens, puts, IsOk, values-of, codes-at, Storable}
 use Rattle.channel_file.specs.declared.Checked.{Checked}
 use Rattle.channel_file.specs.declared.Stored.{Stored}
@@ -19,23 +21,37 @@ use Rattle.channel_file.proofs.Stretches.{entries-there, tokens-there, 
 use Rattle.channel_file.proofs.Buffers.{puts-whole, encoded-length}
 use Rattle.channel_file.proofs.Claims.{shown}
 
--- A text is accepted, with these counts and offsets.
-pub record Accepted (t : List ℕ) (m a n b : ℕ) : Type 0 where
+-- A text is accepted, with these numbers, counts and offsets.
+pub record Accepted (t : List ℕ) (e v p m a n b : ℕ) : Type 0 where
   pub inside : Contents
   pub answer : read-file t ≡ contents inside
   pub shows : Shows inside t
+  pub events-is : e ≡ inside .events
+  pub values-is : v ≡ inside .values
+  pub top-is : p ≡ inside .top
   pub meet-count : m ≡ length (inside .meet)
   pub meet-offset : a ≡ meet-start inside
   pub rule-count : n ≡ length (inside .rule)
   pub rule-offset : b ≡ rule-start inside
 
-accepted₁ : (t : List ℕ) (x : Outcome Contents) → read-file t ≡ x → (e v p m a n b : ℕ) → Checked.Form e v p m a n b ≡ checked x → Accepted t m a n b
+accepted₁ : (t : List ℕ) (x : Outcome Contents) → read-file t ≡ x → (e v p m a n b : ℕ) → Checked.Form e v p m a n b ≡ checked x → Accepted t e v p m a n b
 accepted₁ t (contents c) f e v p m a n b h =
-    record { inside = c; answer = f; shows = shown t c f .1; meet-count = cc; meet-offset = cc; rule-count = cc; rule-offset = cc }
+    record {
+      inside = c;
+      answer = f;
+      shows = shown t c f .1;
+      events-is = cc;
+      values-is = cc;
+      top-is = cc;
+      meet-count = cc;
+      meet-offset = cc;
+      rule-count = cc;
+      rule-offset = cc;
+    }
 accepted₁ t (refused q) f e v p m a n b h = let z : _≡_ {A = ℕ} 0 1 = cc in absurd (omega arith)
 
-pub accepted : (t : List ℕ) (e v p m a n b : ℕ) → Checked.Form e v p m a n b ≡ checked (read-file t) → Accepted t m a n b
-accepted t e v p m a n b h = accepted₁ t (read-file t) refl e v p m a n b h
+pub accepted : (t : List ℕ) {e v p m a n b : ℕ} → Checked.Form e v p m a n b ≡ checked (read-file t) → Accepted t e v p m a n b
+accepted t {e} {v} {p} {m} {a} {n} {b} h = accepted₁ t (read-file t) refl e v p m a n b h
 
 not-accepted₁ : (x : Outcome Contents) (p : ℕ) → Checked.Refused p ≡ checked x → x ≡ refused p
 not-accepted₁ (contents c) p h = let z : _≡_ {A = ℕ} 0 1 = cc in absurd (omega arith)
@@ -49,16 +65,16 @@ not-accepted t p h = not-accepted₁ (read-file t) p h
 pub spans-refused : (t : List ℕ) (p : ℕ) → read-file t ≡ refused p → SpansTokens t (record { from = 0; to = 0 })
 spans-refused t p e = record { ordered = omega arith; within = omega arith; same = sym (ap (tokens-stretch t) e) }
 
-pub some-text : (t : List ℕ) (m a n b : ℕ) → Accepted t m a n b → b + 1 ≤ length t
-some-text t m a n b g =
+pub some-text : (t : List ℕ) {e v p m a n b : ℕ} → Accepted t e v p m a n b → b + 1 ≤ length t
+some-text t {b = b} g =
     let h : rule-start (g .inside) + 1 ≤ length (text (g .inside)) = rule-within (g .inside) in
     let e : length (text (g .inside)) ≡ length t = ap length (g .shows .printed) in
     let o : b ≡ rule-start (g .inside) = g .rule-offset in
     omega arith
 
-pub spans-tokens : (t : List ℕ) (m a n b : ℕ) → Accepted t m a n b → SpansTokens t (record { from = b; to = length t - 1 })
-spans-tokens t m a n b g =
-    let h = some-text t m a n b g in
+pub spans-tokens : (t : List ℕ) {e v p m a n b : ℕ} → Accepted t e v p m a n b → SpansTokens t (record { from = b; to = length t - 1 })
+spans-tokens t {b = b} g =
+    let h = some-text t g in
     record {
       ordered = omega arith;
       within = omega arith;
@@ -67,25 +83,17 @@ spans-tokens t m a n b g =
 
 -- ---- storing
 
-pub stores-refused : (bytes : Contents → List ℕ) (t old : List ℕ) (p : ℕ) → read-file t ≡ refused p → Stores bytes t old old (Stored.Refused p)
-stores-refused bytes t old p e = record { reply = sym (ap (stored-reply bytes old) e); buffer = sym (ap (stored-buffer bytes old) e) }
-
-pub stores-short : (bytes : Contents → List ℕ) (t old : List ℕ) (c : Contents) → read-file t ≡ contents c → length old < length (bytes c) → Stores bytes t old old Stored.Short
-stores-short bytes t old c e h =
+stored-as : (t meet rule meet′ rule′ : List ℕ) (x : Outcome Contents) (r : Stored) → read-file t ≡ x → r ≡ stored-reply x meet rule → meet′ ≡ stored-meet x meet rule
+    → rule′ ≡ stored-rule x meet rule → Stores t meet rule meet′ rule′ r
+stored-as t meet rule meet′ rule′ x r e a m n =
     record {
-      reply = sym (ap (stored-reply bytes old) e ∙ ap (λ (b : Bool). cond b Stored.Short (Stored.Bytes (length (bytes c)))) (lt-ltb (length old) (length (bytes c)) h));
-      buffer = sym (ap (stored-buffer bytes old) e ∙ ap (λ (b : Bool). cond b old (put-in (bytes c) old)) (lt-ltb (length old) (length (bytes c)) h));
+      reply = a ∙ ap (λ (y : Outcome Contents). stored-reply y meet rule) (sym e);
+      meet-is = m ∙ ap (λ (y : Outcome Contents). stored-meet y meet rule) (sym e);
+      rule-is = n ∙ ap (λ (y : Outcome Contents). stored-rule y meet rule) (sym e);
     }
 
-pub stores-all : (bytes : Contents → List ℕ) (t old new : List ℕ) (c : Contents) (n : ℕ) → read-file t ≡ contents c → length (bytes c) ≤ length old
-    → n ≡ length (bytes c) → new ≡ puts old 0 (bytes c) → Stores bytes t old new (Stored.Bytes n)
-stores-all bytes t old new c n e h l w =
-    record {
-      reply = ap (λ (z : ℕ). Stored.Bytes z) l
-          ∙ sym (ap (stored-reply bytes old) e ∙ ap (λ (b : Bool). cond b Stored.Short (Stored.Bytes (length (bytes c)))) (le-ltb (length old) (length (bytes c)) h));
-      buffer = w ∙ puts-whole old (bytes c) h
-          ∙ sym (ap (stored-buffer bytes old) e ∙ ap (λ (b : Bool). cond b old (put-in (bytes c) old)) (le-ltb (length old) (length (bytes c)) h));
-    }
+pub stores-refused : (t meet rule : List ℕ) (p : ℕ) → read-file t ≡ refused p → Stores t meet rule meet rule (Stored.Refused p)
+stores-refused t meet rule p e = stored-as t meet rule meet rule (refused p) (Stored.Refused p) e refl refl refl
 
 pub meet-bytes-length : (c : Contents) → length (meet-bytes c) ≡ length (c .meet)
 meet-bytes-length c = omega (arith, encoded-length entry 1 (λ a. refl) (c .meet))
@@ -100,7 +108,7 @@ stands-at F code t s i j xs r et ei e =
     let f : F .parse (drop i t) ≡ ok xs r = ap (λ (z : ℕ). F .parse (drop z t)) ei ∙ ap (λ (z : List ℕ). F .parse (drop j z)) (sym et) ∙ e in
     (subst IsOk (sym f) tt, ap (λ (y : Parsed (List _)). encoded code (values-of y)) f)
 
-module _ (t : List ℕ) (m a n b : ℕ) (g : Accepted t m a n b) where
+module _ (t : List ℕ) {e v p m a n b : ℕ} (g : Accepted t e v p m a n b) where
   meet-stands : IsOk (entries .parse (drop a t)) × (codes-at entries entry t a ≡ meet-bytes (g .inside))
   meet-stands = stands-at entries entry t (text (g .inside)) a (meet-start (g .inside)) (g .inside .meet) _ (g .shows .printed) (g .meet-offset) (entries-there (g .inside) (g .shows .small))
 
@@ -117,28 +125,48 @@ module _ (t : List ℕ) (m a n b : ℕ) (g : Accepted t m a n b) where
 
   pub rule-storable : (old : List ℕ) → 3 * n ≤ length old → Storable tokens node t b old 0
   rule-storable old h =
-      let w = some-text t m a n b g in
+      let w = some-text t g in
       let k : n ≡ length (g .inside .rule) = g .rule-count in
       record { within = omega arith; stands = rule-stands .0; room = omega (arith, ap length (rule-stands .1), rule-bytes-length (g .inside)) }
 
-  pub meet-short : (old : List ℕ) → length old < m → Stores meet-bytes t old old Stored.Short
-  meet-short old h =
-      let k : m ≡ length (g .inside .meet) = g .meet-count in
-      stores-short meet-bytes t old (g .inside) (g .answer) (omega (arith, meet-bytes-length (g .inside)))
+  abbrev c : Contents
+  c = g .inside
 
-  pub rule-short : (old : List ℕ) → length old < 3 * n → Stores rule-bytes t old old Stored.Short
-  rule-short old h =
-      let k : n ≡ length (g .inside .rule) = g .rule-count in
-      stores-short rule-bytes t old (g .inside) (g .answer) (omega (arith, rule-bytes-length (g .inside)))
+  abbrev full : Stored
+  full = Stored.Form (c .events) (c .values) (c .top) (length (c .meet)) (length (c .rule))
 
-  pub meet-stored : (old new : List ℕ) → m ≤ length old → new ≡ puts old 0 (codes-at entries entry t a) → Stores meet-bytes t old new (Stored.Bytes m)
-  meet-stored old new h w =
-      let k : m ≡ length (g .inside .meet) = g .meet-count in
-      let l = meet-bytes-length (g .inside) in
-      stores-all meet-bytes t old new (g .inside) m (g .answer) (omega arith) (omega arith) (w ∙ ap (puts old 0) (meet-stands .1))
+  stored-by : (f : Bool) (meet rule meet′ rule′ : List ℕ) (r : Stored) → fits c meet rule ≡ f → r ≡ cond f full Stored.Short
+      → meet′ ≡ cond f (put-in (meet-bytes c) meet) meet → rule′ ≡ cond f (put-in (rule-bytes c) rule) rule → Stores t meet rule meet′ rule′ r
+  stored-by f meet rule meet′ rule′ r q x y z =
+      stored-as t meet rule meet′ rule′ (contents c) r (g .answer) (x ∙ ap (λ (b : Bool). cond b full Stored.Short) (sym q))
+      (y ∙ ap (λ (b : Bool). cond b (put-in (meet-bytes c) meet) meet) (sym q)) (z ∙ ap (λ (b : Bool). cond b (put-in (rule-bytes c) rule) rule) (sym q))
 
-  pub rule-stored : (old new : List ℕ) → 3 * n ≤ length old → new ≡ puts old 0 (codes-at tokens node t b) → Stores rule-bytes t old new (Stored.Bytes (3 * n))
-  rule-stored old new h w =
-      let k : n ≡ length (g .inside .rule) = g .rule-count in
-      let l = rule-bytes-length (g .inside) in
-      stores-all rule-bytes t old new (g .inside) (3 * n) (g .answer) (omega arith) (omega arith) (w ∙ ap (puts old 0) (rule-stands .1))
+  meet-size : length (meet-bytes c) ≡ m
+  meet-size = meet-bytes-length c ∙ sym (g .meet-count)
+
+  rule-size : length (rule-bytes c) ≡ 3 * n
+  rule-size = rule-bytes-length c ∙ ap (λ (k : ℕ). 3 * k) (sym (g .rule-count))
+
+  -- a buffer is too short
+  pub stores-short : (meet rule : List ℕ) → (length meet < m) ⊎ (length rule < 3 * n) → Stores t meet rule meet rule Stored.Short
+  stores-short meet rule h = stored-by false meet rule meet rule Stored.Short (none-fits h) refl refl refl
+    where
+      none-fits : (length meet < m) ⊎ (length rule < 3 * n) → fits c meet rule ≡ false
+      none-fits (inl k) =
+          ap (λ (b : Bool). b && leb (length (rule-bytes c)) (length rule)) (lt-leb (length (meet-bytes c)) (length meet) (omega (arith, meet-size)))
+      none-fits (inr k) =
+          ap (λ (b : Bool). leb (length (meet-bytes c)) (length meet) && b) (lt-leb (length (rule-bytes c)) (length rule) (omega (arith, rule-size)))
+          ∙ and-false (leb (length (meet-bytes c)) (length meet))
+
+  -- both have room
+  pub stores-both : (meet rule meet′ rule′ : List ℕ) → m ≤ length meet → 3 * n ≤ length rule → meet′ ≡ puts meet 0 (codes-at entries entry t a)
+      → rule′ ≡ puts rule 0 (codes-at tokens node t b) → Stores t meet rule meet′ rule′ (Stored.Form e v p m n)
+  stores-both meet rule meet′ rule′ h k x y =
+      let hm : length (meet-bytes c) ≤ length meet = omega (arith, meet-size) in
+      let hr : length (rule-bytes c) ≤ length rule = omega (arith, rule-size) in
+      stored-by true meet rule meet′ rule′ (Stored.Form e v p m n)
+      (ap₂ _&&_ (le-leb (length (meet-bytes c)) (length meet) hm) (le-leb (length (rule-bytes c)) (length rule) hr))
+      (ap₂ (λ (i j : ℕ). Stored.Form i j p m n) (g .events-is) (g .values-is)
+      ∙ ap₂ (λ (i j : ℕ). Stored.Form (c .events) (c .values) i j n) (g .top-is) (g .meet-count)
+      ∙ ap (λ (i : ℕ). Stored.Form (c .events) (c .values) (c .top) (length (c .meet)) i) (g .rule-count))
+      (x ∙ ap (puts meet 0) (meet-stands .1) ∙ puts-whole meet (meet-bytes c) hm) (y ∙ ap (puts rule 0) (rule-stands .1) ∙ puts-whole rule (rule-bytes c) hr)

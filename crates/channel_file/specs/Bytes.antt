@@ -4,8 +4,8 @@
 use Prim.Native.Nat.{ℕ, min}
 use mathlib.Core.Path.{_≡_}
 use mathlib.Core.List.{List, [], _∷_, _++_}
-use mathlib.Core.Bool.{cond}
-use lib.Dec.{ltb}
+use mathlib.Core.Bool.{Bool, cond, _&&_}
+use lib.Dec.{leb}
 use lib.ListN.{length, drop}
 use Rattle.text_format.specs.Format.{Outcome, contents, refused}
 use Rattle.channel_file.specs.ChannelFile.{Token, token-T, token-A, token-V, token-X, token-G, token-O, Contents}
@@ -43,23 +43,33 @@ meet-bytes c = encoded entry (c .meet)
 abbrev pub rule-bytes : Contents → List ℕ
 rule-bytes c = encoded node (c .rule)
 
--- ---- storing into a lent buffer
+-- ---- storing into two lent buffers
 
 -- An output at the front of a buffer: "what lies after an output keeps its contents".
 abbrev pub put-in : List ℕ → List ℕ → List ℕ
 put-in s old = s ++ drop (length s) old
 
--- The reply: how many bytes were stored, that the buffer is shorter than the output, or 4's place.
-abbrev pub stored-reply : (Contents → List ℕ) → List ℕ → Outcome Contents → Stored
-stored-reply bytes old (contents c) = cond (ltb (length old) (length (bytes c))) Stored.Short (Stored.Bytes (length (bytes c)))
-stored-reply bytes old (refused p) = Stored.Refused p
+-- Both buffers have room for their outputs.
+abbrev pub fits : Contents → List ℕ → List ℕ → Bool
+fits c meet rule = leb (length (meet-bytes c)) (length meet) && leb (length (rule-bytes c)) (length rule)
 
--- The buffer afterwards; it is as before unless the output was stored.
-abbrev pub stored-buffer : (Contents → List ℕ) → List ℕ → Outcome Contents → List ℕ
-stored-buffer bytes old (contents c) = cond (ltb (length old) (length (bytes c))) old (put-in (bytes c) old)
-stored-buffer bytes old (refused p) = old
+-- The reply: the file's numbers and how many entries and items it has, that a buffer is shorter than its output, or 4's place.
+abbrev pub stored-reply : Outcome Contents → List ℕ → List ℕ → Stored
+stored-reply (contents c) meet rule =
+    cond (fits c meet rule) (Stored.Form (c .events) (c .values) (c .top) (length (c .meet)) (length (c .rule))) Stored.Short
+stored-reply (refused p) meet rule = Stored.Refused p
 
--- Reply and buffer of a call that stores the bytes of a file.
-pub record Stores (bytes : Contents → List ℕ) (t old new : List ℕ) (r : Stored) : Type 0 where
-  pub reply : r ≡ stored-reply bytes old (read-file t)
-  pub buffer : new ≡ stored-buffer bytes old (read-file t)
+-- The buffers afterwards; both are as before unless both outputs were stored.
+abbrev pub stored-meet : Outcome Contents → List ℕ → List ℕ → List ℕ
+stored-meet (contents c) meet rule = cond (fits c meet rule) (put-in (meet-bytes c) meet) meet
+stored-meet (refused p) meet rule = meet
+
+abbrev pub stored-rule : Outcome Contents → List ℕ → List ℕ → List ℕ
+stored-rule (contents c) meet rule = cond (fits c meet rule) (put-in (rule-bytes c) rule) rule
+stored-rule (refused p) meet rule = rule
+
+-- Reply and buffers of a call that reads the text t.
+pub record Stores (t meet rule meet′ rule′ : List ℕ) (r : Stored) : Type 0 where
+  pub reply : r ≡ stored-reply (read-file t) meet rule
+  pub meet-is : meet′ ≡ stored-meet (read-file t) meet rule
+  pub rule-is : rule′ ≡ stored-rule (read-file t) meet rule

@@ -7,7 +7,7 @@ ghost use Rattle.text_format.specs.Format.{ascii, read};
 ghost use Rattle.text_format.specs.Decimal.{is-digit, number};
 ghost use Rattle.channel_file.specs.FileFormat.{first, second, field, plain, token-item, tokens, entries, meet-line, rule-line, file};
 ghost use Rattle.channel_file.specs.Reading.{checked, read-file, tokens-stretch};
-ghost use Rattle.channel_file.specs.Bytes.{clamp, kind, node, entry, meet-bytes, rule-bytes, Stores};
+ghost use Rattle.channel_file.specs.Bytes.{clamp, kind, node, entry, Stores};
 ghost use Rattle.channel_file.specs.Steps.{token-of, SawNumber, SawEnded, SawEnd, SawEntry, SawItem, SawWord, SawMany, SawHead, SawListed, SpansTokens, puts, Wrote, codes-at, Storable};
 
 // The answer to a text: its numbers, how many meet entries and rule items there are and where they start; or 4's place.
@@ -24,9 +24,16 @@ pub enum Checked {
     Refused(usize),
 }
 
-// Reply of a call that stores bytes: how many, a buffer that is too short, or 4's place.
+// Reply of a call that reads a text into two buffers: its numbers, and how many meet entries and rule items it has; that a
+// buffer is too short; or 4's place.
 pub enum Stored {
-    Bytes(usize),
+    Form {
+        events: usize,
+        values: usize,
+        top: usize,
+        entries: usize,
+        items: usize,
+    },
     Short,
     Refused(usize),
 }
@@ -535,38 +542,37 @@ fn store_entries(text: &[u8], at: usize, out: &mut [u8])
     }
 }
 
-// The meet entries of a text, one byte each, a number above 255 as 255.
-pub fn store_meet(text: &[u8], out: &mut [u8]) -> Stored
-    ensures { λ r. ⌜ Stores meet-bytes (now (text .entry)) (now (out .entry)) (now (out .exit)) r ⌝ }
+// Reads a text into two buffers: its meet entries, one byte each, and its rule's nodes, three bytes each, a number above 255 as
+// 255. Both buffers are looked at before either is written.
+pub fn read_text(text: &[u8], meet: &mut [u8], rule: &mut [u8]) -> Stored
+    ensures { λ r. ⌜ Stores (now (text .entry)) (now (meet .entry)) (now (rule .entry)) (now (meet .exit)) (now (rule .exit)) r ⌝ }
 {
     match check_form(text) {
         Checked::Refused(p) => Stored::Refused(p),
         Checked::Form {
+            events,
+            values,
+            top,
             entries,
             meet_at,
-            ..
+            items,
+            rule_at,
         } => {
-            if out.len() < entries {
+            if meet.len() < entries {
                 return Stored::Short;
             }
-            store_entries(text, meet_at, out);
-            Stored::Bytes(entries)
-        }
-    }
-}
-
-// The rule's nodes, three bytes each, a number above 255 as 255.
-pub fn store_rule(text: &[u8], out: &mut [u8]) -> Stored
-    ensures { λ r. ⌜ Stores rule-bytes (now (text .entry)) (now (out .entry)) (now (out .exit)) r ⌝ }
-{
-    match check_form(text) {
-        Checked::Refused(p) => Stored::Refused(p),
-        Checked::Form { items, rule_at, .. } => {
-            if out.len() / 3 < items {
+            if rule.len() / 3 < items {
                 return Stored::Short;
             }
-            store_items(text, rule_at, out);
-            Stored::Bytes(3 * items)
+            store_entries(text, meet_at, meet);
+            store_items(text, rule_at, rule);
+            Stored::Form {
+                events,
+                values,
+                top,
+                entries,
+                items,
+            }
         }
     }
 }

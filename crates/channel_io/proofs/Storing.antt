@@ -2,16 +2,16 @@
 -- Assumes nothing.
 use Prim.Native.Nat.{ℕ, suc, _+_, _*_, _≤_, _<_}
 use mathlib.Core.Path.{_≡_, refl, sym, ap, ap₂, _∙_, subst}
-use mathlib.Core.Logic.{_⊎_, inl, inr}
+use mathlib.Core.Logic.{_⊎_, inl, inr, ⊎-elim}
 use mathlib.Core.List.{List, [], _∷_, _++_, map}
 use mathlib.Core.Bool.{Bool, true, false, cond, _&&_}
 use mathlib.Core.Option.{Option, none, some}
 use native.Mathlib.Omega.{arith}
-use lib.Dec.{leb, ltb}
+use lib.Dec.{leb}
 use lib.ListN.{length, take, drop, length-append}
 use lib.Seq.{take-at}
-use borrow.Author.Tests.{le-leb, lt-leb, le-ltb}
-use Rattle.theory.proofs.ValueSets.{and-both, and-failed, and-false-right}
+use borrow.Author.Tests.{le-leb, lt-leb, leb-true, leb-false}
+use Rattle.theory.proofs.ValueSets.{and-left, and-right, and-cases, and-both, and-failed, and-false-right}
 use Rattle.refusal.specs.declared.Refusal.{Refusal}
 use Rattle.refusal.specs.declared.Refusal.the-variants.{Plain, At}
 use Rattle.refusal.specs.declared.Judgement.the-variants.{Accepted, Refused}
@@ -24,9 +24,8 @@ use Rattle.text_format.specs.Series.{separated, OneOrMore}
 use Rattle.text_format.specs.Decimal.{Numeral}
 use Rattle.text_format.proofs.Decimal.{decimal-numeral}
 use Rattle.channel_file.specs.ChannelFile.{Token, token-T, token-A, token-V, token-X, token-G, token-O, Contents, number, Small, SmallToken, token-text, text, SmallContents, Shows}
-use Rattle.channel_file.specs.Reading.{file-limit, read-file, checked}
-use Rattle.channel_file.specs.Bytes.{entry, node, encoded, meet-bytes, rule-bytes, put-in, stored-buffer, Stores}
-use Rattle.channel_file.specs.declared.Checked.{Checked}
+use Rattle.channel_file.specs.Reading.{file-limit, read-file}
+use Rattle.channel_file.specs.Bytes.{entry, node, encoded, meet-bytes, rule-bytes, put-in, fits, stored-reply, stored-meet, stored-rule, Stores}
 use Rattle.channel_file.specs.declared.Stored.{Stored}
 use Rattle.channel_file.proofs.Claims.{shown}
 use Rattle.channel_file.proofs.Buffers.{encoded-length}
@@ -109,9 +108,9 @@ module _ (events values top count : ℕ) (entries nodes meet rule : List ℕ) wh
 
 -- ---- a text
 
--- an item has at least one byte
+-- an item has at least one byte, and one more between it and the next
 items-few : {A : Type 0} (P : A → Type 0) (f : A → List ℕ) → ((a : A) → P a → 1 ≤ length (f a)) → (xs : List A) → OneOrMore P xs
-    → length xs ≤ length (separated (map f xs))
+    → 2 * length xs ≤ length (separated (map f xs)) + 1
 items-few P f some-byte [] h = absurd h
 items-few P f some-byte (a ∷ []) h = omega (arith, some-byte a h)
 items-few P f some-byte (a ∷ b ∷ xs) h =
@@ -128,55 +127,11 @@ token-some (token-X n) h = omega arith
 token-some (token-G n) h = omega arith
 token-some (token-O e v) h = omega arith
 
-text-items : (c : Contents) → SmallContents c → (length (c .meet) ≤ length (text c)) × (length (c .rule) ≤ length (text c))
+text-items : (c : Contents) → SmallContents c → (2 * length (c .meet) ≤ length (text c)) × (2 * length (c .rule) ≤ length (text c))
 text-items c s =
     let x = items-few Small number number-some (c .meet) (s .meet) in
     let y = items-few SmallToken token-text token-some (c .rule) (s .rule) in
     (simp length-append (omega arith), simp length-append (omega arith))
-
--- what a caller of check_form knows of an accepted text
-pub record Formed (t : List ℕ) (events values top entries items : ℕ) : Type 0 where
-  pub inside : Contents
-  pub answer : read-file t ≡ contents inside
-  pub events-is : events ≡ inside .events
-  pub values-is : values ≡ inside .values
-  pub top-is : top ≡ inside .top
-  pub entries-is : entries ≡ length (inside .meet)
-  pub items-is : items ≡ length (inside .rule)
-  pub few-entries : entries ≤ 4096
-  pub few-items : items ≤ 4096
-
-pub formed : (t : List ℕ) (e v p m a n b : ℕ) → Checked.Form e v p m a n b ≡ checked (read-file t) → Formed t e v p m n
-formed t e v p m a n b h = go (read-file t) refl h
-  where
-    go : (x : Outcome Contents) → read-file t ≡ x → Checked.Form e v p m a n b ≡ checked x → Formed t e v p m n
-    go (contents c) f h =
-        let s = shown t c f in
-        let l : length t ≤ file-limit = s .0 in
-        let w = text-items c (s .1 .small) in
-        let z : length (text c) ≡ length t = ap length (s .1 .printed) in
-        let em : m ≡ length (c .meet) = cc in
-        let en : n ≡ length (c .rule) = cc in
-        record {
-          inside = c;
-          answer = f;
-          events-is = cc;
-          values-is = cc;
-          top-is = cc;
-          entries-is = em;
-          items-is = en;
-          few-entries = omega (arith, w .0);
-          few-items = omega (arith, w .1);
-        }
-    go (refused q) f h = let z : _≡_ {A = ℕ} 0 1 = cc in absurd (omega arith)
-
--- the bytes that were stored stand at the front
-pub stored-front :
-    (bytes : Contents → List ℕ) (t old new : List ℕ) (r : Stored) (c : Contents) (n : ℕ) → Stores bytes t old new r → read-file t ≡ contents c
-    → n ≡ length (bytes c) → n ≤ length old → take n new ≡ bytes c
-stored-front bytes t old new r c n s e l h =
-    ap (take n) (s .buffer ∙ ap (stored-buffer bytes old) e ∙ ap (λ (b : Bool). cond b old (put-in (bytes c) old)) (le-ltb (length old) (length (bytes c)) (omega arith)))
-    ∙ take-at (bytes c) (drop (length (bytes c)) old) n (sym l)
 
 pub meet-length : (c : Contents) → length (meet-bytes c) ≡ length (c .meet)
 meet-length c = omega (arith, encoded-length entry 1 (λ a. refl) (c .meet))
@@ -187,20 +142,101 @@ rule-length c = omega (arith, encoded-length node 3 (λ a. refl) (c .rule))
 numbers-length : (c : Contents) → length (rule-numbers c) ≡ 3 * length (c .rule)
 numbers-length c = omega (arith, encoded-length node-numbers 3 (λ a. refl) (c .rule))
 
--- 4
-pub reads-refused : (t meet rule : List ℕ) (p : ℕ) → Checked.Refused p ≡ checked (read-file t) → Reads t meet rule meet rule (Unread (At 4 p))
+-- ---- what a caller of read_text knows
+
+-- the bytes that were stored stand at the front
+front : (n : ℕ) (s old new : List ℕ) → new ≡ put-in s old → n ≡ length s → take n new ≡ s
+front n s old new e l = ap (take n) e ∙ take-at s (drop (length s) old) n (sym l)
+
+pub record Formed (t meet rule meet′ rule′ : List ℕ) (events values top entries items : ℕ) : Type 0 where
+  pub inside : Contents
+  pub answer : read-file t ≡ contents inside
+  pub events-is : events ≡ inside .events
+  pub values-is : values ≡ inside .values
+  pub top-is : top ≡ inside .top
+  pub entries-is : entries ≡ length (inside .meet)
+  pub items-is : items ≡ length (inside .rule)
+  pub few-entries : entries ≤ length meet
+  pub few-items : 3 * items ≤ length rule
+  pub entry-bytes : take entries meet′ ≡ meet-bytes inside
+  pub node-bytes : take (3 * items) rule′ ≡ rule-bytes inside
+
+module _ {t meet rule meet′ rule′ : List ℕ} {r : Stored} (s : Stores t meet rule meet′ rule′ r) where
+  pub formed : {e v p m n : ℕ} → r ≡ Stored.Form e v p m n → Formed t meet rule meet′ rule′ e v p m n
+  formed {e} {v} {p} {m} {n} d = go (read-file t) refl (sym d ∙ s .reply) (s .meet-is) (s .rule-is)
+    where
+      within : (c : Contents) → read-file t ≡ contents c → (b : Bool) → fits c meet rule ≡ b
+          → Stored.Form e v p m n ≡ cond b (Stored.Form (c .events) (c .values) (c .top) (length (c .meet)) (length (c .rule))) Stored.Short
+          → meet′ ≡ cond b (put-in (meet-bytes c) meet) meet → rule′ ≡ cond b (put-in (rule-bytes c) rule) rule → Formed t meet rule meet′ rule′ e v p m n
+      within c f true q r x y =
+          let hm = leb-true (length (meet-bytes c)) (length meet) (and-left (leb (length (meet-bytes c)) (length meet)) _ q) in
+          let hr = leb-true (length (rule-bytes c)) (length rule) (and-right (leb (length (meet-bytes c)) (length meet)) _ q) in
+          let em : m ≡ length (c .meet) = cc in
+          let en : n ≡ length (c .rule) = cc in
+          let lm : m ≡ length (meet-bytes c) = em ∙ sym (meet-length c) in
+          let ln : 3 * n ≡ length (rule-bytes c) = ap (λ (k : ℕ). 3 * k) en ∙ sym (rule-length c) in
+          record {
+            inside = c;
+            answer = f;
+            events-is = cc;
+            values-is = cc;
+            top-is = cc;
+            entries-is = em;
+            items-is = en;
+            few-entries = omega arith;
+            few-items = omega arith;
+            entry-bytes = front m (meet-bytes c) meet meet′ x lm;
+            node-bytes = front (3 * n) (rule-bytes c) rule rule′ y ln;
+          }
+      within c f false q r x y = let z : _≡_ {A = ℕ} 0 1 = cc in absurd (omega arith)
+
+      go : (x : Outcome Contents) → read-file t ≡ x → Stored.Form e v p m n ≡ stored-reply x meet rule → meet′ ≡ stored-meet x meet rule
+          → rule′ ≡ stored-rule x meet rule → Formed t meet rule meet′ rule′ e v p m n
+      go (contents c) f r x y = within c f (fits c meet rule) refl r x y
+      go (refused q) f r x y = let z : _≡_ {A = ℕ} 0 1 = cc in absurd (omega arith)
+
+  -- 2,048 entries and nodes have room
+  pub never-short : length meet ≡ 2048 → length rule ≡ 6144 → r ≡ Stored.Short → ⊥
+  never-short hm hr d = go (read-file t) refl (sym d ∙ s .reply)
+    where
+      within : (c : Contents) → read-file t ≡ contents c → (b : Bool) → fits c meet rule ≡ b
+          → Stored.Short ≡ cond b (Stored.Form (c .events) (c .values) (c .top) (length (c .meet)) (length (c .rule))) Stored.Short → ⊥
+      within c f true q r = let z : _≡_ {A = ℕ} 0 1 = cc in absurd (omega arith)
+      within c f false q r =
+          let a = shown t c f in
+          let l : length t ≤ file-limit = a .0 in
+          let w = text-items c (a .1 .small) in
+          let z : length (text c) ≡ length t = ap length (a .1 .printed) in
+          ⊎-elim
+          (λ h. let k = leb-false (length (meet-bytes c)) (length meet) h in omega (arith, w .0, meet-length c))
+          (λ h. let k = leb-false (length (rule-bytes c)) (length rule) h in omega (arith, w .1, rule-length c))
+          (and-cases (leb (length (meet-bytes c)) (length meet)) (leb (length (rule-bytes c)) (length rule)) q)
+
+      go : (x : Outcome Contents) → read-file t ≡ x → Stored.Short ≡ stored-reply x meet rule → ⊥
+      go (contents c) f r = within c f (fits c meet rule) refl r
+      go (refused q) f r = let z : _≡_ {A = ℕ} 0 1 = cc in absurd (omega arith)
+
+  -- 4
+  pub not-formed : {p : ℕ} → r ≡ Stored.Refused p → read-file t ≡ refused p
+  not-formed {p} d = go (read-file t) (sym d ∙ s .reply)
+    where
+      within : (c : Contents) (b : Bool) → Stored.Refused p ≡ cond b (Stored.Form (c .events) (c .values) (c .top) (length (c .meet)) (length (c .rule))) Stored.Short
+          → contents c ≡ refused p
+      within c true r = let z : _≡_ {A = ℕ} 0 1 = cc in absurd (omega arith)
+      within c false r = let z : _≡_ {A = ℕ} 0 1 = cc in absurd (omega arith)
+
+      go : (x : Outcome Contents) → Stored.Refused p ≡ stored-reply x meet rule → x ≡ refused p
+      go (contents c) r = within c (fits c meet rule) r
+      go (refused q) r = cc
+
+pub reads-refused : (t meet rule : List ℕ) (p : ℕ) → read-file t ≡ refused p → Reads t meet rule meet rule (Unread (At 4 p))
 unfolding read-answer meet-after rule-after
-reads-refused t meet rule p h = go (read-file t) refl h
-  where
-    go : (x : Outcome Contents) → read-file t ≡ x → Checked.Refused p ≡ checked x → Reads t meet rule meet rule (Unread (At 4 p))
-    go (contents c) f h = let z : _≡_ {A = ℕ} 0 1 = cc in absurd (omega arith)
-    go (refused q) f h =
-        let e : read-file t ≡ refused p = f ∙ (let z : p ≡ q = cc in ap refused (sym z)) in
-        record {
-          answer = sym (ap (λ (x : Outcome Contents). read-answer x meet rule) e);
-          meet-is = sym (ap (λ (x : Outcome Contents). meet-after x meet rule) e);
-          rule-is = sym (ap (λ (x : Outcome Contents). rule-after x meet rule) e);
-        }
+reads-refused t meet rule p e =
+    record {
+      answer = sym (ap (λ (x : Outcome Contents). read-answer x meet rule) e);
+      meet-is = sym (ap (λ (x : Outcome Contents). meet-after x meet rule) e);
+      rule-is = sym (ap (λ (x : Outcome Contents). rule-after x meet rule) e);
+    }
 
 module _ (c : Contents) (meet rule : List ℕ) where
   -- what is judged on the bytes is judged on the numbers
@@ -219,13 +255,14 @@ module _ (c : Contents) (meet rule : List ℕ) where
   put-same bytes output old h (some r) e = refl
 
 pub reads-kept :
-    (t meet rule meet′ rule′ : List ℕ) (r : FileRead) (events values top entries items : ℕ) (E N : List ℕ) (f : Formed t events values top entries items)
-    → E ≡ meet-bytes (f .inside) → N ≡ rule-bytes (f .inside) → Keeps events values top items E N meet rule meet′ rule′ r
-    → Reads t meet rule meet′ rule′ r
+    (t M R M′ R′ meet rule meet′ rule′ : List ℕ) (r : FileRead) (events values top entries items : ℕ) (f : Formed t M R M′ R′ events values top entries items)
+    → Keeps events values top items (take entries M′) (take (3 * items) R′) meet rule meet′ rule′ r → Reads t meet rule meet′ rule′ r
 unfolding read-answer meet-after rule-after
-reads-kept t meet rule meet′ rule′ r events values top entries items E N f eE eN k =
+reads-kept t M R M′ R′ meet rule meet′ rule′ r events values top entries items f k =
     let c = f .inside in
-    let same : stored-refusal events values top E N meet rule ≡ contents-read-refusal c meet rule =
+    let eE = f .entry-bytes in
+    let eN = f .node-bytes in
+    let same : stored-refusal events values top (take entries M′) (take (3 * items) R′) meet rule ≡ contents-read-refusal c meet rule =
     ap₂ (λ (x y : List ℕ). stored-refusal events values top x y meet rule) eE eN
     ∙ ap₂ (λ (x y : ℕ). stored-refusal x y top (meet-bytes c) (rule-bytes c) meet rule) (f .events-is) (f .values-is)
     ∙ ap (λ (x : ℕ). stored-refusal (c .events) (c .values) x (meet-bytes c) (rule-bytes c) meet rule) (f .top-is)

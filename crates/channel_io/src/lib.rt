@@ -1,8 +1,6 @@
 // Channel files read and written, with all their refusals: 4, 1 to 3, 5 to 9 and 13.
-use channel_file::Checked;
-use channel_file::check_form;
-use channel_file::store_meet;
-use channel_file::store_rule;
+use channel_file::Stored;
+use channel_file::read_text;
 use channel_writer::Written;
 use channel_writer::write_text;
 use formulas::check_rule;
@@ -37,10 +35,10 @@ pub enum FileRead {
     Refused(Refusal),
 }
 
-// Entries and node bytes of a text within the limit are at most so many.
-const ENTRY_ROOM: usize = 4096;
+// A text within the limit has at most 2,048 entries and at most 2,048 nodes, three bytes each.
+const ENTRY_ROOM: usize = 2048;
 
-const NODE_ROOM: usize = 12288;
+const NODE_ROOM: usize = 6144;
 
 // 1 to 3 for a set-up, then 5 to 9 for a rule.
 fn check_pair(events: usize, values: usize, top: usize, meet: &[u8], rule: &[u8]) -> Judgement
@@ -103,20 +101,19 @@ fn store_pair(
 pub fn read_file(text: &[u8], meet: &mut [u8], rule: &mut [u8]) -> FileRead
     ensures { λ r. ⌜ Reads (now (text .entry)) (now (meet .entry)) (now (rule .entry)) (now (meet .exit)) (now (rule .exit)) r ⌝ }
 {
-    match check_form(text) {
-        Checked::Refused(p) => FileRead::Refused(Refusal::At(TEXT_FORM, p)),
-        Checked::Form {
+    let mut entry_bytes = [0u8; ENTRY_ROOM];
+    let mut node_bytes = [0u8; NODE_ROOM];
+    match read_text(text, &mut entry_bytes, &mut node_bytes) {
+        Stored::Refused(p) => FileRead::Refused(Refusal::At(TEXT_FORM, p)),
+        // a text within the limit has no more entries and nodes than there is room for
+        Stored::Short => FileRead::Refused(Refusal::Plain(BUFFER_LENGTH)),
+        Stored::Form {
             events,
             values,
             top,
             entries,
             items,
-            ..
         } => {
-            let mut entry_bytes = [0u8; ENTRY_ROOM];
-            let mut node_bytes = [0u8; NODE_ROOM];
-            store_meet(text, &mut entry_bytes);
-            store_rule(text, &mut node_bytes);
             let size = 3 * items;
             store_pair(
                 events,

@@ -26,7 +26,7 @@ enum-known-rule-at c = search needs
 -- src/lib.rt:411:68
 sub-t6 : tie.Need-sub-t6
 sub-t6 c =
-    let h = some-text (now (c .before .before .before .before .before .args .text)) _ _ _ _ (accepted (now (c .before .before .before .before .before .args .text)) _ _ _ _ _ _ _ (sym (c .before .rule-at .given .1) ∙ c .before .before .before .check-form .ensures)) in
+    let h = some-text (now (c .before .before .before .before .before .args .text)) (accepted (now (c .before .before .before .before .before .args .text)) (sym (c .before .rule-at .given .1) ∙ c .before .before .before .check-form .ensures)) in
     omega arith
 
 -- src/lib.rt:406:1
@@ -35,7 +35,7 @@ returns c = spans-refused (now (c .before .before .before .before .args .text)) 
 
 -- src/lib.rt:406:1
 returns-2 : tie.Need-returns-2
-returns-2 c = spans-tokens (now (c .before .before .before .before .before .args .text)) _ _ _ _ (accepted (now (c .before .before .before .before .before .args .text)) _ _ _ _ _ _ _ (sym (c .before .rule-at .given .1) ∙ c .before .before .before .check-form .ensures))
+returns-2 c = spans-tokens (now (c .before .before .before .before .before .args .text)) (accepted (now (c .before .before .before .before .before .args .text)) (sym (c .before .rule-at .given .1) ∙ c .before .before .before .check-form .ensures))
 
 pub token-span-spec : {M : Type 1} → statement M
 token-span-spec =
