@@ -5,7 +5,7 @@ use mathlib.Core.Path.{_≡_}
 use mathlib.Core.List.{List, [], _∷_, map}
 use mathlib.Core.Option.{Option, none}
 use Rattle.refusal.specs.declared.Refusal.{Refusal}
-use Rattle.refusal.specs.Refusal.{InOrder}
+use Rattle.refusal.specs.Refusal.{First, InOrder}
 use Rattle.values.specs.Setup.{setup, setup-refusal}
 use Rattle.formulas.specs.RuleRefusal.{rule-refusal}
 use lib.ListN.{length}
@@ -14,7 +14,7 @@ use Rattle.channel_file.specs.ChannelFile.{Contents, Form}
 use Rattle.channel_file.specs.Reading.{file-limit, read-file}
 use Rattle.channel_file.specs.Bytes.{clamp, meet-bytes, rule-bytes}
 use Rattle.channel_io.specs.FileJudgement.{rule-numbers, contents-refusal, pair-refusal, read-conditions, FileJudged, read-refusal}
-use Rattle.channel_io.specs.FileWriting.{file-text}
+use Rattle.channel_io.specs.FileWriting.{file-text, write-conditions, write-refusal}
 
 -- A byte holds a number above 255 as 255. No judgement is lost by that: of a meet table, of a rule, of a file.
 pub record ClampedClaim : Type 0 where
@@ -35,6 +35,19 @@ pub record ReadClaim : Type 0 where
       (t meet rule : List ℕ) (answer : Option Refusal) → FileJudged t meet rule answer → answer ≡ read-refusal (read-file t) meet rule
   pub ordered :
       (c : Contents) (meet rule : List ℕ) → InOrder (1 ∷ 2 ∷ 3 ∷ 5 ∷ 6 ∷ 7 ∷ 8 ∷ 9 ∷ 13 ∷ []) (read-conditions c meet rule)
+
+-- The computed refusal of a call that writes is the first of its conditions that is met, or none, and the only answer; the
+-- conditions stand in document 01's order.
+pub record WriteRefusalClaim : Type 0 where
+  pub first :
+      (events values top : ℕ) (meet rule old : List ℕ)
+      → First (write-conditions events values top meet rule old) (write-refusal events values top meet rule old)
+  pub only :
+      (events values top : ℕ) (meet rule old : List ℕ) (answer : Option Refusal)
+      → First (write-conditions events values top meet rule old) answer → answer ≡ write-refusal events values top meet rule old
+  pub ordered :
+      (events values top : ℕ) (meet rule old : List ℕ)
+      → InOrder (1 ∷ 2 ∷ 3 ∷ 5 ∷ 6 ∷ 7 ∷ 8 ∷ 9 ∷ 13 ∷ []) (write-conditions events values top meet rule old)
 
 -- What is written for a set-up and a rule that are accepted: a text of the form within the limit, which reads back as the same
 -- set-up and rule.

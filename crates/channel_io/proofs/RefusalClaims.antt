@@ -1,4 +1,4 @@
--- The answer to a text is the one that document 01 asks for, and the only one.
+-- The answers to reading and writing a file are those that document 01 asks for, and the only ones.
 -- Assumes nothing.
 use Prim.Native.Nat.{ℕ, _≤_, _<_}
 use mathlib.Core.Path.{_≡_, refl, sym, ap, _∙_}
@@ -27,7 +27,8 @@ use Rattle.channel_file.specs.ChannelFile.{Contents}
 use Rattle.channel_file.specs.Reading.{AnswersFile, read-file}
 use Rattle.channel_file.proofs.Claims.{answer-claim, one-answer-claim}
 use Rattle.channel_io.specs.FileJudgement.{rule-numbers, pair-conditions, contents-conditions, Short, short-meet, short-rule, read-conditions, FileJudged, off-form, of-contents, pair-refusal, has-room, stored-refusal, contents-read-refusal, read-refusal}
-use Rattle.channel_io.specs.Claims.{ReadClaim}
+use Rattle.channel_io.specs.FileWriting.{file-text, write-conditions, write-refusal}
+use Rattle.channel_io.specs.Claims.{ReadClaim, WriteRefusalClaim}
 
 functional-append : (cs ds : List Condition) → AllFunctional cs → AllFunctional ds → AllFunctional (cs ++ ds)
 unfolding AllFunctional
@@ -67,6 +68,34 @@ module _ (events values top : ℕ) (meet rule : List ℕ) where
       (setup-correct .ordered s .numbered) (in-order ℕ 3 three-bytes 256 events (Below values) rule .numbered)
 
 -- ---- then 13
+module _ (events values top : ℕ) (meet rule : List ℕ) (Short : Type 0) (room : Bool) (short : room ≡ false → Short) (enough : room ≡ true → Short → ⊥) where
+  abbrev all : List Condition
+  all = pair-conditions events values top meet rule ++ (plain 13 Short ∷ [])
+
+  abbrev answered : Option Refusal
+  answered = or-else (pair-refusal events values top meet rule) (plain-unless room 13)
+
+  pub then-first : First all answered
+  then-first = first-append (pair-conditions events values top meet rule) (plain 13 Short ∷ []) _ _ (pair-first events values top meet rule) (plain-first 13 Short room short enough)
+
+  pub then-only : (answer : Option Refusal) → First all answer → answer ≡ answered
+  unfolding AllFunctional
+  then-only answer f =
+      first-unique all
+      (functional-append (pair-conditions events values top meet rule) (plain 13 Short ∷ []) (pair-functional events values top meet rule) (plain-functional 13 Short, tt))
+      answer answered f then-first
+
+  pub then-ordered : InOrder (1 ∷ 2 ∷ 3 ∷ 5 ∷ 6 ∷ 7 ∷ 8 ∷ 9 ∷ 13 ∷ []) all
+  unfolding HasNumbers has-place part-of order
+  then-ordered =
+      record {
+        numbered =
+            numbers-append (1 ∷ 2 ∷ 3 ∷ 5 ∷ 6 ∷ 7 ∷ 8 ∷ 9 ∷ []) (13 ∷ []) (pair-conditions events values top meet rule) (plain 13 Short ∷ [])
+            (pair-numbers events values top meet rule) (plain-number 13 Short refl, tt);
+        ordered = refl;
+      }
+
+-- a file is read into two buffers
 module _ (c : Contents) (meet rule : List ℕ) where
   short-found : has-room (c .meet) (rule-numbers c) meet rule ≡ false → Short c meet rule
   unfolding has-room
@@ -81,28 +110,41 @@ module _ (c : Contents) (meet rule : List ℕ) where
   room-found e (short-rule h) =
       let l = leb-true (length (rule-numbers c)) (length rule) (and-right (leb (length (c .meet)) (length meet)) _ e) in omega arith
 
+  abbrev room : Bool
+  room = has-room (c .meet) (rule-numbers c) meet rule
+
   read-first : First (read-conditions c meet rule) (contents-read-refusal c meet rule)
   unfolding stored-refusal
-  read-first =
-      first-append (contents-conditions c) (plain 13 (Short c meet rule) ∷ []) _ _
-      (pair-first (c .events) (c .values) (c .top) (c .meet) (rule-numbers c))
-      (plain-first 13 (Short c meet rule) (has-room (c .meet) (rule-numbers c) meet rule) short-found room-found)
+  read-first = then-first (c .events) (c .values) (c .top) (c .meet) (rule-numbers c) (Short c meet rule) room short-found room-found
 
-  read-functional : AllFunctional (read-conditions c meet rule)
-  unfolding AllFunctional
-  read-functional =
-      functional-append (contents-conditions c) (plain 13 (Short c meet rule) ∷ []) (pair-functional (c .events) (c .values) (c .top) (c .meet) (rule-numbers c))
-      (plain-functional 13 (Short c meet rule), tt)
+  read-only : (answer : Option Refusal) → First (read-conditions c meet rule) answer → answer ≡ contents-read-refusal c meet rule
+  unfolding stored-refusal
+  read-only = then-only (c .events) (c .values) (c .top) (c .meet) (rule-numbers c) (Short c meet rule) room short-found room-found
 
   read-order : InOrder (1 ∷ 2 ∷ 3 ∷ 5 ∷ 6 ∷ 7 ∷ 8 ∷ 9 ∷ 13 ∷ []) (read-conditions c meet rule)
-  unfolding HasNumbers has-place part-of order
-  read-order =
-      record {
-        numbered =
-            numbers-append (1 ∷ 2 ∷ 3 ∷ 5 ∷ 6 ∷ 7 ∷ 8 ∷ 9 ∷ []) (13 ∷ []) (contents-conditions c) (plain 13 (Short c meet rule) ∷ [])
-            (pair-numbers (c .events) (c .values) (c .top) (c .meet) (rule-numbers c)) (plain-number 13 (Short c meet rule) refl, tt);
-        ordered = refl;
-      }
+  read-order = then-ordered (c .events) (c .values) (c .top) (c .meet) (rule-numbers c) (Short c meet rule) room short-found room-found
+
+-- a file is written into one
+module _ (events values top : ℕ) (meet rule old : List ℕ) where
+  abbrev size : ℕ
+  size = length (file-text events values top meet rule)
+
+  too-short : leb size (length old) ≡ false → length old < size
+  too-short e = leb-false size (length old) e
+
+  long-enough : leb size (length old) ≡ true → length old < size → ⊥
+  long-enough e h = let l = leb-true size (length old) e in omega arith
+
+  write-first : First (write-conditions events values top meet rule old) (write-refusal events values top meet rule old)
+  unfolding write-refusal
+  write-first = then-first events values top meet rule (length old < size) (leb size (length old)) too-short long-enough
+
+  write-only : (answer : Option Refusal) → First (write-conditions events values top meet rule old) answer → answer ≡ write-refusal events values top meet rule old
+  unfolding write-refusal
+  write-only = then-only events values top meet rule (length old < size) (leb size (length old)) too-short long-enough
+
+  write-order : InOrder (1 ∷ 2 ∷ 3 ∷ 5 ∷ 6 ∷ 7 ∷ 8 ∷ 9 ∷ 13 ∷ []) (write-conditions events values top meet rule old)
+  write-order = then-ordered events values top meet rule (length old < size) (leb size (length old)) too-short long-enough
 
 -- ---- a text
 module _ (t meet rule : List ℕ) where
@@ -118,7 +160,7 @@ module _ (t meet rule : List ℕ) where
   unfolding read-refusal
   only-one answer (off-form p a) = sym (ap (λ (x : Outcome Contents). read-refusal x meet rule) (same-answer (refused p) a))
   only-one answer (of-contents c b a f) =
-      first-unique (read-conditions c meet rule) (read-functional c meet rule) answer (contents-read-refusal c meet rule) f (read-first c meet rule)
+      read-only c meet rule answer f
       ∙ sym (ap (λ (x : Outcome Contents). read-refusal x meet rule) (same-answer (contents c) a))
 
 pub read-claim : ReadClaim
@@ -128,3 +170,6 @@ read-claim =
       only = only-one;
       ordered = read-order;
     }
+
+pub write-refusal-claim : WriteRefusalClaim
+write-refusal-claim = record { first = write-first; only = write-only; ordered = write-order }
