@@ -1,25 +1,27 @@
 -- The claims of specs/Claims.
 -- Assumes nothing.
 use Prim.Native.Nat.{ℕ, suc, _+_, _-_, _*_, _≤_, _<_, min}
-use mathlib.Core.Path.{_≡_, refl, sym, ap, _∙_, subst}
+use mathlib.Core.Path.{_≡_, refl, sym, ap, ap₂, _∙_, subst}
 use mathlib.Core.List.{List, [], _∷_, _++_, map}
 use mathlib.Core.Bool.{Bool, true, false, cond}
 use native.Mathlib.Omega.{arith}
 use native.Mathlib.Nat.{suc-mul}
 use lib.Dec.{ltb}
 use borrow.Author.Tests.{ltb-true, ltb-false, lt-ltb, le-ltb}
-use lib.ListN.{length, length-append}
-use Rattle.text_format.specs.Format.{Outcome, contents, refused, read}
+use lib.ListN.{length, drop, length-append, length-drop}
+use Rattle.text_format.specs.Format.{Parsed, ok, bad, Outcome, contents, refused, read}
 use Rattle.text_format.specs.Series.{separated, OneOrMore}
 use Rattle.text_format.specs.Decimal.{Numeral}
 use Rattle.text_format.specs.Place.{Answers}
 use Rattle.text_format.proofs.Decimal.{decimal-numeral}
 use Rattle.text_format.proofs.Place.{answers, one-answer}
+use Rattle.text_format.proofs.Combinators.{not-both}
 use Rattle.channel_file.specs.ChannelFile.{Token, token-T, token-A, token-V, token-X, token-G, token-O, Contents, number, Small, SmallToken, token-text, text, SmallContents, Shows, Form}
 use Rattle.channel_file.specs.FileFormat.{file}
 use Rattle.channel_file.specs.Reading.{file-limit, Refused4, over-long, off-form, AnswersFile, read-file, tokens-stretch}
 use Rattle.channel_file.specs.Bytes.{clamp}
-use Rattle.channel_file.specs.Claims.{AnswerClaim, OneAnswerClaim, RewriteClaim, ReadBackClaim, LengthClaim, TokensClaim, SomeTokensClaim, ClampClaim}
+use Rattle.channel_file.specs.Claims.{AnswerClaim, OneAnswerClaim, RewriteClaim, ReadBackClaim, LengthClaim, TokensClaim, SomeTokensClaim, OneLineClaim, ClampClaim}
+use Rattle.channel_file.specs.declared.Number.{Number}
 use Rattle.channel_file.proofs.FileFormat.{file-laws, file-renders}
 use Rattle.channel_file.proofs.Stretches.{tokens-between}
 
@@ -122,6 +124,25 @@ pub some-tokens-claim : SomeTokensClaim
 some-tokens-claim t c e h =
     let l : 1 ≤ length (separated (map token-text (c .rule))) = some-bytes (c .rule) (shown t c e .1 .small .rule) in
     omega (arith, ap length (sym (tokens-claim t c e) ∙ h))
+
+-- ---- a line
+
+-- the offset of what is left
+one-offset : (t : List ℕ) (n m : ℕ) → n ≤ length t → m ≤ length t → drop n t ≡ drop m t → n ≡ m
+one-offset t n m h g e = omega (arith, ap length e, length-drop n t, length-drop m t)
+
+pub one-line-claim : OneLineClaim
+one-line-claim line t at (Number.Value v n) (Number.Value w m) x y =
+    let e : ok v (drop n t) ≡ ok w (drop m t) = sym (x .same) ∙ y .same in
+    let ev : v ≡ w = cc in
+    let er : drop n t ≡ drop m t = cc in
+    ap₂ (λ (i j : ℕ). Number.Value i j) ev (one-offset t n m (x .within) (y .within) er)
+one-line-claim line t at (Number.Value v n) (Number.Bad q) x y = not-both (x .same) (y .same)
+one-line-claim line t at (Number.Bad p) (Number.Value w m) x y = not-both (y .same) (x .same)
+one-line-claim line t at (Number.Bad p) (Number.Bad q) x y =
+    let e : _≡_ {A = Parsed ℕ} (bad (drop p t)) (bad (drop q t)) = sym (x .same) ∙ y .same in
+    let er : drop p t ≡ drop q t = cc in
+    ap (λ (i : ℕ). Number.Bad i) (one-offset t p q (x .within) (y .within) er)
 
 -- ---- clamping
 

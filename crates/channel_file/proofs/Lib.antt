@@ -6,3 +6,4 @@ pub mod Stretches
 pub mod Buffers
 pub mod Claims
 pub mod Accepted
+pub mod Readers

@@ -15,7 +15,7 @@ use Rattle.text_format.proofs.Combinators.{word-hit, word-miss}
 use Rattle.text_format.proofs.Series.{series-bad, series-ends, series-goes, shorter, number-item-laws, number-item-solid}
 use Rattle.channel_file.specs.ChannelFile.{Token, token-T}
 use Rattle.channel_file.specs.FileFormat.{Letter, letter-T, letter-byte, letters, body, token-item, tokens, entries, field}
-use Rattle.channel_file.specs.Steps.{Saw, SawItem, SawEnded, SawNumber, counted}
+use Rattle.channel_file.specs.Steps.{Saw, SawItem, SawEnded, SawNumber, counted, count-of}
 use Rattle.channel_file.specs.declared.Scanned.{Scanned}
 use Rattle.channel_file.specs.declared.Number.{Number}
 use Rattle.channel_file.proofs.FileFormat.{token-at, token-none, token-item-laws, token-solid, T-fits, zero-fits}
@@ -125,3 +125,9 @@ keyed-bad key F s r e = rw e
 
 pub keyed-on : {A : Type 0} (key : List ℕ) (F : Format A) (s r : List ℕ) → word key .parse s ≡ ok tt r → keyed key F .parse s ≡ F .parse r
 keyed-on key F s r e = rw e (bind-tt (F .parse r))
+
+-- a key in front of a counted series
+pub listed : {A : Type 0} (key : List ℕ) (F : Format (List A)) (t : List ℕ) (at a : ℕ) → word key .parse (drop at t) ≡ ok tt (drop a t) → (r : Number)
+    → SawNumber (count-of F) t a r → SawNumber (count-of (keyed key F)) t at r
+listed key F t at a e (Number.Value m n) h = record { same = ap (counted 0) (keyed-on key F (drop at t) (drop a t) e) ∙ h .same; within = h .within }
+listed key F t at a e (Number.Bad p) h = record { same = ap (counted 0) (keyed-on key F (drop at t) (drop a t) e) ∙ h .same; within = h .within }

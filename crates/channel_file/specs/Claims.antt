@@ -10,6 +10,9 @@ use Rattle.text_format.specs.Series.{separated}
 use Rattle.channel_file.specs.ChannelFile.{Token, token-text, Contents, text, SmallContents, Shows, Form}
 use Rattle.channel_file.specs.Reading.{file-limit, AnswersFile, read-file, tokens-stretch}
 use Rattle.channel_file.specs.Bytes.{clamp}
+use Rattle.channel_file.specs.Steps.{SawNumber, line-parse}
+use Rattle.channel_file.specs.declared.Line.{Line}
+use Rattle.channel_file.specs.declared.Number.{Number}
 
 -- The answer to every text is the one that document 01 asks for: its contents, or 4's place.
 abbrev pub AnswerClaim : Type 0
@@ -38,6 +41,10 @@ TokensClaim = (t : List ℕ) (c : Contents) → read-file t ≡ contents c → t
 -- The stretch of tokens of an accepted text is not empty; so it is empty exactly where 4 refuses.
 abbrev pub SomeTokensClaim : Type 0
 SomeTokensClaim = (t : List ℕ) (c : Contents) → read-file t ≡ contents c → tokens-stretch t (read-file t) ≡ [] → ⊥
+
+-- What the functions over a reader say of a line's answer leaves no other answer.
+abbrev pub OneLineClaim : Type 0
+OneLineClaim = (line : Line) (t : List ℕ) (at : ℕ) (x y : Number) → SawNumber (line-parse line) t at x → SawNumber (line-parse line) t at y → x ≡ y
 
 -- A number above 255 is stored as 255. No judgement on it is lost: for every limit n up to 255, the number is below n exactly
 -- if its byte is. Limits of events, values and entries are at most 16. A variable at node i has at most i binders above it, so

@@ -5,24 +5,23 @@ use Prim.Native.Nat.{ℕ, _+_, _≤_}
 use mathlib.Core.Path.{_≡_}
 use mathlib.Core.List.{List, [], _∷_, _++_}
 use lib.ListN.{length, drop, set}
-use Rattle.text_format.specs.Format.{Parsed, ok, bad, Format}
+use Rattle.text_format.specs.Format.{Parsed, ok, bad, Format, ascii}
 use Rattle.channel_file.specs.Reading.{read-file, stretch, tokens-stretch}
 use Rattle.channel_file.specs.Bytes.{encoded}
 use Rattle.text_format.specs.Combinators.{letter-parse, the, word}
 use Rattle.text_format.specs.Decimal.{number, numbered-parse}
 use Rattle.text_format.specs.Series.{Separator, space, newline, separator-byte, separator, number-item}
 use Rattle.channel_file.specs.ChannelFile.{Token, token-T, token-A, token-V, token-X, token-G, token-O}
-use Rattle.channel_file.specs.FileFormat.{field, head}
+use Rattle.channel_file.specs.FileFormat.{field, head, meet-line, rule-line}
 use Rattle.channel_file.specs.declared.Item.{Item}
 use Rattle.channel_file.specs.declared.Behind.{Behind}
 use Rattle.channel_file.specs.declared.Number.{Number}
 use Rattle.channel_file.specs.declared.Ended.{Ended}
 use Rattle.channel_file.specs.declared.Entry.{Entry}
 use Rattle.channel_file.specs.declared.Scanned.{Scanned}
-use Rattle.channel_file.specs.declared.Counted.{Counted}
 use Rattle.channel_file.specs.declared.Reached.{Reached}
 use Rattle.channel_file.specs.declared.Head.{Head}
-use Rattle.channel_file.specs.declared.Listed.{Listed}
+use Rattle.channel_file.specs.declared.Line.{Line}
 use Rattle.channel_file.specs.declared.Span.{Span}
 
 -- The token and the separator that values of src/ stand for.
@@ -73,23 +72,20 @@ abbrev pub counted : {A : Type 0} → ℕ → Parsed (List A) → Parsed ℕ
 counted n (ok xs r) = ok (n + length xs) r
 counted n (bad r) = bad r
 
-abbrev pub SawMany : {A : Type 0} → Format (List A) → List ℕ → ℕ → Counted → Type 0
-SawMany F t at (Counted.Many m n) = Saw (counted 0 (F .parse (drop at t))) (ok m (drop n t)) t n
-SawMany F t at (Counted.Bad p) = Saw (counted 0 (F .parse (drop at t))) (bad (drop p t)) t p
+abbrev pub count-of : {A : Type 0} → Format (List A) → List ℕ → Parsed ℕ
+count-of F s = counted 0 (F .parse s)
+
+-- What is read of a line: the number of a field, or how many items a list has.
+abbrev pub line-parse : Line → List ℕ → Parsed ℕ
+line-parse Line.Events = field (ascii "events=") .parse
+line-parse Line.Values = field (ascii "values=") .parse
+line-parse Line.Top = field (ascii "top=") .parse
+line-parse Line.Meet = count-of meet-line
+line-parse Line.Rule = count-of rule-line
 
 abbrev pub SawHead : List ℕ → ℕ → Head → Type 0
 SawHead t at (Head.Numbers e v p n) = Saw (head .parse (drop at t)) (ok (e, (v, p)) (drop n t)) t n
 SawHead t at (Head.Bad p) = Saw (head .parse (drop at t)) (bad (drop p t)) t p
-
--- A line with a key of five bytes: where its items start, how many there are, and the offset behind the line.
-pub record SawListed₁ {A : Type 0} (F : Format (List A)) (t : List ℕ) (at s m n : ℕ) : Type 0 where
-  pub same : counted 0 (F .parse (drop at t)) ≡ ok m (drop n t)
-  pub within : n ≤ length t
-  pub start : s ≡ at + 5
-
-abbrev pub SawListed : {A : Type 0} → Format (List A) → List ℕ → ℕ → Listed → Type 0
-SawListed F t at (Listed.Items s m n) = SawListed₁ F t at s m n
-SawListed F t at (Listed.Bad p) = Saw (counted 0 (F .parse (drop at t))) (bad (drop p t)) t p
 
 -- The offsets of the stretch of tokens; equal where 4 refuses.
 pub record SpansTokens (t : List ℕ) (r : Span) : Type 0 where

@@ -8,7 +8,7 @@ ghost use Rattle.text_format.specs.Decimal.{is-digit, number};
 ghost use Rattle.channel_file.specs.FileFormat.{first, second, field, plain, token-item, tokens, entries, meet-line, rule-line, file};
 ghost use Rattle.channel_file.specs.Reading.{checked, read-file, tokens-stretch};
 ghost use Rattle.channel_file.specs.Bytes.{clamp, kind, node, entry, Stores};
-ghost use Rattle.channel_file.specs.Steps.{token-of, SawNumber, SawEnded, SawEnd, SawEntry, SawItem, SawWord, SawMany, SawHead, SawListed, SpansTokens, puts, Wrote, codes-at, Storable};
+ghost use Rattle.channel_file.specs.Steps.{token-of, SawNumber, SawEnded, SawEnd, SawEntry, SawItem, SawWord, SawHead, count-of, line-parse, SpansTokens, puts, Wrote, codes-at, Storable};
 
 // The answer to a text: its numbers, how many meet entries and rule items there are and where they start; or 4's place.
 pub enum Checked {
@@ -48,6 +48,9 @@ enum Item {
     Output(usize, usize),
 }
 
+// Bytes of `meet=` and of `rule=`.
+const LIST_KEY: usize = 5;
+
 // What stands behind an item.
 enum Behind {
     Space,
@@ -75,11 +78,6 @@ enum Scanned {
     Bad(usize),
 }
 
-enum Counted {
-    Many(usize, usize),
-    Bad(usize),
-}
-
 enum Reached {
     Past(usize),
     Bad(usize),
@@ -90,9 +88,19 @@ enum Head {
     Bad(usize),
 }
 
-enum Listed {
-    Items(usize, usize, usize),
-    Bad(usize),
+// The five lines, in the order in which they stand.
+enum Line {
+    Events,
+    Values,
+    Top,
+    Meet,
+    Rule,
+}
+
+// A reader of the lent text, which stands where a line starts.
+struct Reader<'a> {
+    text: &'a [u8],
+    at: usize,
 }
 
 // Offsets in a text, from and to before.
@@ -261,20 +269,20 @@ fn word_at(text: &[u8], at: usize, key: &[u8]) -> Reached
 }
 
 // The tokens of the rule line, to its end: how many.
-fn items_at(text: &[u8], at: usize) -> Counted
+fn items_at(text: &[u8], at: usize) -> Number
     requires { ⌜ at ≤ length (now text) ⌝ }
-    ensures { λ r. ⌜ SawMany tokens (now (text .entry)) at r ⌝ }
+    ensures { λ r. ⌜ SawNumber (count-of tokens) (now (text .entry)) at r ⌝ }
 {
     let mut i = at;
     let mut n = 0;
     loop {
         match item_at(text, i) {
             Scanned::Bad(p) => {
-                return Counted::Bad(p);
+                return Number::Bad(p);
             }
             Scanned::Of(_, e, m) => match e {
                 Behind::Newline => {
-                    return Counted::Many(n + 1, m);
+                    return Number::Value(n + 1, m);
                 }
                 Behind::Space => {
                     i = m;
@@ -286,20 +294,20 @@ fn items_at(text: &[u8], at: usize) -> Counted
 }
 
 // The entries of the meet line, to its end: how many.
-fn entries_at(text: &[u8], at: usize) -> Counted
+fn entries_at(text: &[u8], at: usize) -> Number
     requires { ⌜ at ≤ length (now text) ⌝ }
-    ensures { λ r. ⌜ SawMany entries (now (text .entry)) at r ⌝ }
+    ensures { λ r. ⌜ SawNumber (count-of entries) (now (text .entry)) at r ⌝ }
 {
     let mut i = at;
     let mut n = 0;
     loop {
         match entry_at(text, i) {
             Entry::Bad(p) => {
-                return Counted::Bad(p);
+                return Number::Bad(p);
             }
             Entry::Of(_, e, m) => match e {
                 Behind::Newline => {
-                    return Counted::Many(n + 1, m);
+                    return Number::Value(n + 1, m);
                 }
                 Behind::Space => {
                     i = m;
@@ -321,44 +329,76 @@ fn field_at(text: &[u8], at: usize, key: &[u8]) -> Number
     }
 }
 
+// A key and the items of a list, to the line's end: how many. The same for the rule's line below.
+fn meet_line_at(text: &[u8], at: usize) -> Number
+    requires { ⌜ at ≤ length (now text) ⌝ }
+    ensures { λ r. ⌜ SawNumber (count-of meet-line) (now (text .entry)) at r ⌝ }
+{
+    match word_at(text, at, b"meet=") {
+        Reached::Bad(p) => Number::Bad(p),
+        Reached::Past(a) => entries_at(text, a),
+    }
+}
+
+fn rule_line_at(text: &[u8], at: usize) -> Number
+    requires { ⌜ at ≤ length (now text) ⌝ }
+    ensures { λ r. ⌜ SawNumber (count-of rule-line) (now (text .entry)) at r ⌝ }
+{
+    match word_at(text, at, b"rule=") {
+        Reached::Bad(p) => Number::Bad(p),
+        Reached::Past(a) => items_at(text, a),
+    }
+}
+
+// A line: its number, or how many items it has; and the offset behind it, where the next line starts.
+fn line_at(text: &[u8], at: usize, line: Line) -> Number
+    requires { ⌜ at ≤ length (now text) ⌝ }
+    ensures { λ r. ⌜ SawNumber (line-parse line) (now (text .entry)) at r ⌝ }
+{
+    match line {
+        Line::Events => field_at(text, at, b"events="),
+        Line::Values => field_at(text, at, b"values="),
+        Line::Top => field_at(text, at, b"top="),
+        Line::Meet => meet_line_at(text, at),
+        Line::Rule => rule_line_at(text, at),
+    }
+}
+
+// A reader that stands at an offset.
+fn reader_at<'a>(text: &'a [u8], at: usize) -> Reader<'a>
+    ensures { λ r. ⌜ (r .text ≡ text .entry) × (r .at ≡ at) ⌝ }
+{
+    Reader { text, at }
+}
+
+// The line at which a reader stands.
+fn take_line<'a>(r: Reader<'a>, line: Line) -> Number
+    requires { ⌜ r .at ≤ length (now (r .text)) ⌝ }
+    ensures { λ n. ⌜ SawNumber (line-parse line) (now (r .entry .text)) (r .entry .at) n ⌝ }
+{
+    line_at(r.text, r.at, line)
+}
+
+// The line that starts at an offset, through a reader: reading works down the text by it.
+fn read_line(text: &[u8], at: usize, line: Line) -> Number
+    requires { ⌜ at ≤ length (now text) ⌝ }
+    ensures { λ r. ⌜ SawNumber (line-parse line) (now (text .entry)) at r ⌝ }
+{
+    take_line(reader_at(text, at), line)
+}
+
 // The first three lines.
 fn head_at(text: &[u8]) -> Head
     ensures { λ r. ⌜ SawHead (now (text .entry)) 0 r ⌝ }
 {
-    match field_at(text, 0, b"events=") {
+    match read_line(text, 0, Line::Events) {
         Number::Bad(p) => Head::Bad(p),
-        Number::Value(events, a) => match field_at(text, a, b"values=") {
+        Number::Value(events, a) => match read_line(text, a, Line::Values) {
             Number::Bad(p) => Head::Bad(p),
-            Number::Value(values, b) => match field_at(text, b, b"top=") {
+            Number::Value(values, b) => match read_line(text, b, Line::Top) {
                 Number::Bad(p) => Head::Bad(p),
                 Number::Value(top, d) => Head::Numbers(events, values, top, d),
             },
-        },
-    }
-}
-
-fn meet_line_at(text: &[u8], at: usize) -> Listed
-    requires { ⌜ at ≤ length (now text) ⌝ }
-    ensures { λ r. ⌜ SawListed meet-line (now (text .entry)) at r ⌝ }
-{
-    match word_at(text, at, b"meet=") {
-        Reached::Bad(p) => Listed::Bad(p),
-        Reached::Past(a) => match entries_at(text, a) {
-            Counted::Bad(p) => Listed::Bad(p),
-            Counted::Many(m, n) => Listed::Items(a, m, n),
-        },
-    }
-}
-
-fn rule_line_at(text: &[u8], at: usize) -> Listed
-    requires { ⌜ at ≤ length (now text) ⌝ }
-    ensures { λ r. ⌜ SawListed rule-line (now (text .entry)) at r ⌝ }
-{
-    match word_at(text, at, b"rule=") {
-        Reached::Bad(p) => Listed::Bad(p),
-        Reached::Past(a) => match items_at(text, a) {
-            Counted::Bad(p) => Listed::Bad(p),
-            Counted::Many(m, n) => Listed::Items(a, m, n),
         },
     }
 }
@@ -369,11 +409,11 @@ fn check_text(text: &[u8]) -> Checked
 {
     match head_at(text) {
         Head::Bad(p) => Checked::Refused(p),
-        Head::Numbers(events, values, top, a) => match meet_line_at(text, a) {
-            Listed::Bad(p) => Checked::Refused(p),
-            Listed::Items(meet_at, entries, b) => match rule_line_at(text, b) {
-                Listed::Bad(p) => Checked::Refused(p),
-                Listed::Items(rule_at, items, d) => {
+        Head::Numbers(events, values, top, a) => match read_line(text, a, Line::Meet) {
+            Number::Bad(p) => Checked::Refused(p),
+            Number::Value(entries, b) => match read_line(text, b, Line::Rule) {
+                Number::Bad(p) => Checked::Refused(p),
+                Number::Value(items, d) => {
                     if d < text.len() {
                         Checked::Refused(d)
                     } else {
@@ -382,9 +422,9 @@ fn check_text(text: &[u8]) -> Checked
                             values,
                             top,
                             entries,
-                            meet_at,
+                            meet_at: a + LIST_KEY,
                             items,
-                            rule_at,
+                            rule_at: b + LIST_KEY,
                         }
                     }
                 }

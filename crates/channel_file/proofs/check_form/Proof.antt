@@ -1,3 +1,4 @@
+-- `channel_file::check_form` meets its contract. Assumes nothing.
 use Rattle.channel_file.specs.Reading.{checked}
 use Rattle.channel_file.specs.FileFormat.{file}
 use Rattle.channel_file.specs.ChannelFile.{Contents}
@@ -14,15 +15,12 @@ use Rattle.channel_file.proofs.check_form.Reads as reads
 use Rattle.channel_file.proofs.check_form.Lts as lts
 use Rattle.channel_file.proofs.check_text.Reads as check-text-reads
 
--- src/lib.rt:378:9
 returns : tie.Need-returns
 returns c = sym (ap (λ (b : Bool). checked (cond b (refused 4096) (read file (now (c .before .before .args .text))))) (lt-ltb 4096 (length (now (c .before .before .args .text))) (c .if1 .taken)))
 
--- src/lib.rt:380:5
 check-text-requires : tie.Need-check-text-requires
 check-text-requires c κs = search needs
 
--- src/lib.rt:374:1
 returns-2 : tie.Need-returns-2
 returns-2 c = c .check-text .ensures ∙ sym (ap (λ (b : Bool). checked (cond b (refused 4096) (read file (now (c .before .before .before .args .text))))) (le-ltb 4096 (length (now (c .before .before .before .args .text))) (c .before .if1 .left)))
 

@@ -13,45 +13,36 @@ use Rattle.channel_file.proofs.ended_at.Reads as reads
 use Rattle.channel_file.proofs.ended_at.Lts as lts
 use Rattle.channel_file.proofs.number_at.Reads as number-at-reads
 
--- src/lib.rt:110:11
 number-at-requires : tie.Need-number-at-requires
 number-at-requires c κs = search needs
 
--- src/lib.rt:111:21
 enum-known-p : tie.Need-enum-known-p
 enum-known-p c = search needs
 
--- src/lib.rt:112:23
 enum-known-v : tie.Need-enum-known-v
 enum-known-v c = search needs
 
--- src/lib.rt:114:17
 returns : tie.Need-returns
 returns c =
     let q = subst (SawNumber (number 2) (now (c .before .before .before .before .before .before .args .text)) (c .before .before .before .before .before .before .args .at)) (c .before .before .v .given .1) (c .before .before .before .before .number-at .ensures) in
     record { same = rw (q .same) (rw (over _ _ (c .if1 .taken))); within = q .within }
 
--- src/lib.rt:116:16
 shared-slice-read-if2 : tie.Need-shared-slice-read-if2
 shared-slice-read-if2 c = search needs
 
--- src/lib.rt:117:34
 add-t14 : tie.Need-add-t14
 add-t14 c = search needs
 
--- src/lib.rt:106:1
 returns-2 : tie.Need-returns-2
 returns-2 c =
     let q = subst (SawNumber (number 2) (now (c .before .before .before .before .before .args .text)) (c .before .before .before .before .before .args .at)) (c .before .p .given .1) (c .before .before .before .number-at .ensures) in
     record { same = rw (q .same); within = q .within }
 
--- src/lib.rt:106:1
 returns-3 : tie.Need-returns-3
 returns-3 c =
     let q = subst (SawNumber (number 2) (now (c .before .before .before .before .before .before .before .before .args .text)) (c .before .before .before .before .before .before .before .before .args .at)) (c .before .before .before .before .v .given .1) (c .before .before .before .before .before .before .number-at .ensures) in
     record { same = rw (q .same) (rw (here-is _ _ (c .before .before .before .before .before .before .before .before .args .end) (c .before .before .if1 .left) (c .if2 .taken)) (rw (eq-eqb (c .before .before .before .before .before .before .before .before .args .end) (c .before .before .before .before .before .before .before .before .args .end) refl))); within = omega arith }
 
--- src/lib.rt:106:1
 returns-4 : tie.Need-returns-4
 returns-4 c =
     let q = subst (SawNumber (number 2) (now (c .before .before .before .before .before .before .before .before .args .text)) (c .before .before .before .before .before .before .before .before .args .at)) (c .before .before .before .before .v .given .1) (c .before .before .before .before .before .before .number-at .ensures) in

@@ -12,46 +12,37 @@ use Rattle.channel_file.proofs.entry_at.Lts as lts
 use Rattle.channel_file.proofs.end_at.Reads as end-at-reads
 use Rattle.channel_file.proofs.number_at.Reads as number-at-reads
 
--- src/lib.rt:146:11
 number-at-requires : tie.Need-number-at-requires
 number-at-requires c κs = search needs
 
--- src/lib.rt:147:21
 enum-known-p : tie.Need-enum-known-p
 enum-known-p c = search needs
 
--- src/lib.rt:148:23
 enum-known-v : tie.Need-enum-known-v
 enum-known-v c = search needs
 
--- src/lib.rt:148:38
 end-at-requires : tie.Need-end-at-requires
 end-at-requires c κs =
     let q = subst (SawNumber (number 2) (now (c .before .before .before .before .before .args .text)) (c .before .before .before .before .before .args .at)) (c .before .v .given .1) (c .before .before .before .number-at .ensures) in
     q .within
 
--- src/lib.rt:149:24
 enum-known-p-2 : tie.Need-enum-known-p-2
 enum-known-p-2 c = search needs
 
--- src/lib.rt:150:23
 enum-known-e : tie.Need-enum-known-e
 enum-known-e c = search needs
 
--- src/lib.rt:142:1
 returns : tie.Need-returns
 returns c =
     let q = subst (SawNumber (number 2) (now (c .before .before .before .before .before .args .text)) (c .before .before .before .before .before .args .at)) (c .before .p .given .1) (c .before .before .before .number-at .ensures) in
     record { same = rw (q .same); within = q .within }
 
--- src/lib.rt:142:1
 returns-2 : tie.Need-returns-2
 returns-2 c =
     let q = subst (SawNumber (number 2) (now (c .before .before .before .before .before .before .before .before .before .args .text)) (c .before .before .before .before .before .before .before .before .before .args .at)) (c .before .before .before .before .before .v .given .1) (c .before .before .before .before .before .before .before .number-at .ensures) in
     let e = subst (SawEnd (now (c .before .before .before .before .before .before .before .before .before .args .text)) (c .before .before .before .before .before .v .given .0 .1 .0)) (c .before .p2 .given .1) (c .before .before .before .end-at .ensures) in
     record { same = rw (q .same) (rw (e .same)); within = e .within }
 
--- src/lib.rt:142:1
 returns-3 : tie.Need-returns-3
 returns-3 c =
     let q = subst (SawNumber (number 2) (now (c .before .before .before .before .before .before .before .before .before .args .text)) (c .before .before .before .before .before .before .before .before .before .args .at)) (c .before .before .before .before .before .v .given .1) (c .before .before .before .before .before .before .before .number-at .ensures) in

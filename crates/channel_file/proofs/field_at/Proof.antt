@@ -11,31 +11,25 @@ use Rattle.channel_file.proofs.field_at.Lts as lts
 use Rattle.channel_file.proofs.ended_at.Reads as ended-at-reads
 use Rattle.channel_file.proofs.word_at.Reads as word-at-reads
 
--- src/lib.rt:289:11
 word-at-requires : tie.Need-word-at-requires
 word-at-requires c κs = search needs
 
--- src/lib.rt:290:22
 enum-known-p : tie.Need-enum-known-p
 enum-known-p c = search needs
 
--- src/lib.rt:291:23
 enum-known-a : tie.Need-enum-known-a
 enum-known-a c = search needs
 
--- src/lib.rt:291:29
 ended-at-requires : tie.Need-ended-at-requires
 ended-at-requires c κs =
     let q = subst (SawWord (now (c .before .before .before .before .before .before .args .key)) (now (c .before .before .before .before .before .before .args .text)) (c .before .before .before .before .before .before .args .at)) (c .before .a .given .1) (c .before .before .before .word-at .ensures) in
     q .within
 
--- src/lib.rt:285:1
 returns : tie.Need-returns
 returns c =
     let q = subst (SawWord (now (c .before .before .before .before .before .before .args .key)) (now (c .before .before .before .before .before .before .args .text)) (c .before .before .before .before .before .before .args .at)) (c .before .p .given .1) (c .before .before .before .word-at .ensures) in
     record { same = rw (q .same); within = q .within }
 
--- src/lib.rt:285:1
 returns-2 : tie.Need-returns-2
 returns-2 c =
     let q = subst (SawWord (now (c .before .before .before .before .before .before .before .args .key)) (now (c .before .before .before .before .before .before .before .args .text)) (c .before .before .before .before .before .before .before .args .at)) (c .before .before .a .given .1) (c .before .before .before .before .word-at .ensures) in

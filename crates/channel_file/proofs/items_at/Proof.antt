@@ -23,19 +23,15 @@ Inv-loop text at i₀ n₀ i n = (i ≤ length text) × (n ≤ i) × (counted 0 
 abbrev μ-loop : tie.MeasureT-loop
 μ-loop text at i₀ n₀ i n = length text - i
 
--- src/lib.rt:225:5
 loop-holds : tie.Need-loop-holds Inv-loop μ-loop
 loop-holds c = (c .before .pre, omega arith, refl)
 
--- src/lib.rt:226:15
 item-at-requires : tie.Need-item-at-requires Inv-loop μ-loop
 item-at-requires c κs = c .loop .inv .0
 
--- src/lib.rt:227:24
 enum-known-p : tie.Need-enum-known-p Inv-loop μ-loop
 enum-known-p c = search needs
 
--- src/lib.rt:228:17
 returns : tie.Need-returns Inv-loop μ-loop
 returns c =
     let q = subst (SawItem token-item (now (c .before .before .before .before .before .before .args .text)) (c .before .before .before .before .loop .i)) (c .before .p .given .1) (c .before .before .before .item-at .ensures) in
@@ -44,19 +40,15 @@ returns c =
       within = q .within;
     }
 
--- src/lib.rt:230:26
 enum-known-e : tie.Need-enum-known-e Inv-loop μ-loop
 enum-known-e c = search needs
 
--- src/lib.rt:232:42
 enum-told : tie.Need-enum-told Inv-loop μ-loop
 enum-told c = search needs
 
--- src/lib.rt:232:42
 add-t9 : tie.Need-add-t9 Inv-loop μ-loop
 add-t9 c = omega arith
 
--- src/lib.rt:232:21
 returns-2 : tie.Need-returns-2 Inv-loop μ-loop
 returns-2 c =
     let q = subst (SawItem token-item (now (c .before .before .before .before .before .before .before .before .args .text)) (c .before .before .before .before .before .before .loop .i)) (c .before .before .before .e .given .1) (c .before .before .before .before .before .item-at .ensures) in
@@ -68,15 +60,12 @@ returns-2 c =
       within = q .within;
     }
 
--- src/lib.rt:235:21
 enum-told-2 : tie.Need-enum-told-2 Inv-loop μ-loop
 enum-told-2 c = search needs
 
--- src/lib.rt:236:21
 add-n : tie.Need-add-n Inv-loop μ-loop
 add-n c = omega arith
 
--- src/lib.rt:225:5
 loop-less : tie.Need-loop-less Inv-loop μ-loop
 loop-less c =
     let q = subst (SawItem token-item (now (c .before .before .before .before .before .before .before .before .args .text)) (c .before .before .before .before .before .before .loop .i)) (c .before .before .before .e .given .1) (c .before .before .before .before .before .item-at .ensures) in
@@ -85,7 +74,6 @@ loop-less c =
     let w = q .within in
     omega arith
 
--- src/lib.rt:225:5
 loop-again : tie.Need-loop-again Inv-loop μ-loop
 loop-again c =
     let q = subst (SawItem token-item (now (c .before .before .before .before .before .before .before .before .args .text)) (c .before .before .before .before .before .before .loop .i)) (c .before .before .before .e .given .1) (c .before .before .before .before .before .item-at .ensures) in

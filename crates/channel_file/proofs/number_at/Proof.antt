@@ -26,45 +26,35 @@ Inv-loop text at b v₀ i₀ k₀ v i k =
 abbrev μ-loop : tie.MeasureT-loop
 μ-loop text at b v₀ i₀ k₀ v i k = k
 
--- src/lib.rt:78:9
 returns : tie.Need-returns Inv-loop μ-loop
 returns c = record { same = rw (over _ _ (c .if1 .taken)); within = search needs }
 
--- src/lib.rt:80:13
 shared-slice-read-b : tie.Need-shared-slice-read-b Inv-loop μ-loop
 shared-slice-read-b c = search needs
 
--- src/lib.rt:81:9
 digit-requires : tie.Need-digit-requires Inv-loop μ-loop
 digit-requires c κs = search needs
 
--- src/lib.rt:82:9
 returns-2 : tie.Need-returns-2 Inv-loop μ-loop
 returns-2 c = record { same = rw (here _ _ (c .before .before .before .if1 .left)) (number-not 2 _ _ (sym (c .before .digit .ensures) ∙ not-true _ (c .if2 .taken))); within = search needs }
 
--- src/lib.rt:85:33
 add-t13 : tie.Need-add-t13 Inv-loop μ-loop
 add-t13 c = search needs
 
--- src/lib.rt:85:9
 returns-3 : tie.Need-returns-3 Inv-loop μ-loop
 returns-3 c = record { same = rw (here _ _ (c .before .before .before .before .if1 .left)) (number-zero 2 _ _ (c .if3 .taken)); within = omega arith }
 
--- src/lib.rt:87:17
 wide-requires : tie.Need-wide-requires Inv-loop μ-loop
 wide-requires c κs = search needs
 
--- src/lib.rt:87:17
 sub-v : tie.Need-sub-v Inv-loop μ-loop
 sub-v c =
     let d = digit-range (getD (c .before .before .before .before .before .before .before .args .text .now) (c .before .before .before .before .before .before .before .args .at) 0) (sym (c .before .before .before .digit .ensures) ∙ not-false _ (c .before .before .if2 .left)) in
     omega arith
 
--- src/lib.rt:88:17
 add-i : tie.Need-add-i Inv-loop μ-loop
 add-i c = search needs
 
--- src/lib.rt:90:5
 loop-holds : tie.Need-loop-holds Inv-loop μ-loop
 loop-holds c =
     let b : ℕ = getD (c .before .before .before .before .before .before .before .args .text .now) (c .before .before .before .before .before .before .before .args .at) 0 in
@@ -79,55 +69,43 @@ loop-holds c =
       (rw (here _ _ (c .before .before .before .before .before .if1 .left)) (number-go 2 b _ h (ne-eqb b 48 (c .before .if3 .left)) ∙ ap (λ (z : ℕ). more 2 (z - 48) (drop (c .before .before .before .before .before .before .before .args .at + 1) (c .before .before .before .before .before .before .before .args .text .now))) (sym e))),
     )
 
--- src/lib.rt:92:13
 returns-4 : tie.Need-returns-4 Inv-loop μ-loop
 returns-4 c = record { same = c .before .before .loop .inv .5 ∙ rw (over _ _ (c .if4 .taken)) (more-over (c .before .before .loop .k) (c .before .before .loop .v)); within = search needs }
 
--- src/lib.rt:94:17
 shared-slice-read-d : tie.Need-shared-slice-read-d Inv-loop μ-loop
 shared-slice-read-d c = search needs
 
--- src/lib.rt:95:13
 digit-requires-2 : tie.Need-digit-requires-2 Inv-loop μ-loop
 digit-requires-2 c κs = search needs
 
--- src/lib.rt:96:13
 returns-5 : tie.Need-returns-5 Inv-loop μ-loop
 returns-5 c = record { same = c .before .before .before .before .before .loop .inv .5 ∙ rw (here _ _ (c .before .before .before .if4 .left)) (more-stop (c .before .before .before .before .before .loop .k) (c .before .before .before .before .before .loop .v) _ _ (sym (c .before .digit2 .ensures) ∙ not-true _ (c .if5 .taken))); within = search needs }
 
--- src/lib.rt:98:13
 mul-v : tie.Need-mul-v Inv-loop μ-loop
 mul-v c = search needs
 
--- src/lib.rt:98:23
 wide-requires-2 : tie.Need-wide-requires-2 Inv-loop μ-loop
 wide-requires-2 c κs = search needs
 
--- src/lib.rt:98:23
 sub-v-2 : tie.Need-sub-v-2 Inv-loop μ-loop
 sub-v-2 c =
     let d = digit-range (getD (c .before .before .before .before .before .before .before .before .before .before .before .before .before .before .args .text .now) (c .before .before .before .before .before .before .loop .i) 0) (sym (c .before .before .digit2 .ensures) ∙ not-false _ (c .before .if5 .left)) in
     omega arith
 
--- src/lib.rt:98:13
 add-v : tie.Need-add-v Inv-loop μ-loop
 add-v c =
     let d = digit-range (getD (c .before .before .before .before .before .before .before .before .before .before .before .before .before .before .args .text .now) (c .before .before .before .before .before .before .loop .i) 0) (sym (c .before .before .digit2 .ensures) ∙ not-false _ (c .before .if5 .left)) in
     omega arith
 
--- src/lib.rt:99:9
 add-i-2 : tie.Need-add-i-2 Inv-loop μ-loop
 add-i-2 c = search needs
 
--- src/lib.rt:100:9
 sub-k : tie.Need-sub-k Inv-loop μ-loop
 sub-k c = search needs
 
--- src/lib.rt:90:5
 loop-less : tie.Need-loop-less Inv-loop μ-loop
 loop-less c = search needs
 
--- src/lib.rt:90:5
 loop-again : tie.Need-loop-again Inv-loop μ-loop
 loop-again c =
     let b : ℕ = getD (c .before .before .before .before .before .before .before .before .before .before .before .before .before .before .args .text .now) (c .before .before .before .before .before .before .loop .i) 0 in
@@ -144,7 +122,6 @@ loop-again c =
       (v .5 ∙ rw (here _ _ (c .before .before .before .before .if4 .left)) (more-on (c .before .before .before .before .before .before .loop .k) (c .before .before .before .before .before .before .loop .v) b _ (c .before .before .before .before .before .loop-test .taken) h ∙ ap (λ (z : ℕ). more (c .before .before .before .before .before .before .loop .k - 1) (c .before .before .before .before .before .before .loop .v * 10 + (z - 48)) (drop (c .before .before .before .before .before .before .loop .i + 1) (c .before .before .before .before .before .before .before .before .before .before .before .before .before .before .args .text .now))) (sym e))),
     )
 
--- src/lib.rt:73:1
 returns-6 : tie.Need-returns-6 Inv-loop μ-loop
 returns-6 c = record { same = c .before .loop .inv .5 ∙ more-done _ _ _ (c .loop-test .left); within = search needs }
 

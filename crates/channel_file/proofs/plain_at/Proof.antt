@@ -9,25 +9,20 @@ use Rattle.channel_file.proofs.plain_at.Reads as reads
 use Rattle.channel_file.proofs.plain_at.Lts as lts
 use Rattle.channel_file.proofs.end_at.Reads as end-at-reads
 
--- src/lib.rt:161:11
 end-at-requires : tie.Need-end-at-requires
 end-at-requires c κs = search needs
 
--- src/lib.rt:162:20
 enum-known-p : tie.Need-enum-known-p
 enum-known-p c = search needs
 
--- src/lib.rt:163:19
 enum-known-e : tie.Need-enum-known-e
 enum-known-e c = search needs
 
--- src/lib.rt:157:1
 returns : tie.Need-returns
 returns c =
     let q = subst (SawEnd (now (c .before .before .before .before .before .args .text)) (c .before .before .before .before .before .args .at)) (c .before .p .given .1) (c .before .before .before .end-at .ensures) in
     record { same = rw (q .same); within = q .within }
 
--- src/lib.rt:157:1
 returns-2 : tie.Need-returns-2
 returns-2 c =
     let q = subst (SawEnd (now (c .before .before .before .before .before .args .text)) (c .before .before .before .before .before .args .at)) (c .before .e .given .1) (c .before .before .before .end-at .ensures) in

@@ -1,3 +1,4 @@
+-- `channel_file::put_node` meets its contract. Assumes nothing.
 use Rattle.channel_file.proofs.Buffers.{wrote-then}
 use Rattle.channel_file.specs.Steps.{token-of, Wrote}
 use Rattle.channel_file.specs.Bytes.{kind, clamp, node}
@@ -17,43 +18,33 @@ use Rattle.channel_file.proofs.kind_of.Reads as kind-of-reads
 use Rattle.channel_file.proofs.put.Reads as put-reads
 use Rattle.channel_file.proofs.second_of.Reads as second-of-reads
 
--- src/lib.rt:483:26
 kind-of-requires : tie.Need-kind-of-requires
 kind-of-requires c κs = search needs
 
--- src/lib.rt:483:9
 put-requires : tie.Need-put-requires
 put-requires c κs = search needs
 
--- src/lib.rt:484:30
 first-of-requires : tie.Need-first-of-requires
 first-of-requires c κs = search needs
 
--- src/lib.rt:484:25
 clip-requires : tie.Need-clip-requires
 clip-requires c κs = search needs
 
--- src/lib.rt:484:9
 put-requires-2 : tie.Need-put-requires-2
 put-requires-2 c κs = search needs
 
--- src/lib.rt:485:22
 second-of-requires : tie.Need-second-of-requires
 second-of-requires c κs = search needs
 
--- src/lib.rt:485:17
 clip-requires-2 : tie.Need-clip-requires-2
 clip-requires-2 c κs = search needs
 
--- src/lib.rt:485:5
 put-requires-3 : tie.Need-put-requires-3
 put-requires-3 c κs = search needs
 
--- src/lib.rt:479:1
 same-length : tie.Need-same-length
 same-length c = search needs
 
--- src/lib.rt:479:1
 returns : tie.Need-returns
 returns c =
     let x = token-of (c .before .before .before .before .before .before .before .before .before .before .before .before .before .before .before .before .before .before .args .x) in

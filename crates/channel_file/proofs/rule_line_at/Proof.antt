@@ -1,14 +1,10 @@
-use Rattle.channel_file.proofs.Offsets.{forward-by, keyed-bad, keyed-on}
-use Rattle.channel_file.specs.Steps.{SawWord, SawMany, counted}
-use Rattle.channel_file.specs.FileFormat.{tokens}
-use Rattle.text_format.proofs.Combinators.{word-laws}
-use Rattle.text_format.specs.Combinators.{word}
-use Rattle.text_format.specs.Format.{ascii}
+-- `channel_file::rule_line_at` meets its contract. Assumes nothing.
+use mathlib.Core.Path.{ap, subst}
 use lib.ListN.{drop}
-use denote.Ref.{now}
-use mathlib.Core.Path.{_≡_, sym, ap, _∙_, subst}
-use mathlib.Core.List.{List}
-use Prim.Native.Nat.{ℕ, _+_}
+use Rattle.text_format.specs.Format.{ascii}
+use Rattle.channel_file.specs.FileFormat.{tokens}
+use Rattle.channel_file.specs.Steps.{SawWord, counted}
+use Rattle.channel_file.proofs.Offsets.{keyed-bad, listed}
 use borrow.Author.Needs.{needs}
 use Rattle.channel_file.proofs.rule_line_at.Statement.{statement}
 use Rattle.channel_file.proofs.rule_line_at.Tie as tie
@@ -17,59 +13,32 @@ use Rattle.channel_file.proofs.rule_line_at.Lts as lts
 use Rattle.channel_file.proofs.items_at.Reads as items-at-reads
 use Rattle.channel_file.proofs.word_at.Reads as word-at-reads
 
--- src/lib.rt:342:29
 slice-aggregate-word-at : tie.Need-slice-aggregate-word-at
 slice-aggregate-word-at c = search needs
 
--- src/lib.rt:342:11
 word-at-requires : tie.Need-word-at-requires
 word-at-requires c κs = search needs
 
--- src/lib.rt:343:22
 enum-known-p : tie.Need-enum-known-p
 enum-known-p c = search needs
 
--- src/lib.rt:344:23
 enum-known-a : tie.Need-enum-known-a
 enum-known-a c = search needs
 
--- src/lib.rt:344:35
 items-at-requires : tie.Need-items-at-requires
-items-at-requires c κs = subst (SawWord (ascii "rule=") (now (c .before .before .before .before .before .before .args .text)) (c .before .before .before .before .before .before .args .at)) (c .before .a .given .1) (c .before .before .before .word-at .ensures) .within
+items-at-requires c κs = subst (SawWord (ascii "rule=") (c .before .before .before .before .before .before .args .text .now) (c .before .before .before .before .before .before .args .at)) (c .before .a .given .1) (c .before .before .before .word-at .ensures) .within
 
--- src/lib.rt:345:26
-enum-known-p-2 : tie.Need-enum-known-p-2
-enum-known-p-2 c = search needs
-
--- src/lib.rt:346:27
-enum-known-m : tie.Need-enum-known-m
-enum-known-m c = search needs
-
--- src/lib.rt:338:1
 returns : tie.Need-returns
 returns c =
-    let q = subst (SawWord (ascii "rule=") (now (c .before .before .before .before .before .before .args .text)) (c .before .before .before .before .before .before .args .at)) (c .before .p .given .1) (c .before .before .before .word-at .ensures) in
-    record { same = ap (counted 0) (keyed-bad (ascii "rule=") tokens (drop (c .before .before .before .before .before .before .args .at) (now (c .before .before .before .before .before .before .args .text))) (drop (c .before .p .given .0 .0) (now (c .before .before .before .before .before .before .args .text))) (q .same)); within = q .within }
+    let a = c .before .before .before .before .before .before .args in
+    let q = subst (SawWord (ascii "rule=") (a .text .now) (a .at)) (c .before .p .given .1) (c .before .before .before .word-at .ensures) in
+    record { same = ap (counted 0) (keyed-bad (ascii "rule=") tokens (drop (a .at) (a .text .now)) (drop (c .before .p .given .0 .0) (a .text .now)) (q .same)); within = q .within }
 
--- src/lib.rt:338:1
 returns-2 : tie.Need-returns-2
 returns-2 c =
-    let t = now (c .before .before .before .before .before .before .before .before .before .before .args .text) in
-    let q = subst (SawWord (ascii "rule=") t (c .before .before .before .before .before .before .before .before .before .before .args .at)) (c .before .before .before .before .before .a .given .1) (c .before .before .before .before .before .before .before .word-at .ensures) in
-    let n = subst (SawMany tokens t (c .before .before .before .before .before .a .given .0 .0)) (c .before .p2 .given .1) (c .before .before .before .items-at .ensures) in
-    record { same = ap (counted 0) (keyed-on (ascii "rule=") tokens (drop (c .before .before .before .before .before .before .before .before .before .before .args .at) t) (drop (c .before .before .before .before .before .a .given .0 .0) t) (q .same)) ∙ n .same; within = n .within }
-
--- src/lib.rt:338:1
-returns-3 : tie.Need-returns-3
-returns-3 c =
-    let t = now (c .before .before .before .before .before .before .before .before .before .before .args .text) in
-    let q = subst (SawWord (ascii "rule=") t (c .before .before .before .before .before .before .before .before .before .before .args .at)) (c .before .before .before .before .before .a .given .1) (c .before .before .before .before .before .before .before .word-at .ensures) in
-    let n = subst (SawMany tokens t (c .before .before .before .before .before .a .given .0 .0)) (c .before .m .given .1) (c .before .before .before .items-at .ensures) in
-    record {
-      same = ap (counted 0) (keyed-on (ascii "rule=") tokens (drop (c .before .before .before .before .before .before .before .before .before .before .args .at) t) (drop (c .before .before .before .before .before .a .given .0 .0) t) (q .same)) ∙ n .same;
-      within = n .within;
-      start = forward-by (word (ascii "rule=")) (word-laws (ascii "rule=")) t (c .before .before .before .before .before .before .before .before .before .before .args .at) (c .before .before .before .before .before .a .given .0 .0) tt (c .before .before .before .before .before .before .before .before .before .before .pre) (q .within) (q .same);
-    }
+    let a = c .before .before .before .before .before .before .before .args in
+    let q = subst (SawWord (ascii "rule=") (a .text .now) (a .at)) (c .before .before .a .given .1) (c .before .before .before .before .word-at .ensures) in
+    listed (ascii "rule=") tokens (a .text .now) (a .at) (c .before .before .a .given .0 .0) (q .same) (c .items-at .result) (c .items-at .ensures)
 
 pub rule-line-at-spec : {M : Type 1} → statement M
 rule-line-at-spec =
@@ -80,8 +49,5 @@ rule-line-at-spec =
     enum-known-p
     enum-known-a
     items-at-requires
-    enum-known-p-2
-    enum-known-m
     returns
-    returns-2
-    returns-3)
+    returns-2)

@@ -1,3 +1,4 @@
+-- `channel_file::store_entries` meets its contract. Assumes nothing.
 use Rattle.channel_file.proofs.Buffers.{Storing, store-bad, store-space, store-last, store-room, storing-length, wrote-length, puts-length}
 use Rattle.channel_file.specs.declared.Behind.{Behind}
 use Rattle.channel_file.specs.Steps.{token-of, separator-of, Saw, SawEntry, puts, Wrote, codes-at}
@@ -29,52 +30,41 @@ Inv-loop text at out₀ i₀ k₀ out i k = Storing entries entry text (puts out
 abbrev μ-loop : tie.MeasureT-loop
 μ-loop text at out₀ i₀ k₀ out i k = length text - i
 
--- src/lib.rt:522:5
 loop-holds : tie.Need-loop-holds Inv-loop μ-loop
 loop-holds c = record { storable = c .before .before .pre; same = refl }
 
--- src/lib.rt:523:15
 entry-at-requires : tie.Need-entry-at-requires Inv-loop μ-loop
 entry-at-requires c κs = c .loop .inv .storable .within
 
--- src/lib.rt:525:17
 enum-told : tie.Need-enum-told Inv-loop μ-loop
 enum-told c = search needs
 
--- src/lib.rt:525:17
 same-length : tie.Need-same-length Inv-loop μ-loop
 same-length c = storing-length (number-item 2) 0 (number-item-laws 2) (number-item-solid 2) zero-fits entry _ _ _ _ _ (c .before .before .before .loop .inv) ∙ puts-length (now (c .before .before .before .before .before .before .args .out)) 0 (codes-at entries entry (now (c .before .before .before .before .before .before .args .text)) (c .before .before .before .before .before .before .args .at))
 
--- src/lib.rt:525:17
 returns : tie.Need-returns Inv-loop μ-loop
 returns c =
     let q = subst (SawEntry (now (c .before .before .before .before .before .before .args .text)) (c .before .before .before .loop .i)) (c .enum-told .given .1) (c .before .before .entry-at .ensures) in
     absurd (store-bad (number-item 2) 0 (number-item-laws 2) (number-item-solid 2) zero-fits entry _ _ _ _ _ _ (c .before .before .before .loop .inv) (q .same))
 
--- src/lib.rt:527:23
 enum-known-v : tie.Need-enum-known-v Inv-loop μ-loop
 enum-known-v c = search needs
 
--- src/lib.rt:528:33
 clip-requires : tie.Need-clip-requires Inv-loop μ-loop
 clip-requires c κs = search needs
 
--- src/lib.rt:528:17
 put-requires : tie.Need-put-requires Inv-loop μ-loop
 put-requires c κs =
     let q = subst (SawEntry (now (c .before .before .before .before .before .before .before .before .before .args .text)) (c .before .before .before .before .before .before .loop .i)) (c .before .before .before .v .given .1) (c .before .before .before .before .before .entry-at .ensures) in
     let r = store-room (number-item 2) 0 (number-item-laws 2) (number-item-solid 2) zero-fits entry _ _ _ _ _ (c .before .before .before .v .given .0 .1 .1 .0) (c .before .before .before .v .given .0 .0) (separator-of (c .before .before .before .v .given .0 .1 .0)) (c .before .before .before .before .before .before .loop .inv) (q .same) in
     omega arith
 
--- src/lib.rt:531:25
 enum-told-2 : tie.Need-enum-told-2 Inv-loop μ-loop
 enum-told-2 c = search needs
 
--- src/lib.rt:531:25
 same-length-2 : tie.Need-same-length-2 Inv-loop μ-loop
 same-length-2 c = c .before .before .before .before .put .kept .0 ∙ storing-length (number-item 2) 0 (number-item-laws 2) (number-item-solid 2) zero-fits entry _ _ _ _ _ (c .before .before .before .before .before .before .before .before .before .before .before .loop .inv) ∙ puts-length (now (c .before .before .before .before .before .before .before .before .before .before .before .before .before .before .args .out)) 0 (codes-at entries entry (now (c .before .before .before .before .before .before .before .before .before .before .before .before .before .before .args .text)) (c .before .before .before .before .before .before .before .before .before .before .before .before .before .before .args .at))
 
--- src/lib.rt:531:25
 returns-2 : tie.Need-returns-2 Inv-loop μ-loop
 returns-2 c =
     let t = now (c .before .before .before .before .before .before .before .before .before .before .before .before .before .before .args .text) in
@@ -82,11 +72,9 @@ returns-2 c =
     let x = c .before .before .before .before .before .before .before .before .v .given .0 in
     store-last (number-item 2) 0 (number-item-laws 2) (number-item-solid 2) zero-fits entry _ _ _ _ _ _ _ (x .0) _ (c .before .before .before .before .before .before .before .before .before .before .before .loop .inv) (q .same ∙ ap (λ (z : Behind). ok (x .0, separator-of z) (drop (x .1 .1 .0) t)) (c .enum-told2 .given .1)) (subst (λ (z : ℕ). Wrote (c .before .before .before .before .before .before .before .before .before .before .before .loop .out) (z ∷ []) (c .before .before .before .before .put .last .0) (c .before .before .before .before .before .before .before .before .before .before .before .loop .k) (c .before .before .before .before .put .result)) (c .before .before .before .before .before .clip .ensures) (c .before .before .before .before .put .ensures))
 
--- src/lib.rt:534:25
 enum-told-3 : tie.Need-enum-told-3 Inv-loop μ-loop
 enum-told-3 c = search needs
 
--- src/lib.rt:522:5
 loop-less : tie.Need-loop-less Inv-loop μ-loop
 loop-less c =
     let t = now (c .before .before .before .before .before .before .before .before .before .before .before .before .before .before .args .text) in
@@ -96,7 +84,6 @@ loop-less c =
     let w = q .within in
     omega arith
 
--- src/lib.rt:522:5
 loop-again : tie.Need-loop-again Inv-loop μ-loop
 loop-again c =
     let t = now (c .before .before .before .before .before .before .before .before .before .before .before .before .before .before .args .text) in

@@ -1,3 +1,4 @@
+-- `channel_file::store_items` meets its contract. Assumes nothing.
 use Rattle.channel_file.proofs.Buffers.{Storing, store-bad, store-space, store-last, store-room, storing-length, wrote-length, puts-length}
 use Rattle.channel_file.specs.declared.Behind.{Behind}
 use Rattle.channel_file.specs.Steps.{token-of, separator-of, Saw, SawItem, puts, Wrote, codes-at}
@@ -27,48 +28,38 @@ Inv-loop text at out₀ i₀ k₀ out i k = Storing tokens node text (puts out�
 abbrev μ-loop : tie.MeasureT-loop
 μ-loop text at out₀ i₀ k₀ out i k = length text - i
 
--- src/lib.rt:495:5
 loop-holds : tie.Need-loop-holds Inv-loop μ-loop
 loop-holds c = record { storable = c .before .before .pre; same = refl }
 
--- src/lib.rt:496:15
 item-at-requires : tie.Need-item-at-requires Inv-loop μ-loop
 item-at-requires c κs = c .loop .inv .storable .within
 
--- src/lib.rt:498:17
 enum-told : tie.Need-enum-told Inv-loop μ-loop
 enum-told c = search needs
 
--- src/lib.rt:498:17
 same-length : tie.Need-same-length Inv-loop μ-loop
 same-length c = storing-length token-item token-T token-item-laws token-solid T-fits node _ _ _ _ _ (c .before .before .before .loop .inv) ∙ puts-length (now (c .before .before .before .before .before .before .args .out)) 0 (codes-at tokens node (now (c .before .before .before .before .before .before .args .text)) (c .before .before .before .before .before .before .args .at))
 
--- src/lib.rt:498:17
 returns : tie.Need-returns Inv-loop μ-loop
 returns c =
     let q = subst (SawItem token-item (now (c .before .before .before .before .before .before .args .text)) (c .before .before .before .loop .i)) (c .enum-told .given .1) (c .before .before .item-at .ensures) in
     absurd (store-bad token-item token-T token-item-laws token-solid T-fits node _ _ _ _ _ _ (c .before .before .before .loop .inv) (q .same))
 
--- src/lib.rt:500:25
 enum-known-x : tie.Need-enum-known-x Inv-loop μ-loop
 enum-known-x c = search needs
 
--- src/lib.rt:501:17
 put-node-requires : tie.Need-put-node-requires Inv-loop μ-loop
 put-node-requires c κs =
     let q = subst (SawItem token-item (now (c .before .before .before .before .before .before .before .before .args .text)) (c .before .before .before .before .before .loop .i)) (c .before .before .x .given .1) (c .before .before .before .before .item-at .ensures) in
     let r = store-room token-item token-T token-item-laws token-solid T-fits node _ _ _ _ _ (c .before .before .x .given .0 .1 .1 .0) (token-of (c .before .before .x .given .0 .0)) (separator-of (c .before .before .x .given .0 .1 .0)) (c .before .before .before .before .before .loop .inv) (q .same) in
     omega arith
 
--- src/lib.rt:504:25
 enum-told-2 : tie.Need-enum-told-2 Inv-loop μ-loop
 enum-told-2 c = search needs
 
--- src/lib.rt:504:25
 same-length-2 : tie.Need-same-length-2 Inv-loop μ-loop
 same-length-2 c = c .before .before .before .before .put-node .kept .0 ∙ storing-length token-item token-T token-item-laws token-solid T-fits node _ _ _ _ _ (c .before .before .before .before .before .before .before .before .before .before .loop .inv) ∙ puts-length (now (c .before .before .before .before .before .before .before .before .before .before .before .before .before .args .out)) 0 (codes-at tokens node (now (c .before .before .before .before .before .before .before .before .before .before .before .before .before .args .text)) (c .before .before .before .before .before .before .before .before .before .before .before .before .before .args .at))
 
--- src/lib.rt:504:25
 returns-2 : tie.Need-returns-2 Inv-loop μ-loop
 returns-2 c =
     let t = now (c .before .before .before .before .before .before .before .before .before .before .before .before .before .args .text) in
@@ -76,11 +67,9 @@ returns-2 c =
     let x = c .before .before .before .before .before .before .before .x .given .0 in
     store-last token-item token-T token-item-laws token-solid T-fits node _ _ _ _ _ _ _ (token-of (x .0)) _ (c .before .before .before .before .before .before .before .before .before .before .loop .inv) (q .same ∙ ap (λ (z : Behind). ok (token-of (x .0), separator-of z) (drop (x .1 .1 .0) t)) (c .enum-told2 .given .1)) (c .before .before .before .before .put-node .ensures)
 
--- src/lib.rt:507:25
 enum-told-3 : tie.Need-enum-told-3 Inv-loop μ-loop
 enum-told-3 c = search needs
 
--- src/lib.rt:495:5
 loop-less : tie.Need-loop-less Inv-loop μ-loop
 loop-less c =
     let t = now (c .before .before .before .before .before .before .before .before .before .before .before .before .before .args .text) in
@@ -90,7 +79,6 @@ loop-less c =
     let w = q .within in
     omega arith
 
--- src/lib.rt:495:5
 loop-again : tie.Need-loop-again Inv-loop μ-loop
 loop-again c =
     let t = now (c .before .before .before .before .before .before .before .before .before .before .before .before .before .args .text) in

@@ -1,3 +1,4 @@
+-- `channel_file::token_span` meets its contract. Assumes nothing.
 use Rattle.channel_file.proofs.Accepted.{accepted, not-accepted, spans-refused, spans-tokens, some-text}
 use denote.Ref.{now}
 use lib.ListN.{length}
@@ -11,29 +12,23 @@ use Rattle.channel_file.proofs.token_span.Reads as reads
 use Rattle.channel_file.proofs.token_span.Lts as lts
 use Rattle.channel_file.proofs.check_form.Reads as check-form-reads
 
--- src/lib.rt:409:11
 check-form-requires : tie.Need-check-form-requires
 check-form-requires c κs = search needs
 
--- src/lib.rt:410:32
 enum-told : tie.Need-enum-told
 enum-told c = search needs
 
--- src/lib.rt:411:25
 enum-known-rule-at : tie.Need-enum-known-rule-at
 enum-known-rule-at c = search needs
 
--- src/lib.rt:411:68
 sub-t6 : tie.Need-sub-t6
 sub-t6 c =
     let h = some-text (now (c .before .before .before .before .before .args .text)) (accepted (now (c .before .before .before .before .before .args .text)) (sym (c .before .rule-at .given .1) ∙ c .before .before .before .check-form .ensures)) in
     omega arith
 
--- src/lib.rt:406:1
 returns : tie.Need-returns
 returns c = spans-refused (now (c .before .before .before .before .args .text)) _ (not-accepted (now (c .before .before .before .before .args .text)) _ (sym (c .enum-told .given .1) ∙ c .before .before .check-form .ensures))
 
--- src/lib.rt:406:1
 returns-2 : tie.Need-returns-2
 returns-2 c = spans-tokens (now (c .before .before .before .before .before .args .text)) (accepted (now (c .before .before .before .before .before .args .text)) (sym (c .before .rule-at .given .1) ∙ c .before .before .before .check-form .ensures))
 

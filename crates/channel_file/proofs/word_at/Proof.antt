@@ -18,11 +18,9 @@ Inv-loop text at key i₀ j₀ i j = (j ≤ length key) × (i ≤ length text) �
 abbrev μ-loop : tie.MeasureT-loop
 μ-loop text at key i₀ j₀ i j = length key - j
 
--- src/lib.rt:205:5
 loop-holds : tie.Need-loop-holds Inv-loop μ-loop
 loop-holds c = (omega arith, c .pre, refl)
 
--- src/lib.rt:207:13
 returns : tie.Need-returns Inv-loop μ-loop
 returns c =
     record {
@@ -30,15 +28,12 @@ returns c =
       within = search needs;
     }
 
--- src/lib.rt:209:12
 shared-slice-read-if2 : tie.Need-shared-slice-read-if2 Inv-loop μ-loop
 shared-slice-read-if2 c = search needs
 
--- src/lib.rt:209:23
 shared-slice-read-if2-2 : tie.Need-shared-slice-read-if2-2 Inv-loop μ-loop
 shared-slice-read-if2-2 c = search needs
 
--- src/lib.rt:210:13
 returns-2 : tie.Need-returns-2 Inv-loop μ-loop
 returns-2 c =
     record {
@@ -46,19 +41,15 @@ returns-2 c =
       within = search needs;
     }
 
--- src/lib.rt:212:9
 add-i : tie.Need-add-i Inv-loop μ-loop
 add-i c = search needs
 
--- src/lib.rt:213:9
 add-j : tie.Need-add-j Inv-loop μ-loop
 add-j c = search needs
 
--- src/lib.rt:205:5
 loop-less : tie.Need-loop-less Inv-loop μ-loop
 loop-less c = search needs
 
--- src/lib.rt:205:5
 loop-again : tie.Need-loop-again Inv-loop μ-loop
 loop-again c = (
   omega arith,
@@ -66,7 +57,6 @@ loop-again c = (
   c .before .before .before .before .before .loop .inv .2 ∙ word-on (c .before .before .before .before .before .before .args .key .now) (c .before .before .before .before .before .before .args .text .now) (c .before .before .before .before .before .loop .j) (c .before .before .before .before .before .loop .i) (c .before .before .before .before .loop-test .taken) (c .before .before .before .if1 .left) (c .if2 .left),
 )
 
--- src/lib.rt:199:1
 returns-3 : tie.Need-returns-3 Inv-loop μ-loop
 returns-3 c = record { same = c .before .loop .inv .2 ∙ rw (over _ _ (c .loop-test .left)); within = search needs }
 
