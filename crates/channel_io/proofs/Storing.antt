@@ -255,14 +255,14 @@ module _ (c : Contents) (meet rule : List ℕ) where
   put-same bytes output old h (some r) e = refl
 
 pub reads-kept :
-    (t M R M′ R′ meet rule meet′ rule′ : List ℕ) (r : FileRead) (events values top entries items : ℕ) (f : Formed t M R M′ R′ events values top entries items)
-    → Keeps events values top items (take entries M′) (take (3 * items) R′) meet rule meet′ rule′ r → Reads t meet rule meet′ rule′ r
+    (t E N E′ N′ meet rule meet′ rule′ : List ℕ) (r : FileRead) (events values top entries items : ℕ) (f : Formed t E N E′ N′ events values top entries items)
+    → Keeps events values top items (take entries E′) (take (3 * items) N′) meet rule meet′ rule′ r → Reads t meet rule meet′ rule′ r
 unfolding read-answer meet-after rule-after
-reads-kept t M R M′ R′ meet rule meet′ rule′ r events values top entries items f k =
+reads-kept t E N E′ N′ meet rule meet′ rule′ r events values top entries items f k =
     let c = f .inside in
     let eE = f .entry-bytes in
     let eN = f .node-bytes in
-    let same : stored-refusal events values top (take entries M′) (take (3 * items) R′) meet rule ≡ contents-read-refusal c meet rule =
+    let same : stored-refusal events values top (take entries E′) (take (3 * items) N′) meet rule ≡ contents-read-refusal c meet rule =
     ap₂ (λ (x y : List ℕ). stored-refusal events values top x y meet rule) eE eN
     ∙ ap₂ (λ (x y : ℕ). stored-refusal x y top (meet-bytes c) (rule-bytes c) meet rule) (f .events-is) (f .values-is)
     ∙ ap (λ (x : ℕ). stored-refusal (c .events) (c .values) x (meet-bytes c) (rule-bytes c) meet rule) (f .top-is)
