@@ -32,7 +32,7 @@ pub decimal-small : (k v : ℕ) → v < 10 → decimal k v ≡ (48 + v) ∷ []
 decimal-small zero v h = refl
 decimal-small (suc k) v h = rw (lt-ltb v 10 h)
 
-decimal-large : (k v : ℕ) → 10 ≤ v → decimal (suc k) v ≡ decimal k (v / 10) ++ ((48 + v % 10) ∷ [])
+pub decimal-large : (k v : ℕ) → 10 ≤ v → decimal (suc k) v ≡ decimal k (v / 10) ++ ((48 + v % 10) ∷ [])
 decimal-large k v h = rw (le-ltb v 10 h)
 
 decimal-more₁ : (t : Bool) (k v : ℕ) → ltb v 10 ≡ t → v < limit k → (10 ≤ v → decimal (suc k) v ≡ decimal k v) → decimal (suc k) v ≡ decimal k v
@@ -40,7 +40,7 @@ decimal-more₁ true k v e h f = decimal-small (suc k) v (ltb-true v 10 e) ∙ s
 decimal-more₁ false k v e h f = f (ltb-false v 10 e)
 
 -- more room changes nothing where there is enough
-decimal-more : (k v : ℕ) → v < limit k → decimal (suc k) v ≡ decimal k v
+pub decimal-more : (k v : ℕ) → v < limit k → decimal (suc k) v ≡ decimal k v
 decimal-more zero v h = decimal-small (suc zero) v h ∙ sym (decimal-small zero v h)
 decimal-more (suc k) v h =
     decimal-more₁ (ltb v 10) (suc k) v refl h

@@ -1,0 +1,2 @@
+-- Texts put one after another; numerals.
+pub mod Outputs

@@ -1,0 +1,126 @@
+-- Texts put one after another, and numerals digit by digit.
+-- Assumes nothing.
+use Prim.Native.Nat.{ℕ, zero, suc, _+_, _*_, _/_, _%_, _≤_, _<_, min}
+use mathlib.Core.Path.{_≡_, refl, sym, ap, _∙_, subst}
+use mathlib.Core.Logic.{_⊎_, inl, inr}
+use mathlib.Core.List.{List, [], _∷_, _++_, append-nil}
+use mathlib.Core.Bool.{Bool, true, false}
+use native.Mathlib.Omega.{arith}
+use native.Mathlib.Numerals.{add-one}
+use lib.Dec.{leb}
+use lib.ListN.{length, getD, take, drop, set, length-append}
+use lib.Seq.{take-suc, set-out, sets, sets-eq, length-sets}
+use borrow.Author.Tests.{leb-true, leb-false}
+use Rattle.text_format.specs.Decimal.{limit, decimal}
+use Rattle.text_format.proofs.Decimal.{decimal-small, decimal-large, decimal-more}
+use Rattle.text_output.specs.Output.{numeral, Puts}
+
+-- ---- buffers
+
+sets-behind : (l : List ℕ) (i : ℕ) (s : List ℕ) → length l ≤ i → sets l i s ≡ l
+sets-behind l i [] h = refl
+sets-behind l i (b ∷ s) h =
+    ap (λ (z : List ℕ). sets z (suc i) s) (set-out l i b h) ∙ sets-behind l (suc i) s (omega arith)
+
+sets-then : (l : List ℕ) (i : ℕ) (s u : List ℕ) → sets l i (s ++ u) ≡ sets (sets l i s) (i + length s) u
+sets-then l i [] u = let e : i ≡ i + 0 = omega arith in ap (λ (n : ℕ). sets l n u) e
+sets-then l i (b ∷ s) u =
+    let e : suc i + length s ≡ i + suc (length s) = omega arith in
+    sets-then (set l i b) (suc i) s u ∙ ap (λ (n : ℕ). sets (sets (set l i b) (suc i) s) n u) e
+
+-- the offset may be clipped
+sets-from : (l : List ℕ) (i : ℕ) (s : List ℕ) → sets l (min i (length l)) s ≡ sets l i s
+sets-from l i s = go (leb i (length l)) refl
+  where
+    go : (b : Bool) → leb i (length l) ≡ b → sets l (min i (length l)) s ≡ sets l i s
+    go true e =
+        let h = leb-true i (length l) e in
+        let n : min i (length l) ≡ i = omega arith in
+        ap (λ (k : ℕ). sets l k s) n
+    go false e =
+        let h = leb-false i (length l) e in
+        sets-behind l (min i (length l)) s (omega arith) ∙ sym (sets-behind l i s (omega arith))
+
+-- ---- texts put one after another
+
+pub puts-length : {l s l′ : List ℕ} {i r : ℕ} → Puts l s l′ i r → length l′ ≡ length l
+puts-length {l} {s} {l′} {i} h = ap length (h .same) ∙ length-sets l i s
+
+pub puts-none : (l : List ℕ) (i r : ℕ) → r ≡ min i (length l) → Puts l [] l i r
+puts-none l i r e = record { same = refl; next = omega arith }
+
+pub puts-then : {l s l′ u l″ : List ℕ} {i r q : ℕ} → Puts l s l′ i r → Puts l′ u l″ r q → Puts l (s ++ u) l″ i q
+puts-then {l} {s} {l′} {u} {l″} {i} {r} {q} h g =
+    let n : length (sets l i s) ≡ length l = length-sets l i s in
+    let e : r ≡ min (i + length s) (length (sets l i s)) = h .next ∙ ap (λ (k : ℕ). min (i + length s) k) (sym n) in
+    let d : q ≡ min (r + length u) (length l′) = g .next in
+    let f : r ≡ min (i + length s) (length l) = h .next in
+    record {
+      same =
+          g .same ∙ ap (λ (z : List ℕ). sets z r u) (h .same) ∙ ap (λ (k : ℕ). sets (sets l i s) k u) e
+          ∙ sets-from (sets l i s) (i + length s) u ∙ sym (sets-then l i s u);
+      next = omega (arith, puts-length h, length-append s u);
+    }
+
+-- the same text
+pub puts-as : {l s u l′ : List ℕ} {i r : ℕ} → s ≡ u → Puts l s l′ i r → Puts l u l′ i r
+puts-as {l} {s} {u} {l′} {i} {r} e h = subst (λ (z : List ℕ). Puts l z l′ i r) e h
+
+-- a byte behind the end
+pub puts-out : (l : List ℕ) (i b r : ℕ) → length l ≤ i → r ≡ length l → Puts l (b ∷ []) l i r
+puts-out l i b r h e = record { same = sym (set-out l i b h); next = omega arith }
+
+-- one byte more of a word
+pub puts-on : {l l′ l″ : List ℕ} {i r q : ℕ} (w : List ℕ) (j : ℕ) → j < length w → Puts l (take j w) l′ i r
+    → Puts l′ (getD w j 0 ∷ []) l″ r q → Puts l (take (j + 1) w) l″ i q
+puts-on w j h g k =
+    let e : take j w ++ (getD w j 0 ∷ []) ≡ take (j + 1) w = sym (ap (λ (n : ℕ). take n w) (add-one j) ∙ take-suc w j 0 h) in
+    puts-as e (puts-then g k)
+
+-- a text that has room stands at the front, and what lies behind it is as it was
+pub record Front (l s l′ : List ℕ) (r : ℕ) : Type 0 where
+  pub end : r ≡ length s
+  pub whole : l′ ≡ s ++ drop (length s) l
+
+pub puts-front : {l s l′ : List ℕ} {r : ℕ} → Puts l s l′ 0 r → length s ≤ length l → Front l s l′ r
+puts-front {l} {s} {l′} {r} h fits =
+    let n : r ≡ min (0 + length s) (length l) = h .next in
+    let e : 0 + length s ≡ length s = omega arith in
+    record {
+      end = omega arith;
+      whole = h .same ∙ sets-eq s l 0 (omega arith) ∙ ap (λ (k : ℕ). s ++ drop k l) e;
+    }
+
+-- ---- numerals
+
+-- enough digits are enough
+decimal-rise : (j k v : ℕ) → v < limit k → decimal (j + k) v ≡ decimal k v
+decimal-rise zero k v h = let e : 0 + k ≡ k = omega arith in ap (λ (n : ℕ). decimal n v) e
+decimal-rise (suc j) k v h =
+    let e : suc j + k ≡ suc (j + k) = omega arith in
+    ap (λ (n : ℕ). decimal n v) e ∙ decimal-more (j + k) v (limit-rise j) ∙ decimal-rise j k v h
+  where
+    limit-rise : (j : ℕ) → v < limit (j + k)
+    limit-rise zero = let e : 0 + k ≡ k = omega arith in subst (λ (n : ℕ). v < limit n) (sym e) h
+    limit-rise (suc j) =
+        let g = limit-rise j in
+        let e : suc j + k ≡ suc (j + k) = omega arith in
+        subst (λ (n : ℕ). v < limit n) (sym e) (omega arith)
+
+pub numeral-digit : (v : ℕ) → v < 10 → numeral v ≡ (48 + v) ∷ []
+unfolding numeral
+numeral-digit v h = decimal-small 19 v h
+
+pub numeral-more : (v : ℕ) → 10 ≤ v → v < 18446744073709551616 → numeral v ≡ numeral (v / 10) ++ ((48 + v % 10) ∷ [])
+unfolding numeral
+numeral-more v h g =
+    decimal-large 18 v h ∙ ap (λ (s : List ℕ). s ++ ((48 + v % 10) ∷ [])) (sym (decimal-more 18 (v / 10) (omega arith)))
+
+-- with fewer digits allowed: two and three behind the first
+pub numeral-three : (v : ℕ) → v < 1000 → numeral v ≡ decimal 2 v
+unfolding numeral
+numeral-three v h = decimal-rise 17 2 v h
+
+pub numeral-four : (v : ℕ) → v < 10000 → numeral v ≡ decimal 3 v
+unfolding numeral
+numeral-four v h = decimal-rise 16 3 v h
