@@ -1,4 +1,4 @@
--- Texts put piece by piece: what is still to be put, and the texts of series from an item on.
+-- The texts of series from an item on.
 -- Assumes nothing.
 use Prim.Native.Nat.{ℕ, suc, _+_, _≤_, _<_}
 use mathlib.Core.Path.{_≡_, refl, sym, ap, _∙_, subst}
@@ -6,59 +6,28 @@ use mathlib.Core.List.{List, [], _∷_, _++_, append-assoc, append-nil}
 use mathlib.Core.Bool.{Bool, true, false, cond}
 use mathlib.Core.Option.{Option, some, none}
 use native.Mathlib.Omega.{arith}
-use lib.Dec.{eqb}
-use borrow.Author.Tests.{eqb-true, eqb-false, ne-eqb}
-use lib.ListN.{length, drop, getD, length-append, length-drop}
-use Rattle.text_format.specs.Series.{separator-byte, space, newline, number-item}
+use lib.Dec.{eqb, ltb}
+use borrow.Author.Tests.{eqb-true, ltb-true, ltb-false}
+use lib.ListN.{length, drop, getD, length-drop}
+use Rattle.text_format.specs.Series.{space, newline}
+use Rattle.text_output.specs.Output.{numeral, Puts}
+use Rattle.text_output.proofs.Outputs.{puts-as, puts-rest, numeral-three}
 use Rattle.channel_file.specs.ChannelFile.{Token, token-T, token-A, token-V, token-X, token-G, token-O, number, token-text}
-use Rattle.channel_file.specs.FileFormat.{token-item, tokens, entries}
-use Rattle.channel_file.specs.Steps.{puts, Wrote}
+use Rattle.channel_file.specs.FileFormat.{tokens, entries}
 use Rattle.channel_file.proofs.FileFormat.{token-print}
 use Rattle.channel_file.proofs.Offsets.{here, over}
-use Rattle.channel_file.proofs.Buffers.{rest-then, puts-length, wrote-length}
 use Rattle.channel_writer.specs.Writing.{bare-token, token-of-one, node-token, with-token, node-tokens}
 use Rattle.channel_writer.specs.Steps.{node-text, IsSome, items-of, nodes-text, behind}
-
--- ---- what is still to be put: T is the buffer that comes out, and z the offset behind all
-
-pub record Putting (T : List ℕ) (z : ℕ) (l : List ℕ) (i : ℕ) (rest : List ℕ) : Type 0 where
-  pub same : T ≡ puts l i rest
-  pub room : i + length rest ≤ length l
-  pub ends : z ≡ i + length rest
-
-pub putting-all : (l : List ℕ) (i : ℕ) (s : List ℕ) → i + length s ≤ length l → Putting (puts l i s) (i + length s) l i s
-putting-all l i s h = record { same = refl; room = h; ends = refl }
-
-pub putting-then : (T : List ℕ) (z : ℕ) (l l′ s u : List ℕ) (i r : ℕ) → Putting T z l i (s ++ u) → Wrote l s l′ i r → Putting T z l′ r u
-putting-then T z l l′ s u i r g w =
-    let a : i + length (s ++ u) ≤ length l = g .room in
-    let e : z ≡ i + length (s ++ u) = g .ends in
-    let n : r ≡ i + length s = w .next in
-    record {
-      same = rest-then T l l′ s u i r (g .same) w;
-      room = omega (arith, length-append s u, wrote-length l s l′ i r w);
-      ends = omega (arith, length-append s u);
-    }
-
-pub putting-room : (T : List ℕ) (z : ℕ) (l s u : List ℕ) (i : ℕ) → Putting T z l i (s ++ u) → i + length s ≤ length l
-putting-room T z l s u i g = let a : i + length (s ++ u) ≤ length l = g .room in omega (arith, length-append s u)
-
-pub putting-length : (T : List ℕ) (z : ℕ) (l : List ℕ) (i : ℕ) (s : List ℕ) → Putting T z l i s → length l ≡ length T
-putting-length T z l i s g = sym (ap length (g .same) ∙ puts-length l i s)
-
--- nothing is left
-pub putting-done : (l s l′ : List ℕ) (i r : ℕ) (u : List ℕ) → Putting (puts l i s) (i + length s) l′ r u → u ≡ [] → Wrote l s l′ i r
-putting-done l s l′ i r u g e =
-    let q : i + length s ≡ r + length u = g .ends in
-    record { same = sym (g .same ∙ ap (puts l′ r) e); next = omega (arith, ap length e) }
+use Rattle.channel_writer.proofs.Nodes.{here-three}
 
 -- ---- the byte behind an item
 
-pub behind-more : (s : List ℕ) (j : ℕ) → j < length s → behind (drop j s) ≡ 32
-behind-more s j h = ap behind (here s j h)
-
-pub behind-none : (s : List ℕ) (j : ℕ) → length s ≤ j → behind (drop j s) ≡ 10
-behind-none s j h = ap behind (over s j h)
+pub behind-at : (s : List ℕ) (j : ℕ) → behind (drop j s) ≡ cond (ltb j (length s)) 32 10
+behind-at s j = go (ltb j (length s)) refl
+  where
+    go : (t : Bool) → ltb j (length s) ≡ t → behind (drop j s) ≡ cond t 32 10
+    go true e = ap behind (here s j (ltb-true j (length s) e))
+    go false e = ap behind (over s j (ltb-false j (length s) e))
 
 -- ---- entries
 
@@ -116,7 +85,7 @@ left₀ (some x) (some xs) h = let z : _≡_ {A = ℕ} 0 1 = cc in omega arith
 left₀ (some x) none h = let z : _≡_ {A = ℕ} 0 1 = cc in omega arith
 left₀ none y h = let z : _≡_ {A = ℕ} 0 1 = cc in omega arith
 
-none-left : (s : List ℕ) → node-tokens s ≡ some [] → s ≡ []
+pub none-left : (s : List ℕ) → node-tokens s ≡ some [] → s ≡ []
 none-left [] h = refl
 none-left (k ∷ []) h = let z : _≡_ {A = ℕ} 0 1 = cc in absurd (omega arith)
 none-left (k ∷ a ∷ []) h = let z : _≡_ {A = ℕ} 0 1 = cc in absurd (omega arith)
@@ -154,37 +123,13 @@ three-left (k ∷ []) h l = absurd h
 three-left (k ∷ a ∷ []) h l = absurd h
 three-left (k ∷ a ∷ b ∷ s) h l = omega arith
 
--- three bytes and what is behind them
-pub here-three : (t : List ℕ) (i : ℕ) → i + 3 ≤ length t → drop i t ≡ getD t i 0 ∷ getD t (i + 1) 0 ∷ getD t (i + 2) 0 ∷ drop (i + 3) t
-here-three t i h =
-    let e₂ : i + 1 + 1 ≡ i + 2 = omega arith in
-    let e₃ : i + 2 + 1 ≡ i + 3 = omega arith in
-    here t i (omega arith)
-    ∙ ap (λ (z : List ℕ). getD t i 0 ∷ z) (here t (i + 1) (omega arith) ∙ ap (λ (n : ℕ). getD t (i + 1) 0 ∷ drop n t) e₂)
-    ∙ ap (λ (z : List ℕ). getD t i 0 ∷ getD t (i + 1) 0 ∷ z) (here t (i + 2) (omega arith) ∙ ap (λ (n : ℕ). getD t (i + 2) 0 ∷ drop n t) e₃)
-
 -- ---- an item and the byte behind it
 
-module _ (T : List ℕ) (z : ℕ) (l rest s u : List ℕ) (i b : ℕ) (g : Putting T z l i rest) (e : rest ≡ s ++ (b ∷ u)) where
-  pub item-room : i + length s ≤ length l
-  item-room = putting-room T z l s (b ∷ u) i (subst (Putting T z l i) e g)
-
-  pub behind-room : (l′ : List ℕ) (n : ℕ) → Wrote l s l′ i n → n < length l′
-  behind-room l′ n w =
-      let h : n + length (b ∷ []) ≤ length l′ = putting-room T z l′ (b ∷ []) u n (putting-then T z l l′ s (b ∷ u) i n (subst (Putting T z l i) e g) w) in
-      omega arith
-
-  pub item-put : (l′ l″ : List ℕ) (n r : ℕ) → Wrote l s l′ i n → Wrote l′ (b ∷ []) l″ n r → Putting T z l″ r u
-  item-put l′ l″ n r w v = putting-then T z l′ l″ (b ∷ []) u n r (putting-then T z l l′ s (b ∷ u) i n (subst (Putting T z l i) e g) w) v
-
-pub entries-at : (s : List ℕ) (j : ℕ) → j < length s → entries .print (drop j s) ≡ number (getD s j 0) ++ (behind (drop (j + 1) s) ∷ entries .print (drop (j + 1) s))
-entries-at s j h = ap (entries .print) (here s j h) ∙ entries-step (getD s j 0) (drop (j + 1) s)
-
-pub entries-more : (s : List ℕ) (j : ℕ) → j < length s → j + 1 < length s → entries .print (drop j s) ≡ number (getD s j 0) ++ (32 ∷ entries .print (drop (j + 1) s))
-entries-more s j h l = entries-at s j h ∙ ap (λ (b : ℕ). number (getD s j 0) ++ (b ∷ entries .print (drop (j + 1) s))) (behind-more s (j + 1) l)
-
-pub entries-end : (s : List ℕ) (j : ℕ) → j < length s → length s ≤ j + 1 → entries .print (drop j s) ≡ number (getD s j 0) ++ (10 ∷ entries .print (drop (j + 1) s))
-entries-end s j h l = entries-at s j h ∙ ap (λ (b : ℕ). number (getD s j 0) ++ (b ∷ entries .print (drop (j + 1) s))) (behind-none s (j + 1) l)
+pub entries-at : (s : List ℕ) (j b : ℕ) → j < length s → b ≡ cond (ltb (j + 1) (length s)) 32 10
+    → entries .print (drop j s) ≡ number (getD s j 0) ++ (b ∷ entries .print (drop (j + 1) s))
+entries-at s j b h e =
+    ap (entries .print) (here s j h) ∙ entries-step (getD s j 0) (drop (j + 1) s)
+    ∙ ap (λ (x : ℕ). number (getD s j 0) ++ (x ∷ entries .print (drop (j + 1) s))) (behind-at s (j + 1) ∙ sym e)
 
 abbrev pub node-at : List ℕ → ℕ → List ℕ
 node-at s j = node-text (getD s j 0) (getD s (j + 1) 0) (getD s (j + 2) 0)
@@ -198,13 +143,19 @@ module _ (s : List ℕ) (j : ℕ) (some-tokens : IsSome (node-tokens (drop j s))
   pub tokens-on : IsSome (node-tokens (drop (j + 3) s))
   tokens-on = nodes-step (getD s j 0) (getD s (j + 1) 0) (getD s (j + 2) 0) (drop (j + 3) s) (subst (λ (z : List ℕ). IsSome (node-tokens z)) (here-three s j whole-node) some-tokens) .0
 
-  pub nodes-at : nodes-text (drop j s) ≡ node-at s j ++ (behind (drop (j + 3) s) ∷ nodes-text (drop (j + 3) s))
-  nodes-at =
+  pub nodes-at : (b : ℕ) → b ≡ cond (ltb (j + 3) (length s)) 32 10
+      → nodes-text (drop j s) ≡ node-at s j ++ (b ∷ nodes-text (drop (j + 3) s))
+  nodes-at b e =
       ap nodes-text (here-three s j whole-node)
       ∙ nodes-step (getD s j 0) (getD s (j + 1) 0) (getD s (j + 2) 0) (drop (j + 3) s) (subst (λ (z : List ℕ). IsSome (node-tokens z)) (here-three s j whole-node) some-tokens) .1
+      ∙ ap (λ (x : ℕ). node-at s j ++ (x ∷ nodes-text (drop (j + 3) s))) (behind-at s (j + 3) ∙ sym e)
 
-  pub nodes-more : j + 3 < length s → nodes-text (drop j s) ≡ node-at s j ++ (32 ∷ nodes-text (drop (j + 3) s))
-  nodes-more l = nodes-at ∙ ap (λ (b : ℕ). node-at s j ++ (b ∷ nodes-text (drop (j + 3) s))) (behind-more s (j + 3) l)
+-- ---- numbers of one byte
 
-  pub nodes-end : length s ≤ j + 3 → nodes-text (drop j s) ≡ node-at s j ++ (10 ∷ nodes-text (drop (j + 3) s))
-  nodes-end l = nodes-at ∙ ap (λ (b : ℕ). node-at s j ++ (b ∷ nodes-text (drop (j + 3) s))) (behind-none s (j + 3) l)
+pub small-numeral : (key : List ℕ) (x v : ℕ) → x ≡ v → x < 256 → key ++ numeral x ≡ key ++ number v
+small-numeral key x v e h = ap (λ (s : List ℕ). key ++ s) (numeral-three x (omega arith) ∙ ap number e)
+
+-- an item and the byte behind it are put: what is left gives what was to be given
+pub item-put : {l T l′ l″ rest : List ℕ} {i z n r : ℕ} (s : List ℕ) (b : ℕ) (u : List ℕ) → rest ≡ s ++ (b ∷ u) → Puts l rest T i z
+    → Puts l s l′ i n → Puts l′ (b ∷ []) l″ n r → Puts l″ u T r z
+item-put s b u e g h k = puts-rest (b ∷ []) u (puts-rest s (b ∷ u) (puts-as e g) h) k

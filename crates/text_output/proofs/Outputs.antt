@@ -9,7 +9,7 @@ use native.Mathlib.Omega.{arith}
 use native.Mathlib.Numerals.{add-one}
 use lib.Dec.{leb}
 use lib.ListN.{length, getD, take, drop, set, length-append}
-use lib.Seq.{take-suc, set-out, sets, sets-eq, length-sets}
+use lib.Seq.{take-suc, take-at, set-out, sets, sets-eq, length-sets}
 use borrow.Author.Tests.{leb-true, leb-false}
 use Rattle.text_format.specs.Decimal.{limit, decimal}
 use Rattle.text_format.proofs.Decimal.{decimal-small, decimal-large, decimal-more}
@@ -77,7 +77,28 @@ puts-on w j h g k =
     let e : take j w ++ (getD w j 0 ∷ []) ≡ take (j + 1) w = sym (ap (λ (n : ℕ). take n w) (add-one j) ∙ take-suc w j 0 h) in
     puts-as e (puts-then g k)
 
--- a text that has room stands at the front, and what lies behind it is as it was
+-- ---- what is still to be put
+
+-- a part of a text is put: the rest gives what the whole text gives
+pub puts-rest : {l T l′ : List ℕ} {i z r : ℕ} (s u : List ℕ) → Puts l (s ++ u) T i z → Puts l s l′ i r → Puts l′ u T r z
+puts-rest {l} {T} {l′} {i} {z} {r} s u g h =
+    let k : Puts l (s ++ u) (sets l′ r u) i (min (r + length u) (length l′)) = puts-then h (record { same = refl; next = refl }) in
+    record { same = g .same ∙ sym (k .same); next = g .next ∙ sym (k .next) }
+
+-- the rest is empty
+pub puts-done : {l s l′ : List ℕ} {i r : ℕ} → Puts l′ [] (sets l i s) r (min (i + length s) (length l)) → r ≤ length l′ → Puts l s l′ i r
+puts-done {l} {s} {l′} {i} {r} g h =
+    let e : min (i + length s) (length l) ≡ min (r + 0) (length l′) = g .next in
+    record { same = sym (g .same); next = omega arith }
+
+pub puts-within : {l s l′ : List ℕ} {i r : ℕ} → Puts l s l′ i r → r ≤ length l′
+puts-within {l} {s} {l′} {i} {r} h =
+    let e : r ≡ min (i + length s) (length l) = h .next in
+    omega (arith, puts-length h)
+
+-- ---- a text that has room
+
+-- It stands at the front, and what lies behind it is as it was.
 pub record Front (l s l′ : List ℕ) (r : ℕ) : Type 0 where
   pub end : r ≡ length s
   pub whole : l′ ≡ s ++ drop (length s) l
@@ -90,6 +111,14 @@ puts-front {l} {s} {l′} {r} h fits =
       end = omega arith;
       whole = h .same ∙ sets-eq s l 0 (omega arith) ∙ ap (λ (k : ℕ). s ++ drop k l) e;
     }
+
+-- a text put into an array and copied from there
+pub puts-copied : {l s l′ old new : List ℕ} {n r : ℕ} → Puts l s l′ 0 n → length s ≤ length l → length s ≤ length old
+    → Puts old (take n l′) new 0 r → new ≡ s ++ drop (length s) old
+puts-copied {l} {s} {l′} {old} {new} {n} h room fits g =
+    let f = puts-front h room in
+    let e : take n l′ ≡ s = ap (take n) (f .whole) ∙ take-at s (drop (length s) l) n (sym (f .end)) in
+    puts-front (puts-as e g) fits .whole
 
 -- ---- numerals
 

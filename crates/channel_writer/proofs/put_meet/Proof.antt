@@ -1,80 +1,74 @@
-use Rattle.channel_writer.proofs.Texts.{Putting, putting-all, putting-length, putting-done, item-room, behind-room, item-put, entries-at, entries-more, entries-end, node-at, whole-node, tokens-on, nodes-at, nodes-more, nodes-end}
-use Rattle.channel_writer.proofs.Widths.{one-digit, two-digits, three-digits}
-use Rattle.channel_writer.specs.Steps.{node-text, IsSome, nodes-text, behind}
-use Rattle.channel_writer.specs.Writing.{node-tokens}
-use Rattle.channel_file.proofs.Buffers.{wrote-then, wrote-length, wrote-none, puts-length}
-use Rattle.channel_file.proofs.Offsets.{here, over}
-use Rattle.channel_file.specs.Steps.{Wrote, puts}
-use Rattle.channel_file.specs.FileFormat.{entries}
-use Rattle.channel_file.specs.ChannelFile.{Token, number}
-use Rattle.text_format.proofs.Decimal.{decimal-one, decimal-two, decimal-three}
-use denote.Ref.{now}
-use lib.ListN.{length, drop, getD, length-append}
+-- `put_meet` meets its contract. The invariant: the entries from here on give what all entries give.
+-- Assumes nothing.
+use Prim.Native.Nat.{_+_, _-_, _≤_, min}
+use mathlib.Core.Path.{refl, ap}
+use mathlib.Core.List.{[], _∷_}
 use native.Mathlib.Omega.{arith}
-use mathlib.Core.List.{List, [], _∷_, _++_}
-use mathlib.Core.Path.{_≡_, refl, sym, ap, ap₂, _∙_, subst}
-use Prim.Native.Nat.{ℕ, _+_, _-_, _≤_, _<_}
+use lib.ListN.{length, drop, getD}
+use lib.Seq.{sets}
+use Rattle.text_output.specs.Output.{Puts}
+use Rattle.text_output.proofs.Outputs.{puts-length, puts-then, puts-as, puts-done, puts-within}
+use Rattle.channel_file.proofs.Offsets.{over}
+use Rattle.channel_file.specs.ChannelFile.{number}
+use Rattle.channel_file.specs.FileFormat.{entries}
+use Rattle.channel_writer.proofs.Texts.{entries-at, item-put}
 use borrow.Author.Needs.{needs}
 use Rattle.channel_writer.proofs.put_meet.Statement.{statement}
 use Rattle.channel_writer.proofs.put_meet.Tie as tie
 use Rattle.channel_writer.proofs.put_meet.Reads as reads
 use Rattle.channel_writer.proofs.put_meet.Lts as lts
-use Rattle.channel_writer.proofs.put.Reads as put-reads
-use Rattle.channel_writer.proofs.put_number.Reads as put-number-reads
+use Rattle.channel_writer.proofs.behind.Reads as behind-reads
+use Rattle.channel_writer.proofs.put_keyed.Reads as put-keyed-reads
+use Rattle.text_output.proofs.put.Reads as put-reads
+use Rattle.text_output.proofs.put_word.Reads as put-word-reads
 
 abbrev Inv-loop : tie.InvT-loop
-Inv-loop out₀ at meet i₀ j₀ out i j = (j ≤ length meet) × Putting (puts out₀ at (entries .print meet)) (at + length (entries .print meet)) out i (entries .print (drop j meet))
+Inv-loop out₀ at meet n₀ i₀ t8 out n i = (i ≤ length meet) × (n ≤ length out) × Puts out (entries .print (drop i meet)) (sets out₀ n₀ (entries .print meet)) n (min (n₀ + length (entries .print meet)) (length out₀))
 
 abbrev μ-loop : tie.MeasureT-loop
-μ-loop out₀ at meet i₀ j₀ out i j = length meet - j
+μ-loop out₀ at meet n₀ i₀ t8 out n i = length meet - i
 
--- src/lib.rt:194:5
+slice-aggregate-put-word : tie.Need-slice-aggregate-put-word Inv-loop μ-loop
+slice-aggregate-put-word c = search needs
+
+put-word-requires : tie.Need-put-word-requires Inv-loop μ-loop
+put-word-requires c κs = search needs
+
 loop-holds : tie.Need-loop-holds Inv-loop μ-loop
-loop-holds c = (omega arith, putting-all (now (c .before .before .args .out)) (c .before .before .args .at) (entries .print (now (c .before .before .args .meet))) (c .before .before .pre))
+loop-holds c = (omega arith, puts-within (c .before .before .put-word .ensures), record { same = refl; next = refl })
 
--- src/lib.rt:195:36
-shared-slice-read-put-number : tie.Need-shared-slice-read-put-number Inv-loop μ-loop
-shared-slice-read-put-number c = search needs
+slice-aggregate-put-keyed : tie.Need-slice-aggregate-put-keyed Inv-loop μ-loop
+slice-aggregate-put-keyed c = search needs
 
--- src/lib.rt:195:13
-put-number-requires : tie.Need-put-number-requires Inv-loop μ-loop
-put-number-requires c κs = item-room _ _ _ _ (number (getD (now (c .before .before .before .before .before .before .args .meet)) (c .before .before .before .loop .j) 0)) _ _ _ (c .before .before .before .loop .inv .1) (entries-at (now (c .before .before .before .before .before .before .args .meet)) (c .before .before .before .loop .j) (c .before .before .loop-test .taken))
+shared-slice-read-put-keyed : tie.Need-shared-slice-read-put-keyed Inv-loop μ-loop
+shared-slice-read-put-keyed c = search needs
 
--- src/lib.rt:196:9
-add-j : tie.Need-add-j Inv-loop μ-loop
-add-j c = search needs
+put-keyed-requires : tie.Need-put-keyed-requires Inv-loop μ-loop
+put-keyed-requires c κs = search needs
 
--- src/lib.rt:198:13
+add-i : tie.Need-add-i Inv-loop μ-loop
+add-i c = search needs
+
+behind-requires : tie.Need-behind-requires Inv-loop μ-loop
+behind-requires c κs = search needs
+
 put-requires : tie.Need-put-requires Inv-loop μ-loop
-put-requires c κs = behind-room _ _ _ _ (number (getD (now (c .before .before .before .before .before .before .before .before .before .before .before .args .meet)) (c .before .before .before .before .before .before .before .before .loop .j) 0)) _ _ _ (c .before .before .before .before .before .before .before .before .loop .inv .1) (entries-at (now (c .before .before .before .before .before .before .before .before .before .before .before .args .meet)) (c .before .before .before .before .before .before .before .before .loop .j) (c .before .before .before .before .before .before .before .loop-test .taken)) _ _ (c .before .before .before .before .put-number .ensures)
+put-requires c κs = search needs
 
--- src/lib.rt:194:5
 loop-less : tie.Need-loop-less Inv-loop μ-loop
 loop-less c = search needs
 
--- src/lib.rt:194:5
 loop-again : tie.Need-loop-again Inv-loop μ-loop
-loop-again c = (omega arith, item-put _ _ _ _ (number (getD (now (c .before .before .before .before .before .before .before .before .before .before .before .before .before .before .args .meet)) (c .before .before .before .before .before .before .before .before .before .before .before .loop .j) 0)) _ _ _ (c .before .before .before .before .before .before .before .before .before .before .before .loop .inv .1) (entries-more (now (c .before .before .before .before .before .before .before .before .before .before .before .before .before .before .args .meet)) (c .before .before .before .before .before .before .before .before .before .before .before .loop .j) (c .before .before .before .before .before .before .before .before .before .before .loop-test .taken) (c .before .before .before .before .if1 .taken)) _ _ _ _ (c .before .before .before .before .before .before .before .put-number .ensures) (c .before .before .put .ensures))
+loop-again c =
+    let a = c .before .before .before .before .before .before .before .before .before .before .before .before .before .before .before .before .before .before .before .before .args .meet .now in
+    let i = c .before .before .before .before .before .before .before .before .before .before .before .before .loop .i in
+    (omega arith, puts-within (c .before .before .put .ensures), item-put (number (getD a i 0)) _ (entries .print (drop (i + 1) a)) (entries-at a i _ (c .before .before .before .before .before .before .before .before .before .before .before .loop-test .taken) (c .before .before .before .behind .ensures)) (c .before .before .before .before .before .before .before .before .before .before .before .before .loop .inv .2) (c .before .before .before .before .before .before .before .put-keyed .ensures) (c .before .before .put .ensures))
 
--- src/lib.rt:200:13
-put-requires-2 : tie.Need-put-requires-2 Inv-loop μ-loop
-put-requires-2 c κs = behind-room _ _ _ _ (number (getD (now (c .before .before .before .before .before .before .before .before .before .before .before .args .meet)) (c .before .before .before .before .before .before .before .before .loop .j) 0)) _ _ _ (c .before .before .before .before .before .before .before .before .loop .inv .1) (entries-at (now (c .before .before .before .before .before .before .before .before .before .before .before .args .meet)) (c .before .before .before .before .before .before .before .before .loop .j) (c .before .before .before .before .before .before .before .loop-test .taken)) _ _ (c .before .before .before .before .put-number .ensures)
-
--- src/lib.rt:194:5
-loop-less-2 : tie.Need-loop-less-2 Inv-loop μ-loop
-loop-less-2 c = search needs
-
--- src/lib.rt:194:5
-loop-again-2 : tie.Need-loop-again-2 Inv-loop μ-loop
-loop-again-2 c = (omega arith, item-put _ _ _ _ (number (getD (now (c .before .before .before .before .before .before .before .before .before .before .before .before .before .before .args .meet)) (c .before .before .before .before .before .before .before .before .before .before .before .loop .j) 0)) _ _ _ (c .before .before .before .before .before .before .before .before .before .before .before .loop .inv .1) (entries-end (now (c .before .before .before .before .before .before .before .before .before .before .before .before .before .before .args .meet)) (c .before .before .before .before .before .before .before .before .before .before .before .loop .j) (c .before .before .before .before .before .before .before .before .before .before .loop-test .taken) (c .before .before .before .before .if1 .left)) _ _ _ _ (c .before .before .before .before .before .before .before .put-number .ensures) (c .before .before .put2 .ensures))
-
--- src/lib.rt:188:1
 same-length : tie.Need-same-length Inv-loop μ-loop
-same-length c = putting-length _ _ _ _ _ (c .before .loop .inv .1) ∙ puts-length (now (c .before .before .before .before .args .out)) (c .before .before .before .before .args .at) (entries .print (now (c .before .before .before .before .args .meet)))
+same-length c = puts-length (puts-then {u = entries .print (c .before .before .before .before .before .before .before .before .before .args .meet .now)} (c .before .before .before .before .put-word .ensures) (puts-done (puts-as (ap (entries .print) (over (c .before .before .before .before .before .before .before .before .before .args .meet .now) (c .before .loop .i) (c .loop-test .left))) (c .before .loop .inv .2)) (c .before .loop .inv .1)))
 
--- src/lib.rt:188:1
 returns : tie.Need-returns Inv-loop μ-loop
-returns c = putting-done (now (c .before .before .before .before .args .out)) (entries .print (now (c .before .before .before .before .args .meet))) _ (c .before .before .before .before .args .at) _ (entries .print (drop (c .before .loop .j) (now (c .before .before .before .before .args .meet)))) (c .before .loop .inv .1) (ap (entries .print) (over (now (c .before .before .before .before .args .meet)) (c .before .loop .j) (c .loop-test .left)))
+returns c = puts-then (c .before .before .before .before .put-word .ensures) (puts-done (puts-as (ap (entries .print) (over (c .before .before .before .before .before .before .before .before .before .args .meet .now) (c .before .loop .i) (c .loop-test .left))) (c .before .loop .inv .2)) (c .before .loop .inv .1))
 
 pub put-meet-spec : {M : Type 1} → statement M
 put-meet-spec =
@@ -82,15 +76,16 @@ put-meet-spec =
     (tie.spec
     Inv-loop
     μ-loop
+    slice-aggregate-put-word
+    put-word-requires
     loop-holds
-    shared-slice-read-put-number
-    put-number-requires
-    add-j
+    slice-aggregate-put-keyed
+    shared-slice-read-put-keyed
+    put-keyed-requires
+    add-i
+    behind-requires
     put-requires
     loop-less
     loop-again
-    put-requires-2
-    loop-less-2
-    loop-again-2
     same-length
     returns)
