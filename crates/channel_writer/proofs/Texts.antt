@@ -11,7 +11,7 @@ use borrow.Author.Tests.{eqb-true, ltb-true, ltb-false}
 use lib.ListN.{length, drop, getD, length-drop}
 use Rattle.text_format.specs.Series.{space, newline}
 use Rattle.text_output.specs.Output.{numeral, Puts}
-use Rattle.text_output.proofs.Outputs.{puts-as, puts-rest, numeral-three}
+use Rattle.text_output.proofs.Outputs.{puts-as, puts-rest, numeral-within}
 use Rattle.channel_file.specs.ChannelFile.{Token, token-T, token-A, token-V, token-X, token-G, token-O, number, token-text}
 use Rattle.channel_file.specs.FileFormat.{tokens, entries}
 use Rattle.channel_file.proofs.FileFormat.{token-print}
@@ -153,7 +153,7 @@ module _ (s : List ℕ) (j : ℕ) (some-tokens : IsSome (node-tokens (drop j s))
 -- ---- numbers of one byte
 
 pub small-numeral : (key : List ℕ) (x v : ℕ) → x ≡ v → x < 256 → key ++ numeral x ≡ key ++ number v
-small-numeral key x v e h = ap (λ (s : List ℕ). key ++ s) (numeral-three x (omega arith) ∙ ap number e)
+small-numeral key x v e h = ap (λ (s : List ℕ). key ++ s) (numeral-within 17 2 x refl (omega arith) ∙ ap number e)
 
 -- an item and the byte behind it are put: what is left gives what was to be given
 pub item-put : {l T l′ l″ rest : List ℕ} {i z n r : ℕ} (s : List ℕ) (b : ℕ) (u : List ℕ) → rest ≡ s ++ (b ∷ u) → Puts l rest T i z

@@ -13,6 +13,7 @@ use borrow.Author.Tests.{le-leb, lt-leb, leb-true}
 use Rattle.theory.proofs.ValueSets.{and-left, and-right, and-both}
 use Rattle.refusal.specs.declared.Refusal.{Refusal}
 use Rattle.refusal.specs.declared.Refusal.the-variants.{Plain, At}
+use Rattle.refusal.specs.declared.Counted.{Counted}
 use Rattle.refusal.specs.declared.Counted.the-variants.{Count, Refused}
 use Rattle.refusal.specs.Refusal.{or-else, plain-unless, counted}
 use Rattle.refusal.proofs.Refusals.{counted-accepted, or-else-none, plain-none}
@@ -22,11 +23,11 @@ use Rattle.values.proofs.Setups.{setup-accepted, square-small}
 use Rattle.formulas.specs.RuleRefusal.{count-fits, rule-refusal}
 use Rattle.formulas.proofs.Decoding.{CountFits, count-facts}
 use Rattle.text_format.specs.Format.{Outcome, contents, refused}
+use Rattle.text_output.specs.Output.{Puts}
+use Rattle.text_output.proofs.Outputs.{puts-front, puts-copied}
 use Rattle.channel_file.specs.ChannelFile.{Contents}
-use Rattle.channel_file.specs.Bytes.{put-in, encoded}
 use Rattle.channel_file.specs.Reading.{read-file}
-use Rattle.channel_file.specs.Steps.{Wrote, puts}
-use Rattle.channel_file.proofs.Buffers.{puts-whole, encoded-length}
+use Rattle.channel_file.proofs.Buffers.{encoded-length}
 use Rattle.machines.specs.TableBytes.{machine-of}
 use Rattle.synthesis.specs.Compilation.{value-count, rule-table-refusal, setup-states, compile-refusal, compile-contents}
 use Rattle.synthesis.proofs.CompileClaims.{compile-claim}
@@ -36,8 +37,8 @@ use Rattle.channel_io.specs.declared.FileRead.the-variants.{Accepted as Read, R
 use Rattle.channel_io.specs.FileJudgement.{node-numbers, rule-numbers, pair-refusal, contents-refusal, has-room, stored-refusal, contents-read-refusal}
 use Rattle.channel_io.specs.FileReading.{numbers, file-numbers, accepted-or, read-answer, put-unless, meet-after, rule-after, Reads}
 use Rattle.table_report.specs.TableText.{table-text, refusal-text}
-use Rattle.table_report.specs.Report.{blank, answer-text, pair-text, outcome-text, report-text, Reports, PrintableRefusal}
-use Rattle.table_report.proofs.Places.{SmallAnswer, compile-small, text-small}
+use Rattle.table_report.specs.Report.{blank, answer-text, pair-text, outcome-text, report-text, report-limit, Reports, FewEntries}
+use Rattle.table_report.proofs.Lengths.{setup-passed, report-length}
 
 counted-refused : (a : Option Refusal) (n : ℕ) (r : Refusal) → counted a n ≡ Refused r → a ≡ some r
 unfolding counted
@@ -51,28 +52,15 @@ module _ (events values top : ℕ) (meet rule : List ℕ) where
 
   pub compiled-refused :
       (r : Refusal) → Refused r ≡ counted (compile-refusal 64 s rule blank) (setup-states 64 s rule blank)
-      → PrintableRefusal r × (refusal-text r ≡ pair-text events values top meet rule)
+      → refusal-text r ≡ pair-text events values top meet rule
   unfolding pair-text answer-text
   compiled-refused r e =
-      let a = counted-refused (compile-refusal 64 s rule blank) (setup-states 64 s rule blank) r (sym e) in (
-        subst SmallAnswer a (compile-small 64 s rule blank),
-        sym (ap (λ (o : Option Refusal). answer-text o events (setup-states 64 s rule blank) (compile-contents 64 s rule blank)) a),
-      )
+      let a = counted-refused (compile-refusal 64 s rule blank) (setup-states 64 s rule blank) r (sym e) in
+      sym (ap (λ (o : Option Refusal). answer-text o events (setup-states 64 s rule blank) (compile-contents 64 s rule blank)) a)
 
   pub record Tabled (n : ℕ) (bytes : List ℕ) : Type 0 where
-    pub some-events : 1 ≤ events
-    pub few-events : events ≤ 16
-    pub few-states : n ≤ 64
-    pub whole : length bytes ≡ 2048
+    pub few : FewEntries events n
     pub same-text : table-text events n (machine-of events bytes) ≡ pair-text events values top meet rule
-
-  blank-length : length blank ≡ 2048
-  unfolding blank
-  blank-length = length-replicate {A = ℕ} 2048 0
-
-  setup-passed : compile-refusal 64 s rule blank ≡ none → setup-refusal s ≡ none
-  unfolding compile-refusal
-  setup-passed e = or-else-none (setup-refusal s) _ e .0
 
   pub compiled-tabled :
       (n : ℕ) (bytes : List ℕ) → Count n ≡ counted (compile-refusal 64 s rule blank) (setup-states 64 s rule blank)
@@ -81,13 +69,10 @@ module _ (events values top : ℕ) (meet rule : List ℕ) where
   compiled-tabled n bytes e b =
       let a = counted-accepted (compile-refusal 64 s rule blank) (setup-states 64 s rule blank) n (sym e) in
       let made = compile-claim .accepted 64 s rule blank (a .0) in
-      let w : WellFormed s = setup-accepted s .0 (setup-passed (a .0)) in
+      let w : WellFormed s = setup-accepted s .0 (setup-passed events values top meet rule (a .0)) in
       let few : setup-states 64 s rule blank ≤ 64 = made .few in
       record {
-        some-events = w .some-events;
-        few-events = w .few-events;
-        few-states = omega (arith, a .1);
-        whole = ap length b ∙ made .same-length ∙ blank-length;
+        few = record { some-events = w .some-events; few-events = w .few-events; few-states = omega (arith, a .1) };
         same-text =
             ap₂ (λ (k : ℕ) (t : List ℕ). table-text events k (machine-of events t)) (sym (a .1)) b
             ∙ sym (ap (λ (o : Option Refusal). answer-text o events (setup-states 64 s rule blank) (compile-contents 64 s rule blank)) (a .0));
@@ -135,27 +120,23 @@ module _ (c : Contents) where
 module _ (t meet rule meet′ rule′ : List ℕ) where
   pub read-refused :
       (x : FileRead) (r : Refusal) → x ≡ Unread r → length meet ≡ 256 → length rule ≡ 768 → Reads t meet rule meet′ rule′ x
-      → PrintableRefusal r × (refusal-text r ≡ report-text t)
+      → refusal-text r ≡ report-text t
   unfolding read-answer outcome-text pair-text answer-text stored-refusal has-room plain-unless or-else
   read-refused x r is hm hr k = go (read-file t) refl (sym is ∙ k .answer)
     where
       of-contents : (c : Contents) (o : Option Refusal) → contents-refusal c ≡ o → contents-read-refusal c meet rule ≡ some r
-          → PrintableRefusal r × (refusal-text r ≡ outcome-text (contents c))
+          → refusal-text r ≡ outcome-text (contents c)
       of-contents c none e f =
           let room = and-both (le-leb (length (c .meet)) (length meet) (let l = few-entries c e in omega arith)) (le-leb (length (rule-numbers c)) (length rule) (let l = few-numbers c e in omega arith)) in
           let z : none ≡ some r = sym (ap (λ (o : Option Refusal). or-else o (plain-unless (has-room (c .meet) (rule-numbers c) meet rule) 13)) e ∙ ap (λ (b : Bool). plain-unless b 13) room) ∙ f in
           let y : _≡_ {A = ℕ} 0 1 = cc in absurd (omega arith)
       of-contents c (some q) e f =
           let z : q ≡ r = (let y : some q ≡ some r = sym (ap (λ (o : Option Refusal). or-else o (plain-unless (has-room (c .meet) (rule-numbers c) meet rule) 13)) e) ∙ f in cc) in
-          let a = compile-same c r (e ∙ ap some z) in (
-            subst SmallAnswer a (compile-small 64 (setup (c .events) (c .values) (c .top) (c .meet)) (rule-numbers c) blank),
-            sym (ap (λ (o : Option Refusal). answer-text o (c .events) (setup-states 64 (setup (c .events) (c .values) (c .top) (c .meet)) (rule-numbers c) blank) (compile-contents 64 (setup (c .events) (c .values) (c .top) (c .meet)) (rule-numbers c) blank)) a),
-          )
+          let a = compile-same c r (e ∙ ap some z) in
+          sym (ap (λ (o : Option Refusal). answer-text o (c .events) (setup-states 64 (setup (c .events) (c .values) (c .top) (c .meet)) (rule-numbers c) blank) (compile-contents 64 (setup (c .events) (c .values) (c .top) (c .meet)) (rule-numbers c) blank)) a)
 
-      go : (x : Outcome Contents) → read-file t ≡ x → Unread r ≡ read-answer x meet rule → PrintableRefusal r × (refusal-text r ≡ outcome-text x)
-      go (refused p) e f =
-          let z : r ≡ At 4 p = cc in
-          (subst PrintableRefusal (sym z) (let l = text-small t p e in omega arith), ap refusal-text z)
+      go : (x : Outcome Contents) → read-file t ≡ x → Unread r ≡ read-answer x meet rule → refusal-text r ≡ outcome-text x
+      go (refused p) e f = let z : r ≡ At 4 p = cc in ap refusal-text z
       go (contents c) e f = of-contents c (contents-refusal c) refl (answer-refused (contents-read-refusal c meet rule) (file-numbers c) r f)
 
   pub record Taken (n : FileNumbers) : Type 0 where
@@ -194,30 +175,42 @@ module _ (t meet rule meet′ rule′ : List ℕ) where
                 ∙ sym (ap outcome-text e);
           }
 
--- ---- the answer to a call
-module _ (t old : List ℕ) where
-  pub report-short : (n : ℕ) → n ≡ length (report-text t) → length old < n → Reports t old old (Refused (Plain 13))
+-- ---- the answer to a call, where the text was put into an array of the limit's length
+module _ (t old l l′ : List ℕ) (n : ℕ) (room : length l ≡ report-limit) (w : Puts l (report-text t) l′ 0 n) where
+  fits : length (report-text t) ≤ length l
+  fits = omega (arith, report-length t)
+
+  whole : n ≡ length (report-text t)
+  whole = puts-front w fits .end
+
+  pub report-short : length old < n → Reports t old old (Refused (Plain 13))
   unfolding plain-unless counted put-unless
-  report-short n e h =
-      let b : leb (length (report-text t)) (length old) ≡ false = lt-leb (length (report-text t)) (length old) (omega arith) in
+  report-short h =
+      let b : leb (length (report-text t)) (length old) ≡ false = lt-leb (length (report-text t)) (length old) (omega (arith, whole)) in
       record {
         answer = sym (ap (λ (x : Bool). counted (plain-unless x 13) (length (report-text t))) b);
         buffer = sym (ap (λ (x : Bool). put-unless (plain-unless x 13) (report-text t) old) b);
+        within = report-length t;
       }
 
-  pub report-all : (n r : ℕ) (s new : List ℕ) → n ≡ length (report-text t) → s ≡ report-text t → n ≤ length old → Wrote old s new 0 r → Reports t old new (Count n)
+  pub report-all : (new : List ℕ) (r : ℕ) → n ≤ length old → Puts old (take n l′) new 0 r → Reports t old new (Count n)
   unfolding plain-unless counted put-unless
-  report-all n r s new e d h w =
-      let b : leb (length (report-text t)) (length old) ≡ true = le-leb (length (report-text t)) (length old) (omega arith) in
+  report-all new r h g =
+      let b : leb (length (report-text t)) (length old) ≡ true = le-leb (length (report-text t)) (length old) (omega (arith, whole)) in
       record {
-        answer = ap Count e ∙ sym (ap (λ (x : Bool). counted (plain-unless x 13) (length (report-text t))) b);
-        buffer = w .same ∙ ap (puts old 0) d ∙ puts-whole old (report-text t) (omega arith)
-            ∙ sym (ap (λ (x : Bool). put-unless (plain-unless x 13) (report-text t) old) b);
+        answer = ap Count whole ∙ sym (ap (λ (x : Bool). counted (plain-unless x 13) (length (report-text t))) b);
+        buffer = puts-copied w fits (omega (arith, whole)) g ∙ sym (ap (λ (x : Bool). put-unless (plain-unless x 13) (report-text t) old) b);
+        within = report-length t;
       }
 
--- a whole text was put into an array, so it stands at its front
-pub front : (l s out : List ℕ) (n : ℕ) → Wrote l s out 0 n → n ≤ length l → (n ≡ length s) × (take n out ≡ s)
-front l s out n w h =
-    let e : n ≡ 0 + length s = w .next in
-    let d : n ≡ length s = omega arith in
-    (d, ap (take n) (w .same ∙ puts-whole l s (omega arith)) ∙ take-at s (drop (length s) l) n (sym d))
+-- what a caller with a buffer of the limit's length knows
+pub never-short : (t old new : List ℕ) (r : Counted) → Reports t old new r → report-limit ≤ length old → r ≡ Count (length (report-text t))
+unfolding plain-unless counted
+never-short t old new r k h =
+    k .answer ∙ ap (λ (x : Bool). counted (plain-unless x 13) (length (report-text t))) (le-leb (length (report-text t)) (length old) (omega (arith, k .within)))
+
+pub count-within : (t old new : List ℕ) (r : Counted) (n : ℕ) → Reports t old new r → report-limit ≤ length old → r ≡ Count n → n ≤ length old
+count-within t old new r n k h e =
+    let d : Count n ≡ Count (length (report-text t)) = sym e ∙ never-short t old new r k h in
+    let z : n ≡ length (report-text t) = cc in
+    omega (arith, k .within)

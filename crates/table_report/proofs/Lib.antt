@@ -1,5 +1,5 @@
--- Texts put piece by piece; places that have a numeral; then the answers.
+-- Texts put piece by piece, how long they are, the answers, and the claims.
 pub mod Texts
-pub mod Places
+pub mod Lengths
 pub mod Answers
 pub mod ReportClaims

@@ -1,8 +1,10 @@
 -- What is claimed of the program's output; inhabited in proofs/ReportClaims.
 -- Assumes nothing.
-use Prim.Native.Nat.{ℕ}
+use Prim.Native.Nat.{ℕ, _≤_}
+use mathlib.Core.Path.{_≡_}
 use mathlib.Core.List.{List, [], _∷_, _++_}
 use mathlib.Core.Option.{none, some}
+use lib.ListN.{length}
 use Rattle.theory.specs.ValueSets.{Below, meetAt}
 use Rattle.theory.specs.MealyMachine.{Machine}
 use Rattle.refusal.specs.declared.Refusal.{Refusal}
@@ -18,7 +20,7 @@ use Rattle.channel_file.specs.Reading.{Refused4, AnswersFile}
 use Rattle.synthesis.specs.Claims.{states-condition, RuleTable}
 use Rattle.channel_io.specs.FileJudgement.{setup-of, rule-numbers}
 use Rattle.table_report.specs.TableText.{table-text, refusal-text}
-use Rattle.table_report.specs.Report.{report-text}
+use Rattle.table_report.specs.Report.{report-text, report-limit}
 
 -- The conditions on a file's contents where its table is made: 1 to 3, 5 to 9, then 10.
 abbrev pub report-conditions : Contents → List Condition
@@ -37,3 +39,11 @@ pub data Prints (t : List ℕ) : List ℕ → Type 0 where
 
 abbrev pub ReportClaim : Type 0
 ReportClaim = (t : List ℕ) → Prints t (report-text t)
+
+-- Nothing else is printed for it.
+abbrev pub OneReportClaim : Type 0
+OneReportClaim = (t s : List ℕ) → Prints t s → s ≡ report-text t
+
+-- Every output has room in a buffer of the limit's length.
+abbrev pub ReportLengthClaim : Type 0
+ReportLengthClaim = (t : List ℕ) → length (report-text t) ≤ report-limit

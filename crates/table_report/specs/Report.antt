@@ -1,14 +1,14 @@
 -- What is printed for a text (document 01, "Channel file"): the table of its rule, or the refusal, where 4, 1 to 3, 5 to 9 and 10
 -- are looked at in this order.
 -- Assumes nothing.
-use Prim.Native.Nat.{ℕ, _+_, _*_, _≤_, _<_}
+use Prim.Native.Nat.{ℕ, _≤_}
 use mathlib.Core.Path.{_≡_}
-use mathlib.Core.List.{List, _++_, _∷_, []}
+use mathlib.Core.List.{List}
 use mathlib.Core.Option.{Option, none, some}
 use lib.Dec.{leb}
 use lib.ListN.{length, replicate}
 use Rattle.refusal.specs.declared.Refusal.{Refusal}
-use Rattle.refusal.specs.declared.Refusal.the-variants.{Plain, At}
+use Rattle.refusal.specs.declared.Refusal.the-variants.{At}
 use Rattle.refusal.specs.declared.Counted.{Counted}
 use Rattle.refusal.specs.Refusal.{plain-unless, counted}
 use Rattle.values.specs.Setup.{setup}
@@ -19,7 +19,7 @@ use Rattle.machines.specs.TableBytes.{machine-of}
 use Rattle.synthesis.specs.Compilation.{compile-refusal, setup-states, compile-contents}
 use Rattle.channel_io.specs.FileJudgement.{rule-numbers}
 use Rattle.channel_io.specs.FileReading.{put-unless}
-use Rattle.table_report.specs.TableText.{numeral, table-text, refusal-text}
+use Rattle.table_report.specs.TableText.{table-text, refusal-text}
 
 -- A buffer that has room for every table: 64 states, 16 events, two bytes an entry.
 unfoldable pub blank : List ℕ
@@ -44,37 +44,18 @@ outcome-text (contents c) = pair-text (c .events) (c .values) (c .top) (c .meet)
 abbrev pub report-text : List ℕ → List ℕ
 report-text t = outcome-text (read-file t)
 
--- Answer and buffer of a call that renders the output for a text: its length, or 13.
-pub record Reports (t old new : List ℕ) (r : Counted) : Type 0 where
-  pub answer : r ≡ counted (plain-unless (leb (length (report-text t)) (length old)) 13) (length (report-text t))
-  pub buffer : new ≡ put-unless (plain-unless (leb (length (report-text t)) (length old)) 13) (report-text t) old
-
--- What the private functions of src/ ask and say. A number and the byte behind it.
-abbrev pub item : ℕ → ℕ → List ℕ
-item v end = numeral v ++ (end ∷ [])
-
--- A number that has a numeral.
-abbrev pub Printable : ℕ → Type 0
-Printable v = v < 10000
-
-abbrev pub PrintableRefusal : Refusal → Type 0
-PrintableRefusal (Plain n) = Unit {0}
-PrintableRefusal (At n p) = Printable p
-
--- Every output has room in so many bytes.
+-- Every output has room in so many bytes (Claims, ReportLengthClaim).
 abbrev pub report-limit : ℕ
 report-limit = 24600
 
-pub record RowsRoom (at events count : ℕ) (table out : List ℕ) : Type 0 where
-  pub some-events : 1 ≤ events
-  pub few-events : events ≤ 16
-  pub few : count ≤ 1024
-  pub whole : count * 2 ≤ length table
-  pub room : at + count * 24 ≤ length out
+-- Answer and buffer of a call that renders the output for a text: its length, or 13, which a buffer of the limit's length never is.
+pub record Reports (t old new : List ℕ) (r : Counted) : Type 0 where
+  pub answer : r ≡ counted (plain-unless (leb (length (report-text t)) (length old)) 13) (length (report-text t))
+  pub buffer : new ≡ put-unless (plain-unless (leb (length (report-text t)) (length old)) 13) (report-text t) old
+  pub within : length (report-text t) ≤ report-limit
 
-pub record TableRoom (events states : ℕ) (table out : List ℕ) : Type 0 where
+-- What a private function of src/ asks: a table's counts are within the limits of a set-up and of states.
+pub record FewEntries (events states : ℕ) : Type 0 where
   pub some-events : 1 ≤ events
   pub few-events : events ≤ 16
   pub few-states : states ≤ 64
-  pub whole : length table ≡ 2048
-  pub room : report-limit ≤ length out

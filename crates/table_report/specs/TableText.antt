@@ -1,38 +1,30 @@
 -- What the program prints (document 01, "Channel file"): the lines of a table, or the one line of a refusal. Each ends in byte 10.
 -- Assumes nothing.
-use Prim.Native.Nat.{ℕ, zero, suc, _*_, _/_, _%_}
+use Prim.Native.Nat.{ℕ, _*_, _/_, _%_}
 use mathlib.Core.List.{List, [], _∷_, _++_}
 use Rattle.theory.specs.MealyMachine.{Machine}
 use Rattle.refusal.specs.declared.Refusal.{Refusal}
 use Rattle.refusal.specs.declared.Refusal.the-variants.{Plain, At}
 use Rattle.text_format.specs.Format.{ascii}
-use Rattle.text_format.specs.Decimal.{decimal}
 use Rattle.text_format.specs.Series.{separated}
+use Rattle.text_output.specs.Output.{numeral, each}
 use Rattle.channel_file.specs.ChannelFile.{line}
-
--- A number in decimal, one to four digits without leading zero (text_format's NumeralClaim): a place is at most 4,096.
-unfoldable pub numeral : ℕ → List ℕ
-numeral v = decimal 3 v
 
 -- "A row is state, event, value, next state."
 unfoldable pub row-line : ℕ → ℕ → ℕ → ℕ → List ℕ
 row-line state event value next =
     line (ascii "row=") (separated (numeral state ∷ numeral event ∷ numeral value ∷ numeral next ∷ []))
 
--- The rows of c entries from entry i on. Entries are ordered by state, then event: entry i is of state i / events and event
--- i % events.
+-- Entries are ordered by state, then event: entry i is of state i / events and event i % events.
 abbrev pub entry-line : ℕ → Machine ℕ ℕ → ℕ → List ℕ
 entry-line events m i =
     row-line (i / events) (i % events) (m .value (i / events) (i % events)) (m .next (i / events) (i % events))
 
-abbrev pub rows-text : ℕ → Machine ℕ ℕ → ℕ → ℕ → List ℕ
-rows-text events m zero i = []
-rows-text events m (suc c) i = entry-line events m i ++ rows-text events m c (suc i)
-
 -- A table of n states.
 unfoldable pub table-text : ℕ → ℕ → Machine ℕ ℕ → List ℕ
 table-text events n m =
-    line (ascii "events=") (numeral events) ++ (line (ascii "states=") (numeral n) ++ rows-text events m (n * events) 0)
+    line (ascii "events=") (numeral events)
+    ++ (line (ascii "states=") (numeral n) ++ each (entry-line events m) (n * events) 0)
 
 -- "The single line `refused=` with the number and, if there is a place, a space and the place."
 unfoldable pub refusal-text : Refusal → List ℕ

@@ -1,90 +1,39 @@
 // The whole output of the program for a channel file, rendered into a lent buffer.
 ghost use mathlib.Core.Path.{_≡_};
-ghost use mathlib.Core.List.{_∷_, []};
-ghost use Prim.Native.Nat.{_+_, _*_, _≤_, _<_};
-ghost use lib.ListN.{length};
-ghost use Rattle.text_format.specs.Decimal.{decimal};
-ghost use Rattle.channel_file.specs.Steps.{Wrote};
+ghost use Prim.Native.Nat.{_≤_, _<_};
+ghost use Rattle.text_output.specs.Output.{Puts};
+ghost use Rattle.channel_file.specs.ChannelFile.{line};
 ghost use Rattle.machines.specs.TableBytes.{machine-of};
-ghost use Rattle.table_report.specs.TableText.{numeral, row-line, rows-text, table-text, refusal-text};
-ghost use Rattle.table_report.specs.Report.{pair-text, report-text, item, Printable, PrintableRefusal, RowsRoom, TableRoom, report-limit, Reports};
+ghost use Rattle.text_output.specs.Output.{numeral};
+ghost use Rattle.table_report.specs.TableText.{row-line, table-text, refusal-text};
+ghost use Rattle.table_report.specs.Report.{pair-text, report-text, FewEntries, Reports};
 use channel_io::FileRead;
 use channel_io::read_file;
+use machines::next_at;
+use machines::value_at;
 use refusal::BUFFER_LENGTH;
 use refusal::Counted;
 use refusal::Refusal;
 use synthesis::compile;
+use text_output::put;
+use text_output::put_field;
+use text_output::put_word;
 
 // Every output has room in so many bytes.
 pub const REPORT_LENGTH: usize = 24600;
 
 fn wide(x: u8) -> usize
-    ensures { λ r. ⌜ (r ≡ x) × (r < 256) ⌝ }
+    ensures { λ r. ⌜ r ≡ x ⌝ }
 {
     x as usize
 }
 
-fn digit(v: usize) -> u8
-    requires { ⌜ v < 10 ⌝ }
-    ensures { λ r. ⌜ r ≡ 48 + v ⌝ }
+// A line with a number. This and the functions below put their texts into a buffer as those of text_output do.
+fn put_line(out: &mut [u8], at: usize, key: &[u8], v: usize) -> usize
+    ensures { λ r. ⌜ Puts (now (out .entry)) (line (now (key .entry)) (numeral v)) (now (out .exit)) at r ⌝ }
 {
-    48 + v as u8
-}
-
-// Puts a byte at an offset, and answers the offset behind it; so do the functions below with their texts.
-fn put(out: &mut [u8], at: usize, b: u8) -> usize
-    requires { ⌜ at < length (now out) ⌝ }
-    ensures { λ r. ⌜ Wrote (now (out .entry)) (b ∷ []) (now (out .exit)) at r ⌝ }
-{
-    out[at] = b;
-    at + 1
-}
-
-fn put_word(out: &mut [u8], at: usize, w: &[u8]) -> usize
-    requires { ⌜ at + length (now w) ≤ length (now out) ⌝ }
-    ensures { λ r. ⌜ Wrote (now (out .entry)) (now (w .entry)) (now (out .exit)) at r ⌝ }
-{
-    let mut i = at;
-    let mut j = 0;
-    while j < w.len() {
-        out[i] = w[j];
-        i += 1;
-        j += 1;
-    }
-    i
-}
-
-// One or two digits.
-fn put_pair(out: &mut [u8], at: usize, v: usize) -> usize
-    requires { ⌜ (v < 100) × (at + 2 ≤ length (now out)) ⌝ }
-    ensures { λ r. ⌜ Wrote (now (out .entry)) (decimal 1 v) (now (out .exit)) at r ⌝ }
-{
-    if v < 10 {
-        return put(out, at, digit(v));
-    }
-    let a = put(out, at, digit(v / 10));
-    put(out, a, digit(v % 10))
-}
-
-// One to four digits.
-fn put_number(out: &mut [u8], at: usize, v: usize) -> usize
-    requires { ⌜ Printable v × (at + 4 ≤ length (now out)) ⌝ }
-    ensures { λ r. ⌜ Wrote (now (out .entry)) (numeral v) (now (out .exit)) at r ⌝ }
-{
-    if v < 100 {
-        return put_pair(out, at, v);
-    }
-    let a = put_pair(out, at, v / 10 / 10);
-    let b = put(out, a, digit(v / 10 % 10));
-    put(out, b, digit(v % 10))
-}
-
-fn put_item(out: &mut [u8], at: usize, v: usize, end: u8) -> usize
-    requires { ⌜ Printable v × (at + 5 ≤ length (now out)) ⌝ }
-    ensures { λ r. ⌜ Wrote (now (out .entry)) (item v end) (now (out .exit)) at r ⌝ }
-{
-    let a = put_number(out, at, v);
-    put(out, a, end)
+    let n = put_field(out, at, key, v);
+    put(out, n, 10)
 }
 
 fn put_row(
@@ -95,58 +44,39 @@ fn put_row(
     value: usize,
     next: usize,
 ) -> usize
-    requires { ⌜ Printable state × Printable event × Printable value × Printable next × (at + 24 ≤ length (now out)) ⌝ }
-    ensures { λ r. ⌜ Wrote (now (out .entry)) (row-line state event value next) (now (out .exit)) at r ⌝ }
+    ensures { λ r. ⌜ Puts (now (out .entry)) (row-line state event value next) (now (out .exit)) at r ⌝ }
 {
-    let a = put_word(out, at, b"row=");
-    let b = put_item(out, a, state, 32);
-    let d = put_item(out, b, event, 32);
-    let f = put_item(out, d, value, 32);
-    put_item(out, f, next, 10)
+    let a = put_field(out, at, b"row=", state);
+    let b = put_field(out, a, b" ", event);
+    let d = put_field(out, b, b" ", value);
+    put_line(out, d, b" ", next)
 }
 
-// The rows of the first `count` entries of a table in bytes.
-fn put_rows(out: &mut [u8], at: usize, events: usize, count: usize, table: &[u8]) -> usize
-    requires { ⌜ RowsRoom at events count (now table) (now out) ⌝ }
-    ensures { λ r. ⌜ Wrote (now (out .entry)) (rows-text events (machine-of events (now (table .entry))) count 0) (now (out .exit)) at r × (r ≤ at + count * 24) ⌝ }
+fn put_table(out: &mut [u8], events: usize, states: usize, table: &[u8]) -> usize
+    requires { ⌜ FewEntries events states ⌝ }
+    ensures { λ r. ⌜ Puts (now (out .entry)) (table-text events states (machine-of events (now (table .entry)))) (now (out .exit)) 0 r ⌝ }
 {
-    let mut n = at;
-    let mut i: usize = 0;
+    let a = put_line(out, 0, b"events=", events);
+    let mut n = put_line(out, a, b"states=", states);
+    let count = states * events;
+    let mut i = 0;
     while i < count {
-        n = put_row(
-            out,
-            n,
-            i / events,
-            i % events,
-            wide(table[i * 2]),
-            wide(table[i * 2 + 1]),
-        );
+        let value = value_at(table, i) as usize;
+        let next = next_at(table, i);
+        n = put_row(out, n, i / events, i % events, value, next);
         i += 1;
     }
     n
 }
 
-fn put_table(out: &mut [u8], events: usize, states: usize, table: &[u8]) -> usize
-    requires { ⌜ TableRoom events states (now table) (now out) ⌝ }
-    ensures { λ r. ⌜ Wrote (now (out .entry)) (table-text events states (machine-of events (now (table .entry)))) (now (out .exit)) 0 r × (r ≤ report-limit) ⌝ }
-{
-    let a = put_word(out, 0, b"events=");
-    let b = put_item(out, a, events, 10);
-    let d = put_word(out, b, b"states=");
-    let f = put_item(out, d, states, 10);
-    put_rows(out, f, events, states * events, table)
-}
-
 fn put_refusal(out: &mut [u8], refusal: Refusal) -> usize
-    requires { ⌜ PrintableRefusal refusal × (report-limit ≤ length (now out)) ⌝ }
-    ensures { λ r. ⌜ Wrote (now (out .entry)) (refusal-text refusal) (now (out .exit)) 0 r × (r ≤ report-limit) ⌝ }
+    ensures { λ r. ⌜ Puts (now (out .entry)) (refusal-text refusal) (now (out .exit)) 0 r ⌝ }
 {
-    let a = put_word(out, 0, b"refused=");
     match refusal {
-        Refusal::Plain(n) => put_item(out, a, wide(n), 10),
+        Refusal::Plain(n) => put_line(out, 0, b"refused=", wide(n)),
         Refusal::At(n, p) => {
-            let b = put_item(out, a, wide(n), 32);
-            put_item(out, b, p, 10)
+            let a = put_field(out, 0, b"refused=", wide(n));
+            put_line(out, a, b" ", p)
         }
     }
 }
@@ -160,8 +90,7 @@ fn put_compiled(
     meet: &[u8],
     rule: &[u8],
 ) -> usize
-    requires { ⌜ report-limit ≤ length (now out) ⌝ }
-    ensures { λ r. ⌜ Wrote (now (out .entry)) (pair-text events values top (now (meet .entry)) (now (rule .entry))) (now (out .exit)) 0 r × (r ≤ report-limit) ⌝ }
+    ensures { λ r. ⌜ Puts (now (out .entry)) (pair-text events values top (now (meet .entry)) (now (rule .entry))) (now (out .exit)) 0 r ⌝ }
 {
     let mut table = [0u8; 2048];
     let compiled = compile(events, values, top, meet, rule, &mut table);
@@ -173,8 +102,7 @@ fn put_compiled(
 
 // The output for a text.
 fn put_report(text: &[u8], out: &mut [u8]) -> usize
-    requires { ⌜ report-limit ≤ length (now out) ⌝ }
-    ensures { λ r. ⌜ Wrote (now (out .entry)) (report-text (now (text .entry))) (now (out .exit)) 0 r × (r ≤ report-limit) ⌝ }
+    ensures { λ r. ⌜ Puts (now (out .entry)) (report-text (now (text .entry))) (now (out .exit)) 0 r ⌝ }
 {
     let mut meet = [0u8; 256];
     let mut rule = [0u8; 768];
@@ -196,7 +124,7 @@ fn put_report(text: &[u8], out: &mut [u8]) -> usize
     }
 }
 
-// Renders the output for a text: its length, or 13.
+// Renders the output for a text: its length, or 13. A buffer of REPORT_LENGTH bytes is never too short.
 pub fn report(text: &[u8], to: &mut [u8]) -> Counted
     ensures { λ r. ⌜ Reports (now (text .entry)) (now (to .entry)) (now (to .exit)) r ⌝ }
 {

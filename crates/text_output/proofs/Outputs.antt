@@ -1,19 +1,19 @@
--- Texts put one after another, and numerals digit by digit.
+-- Texts put one after another, numerals digit by digit, and the texts of items.
 -- Assumes nothing.
 use Prim.Native.Nat.{ℕ, zero, suc, _+_, _*_, _/_, _%_, _≤_, _<_, min}
-use mathlib.Core.Path.{_≡_, refl, sym, ap, _∙_, subst}
-use mathlib.Core.Logic.{_⊎_, inl, inr}
-use mathlib.Core.List.{List, [], _∷_, _++_, append-nil}
-use mathlib.Core.Bool.{Bool, true, false}
+use mathlib.Core.Path.{_≡_, refl, sym, ap, ap₂, _∙_, subst}
+use mathlib.Core.List.{List, [], _∷_, _++_, append-assoc, append-nil}
+use mathlib.Core.Bool.{Bool, true, false, cond}
 use native.Mathlib.Omega.{arith}
 use native.Mathlib.Numerals.{add-one}
-use lib.Dec.{leb}
+use native.Mathlib.Nat.{suc-mul}
+use lib.Dec.{ltb, leb}
 use lib.ListN.{length, getD, take, drop, set, length-append}
 use lib.Seq.{take-suc, take-at, set-out, sets, sets-eq, length-sets}
 use borrow.Author.Tests.{leb-true, leb-false}
 use Rattle.text_format.specs.Decimal.{limit, decimal}
 use Rattle.text_format.proofs.Decimal.{decimal-small, decimal-large, decimal-more}
-use Rattle.text_output.specs.Output.{numeral, Puts}
+use Rattle.text_output.specs.Output.{numeral, Puts, each}
 
 -- ---- buffers
 
@@ -145,11 +145,57 @@ unfolding numeral
 numeral-more v h g =
     decimal-large 18 v h ∙ ap (λ (s : List ℕ). s ++ ((48 + v % 10) ∷ [])) (sym (decimal-more 18 (v / 10) (omega arith)))
 
--- with fewer digits allowed: two and three behind the first
-pub numeral-three : (v : ℕ) → v < 1000 → numeral v ≡ decimal 2 v
+-- with fewer digits allowed
+pub numeral-within : (j k v : ℕ) → j + k ≡ 19 → v < limit k → numeral v ≡ decimal k v
 unfolding numeral
-numeral-three v h = decimal-rise 17 2 v h
+numeral-within j k v e h = ap (λ (n : ℕ). decimal n v) (sym e) ∙ decimal-rise j k v h
 
-pub numeral-four : (v : ℕ) → v < 10000 → numeral v ≡ decimal 3 v
+decimal-length : (k v : ℕ) → length (decimal k v) ≤ k + 1
+decimal-length zero v = omega arith
+decimal-length (suc k) v = go (ltb v 10) (decimal-length k (v / 10))
+  where
+    go : (b : Bool) → length (decimal k (v / 10)) ≤ k + 1 → length (cond b ((48 + v) ∷ []) (decimal k (v / 10) ++ ((48 + v % 10) ∷ []))) ≤ suc k + 1
+    go true ih = omega arith
+    go false ih = omega (arith, length-append (decimal k (v / 10)) ((48 + v % 10) ∷ []))
+
+pub numeral-length : (v : ℕ) → length (numeral v) ≤ 20
 unfolding numeral
-numeral-four v h = decimal-rise 16 3 v h
+numeral-length v = decimal-length 19 v
+
+pub numeral-short : (v : ℕ) → v < 100 → length (numeral v) ≤ 2
+numeral-short v h = omega (arith, ap length (numeral-within 18 1 v refl h), decimal-length 1 v)
+
+-- ---- items
+
+-- one more item
+each-more : (text : ℕ → List ℕ) (c i : ℕ) → each text c i ++ text (i + c) ≡ each text (suc c) i
+each-more text zero i = (let e : i + 0 ≡ i = omega arith in ap text e) ∙ sym (append-nil (text i))
+each-more text (suc c) i =
+    append-assoc (text i) (each text c (suc i)) (text (i + suc c))
+    ∙ (let e : i + suc c ≡ suc i + c = omega arith in ap (λ (j : ℕ). text i ++ (each text c (suc i) ++ text j)) e)
+    ∙ ap (λ (s : List ℕ). text i ++ s) (each-more text c (suc i))
+
+-- the text of one more item is put
+pub puts-each : {l l′ l″ s : List ℕ} {i r q : ℕ} (text : ℕ → List ℕ) (c : ℕ) → s ≡ text c → Puts l (each text c 0) l′ i r
+    → Puts l′ s l″ r q → Puts l (each text (c + 1) 0) l″ i q
+puts-each text c e h g =
+    puts-as (each-more text c 0 ∙ ap (λ (n : ℕ). each text n 0) (sym (add-one c))) (puts-then h (puts-as (e ∙ (let d : c ≡ 0 + c = omega arith in ap text d)) g))
+
+-- equal items
+pub each-same : (f g : ℕ → List ℕ) (c i : ℕ) → ((j : ℕ) → i ≤ j → j < i + c → f j ≡ g j) → each f c i ≡ each g c i
+each-same f g zero i h = refl
+each-same f g (suc c) i h =
+    ap₂ (λ (x y : List ℕ). x ++ y) (h i (omega arith) (omega arith))
+    (each-same f g c (suc i) (λ j l u. h j (omega arith) (omega arith)))
+
+-- items of at most b bytes
+pub each-length : (f : ℕ → List ℕ) (b c i : ℕ) → ((j : ℕ) → i ≤ j → j < i + c → length (f j) ≤ b) → length (each f c i) ≤ c * b
+each-length f b zero i h = omega arith
+each-length f b (suc c) i h =
+    omega (
+      arith,
+      h i (omega arith) (omega arith),
+      each-length f b c (suc i) (λ j l u. h j (omega arith) (omega arith)),
+      length-append (f i) (each f c (suc i)),
+      suc-mul c b,
+    )

@@ -1,8 +1,8 @@
 -- Texts put into a lent buffer at an offset.
 -- Assumes nothing.
-use Prim.Native.Nat.{ℕ, _+_, min}
+use Prim.Native.Nat.{ℕ, zero, suc, _+_, min}
 use mathlib.Core.Path.{_≡_}
-use mathlib.Core.List.{List}
+use mathlib.Core.List.{List, [], _++_}
 use lib.ListN.{length}
 use lib.Seq.{sets}
 use Rattle.text_format.specs.Decimal.{decimal}
@@ -16,3 +16,8 @@ numeral v = decimal 19 v
 pub record Puts (l s l′ : List ℕ) (i r : ℕ) : Type 0 where
   pub same : l′ ≡ sets l i s
   pub next : r ≡ min (i + length s) (length l)
+
+-- The texts of c items from item i on, one behind another.
+abbrev pub each : (ℕ → List ℕ) → ℕ → ℕ → List ℕ
+each text zero i = []
+each text (suc c) i = text i ++ each text c (suc i)

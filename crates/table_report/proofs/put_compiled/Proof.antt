@@ -1,9 +1,9 @@
--- `put_compiled` meets its contract: the compiler's answer is what is printed.
+-- `put_compiled` meets its contract: the compiler's refusal, or its table.
 -- Assumes nothing.
-use Rattle.table_report.proofs.Answers.{compiled-refused, compiled-tabled}
-use Rattle.table_report.proofs.Texts.{wrote-as}
+use mathlib.Core.Path.{sym, _∙_}
 use Rattle.table_report.specs.Report.{blank}
-use mathlib.Core.Path.{_≡_, sym, _∙_}
+use Rattle.text_output.proofs.Outputs.{puts-as}
+use Rattle.table_report.proofs.Answers.{compiled-refused, compiled-tabled}
 use borrow.Author.Needs.{needs}
 use Rattle.table_report.proofs.put_compiled.Statement.{statement}
 use Rattle.table_report.proofs.put_compiled.Tie as tie
@@ -23,10 +23,7 @@ enum-known-compiled : tie.Need-enum-known-compiled
 enum-known-compiled c = search needs
 
 put-refusal-requires : tie.Need-put-refusal-requires
-unfolding blank
-put-refusal-requires c κs =
-    let a = c .before .before .before .before .before .before .before .before .before .before .args in
-    (compiled-refused (a .events) (a .values) (a .top) (a .meet .now) (a .rule .now) _ (sym (c .before .before .compiled .given .1) ∙ c .before .before .before .before .before .compile .ensures .0) .0, c .before .before .before .before .before .before .before .before .before .before .pre)
+put-refusal-requires c κs = search needs
 
 enum-known-compiled-2 : tie.Need-enum-known-compiled-2
 enum-known-compiled-2 c = search needs
@@ -38,8 +35,7 @@ put-table-requires : tie.Need-put-table-requires
 unfolding blank
 put-table-requires c κs =
     let a = c .before .before .before .before .before .before .before .before .before .before .before .args in
-    let w = compiled-tabled (a .events) (a .values) (a .top) (a .meet .now) (a .rule .now) _ _ (sym (c .before .before .before .compiled2 .given .1) ∙ c .before .before .before .before .before .before .compile .ensures .0) (c .before .before .before .before .before .before .compile .ensures .1) in
-    record { some-events = w .some-events; few-events = w .few-events; few-states = w .few-states; whole = w .whole; room = c .before .before .before .before .before .before .before .before .before .before .before .pre }
+    compiled-tabled (a .events) (a .values) (a .top) (a .meet .now) (a .rule .now) _ _ (sym (c .before .before .before .compiled2 .given .1) ∙ c .before .before .before .before .before .before .compile .ensures .0) (c .before .before .before .before .before .before .compile .ensures .1) .few
 
 same-length : tie.Need-same-length
 same-length c = search needs
@@ -47,11 +43,8 @@ same-length c = search needs
 returns : tie.Need-returns
 unfolding blank
 returns c =
-    let a = c .before .before .before .before .before .before .before .before .before .before .before .before .before .args in (
-      wrote-as _ _ _ _ _ _ (compiled-refused (a .events) (a .values) (a .top) (a .meet .now) (a .rule .now) _ (sym (c .before .before .before .before .before .compiled .given .1) ∙ c .before .before .before .before .before .before .before .before .compile .ensures .0) .1)
-          (c .before .before .put-refusal .ensures .0),
-      c .before .before .put-refusal .ensures .1,
-    )
+    let a = c .before .before .before .before .before .before .before .before .before .before .before .before .before .args in
+    puts-as (compiled-refused (a .events) (a .values) (a .top) (a .meet .now) (a .rule .now) _ (sym (c .before .before .before .before .before .compiled .given .1) ∙ c .before .before .before .before .before .before .before .before .compile .ensures .0)) (c .before .before .put-refusal .ensures)
 
 same-length-2 : tie.Need-same-length-2
 same-length-2 c = search needs
@@ -60,8 +53,7 @@ returns-2 : tie.Need-returns-2
 unfolding blank
 returns-2 c =
     let a = c .before .before .before .before .before .before .before .before .before .before .before .before .before .before .args in
-    let w = compiled-tabled (a .events) (a .values) (a .top) (a .meet .now) (a .rule .now) _ _ (sym (c .before .before .before .before .before .before .compiled2 .given .1) ∙ c .before .before .before .before .before .before .before .before .before .compile .ensures .0) (c .before .before .before .before .before .before .before .before .before .compile .ensures .1) in
-    (wrote-as _ _ _ _ _ _ (w .same-text) (c .before .before .put-table .ensures .0), c .before .before .put-table .ensures .1)
+    puts-as (compiled-tabled (a .events) (a .values) (a .top) (a .meet .now) (a .rule .now) _ _ (sym (c .before .before .before .before .before .before .compiled2 .given .1) ∙ c .before .before .before .before .before .before .before .before .before .compile .ensures .0) (c .before .before .before .before .before .before .before .before .before .compile .ensures .1) .same-text) (c .before .before .put-table .ensures)
 
 pub put-compiled-spec : {M : Type 1} → statement M
 put-compiled-spec =

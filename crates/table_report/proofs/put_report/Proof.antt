@@ -1,12 +1,12 @@
 -- `put_report` meets its contract: what the file reader refuses the compiler refuses alike, and what it accepts is compiled.
 -- Assumes nothing.
-use Rattle.table_report.proofs.Answers.{read-refused, read-accepted}
-use Rattle.table_report.proofs.Texts.{wrote-as}
-use lib.ListN.{length-replicate}
-use lib.Seq.{length-take-le}
-use native.Mathlib.Omega.{arith}
 use Prim.Native.Nat.{ℕ}
 use mathlib.Core.Path.{sym}
+use native.Mathlib.Omega.{arith}
+use lib.ListN.{length-replicate}
+use lib.Seq.{length-take-le}
+use Rattle.text_output.proofs.Outputs.{puts-as}
+use Rattle.table_report.proofs.Answers.{read-refused, read-accepted}
 use borrow.Author.Needs.{needs}
 use Rattle.table_report.proofs.put_report.Statement.{statement}
 use Rattle.table_report.proofs.put_report.Tie as tie
@@ -29,7 +29,7 @@ enum-known-answer : tie.Need-enum-known-answer
 enum-known-answer c = search needs
 
 put-refusal-requires : tie.Need-put-refusal-requires
-put-refusal-requires c κs = (read-refused (c .before .before .before .before .before .before .before .before .before .before .before .args .text .now) _ _ _ _ _ _ (c .before .before .answer .given .1) (length-replicate {A = ℕ} 256 0) (length-replicate {A = ℕ} 768 0) (c .before .before .before .before .before .before .read-file .ensures) .0, c .before .before .before .before .before .before .before .before .before .before .before .pre)
+put-refusal-requires c κs = search needs
 
 enum-known-answer-2 : tie.Need-enum-known-answer-2
 enum-known-answer-2 c = search needs
@@ -59,14 +59,16 @@ same-length c = search needs
 
 returns : tie.Need-returns
 returns c =
-    (wrote-as _ _ _ _ _ _ (read-refused (c .before .before .before .before .before .before .before .before .before .before .before .before .before .before .args .text .now) _ _ _ _ _ _ (c .before .before .before .before .before .answer .given .1) (length-replicate {A = ℕ} 256 0) (length-replicate {A = ℕ} 768 0) (c .before .before .before .before .before .before .before .before .before .read-file .ensures) .1) (c .before .before .put-refusal .ensures .0), c .before .before .put-refusal .ensures .1)
+    puts-as (read-refused (c .before .before .before .before .before .before .before .before .before .before .before .before .before .before .args .text .now) _ _ _ _ _ _ (c .before .before .before .before .before .answer .given .1) (length-replicate {A = ℕ} 256 0) (length-replicate {A = ℕ} 768 0) (c .before .before .before .before .before .before .before .before .before .read-file .ensures))
+    (c .before .before .put-refusal .ensures)
 
 same-length-2 : tie.Need-same-length-2
 same-length-2 c = search needs
 
 returns-2 : tie.Need-returns-2
 returns-2 c =
-    (wrote-as _ _ _ _ _ _ (read-accepted (c .before .before .before .before .before .before .before .before .before .before .before .before .before .before .before .before .before .args .text .now) _ _ _ _ _ _ (c .before .before .before .before .before .before .before .before .answer2 .given .1) (c .before .before .before .before .before .before .before .before .before .before .before .before .read-file .ensures) .same-text) (c .before .before .put-compiled .ensures .0), c .before .before .put-compiled .ensures .1)
+    puts-as (read-accepted (c .before .before .before .before .before .before .before .before .before .before .before .before .before .before .before .before .before .args .text .now) _ _ _ _ _ _ (c .before .before .before .before .before .before .before .before .answer2 .given .1) (c .before .before .before .before .before .before .before .before .before .before .before .before .read-file .ensures) .same-text)
+    (c .before .before .put-compiled .ensures)
 
 pub put-report-spec : {M : Type 1} → statement M
 put-report-spec =

@@ -1,127 +1,124 @@
--- `put_table` meets its contract: two lines, then the rows.
+-- `put_table` meets its contract. The invariant: the rows passed were put.
 -- Assumes nothing.
-use Rattle.table_report.proofs.Texts.{wrote-as, item-length, table-parts}
-use Rattle.machines.specs.TableBytes.{machine-of}
-use Rattle.channel_file.proofs.Buffers.{wrote-then, wrote-length}
-use native.Mathlib.Nat.{mul-le-mul}
+use Prim.Native.Nat.{ℕ, _*_, _-_, _≤_}
+use mathlib.Core.Path.{_≡_, ap}
 use native.Mathlib.Omega.{arith}
-use Prim.Native.Nat.{ℕ, _+_, _*_, _≤_, _<_}
-use mathlib.Core.Path.{_≡_, sym, ap, _∙_}
+use native.Mathlib.Nat.{mul-le-mul}
+use Rattle.text_output.specs.Output.{Puts, each}
+use Rattle.text_output.proofs.Outputs.{puts-length, puts-none, puts-within, puts-then, puts-as, puts-each}
+use Rattle.machines.specs.TableBytes.{machine-of}
+use Rattle.table_report.specs.TableText.{entry-line}
+use Rattle.table_report.proofs.Texts.{entry-bytes, table-parts}
 use borrow.Author.Needs.{needs}
 use Rattle.table_report.proofs.put_table.Statement.{statement}
 use Rattle.table_report.proofs.put_table.Tie as tie
 use Rattle.table_report.proofs.put_table.Reads as reads
 use Rattle.table_report.proofs.put_table.Lts as lts
-use Rattle.table_report.proofs.put_item.Reads as put-item-reads
-use Rattle.table_report.proofs.put_rows.Reads as put-rows-reads
-use Rattle.table_report.proofs.put_word.Reads as put-word-reads
+use Rattle.machines.proofs.next_at.Reads as next-at-reads
+use Rattle.machines.proofs.value_at.Reads as value-at-reads
+use Rattle.table_report.proofs.put_line.Reads as put-line-reads
+use Rattle.table_report.proofs.put_row.Reads as put-row-reads
 
-slice-aggregate-put-word : tie.Need-slice-aggregate-put-word
-slice-aggregate-put-word c = search needs
+abbrev Inv-loop : tie.InvT-loop
+Inv-loop out₀ events states table a n₀ count i₀ out n i = (i ≤ count) × Puts out₀ (each (entry-line events (machine-of events table)) i 0) out n₀ n
 
-put-word-requires : tie.Need-put-word-requires
-put-word-requires c κs = search needs
+abbrev μ-loop : tie.MeasureT-loop
+μ-loop out₀ events states table a n₀ count i₀ out n i = count - i
 
-put-item-requires : tie.Need-put-item-requires
-put-item-requires c κs = search needs
+slice-aggregate-put-line : tie.Need-slice-aggregate-put-line Inv-loop μ-loop
+slice-aggregate-put-line c = search needs
 
-slice-aggregate-put-word-2 : tie.Need-slice-aggregate-put-word-2
-slice-aggregate-put-word-2 c = search needs
+put-line-requires : tie.Need-put-line-requires Inv-loop μ-loop
+put-line-requires c κs = search needs
 
-put-word-requires-2 : tie.Need-put-word-requires-2
-put-word-requires-2 c κs =
-    let w0 = c .before .before .before .before .before .before .before .before .put-word .ensures in
-    let l0 = wrote-length _ _ _ _ _ w0 in
-    let n0 = w0 .next in
-    let w1 = c .before .before .before .before .put-item .ensures in
-    let l1 = wrote-length _ _ _ _ _ w1 in
-    let n1 = w1 .next in
-    let p = c .before .before .before .before .before .before .before .before .before .before .before .before .before .pre in
-    let few = p .few-events in
-    omega (arith, p .room, item-length (c .before .before .before .before .before .before .before .before .before .before .before .before .before .args .events) 10 (omega arith))
+slice-aggregate-put-line-2 : tie.Need-slice-aggregate-put-line-2 Inv-loop μ-loop
+slice-aggregate-put-line-2 c = search needs
 
-put-item-requires-2 : tie.Need-put-item-requires-2
-put-item-requires-2 c κs =
-    let w0 = c .before .before .before .before .before .before .before .before .before .before .before .before .put-word .ensures in
-    let l0 = wrote-length _ _ _ _ _ w0 in
-    let n0 = w0 .next in
-    let w1 = c .before .before .before .before .before .before .before .before .put-item .ensures in
-    let l1 = wrote-length _ _ _ _ _ w1 in
-    let n1 = w1 .next in
-    let w2 = c .before .before .before .put-word2 .ensures in
-    let l2 = wrote-length _ _ _ _ _ w2 in
-    let n2 = w2 .next in
-    let p = c .before .before .before .before .before .before .before .before .before .before .before .before .before .before .before .before .before .pre in
-    let few = p .few-events in
-    (omega (arith, p .few-states), omega (arith, p .room, item-length (c .before .before .before .before .before .before .before .before .before .before .before .before .before .before .before .before .before .args .events) 10 (omega arith)))
+put-line-requires-2 : tie.Need-put-line-requires-2 Inv-loop μ-loop
+put-line-requires-2 c κs = search needs
 
-mul-put-rows : tie.Need-mul-put-rows
-mul-put-rows c = omega (arith, mul-le-mul (c .before .before .before .before .before .before .before .before .before .before .before .before .before .before .before .before .before .before .before .before .before .pre .few-states) (c .before .before .before .before .before .before .before .before .before .before .before .before .before .before .before .before .before .before .before .before .before .pre .few-events))
+mul-count : tie.Need-mul-count Inv-loop μ-loop
+mul-count c =
+    let p = c .before .before .before .before .before .before .before .before .before .before .before .before .pre in
+    omega (arith, mul-le-mul (p .few-states) (p .few-events))
 
-put-rows-requires : tie.Need-put-rows-requires
-put-rows-requires c κs =
-    let w0 = c .before .before .before .before .before .before .before .before .before .before .before .before .before .before .before .before .put-word .ensures in
-    let l0 = wrote-length _ _ _ _ _ w0 in
-    let n0 = w0 .next in
-    let w1 = c .before .before .before .before .before .before .before .before .before .before .before .before .put-item .ensures in
-    let l1 = wrote-length _ _ _ _ _ w1 in
-    let n1 = w1 .next in
-    let w2 = c .before .before .before .before .before .before .before .put-word2 .ensures in
-    let l2 = wrote-length _ _ _ _ _ w2 in
-    let n2 = w2 .next in
-    let w3 = c .before .before .before .put-item2 .ensures in
-    let l3 = wrote-length _ _ _ _ _ w3 in
-    let n3 = w3 .next in
-    let p = c .before .before .before .before .before .before .before .before .before .before .before .before .before .before .before .before .before .before .before .before .before .pre in
-    let few = p .few-events in
-    let states = p .few-states in
-    let m = mul-le-mul (p .few-states) (p .few-events) in
-    record {
-      some-events = p .some-events;
-      few-events = p .few-events;
-      few = omega arith;
-      whole = omega (arith, p .whole);
-      room = omega (arith, p .room, item-length (c .before .before .before .before .before .before .before .before .before .before .before .before .before .before .before .before .before .before .before .before .before .args .events) 10 (omega arith), item-length (c .before .before .before .before .before .before .before .before .before .before .before .before .before .before .before .before .before .before .before .before .before .args .states) 10 (omega arith));
-    }
+loop-holds : tie.Need-loop-holds Inv-loop μ-loop
+loop-holds c = (omega arith, puts-none _ _ _ (let w = puts-within (c .before .before .put-line2 .ensures) in omega arith))
 
-same-length : tie.Need-same-length
-same-length c = search needs
+value-at-requires : tie.Need-value-at-requires Inv-loop μ-loop
+value-at-requires c κs = search needs
 
-returns : tie.Need-returns
-returns c =
-    let w0 = c .before .before .before .before .before .before .before .before .before .before .before .before .before .before .before .before .before .before .before .put-word .ensures in
-    let l0 = wrote-length _ _ _ _ _ w0 in
-    let n0 = w0 .next in
-    let w1 = c .before .before .before .before .before .before .before .before .before .before .before .before .before .before .before .put-item .ensures in
-    let l1 = wrote-length _ _ _ _ _ w1 in
-    let n1 = w1 .next in
-    let w2 = c .before .before .before .before .before .before .before .before .before .before .put-word2 .ensures in
-    let l2 = wrote-length _ _ _ _ _ w2 in
-    let n2 = w2 .next in
-    let w3 = c .before .before .before .before .before .before .put-item2 .ensures in
-    let l3 = wrote-length _ _ _ _ _ w3 in
-    let n3 = w3 .next in
-    let a = c .before .before .before .before .before .before .before .before .before .before .before .before .before .before .before .before .before .before .before .before .before .before .before .before .args in
-    let p = c .before .before .before .before .before .before .before .before .before .before .before .before .before .before .before .before .before .before .before .before .before .before .before .before .pre in
-    let few = p .few-events in
-    let states = p .few-states in
-    let m = mul-le-mul (p .few-states) (p .few-events) in (
-      wrote-as _ _ _ _ _ _ (table-parts (a .events) (a .states) (machine-of (a .events) (a .table .now)))
-          (wrote-then _ _ _ _ _ _ _ _ w0 (wrote-then _ _ _ _ _ _ _ _ w1 (wrote-then _ _ _ _ _ _ _ _ w2 (wrote-then _ _ _ _ _ _ _ _ w3 (c .before .before .put-rows .ensures .0))))),
-      omega (arith, c .before .before .put-rows .ensures .1, item-length (a .events) 10 (omega arith), item-length (a .states) 10 (omega arith)),
+cast-value : tie.Need-cast-value Inv-loop μ-loop
+cast-value c = search needs
+
+next-at-requires : tie.Need-next-at-requires Inv-loop μ-loop
+next-at-requires c κs = search needs
+
+div-put-row : tie.Need-div-put-row Inv-loop μ-loop
+div-put-row c = omega (arith, c .before .before .before .before .before .before .before .before .before .before .before .before .before .before .before .before .before .pre .some-events)
+
+rem-put-row : tie.Need-rem-put-row Inv-loop μ-loop
+rem-put-row c = omega (arith, c .before .before .before .before .before .before .before .before .before .before .before .before .before .before .before .before .before .pre .some-events)
+
+put-row-requires : tie.Need-put-row-requires Inv-loop μ-loop
+put-row-requires c κs = search needs
+
+add-i : tie.Need-add-i Inv-loop μ-loop
+add-i c =
+    let p = c .before .before .before .before .before .before .before .before .before .before .before .before .before .before .before .before .before .before .before .before .pre in
+    omega (arith, mul-le-mul (p .few-states) (p .few-events))
+
+loop-less : tie.Need-loop-less Inv-loop μ-loop
+loop-less c = search needs
+
+loop-again : tie.Need-loop-again Inv-loop μ-loop
+loop-again c =
+    let a = c .before .before .before .before .before .before .before .before .before .before .before .before .before .before .before .before .before .before .before .before .args in (
+      omega arith,
+      puts-each (entry-line (a .events) (machine-of (a .events) (a .table .now))) (c .before .before .before .before .before .before .before .loop .i)
+          (entry-bytes (a .events) (a .table .now) (c .before .before .before .before .before .before .before .loop .i) _ _ (c .before .before .before .before .before .value-at .ensures) (c .before .before .before .before .next-at .ensures)) (c .before .before .before .before .before .before .before .loop .inv .1) (c .before .before .put-row .ensures),
     )
+
+same-length : tie.Need-same-length Inv-loop μ-loop
+same-length c =
+    let a = c .before .before .before .before .before .before .before .before .before .before .before .before .before .before .args in
+    let v = c .before .loop .inv in
+    let left = c .loop-test .left in
+    let e : c .before .loop .i ≡ a .states * a .events = omega (arith, v .0) in
+    puts-length (puts-as (table-parts (a .events) (a .states) (machine-of (a .events) (a .table .now)))
+    (puts-then (c .before .before .before .before .before .before .before .before .before .put-line .ensures) (puts-then (c .before .before .before .before .put-line2 .ensures)
+    (puts-as (ap (λ (j : ℕ). each (entry-line (a .events) (machine-of (a .events) (a .table .now))) j 0) e) (v .1)))))
+
+returns : tie.Need-returns Inv-loop μ-loop
+returns c =
+    let a = c .before .before .before .before .before .before .before .before .before .before .before .before .before .before .args in
+    let v = c .before .loop .inv in
+    let left = c .loop-test .left in
+    let e : c .before .loop .i ≡ a .states * a .events = omega (arith, v .0) in
+    puts-as (table-parts (a .events) (a .states) (machine-of (a .events) (a .table .now)))
+    (puts-then (c .before .before .before .before .before .before .before .before .before .put-line .ensures) (puts-then (c .before .before .before .before .put-line2 .ensures)
+    (puts-as (ap (λ (j : ℕ). each (entry-line (a .events) (machine-of (a .events) (a .table .now))) j 0) e) (v .1))))
 
 pub put-table-spec : {M : Type 1} → statement M
 put-table-spec =
     tie.close
     (tie.spec
-    slice-aggregate-put-word
-    put-word-requires
-    put-item-requires
-    slice-aggregate-put-word-2
-    put-word-requires-2
-    put-item-requires-2
-    mul-put-rows
-    put-rows-requires
+    Inv-loop
+    μ-loop
+    slice-aggregate-put-line
+    put-line-requires
+    slice-aggregate-put-line-2
+    put-line-requires-2
+    mul-count
+    loop-holds
+    value-at-requires
+    cast-value
+    next-at-requires
+    div-put-row
+    rem-put-row
+    put-row-requires
+    add-i
+    loop-less
+    loop-again
     same-length
     returns)
