@@ -1,17 +1,23 @@
 -- What is printed for a text is what document 01 asks for.
 -- Assumes nothing.
-use Prim.Native.Nat.{ℕ, _*_, _≤_}
+use Prim.Native.Nat.{ℕ, _*_, _/_, _%_, _≤_, _<_}
 use mathlib.Core.Path.{_≡_, refl, sym, ap, ap₂, _∙_, subst}
 use mathlib.Core.Logic.{inl, inr}
 use mathlib.Core.List.{List, [], _∷_, _++_}
 use mathlib.Core.Bool.{Bool, true, false}
 use mathlib.Core.Option.{Option, none, some}
 use native.Mathlib.Omega.{arith}
-use native.Mathlib.Nat.{mul-le-mul}
+use native.Mathlib.Nat.{mod-lt, div-lt-iff-lt-mul, mul-le-mul}
 use lib.Dec.{leb}
 use lib.ListN.{length, length-replicate}
 use borrow.Author.Tests.{le-leb, leb-true}
 use Rattle.theory.specs.ValueSets.{Below, meetAt}
+use Rattle.theory.specs.Formula.{Formula}
+use Rattle.theory.specs.MealyMachine.{Machine}
+use Rattle.theory.specs.DemandSets.{set-machine, first-set}
+use Rattle.theory.specs.ReachableStates.{IsTableOf}
+use Rattle.theory.proofs.Claims.{grammar, numbering}
+use Rattle.theory.proofs.SetMachine.{table-of-iff}
 use Rattle.refusal.specs.declared.Refusal.{Refusal}
 use Rattle.refusal.specs.declared.Refusal.the-variants.{At}
 use Rattle.refusal.specs.Refusal.{Condition, First, or-else, plain-unless}
@@ -23,18 +29,21 @@ use Rattle.values.proofs.Setups.{setup-correct, setup-accepted}
 use Rattle.formulas.specs.NodeBytes.{three-bytes}
 use Rattle.formulas.specs.RuleConditions.{rule-conditions}
 use Rattle.formulas.specs.RuleRefusal.{rule-refusal}
-use Rattle.text_format.specs.Format.{Outcome, contents, refused}
-use Rattle.channel_file.specs.ChannelFile.{Contents}
+use Rattle.text_format.specs.Format.{Outcome, contents, refused, ascii}
+use Rattle.text_output.specs.Output.{numeral}
+use Rattle.text_output.proofs.Outputs.{each-same}
+use Rattle.channel_file.specs.ChannelFile.{Contents, line}
 use Rattle.channel_file.specs.Reading.{AnswersFile, read-file}
-use Rattle.channel_file.proofs.Claims.{answer-claim}
+use Rattle.channel_file.proofs.Claims.{answer-claim, one-answer-claim}
 use Rattle.synthesis.specs.Compilation.{value-count, rule-states, rule-table-refusal, compile-rule-refusal, setup-states, compile-refusal, compile-contents}
-use Rattle.synthesis.specs.Claims.{states-condition}
-use Rattle.synthesis.proofs.CompileClaims.{compile-rule-claim, compile-claim}
+use Rattle.synthesis.specs.Claims.{states-condition, RuleTable}
+use Rattle.synthesis.proofs.CompileClaims.{compile-rule-claim, compile-refusal-claim, compile-claim}
 use Rattle.machines.specs.TableBytes.{machine-of}
 use Rattle.channel_io.specs.FileJudgement.{rule-numbers}
-use Rattle.table_report.specs.TableText.{table-text}
+use Rattle.table_report.specs.TableText.{row-line, entry-line, table-text, refusal-text}
 use Rattle.table_report.specs.Report.{blank, answer-text, pair-text, outcome-text}
-use Rattle.table_report.specs.Claims.{report-conditions, Prints, off-form, refused as was-refused, table, ReportClaim}
+use Rattle.table_report.specs.Claims.{report-conditions, Prints, off-form, refused as was-refused, table, ReportClaim, OneReportClaim}
+use Rattle.table_report.proofs.Lengths.{setup-passed}
 
 -- a refusal among the first conditions is the answer to all
 first-stop : (cs ds : List Condition) (r : Refusal) → First cs (some r) → First (cs ++ ds) (some r)
@@ -125,3 +134,95 @@ module _ (t : List ℕ) where
 
 pub report-claim : ReportClaim
 report-claim t = printed t (read-file t) (answer-claim t)
+
+-- ---- nothing else is printed
+
+-- what has no refusal has none
+first-not : (cs : List Condition) (r : Refusal) → First cs none → First cs (some r) → ⊥
+unfolding First
+first-not [] r x y = let z : _≡_ {A = ℕ} 0 1 = cc in omega arith
+first-not (C ∷ cs) r (inl (q, m, e)) y = let z : _≡_ {A = ℕ} 0 1 = cc in omega arith
+first-not (C ∷ cs) r (inr (u, x)) (inl (q, m, e)) = u q m
+first-not (C ∷ cs) r (inr (u, x)) (inr (v, y)) = first-not cs r x y
+
+-- a refusal among conditions is that of more conditions behind them
+first-behind : (cs ds es : List Condition) (r : Refusal) → (First ds (some r) → First es (some r)) → First (cs ++ ds) (some r) → First (cs ++ es) (some r)
+unfolding First
+first-behind [] ds es r f x = f x
+first-behind (C ∷ cs) ds es r f (inl x) = inl x
+first-behind (C ∷ cs) ds es r f (inr (u, x)) = inr (u, first-behind cs ds es r f x)
+
+module _ (events values top : ℕ) (meet rule : List ℕ) where
+  refused-only : (r : Refusal) → First (setup-conditions (s events values top meet rule) ++ rest events values top meet rule) (some r)
+      → some r ≡ compile-refusal 64 (s events values top meet rule) rule blank
+  unfolding setup
+  refused-only r x =
+      compile-refusal-claim .only 64 (s events values top meet rule) rule blank (some r)
+      (first-behind (setup-conditions (s events values top meet rule)) _ _ r
+      (first-behind (rule-conditions 3 three-bytes 256 events (Below values) rule) _ _ r (first-stop _ _ r)) x)
+
+  accepted-only : First (setup-conditions (s events values top meet rule) ++ rest events values top meet rule) none
+      → compile-refusal 64 (s events values top meet rule) rule blank ≡ none
+  accepted-only x = go (compile-refusal 64 (s events values top meet rule) rule blank) refl
+    where
+      go : (o : Option Refusal) → compile-refusal 64 (s events values top meet rule) rule blank ≡ o
+          → compile-refusal 64 (s events values top meet rule) rule blank ≡ none
+      go none e = e
+      go (some r) e =
+          absurd (first-not (setup-conditions (s events values top meet rule) ++ rest events values top meet rule) r x
+          (subst (First (setup-conditions (s events values top meet rule) ++ rest events values top meet rule)) e (report-first events values top meet rule)))
+
+  -- a rule has one table, and so one text of it
+  one-table : (n k : ℕ) (t u : Machine ℕ ℕ) → WellFormed (s events values top meet rule)
+      → RuleTable (meetAt values meet) top events values rule n t → RuleTable (meetAt values meet) top events values rule k u
+      → table-text events n t ≡ table-text events k u
+  unfolding setup table-text
+  one-table n k t u w x y =
+      let φ = x .formula in
+      let well = grammar ℕ 256 events (Below values) φ (x .code .accepted) in
+      let same = numbering (Below values) (meetAt values meet) top events _ (set-machine (meetAt values meet) top φ) (first-set φ) .1 n k t u
+      (table-of-iff (meetAt values meet) top φ (well .guarded) events n t .0 (x .is-table))
+      (table-of-iff (meetAt values meet) top φ (well .guarded) events k u .0
+      (subst (λ (χ : Formula ℕ). IsTableOf (meetAt values meet) top events χ k u) (x .only (y .formula) (y .code .written)) (y .is-table))) in
+      ap (λ (rows : List ℕ). line (ascii "events=") (numeral events) ++ (line (ascii "states=") (numeral n) ++ rows))
+      (each-same (entry-line events t) (entry-line events u) (n * events) 0 (λ i low high.
+      let l : i / events < n = div-lt-iff-lt-mul (w .some-events) .1 (omega arith) in
+      let e : i % events < events = mod-lt i (w .some-events) in
+      ap₂ (λ (v m : ℕ). row-line (i / events) (i % events) v m) (same .1 (i / events) (i % events) l e .0) (same .1 (i / events) (i % events) l e .1)))
+      ∙ ap (λ (m : ℕ). table-text events m u) (same .0)
+
+module _ (t : List ℕ) (c : Contents) (a : AnswersFile t (contents c)) where
+  abbrev o : Option Refusal
+  o = compile-refusal 64 (setup (c .events) (c .values) (c .top) (c .meet)) (rule-numbers c) blank
+
+  read-as : outcome-text (read-file t) ≡ outcome-text (contents c)
+  read-as = ap outcome-text (one-answer-claim t (read-file t) (contents c) (answer-claim t) a)
+
+  printed-as : (x : Option Refusal) → o ≡ x
+      → outcome-text (read-file t) ≡ answer-text x (c .events) (setup-states 64 (setup (c .events) (c .values) (c .top) (c .meet)) (rule-numbers c) blank)
+      (compile-contents 64 (setup (c .events) (c .values) (c .top) (c .meet)) (rule-numbers c) blank)
+  unfolding outcome-text pair-text
+  printed-as x e =
+      read-as
+      ∙ ap (λ (z : Option Refusal). answer-text z (c .events) (setup-states 64 (setup (c .events) (c .values) (c .top) (c .meet)) (rule-numbers c) blank)
+      (compile-contents 64 (setup (c .events) (c .values) (c .top) (c .meet)) (rule-numbers c) blank)) e
+
+  one-refusal : (r : Refusal) → First (report-conditions c) (some r) → refusal-text r ≡ outcome-text (read-file t)
+  unfolding setup answer-text
+  one-refusal r x = sym (printed-as (some r) (sym (refused-only (c .events) (c .values) (c .top) (c .meet) (rule-numbers c) r x)))
+
+  one-text : (n : ℕ) (m : Machine ℕ ℕ) → First (report-conditions c) none
+      → RuleTable (meetAt (c .values) (c .meet)) (c .top) (c .events) (c .values) (rule-numbers c) n m → table-text (c .events) n m ≡ outcome-text (read-file t)
+  unfolding setup answer-text
+  one-text n m x y =
+      let e = accepted-only (c .events) (c .values) (c .top) (c .meet) (rule-numbers c) x in
+      one-table (c .events) (c .values) (c .top) (c .meet) (rule-numbers c) n _ m _
+      (setup-accepted (setup (c .events) (c .values) (c .top) (c .meet)) .0 (setup-passed (c .events) (c .values) (c .top) (c .meet) (rule-numbers c) e)) y
+      (compile-claim .accepted 64 (setup (c .events) (c .values) (c .top) (c .meet)) (rule-numbers c) blank e .table)
+      ∙ sym (printed-as none e)
+
+pub one-report : OneReportClaim
+unfolding outcome-text
+one-report t s (off-form p h) = sym (ap outcome-text (one-answer-claim t (read-file t) (refused p) (answer-claim t) h))
+one-report t s (was-refused c r a x) = one-refusal t c a r x
+one-report t s (table c n m a x y) = one-text t c a n m x y
