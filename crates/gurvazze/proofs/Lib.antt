@@ -1,0 +1,6 @@
+-- Numbers that have room in a code; a file read and compiled; a run of events; the calls; then the claims.
+pub mod Small
+pub mod FileTables
+pub mod Runs
+pub mod Calls
+pub mod Claims

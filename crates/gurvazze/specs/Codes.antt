@@ -1,0 +1,59 @@
+-- Answers in one number of 64 bits, for programs in other languages. The low byte is the number of the refusal, and 0 where there is
+-- none; above it stand the refusal's place, or what the call yields.
+-- Assumes nothing.
+use mathlib.Core.Option.{Option, none, some}
+use Prim.Native.Nat.{ℕ, _+_, _*_, _≤_, _<_}
+use Rattle.refusal.specs.declared.Refusal.{Refusal}
+use Rattle.refusal.specs.declared.Refusal.the-variants.{Plain, At}
+use Rattle.refusal.specs.declared.Counted.{Counted}
+use Rattle.refusal.specs.declared.Counted.the-variants.{Count, Refused as Uncounted}
+use Rattle.conformance.specs.declared.Verdict.{Verdict}
+use Rattle.conformance.specs.declared.Verdict.the-variants.{Pass, Fail, Refused}
+
+-- "Each returns its number (4 and 6 to 9 also a place)".
+unfoldable pub refusal-code : Refusal → ℕ
+refusal-code (Plain n) = n
+refusal-code (At n p) = p * 256 + n
+
+-- The code of what an accepted call yields.
+unfoldable pub yield-code : ℕ → ℕ
+yield-code yield = yield * 256
+
+unfoldable pub code : Option Refusal → ℕ → ℕ
+code none yield = yield-code yield
+code (some refusal) yield = refusal-code refusal
+
+-- A call that makes something yields its count.
+unfoldable pub counted-code : Counted → ℕ
+counted-code (Count n) = yield-code n
+counted-code (Uncounted refusal) = refusal-code refusal
+
+-- A trial yields the length of the failing word, which has at least one event, and 0 for a pass.
+unfoldable pub verdict-code : Verdict → ℕ
+verdict-code Pass = 0
+verdict-code (Fail n) = yield-code n
+verdict-code (Refused refusal) = refusal-code refusal
+
+-- The numbers of a table: its states in sixteen bits; events, values and top in eight each.
+unfoldable pub table-numbers : (states events values top : ℕ) → ℕ
+table-numbers states events values top = states + (events + (values + top * 256) * 256) * 65536
+
+-- What the private functions of src/ ask: numbers that have room in a code.
+abbrev pub SmallPlace : Refusal → Type 0
+SmallPlace (Plain n) = Unit {0}
+SmallPlace (At n p) = p < 10000
+
+abbrev pub SmallCount : Counted → Type 0
+SmallCount (Count n) = n < 10000
+SmallCount (Uncounted refusal) = SmallPlace refusal
+
+abbrev pub SmallVerdict : Verdict → Type 0
+SmallVerdict Pass = Unit {0}
+SmallVerdict (Fail n) = n < 10000
+SmallVerdict (Refused refusal) = SmallPlace refusal
+
+pub record SmallNumbers (states events values top : ℕ) : Type 0 where
+  pub few-states : states ≤ 64
+  pub few-events : events ≤ 16
+  pub few-values : values ≤ 16
+  pub top-in : top < values
