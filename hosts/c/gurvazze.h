@@ -1,0 +1,98 @@
+/* Channel rule tables by the proved library, for C on x86-64 Linux. Link target/staticlib/libgurvazze.a, which
+ * `rt staticlib gurvazze` writes.
+ *
+ * A slice is a pointer and a length in bytes. A pointer is not null, even where the length is 0; what a function writes to (to, word)
+ * overlaps nothing else that the call is lent. A refused call leaves all lent memory as it was, and what lies behind an output keeps
+ * its contents.
+ *
+ * Every answer is one number: its low byte is the number of the refusal in document 01's list, 0 where there is none; above it stands
+ * the refusal's place (4 and 6 to 9 have one), or what the call yields.
+ *
+ * Example, compiled and run by hosts/c/test:
+ *
+ *     #include <stdio.h>
+ *     #include "gurvazze.h"
+ *
+ *     int main(void)
+ *     {
+ *         static const uint8_t file[] =
+ *             "events=2\nvalues=4\ntop=3\nmeet=0 0 0 0 0 1 0 1 0 0 2 2 0 1 2 3\nrule=A O1.1 V G1 X0\n";
+ *         static const uint8_t events[] = {1, 1, 0};
+ *         static const uint8_t device[] = {3, 0, 3, 0};
+ *         static uint8_t table[GURVAZZE_TABLE_BYTES], values[3], word[GURVAZZE_WORD_BYTES];
+ *
+ *         uint64_t answer = gurvazze_table(file, sizeof file - 1, table, sizeof table);
+ *         printf("states=%u value=%u\n", gurvazze_states(answer), table[2]);
+ *         answer = gurvazze_replay(file, sizeof file - 1, events, sizeof events, values, sizeof values);
+ *         printf("values=%u %u %u\n", values[0], values[1], values[2]);
+ *         answer = gurvazze_trial(file, sizeof file - 1, 1, 0, device, sizeof device, word, sizeof word);
+ *         printf("word of %llu: %u\n", (unsigned long long)gurvazze_yield(answer), word[0]);
+ *         answer = gurvazze_table(file, 8, table, sizeof table);
+ *         printf("refused=%u %llu\n", gurvazze_refusal(answer), (unsigned long long)gurvazze_place(answer));
+ *         return 0;
+ *     }
+ *
+ * It prints
+ *
+ *     states=3 value=1
+ *     values=1 3 3
+ *     word of 1: 1
+ *     refused=4 8
+ */
+#ifndef GURVAZZE_H
+#define GURVAZZE_H
+
+#include <stddef.h>
+#include <stdint.h>
+
+#ifdef __cplusplus
+extern "C" {
+#endif
+
+/* Every table, every rule and every word has room in so many bytes; a word buffer has at least so many. */
+#define GURVAZZE_TABLE_BYTES 2048
+#define GURVAZZE_RULE_BYTES 768
+#define GURVAZZE_WORD_BYTES 4096
+
+/* The table of a channel file's rule, value and next state, one byte each, by state and then event. Yields its numbers.
+ * Refusals 4, 1 to 3, 5 to 10, 13. */
+uint64_t gurvazze_table(const uint8_t *text, size_t text_length, uint8_t *to, size_t to_length);
+
+/* The values of a channel file's rule on a sequence of events, one byte each. Yields 0. Refusals 4, 1 to 3, 5 to 10, 16, 13. */
+uint64_t gurvazze_replay(const uint8_t *text, size_t text_length, const uint8_t *events, size_t events_length, uint8_t *to,
+                         size_t to_length);
+
+/* Trial of a device against a channel file's rule. Yields 0 for a pass, and else the length of the failing word, which stands at the
+ * front of the word buffer. Refusals 4, 1 to 3, 5 to 10, 11, 13. */
+uint64_t gurvazze_trial(const uint8_t *text, size_t text_length, size_t device_states, size_t device_start, const uint8_t *device,
+                        size_t device_length, uint8_t *word, size_t word_length);
+
+/* The same against a rule's table, from its state 0. Refusals 1 to 3, 11, 13. */
+uint64_t gurvazze_trial_table(size_t events, size_t values, size_t top, const uint8_t *meet, size_t meet_length, size_t states,
+                              const uint8_t *table, size_t table_length, size_t device_states, size_t device_start,
+                              const uint8_t *device, size_t device_length, uint8_t *word, size_t word_length);
+
+/* The rule of a table from a start, three bytes a node. Yields the number of nodes. Refusals 1 to 3, 11, 12, 13. */
+uint64_t gurvazze_rule(size_t events, size_t values, size_t top, const uint8_t *meet, size_t meet_length, size_t states, size_t start,
+                       const uint8_t *table, size_t table_length, uint8_t *to, size_t to_length);
+
+/* The number of the refusal; 0 where the call was accepted. */
+static inline unsigned gurvazze_refusal(uint64_t answer) { return (unsigned)(answer & 255); }
+
+/* The place of a refusal that has one. */
+static inline uint64_t gurvazze_place(uint64_t answer) { return answer >> 8; }
+
+/* What an accepted call yields. */
+static inline uint64_t gurvazze_yield(uint64_t answer) { return answer >> 8; }
+
+/* The numbers that gurvazze_table yields. */
+static inline unsigned gurvazze_states(uint64_t answer) { return (unsigned)(answer >> 8 & 65535); }
+static inline unsigned gurvazze_events(uint64_t answer) { return (unsigned)(answer >> 24 & 255); }
+static inline unsigned gurvazze_values(uint64_t answer) { return (unsigned)(answer >> 32 & 255); }
+static inline unsigned gurvazze_top(uint64_t answer) { return (unsigned)(answer >> 40 & 255); }
+
+#ifdef __cplusplus
+}
+#endif
+
+#endif

@@ -1,0 +1,313 @@
+//! Seeded inputs, good and damaged, given to both versions of each call.
+
+use std::collections::BTreeMap;
+use std::fmt::Debug;
+
+use gurvazze_differential::{replay, rule, table, trial, trial_table, Called};
+use gurvazze_reference::channel_file::{self, ChannelFile};
+use gurvazze_reference::formula::Rule;
+use gurvazze_reference::generate::{Generator, RawTable};
+use gurvazze_reference::table::Table;
+use gurvazze_reference::values::{RawSetUp, SetUp};
+
+/// So many seeds, times the number in the environment's SEEDS_TIMES where there is one.
+fn seeds(count: u64) -> std::ops::Range<u64> {
+    let times = std::env::var("SEEDS_TIMES").ok().and_then(|times| times.parse().ok()).unwrap_or(1);
+    0..count * times
+}
+
+/// How often each refusal arose, 0 for acceptance.
+#[derive(Default)]
+struct Tally(BTreeMap<u8, usize>);
+
+impl Tally {
+    /// Compares both answers and buffers, and counts them.
+    fn compare<T: Debug + PartialEq>(
+        &mut self,
+        library: Called<T>,
+        reference: Called<T>,
+        old: &[u8],
+        what: impl Fn() -> String,
+    ) {
+        assert!(library.0 == reference.0, "{:?}, the reference {:?}: {}", library.0, reference.0, what());
+        assert!(library.1 == reference.1, "the buffers differ after {:?}: {}", library.0, what());
+        if library.0.is_err() {
+            assert!(library.1 == old, "a refused call wrote: {}", what());
+        }
+        *self.0.entry(library.0.err().map_or(0, |refusal| refusal.0)).or_default() += 1;
+    }
+
+    /// Each of these arose often enough to mean something.
+    fn has(&self, numbers: &[u8]) {
+        for number in numbers {
+            assert!(self.0.get(number).is_some_and(|&count| count >= 20), "{number} hardly arose: {:?}", self.0);
+        }
+        println!("{:?}", self.0);
+    }
+}
+
+/// A channel file, good or damaged.
+fn text(generator: &mut Generator) -> Vec<u8> {
+    match generator.below(10) {
+        0..=5 => generator.file(),
+        6 | 7 => generator.loose_file(),
+        8 => generator.damaged_file(),
+        _ => {
+            let length = generator.between(100, 4100);
+            generator.long_file(length)
+        }
+    }
+}
+
+/// A good channel file and what it says.
+fn good(generator: &mut Generator) -> (Vec<u8>, ChannelFile) {
+    let text = generator.file();
+    let file = channel_file::read(&text).expect("a file is accepted");
+    (text, file)
+}
+
+/// A buffer for an output of so many bytes, at times too short, with old contents.
+fn buffer(generator: &mut Generator, output: usize) -> Vec<u8> {
+    let length = match generator.below(8) {
+        0 => output.saturating_sub(1),
+        1 => generator.below(output + 1),
+        2 => 0,
+        3 => output,
+        _ => output + generator.below(40),
+    };
+    generator.bytes(length)
+}
+
+fn shown(text: &[u8]) -> String {
+    String::from_utf8_lossy(text).into_owned()
+}
+
+#[test]
+fn tables() {
+    let mut tally = Tally::default();
+    for seed in seeds(100_000) {
+        let mut generator = Generator::new(seed);
+        let text = text(&mut generator);
+        let output = match table::reference(&text, &[0; 2048]).0 {
+            Ok((states, events, _, _)) => states * events * 2,
+            Err(_) => 2048,
+        };
+        let old = buffer(&mut generator, output);
+        tally.compare(table::library(&text, &old), table::reference(&text, &old), &old, || {
+            format!("seed {seed}: {}", shown(&text))
+        });
+    }
+    tally.has(&[0, 1, 2, 3, 4, 5, 6, 7, 8, 9, 10, 13]);
+}
+
+#[test]
+fn replays() {
+    let mut tally = Tally::default();
+    for seed in seeds(50_000) {
+        let mut generator = Generator::new(seed);
+        let (text, events) = if generator.once_in(4) {
+            (text(&mut generator), generator.between(1, 16))
+        } else {
+            let (text, file) = good(&mut generator);
+            (text, file.set_up.events())
+        };
+        let length = if generator.once_in(50) { generator.below(20_000) } else { generator.below(200) };
+        let mut word: Vec<u8> = (0..length).map(|_| generator.below(events) as u8).collect();
+        if length > 0 && generator.once_in(6) {
+            let at = generator.below(length);
+            word[at] = (events + generator.one_of(&[0, 1, 16, 200])) as u8;
+        }
+        let old = buffer(&mut generator, length);
+        tally.compare(replay::library(&text, &word, &old), replay::reference(&text, &word, &old), &old, || {
+            format!("seed {seed}: {} {word:?}", shown(&text))
+        });
+    }
+    tally.has(&[0, 1, 2, 3, 4, 5, 6, 7, 8, 9, 10, 13, 16]);
+}
+
+/// A device: any table, one near the rule's, or a damaged one.
+fn device(generator: &mut Generator, set_up: &SetUp, rule: Option<&Table>) -> RawTable {
+    match (generator.below(8), rule) {
+        (0, _) => generator.damaged_table(set_up),
+        (1, _) | (_, None) => generator.table(set_up),
+        (_, Some(table)) => generator.device_near(set_up, table),
+    }
+}
+
+fn word_buffer(generator: &mut Generator) -> Vec<u8> {
+    let length = match generator.below(12) {
+        0 => 4095,
+        1 => generator.below(4096),
+        2 => 4096,
+        _ => 4096 + generator.below(100),
+    };
+    generator.bytes(length)
+}
+
+/// After the word's last event the device's value is not at or below the table's, and before it is everywhere.
+fn is_counterexample(set_up: &SetUp, device: &RawTable, table: &Table, word: &[u8]) -> bool {
+    let entry = |state: usize, event: usize| {
+        let at = 2 * (state * set_up.events() + event);
+        (device.bytes[at], usize::from(device.bytes[at + 1]))
+    };
+    let (mut s, mut t) = (device.start, 0);
+    let mut below = Vec::new();
+    for &event in word {
+        let (value, next) = entry(s, event.into());
+        let of_table = table.entry(t, event.into());
+        below.push(set_up.at_or_below(value, of_table.value));
+        (s, t) = (next, of_table.next.into());
+    }
+    below.pop() == Some(false) && below.iter().all(|&holds| holds)
+}
+
+#[test]
+fn trials() {
+    let mut tally = Tally::default();
+    let (mut passes, mut fails) = (0, 0);
+    for seed in seeds(50_000) {
+        let mut generator = Generator::new(seed);
+        let text = if generator.once_in(4) { text(&mut generator) } else { generator.file() };
+        let file = channel_file::read(&text).ok();
+        let of_rule = file.as_ref().and_then(|file| Table::of_rule(&file.set_up, &file.rule).ok());
+        let set_up = file.map_or_else(|| generator.set_up(), |file| file.set_up);
+        let device = device(&mut generator, &set_up, of_rule.as_ref());
+        let old = word_buffer(&mut generator);
+        let library = trial::library(&text, &device, &old);
+        if let (Ok(length), Some(table)) = (library.0, &of_rule) {
+            if length == 0 {
+                passes += 1;
+            } else {
+                fails += 1;
+                assert!(is_counterexample(&set_up, &device, table, &library.1[..length]), "seed {seed}");
+            }
+        }
+        tally.compare(library, trial::reference(&text, &device, &old), &old, || {
+            format!("seed {seed}: {} {device:?}", shown(&text))
+        });
+    }
+    tally.has(&[0, 1, 2, 3, 4, 5, 6, 7, 8, 9, 10, 11, 13]);
+    assert!(passes > 1000 && fails > 1000, "{passes} passes, {fails} fails");
+}
+
+#[test]
+fn trials_of_tables() {
+    let mut tally = Tally::default();
+    for seed in seeds(50_000) {
+        let mut generator = Generator::new(seed);
+        let set_up = generator.set_up();
+        let table = if generator.once_in(10) { generator.damaged_table(&set_up) } else { generator.table(&set_up) };
+        let typed = RawTable { start: 0, ..table.clone() }.lent().table(&set_up).ok();
+        let device = device(&mut generator, &set_up, typed.as_ref());
+        let raw = if generator.once_in(10) { generator.damaged_set_up() } else { set_up.raw().clone() };
+        let old = word_buffer(&mut generator);
+        tally.compare(
+            trial_table::library(&raw, &table, &device, &old),
+            trial_table::reference(&raw, &table, &device, &old),
+            &old,
+            || format!("seed {seed}: {raw:?} {table:?} {device:?}"),
+        );
+    }
+    tally.has(&[0, 1, 2, 3, 11, 13]);
+}
+
+#[test]
+fn rules() {
+    let mut tally = Tally::default();
+    for seed in seeds(50_000) {
+        let mut generator = Generator::new(seed);
+        let set_up = generator.set_up();
+        let table = match generator.below(8) {
+            0 => generator.damaged_table(&set_up),
+            1 | 2 => generator.table(&set_up),
+            _ => generator.chain(&set_up),
+        };
+        let raw = if generator.once_in(10) { generator.damaged_set_up() } else { set_up.raw().clone() };
+        let output = rule::reference(&raw, &table, &[0; 768]).0.unwrap_or(256) * 3;
+        let old = buffer(&mut generator, output);
+        tally.compare(rule::library(&raw, &table, &old), rule::reference(&raw, &table, &old), &old, || {
+            format!("seed {seed}: {raw:?} {table:?}")
+        });
+    }
+    tally.has(&[0, 1, 2, 3, 11, 12, 13]);
+}
+
+/// The rule that was written is a rule whose values are the start's.
+#[test]
+fn written_rules_are_rules() {
+    for seed in seeds(20_000) {
+        let mut generator = Generator::new(seed);
+        let set_up = generator.set_up();
+        let table = generator.chain(&set_up);
+        let (Ok(count), bytes) = rule::library(set_up.raw(), &table, &[0; 768]) else { continue };
+        let rule = Rule::from_bytes(&set_up, &bytes[..3 * count]).expect("each rule so written is accepted as a rule");
+        let of_rule = Table::of_rule(&set_up, &rule).expect("and has one state for each V");
+        let word = generator.word(&set_up, 50);
+        assert_eq!(of_rule.run(0, &word).0, table.lent().table(&set_up).unwrap().run(table.start, &word).0, "seed {seed}");
+    }
+}
+
+/// Document 01's limits, and the worst cases.
+#[test]
+fn limits() {
+    let mut tally = Tally::default();
+    let four = |items: &str, events: usize| {
+        format!("events={events}\nvalues=4\ntop=3\nmeet=0 0 0 0 0 1 0 1 0 0 2 2 0 1 2 3\nrule={items}\n").into_bytes()
+    };
+    let steps = |count: usize| format!("{}T", "G0 ".repeat(count));
+    let mut texts: Vec<Vec<u8>> = Vec::new();
+    for events in [1, 2, 16] {
+        texts.extend([0, 1, 62, 63, 64, 100, 255, 256].map(|count| four(&steps(count), events)));
+        texts.push(four(&format!("{}T", "V ".repeat(255)), events));
+        texts.push(four(&format!("{}T{}", "A ".repeat(127), " T".repeat(127)), events));
+        texts.push(four(&format!("{}T{}", "A T ".repeat(127), ""), events));
+        // Loops of prime lengths, whose states are as many as the product of the lengths.
+        let primes = [2, 3, 5, 7, 11, 13, 17, 19, 23];
+        for count in 1..=primes.len() {
+            let loops = |prime: &usize| format!("V {}X0", "G0 ".repeat(*prime));
+            let items: Vec<String> = primes[..count].iter().map(loops).collect();
+            texts.push(four(&format!("{}{}", "A ".repeat(count - 1), items.join(" ")), events));
+        }
+    }
+    for text in &texts {
+        for length in [0, 1, 2, 127, 128, 2047, 2048, 3000] {
+            let old = vec![170; length];
+            tally.compare(table::library(text, &old), table::reference(text, &old), &old, || shown(text));
+        }
+    }
+    // One event, a chain of states whose last returns to itself: 253 nodes for 63 states, 12 for 64.
+    let one = RawSetUp::four_values(1);
+    for states in [1, 2, 62, 63, 64] {
+        let bytes = (0..states).flat_map(|state| [3, (state + 1).min(states - 1) as u8]).collect();
+        let chain = RawTable { states, start: 0, bytes };
+        for length in [0, 3, 756, 757, 758, 759, 768] {
+            let old = vec![170; length];
+            tally
+                .compare(rule::library(&one, &chain, &old), rule::reference(&one, &chain, &old), &old, || format!("{chain:?}"));
+        }
+    }
+    // A device loop of 64 states against a rule loop of 63: the failing word has 64 × 63 events.
+    let ring = |states: usize, low: usize| RawTable {
+        states,
+        start: 0,
+        bytes: (0..states).flat_map(|state| [if state == low { 1 } else { 3 }, ((state + 1) % states) as u8]).collect(),
+    };
+    for (device, table) in [(64, 63), (63, 64), (64, 64), (61, 59)] {
+        let mut device = ring(device, usize::MAX);
+        device.bytes.iter_mut().step_by(2).for_each(|value| *value = 1);
+        let last = 2 * (device.states - 1);
+        device.bytes[last] = 3;
+        let table = ring(table, table - 1);
+        for length in [4095, 4096, 5000] {
+            let old = vec![170; length];
+            let library = trial_table::library(&one, &table, &device, &old);
+            if (device.states, table.states, length) == (64, 63, 4096) {
+                assert_eq!(library.0, Ok(64 * 63));
+            }
+            tally.compare(library, trial_table::reference(&one, &table, &device, &old), &old, || {
+                format!("{device:?} {table:?}")
+            });
+        }
+    }
+    println!("{:?}", tally.0);
+}

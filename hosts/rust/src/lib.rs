@@ -1,0 +1,296 @@
+//! Channel rule tables by the proved library: the table of a channel file's rule, replay, trial, and the rule of a table.
+//!
+//! Every function lends its slices for the time of the call. A refused call leaves them as they were, and what lies behind an
+//! output keeps its contents.
+
+use std::fmt;
+
+/// The bytes that a trial's word buffer has at least.
+pub const WORD_BYTES: usize = 4096;
+
+/// The bytes that every table has room in: 64 states, 16 events, two bytes an entry.
+pub const TABLE_BYTES: usize = 2048;
+
+/// The bytes that every rule has room in: 256 nodes, three bytes each.
+pub const RULE_BYTES: usize = 768;
+
+/// A refusal of document 01's list.
+#[derive(Clone, Copy, Debug, PartialEq, Eq, Hash)]
+pub struct Refusal {
+    /// Its number.
+    pub number: u8,
+    /// Its place: a byte offset for 4, a node number for 6 to 9, nothing for the others.
+    pub place: Option<usize>,
+}
+
+impl fmt::Display for Refusal {
+    fn fmt(&self, f: &mut fmt::Formatter<'_>) -> fmt::Result {
+        match self.place {
+            Some(place) => write!(f, "refused: {} at {}", self.number, place),
+            None => write!(f, "refused: {}", self.number),
+        }
+    }
+}
+
+impl std::error::Error for Refusal {}
+
+/// The numbers of a table that was made.
+#[derive(Clone, Copy, Debug, PartialEq, Eq)]
+pub struct TableNumbers {
+    /// How many states; the table has `states * events` entries of two bytes.
+    pub states: usize,
+    /// How many events.
+    pub events: usize,
+    /// How many values.
+    pub values: usize,
+    /// The top value.
+    pub top: usize,
+}
+
+/// The answer of a trial.
+#[derive(Clone, Copy, Debug, PartialEq, Eq)]
+pub enum Verdict {
+    /// The device does what the rule asks.
+    Pass,
+    /// It does not; the first word that shows it is that long and stands at the front of the word buffer.
+    Fail(usize),
+}
+
+/// A set-up: its numbers and its meet table, row by row.
+#[derive(Clone, Copy, Debug)]
+pub struct SetUp<'a> {
+    /// How many events.
+    pub events: usize,
+    /// How many values.
+    pub values: usize,
+    /// The top value.
+    pub top: usize,
+    /// The meet table.
+    pub meet: &'a [u8],
+}
+
+/// A table handed in: value and next state, one byte each, by state and then event.
+#[derive(Clone, Copy, Debug)]
+pub struct Table<'a> {
+    /// How many states.
+    pub states: usize,
+    /// The start; a rule's table starts at state 0.
+    pub start: usize,
+    /// The entries.
+    pub bytes: &'a [u8],
+}
+
+/// The table of a channel file's rule goes into `to`. Refusals 4, 1 to 3, 5 to 10, 13.
+///
+/// ```
+/// let file = b"events=2\nvalues=4\ntop=3\nmeet=0 0 0 0 0 1 0 1 0 0 2 2 0 1 2 3\nrule=A O1.1 V G1 X0\n";
+/// let mut to = [0; gurvazze::TABLE_BYTES];
+/// let numbers = gurvazze::table(file, &mut to)?;
+/// assert_eq!((numbers.states, numbers.events), (3, 2));
+/// assert_eq!(to[..12], [3, 1, 1, 2, 3, 1, 3, 1, 3, 1, 3, 2]);
+///
+/// let refusal = gurvazze::table(b"events=2\r\n", &mut to).unwrap_err();
+/// assert_eq!((refusal.number, refusal.place), (4, Some(8)));
+/// # Ok::<(), gurvazze::Refusal>(())
+/// ```
+pub fn table(text: &[u8], to: &mut [u8]) -> Result<TableNumbers, Refusal> {
+    // SAFETY: both slices are valid for the call, and a slice that is lent mutably overlaps no other.
+    let code = unsafe { library::gurvazze_table(text.as_ptr(), text.len(), to.as_mut_ptr(), to.len()) };
+    let numbers = yielded(code)?;
+    let byte = |shift: u32| (numbers >> shift & 255) as usize;
+    Ok(TableNumbers { states: (numbers & 65535) as usize, events: byte(16), values: byte(24), top: byte(32) })
+}
+
+/// The values of a channel file's rule on a sequence of events go into `to`, one byte for each event. Refusals 4, 1 to 3,
+/// 5 to 10, 16, 13.
+///
+/// ```
+/// let file = b"events=2\nvalues=4\ntop=3\nmeet=0 0 0 0 0 1 0 1 0 0 2 2 0 1 2 3\nrule=V A G1 O1.1 G1 X0\n";
+/// let mut values = [0; 4];
+/// gurvazze::replay(file, &[1, 1, 1, 1], &mut values)?;
+/// assert_eq!(values, [3, 1, 1, 1]);
+/// assert_eq!(gurvazze::replay(file, &[2], &mut values).unwrap_err().number, 16);
+/// # Ok::<(), gurvazze::Refusal>(())
+/// ```
+pub fn replay(text: &[u8], events: &[u8], to: &mut [u8]) -> Result<(), Refusal> {
+    // SAFETY: as in `table`.
+    let code = unsafe {
+        library::gurvazze_replay(text.as_ptr(), text.len(), events.as_ptr(), events.len(), to.as_mut_ptr(), to.len())
+    };
+    yielded(code).map(|_| ())
+}
+
+/// Trial of a device against a channel file's rule. Refusals 4, 1 to 3, 5 to 10, 11, 13.
+///
+/// ```
+/// use gurvazze::{Table, Verdict};
+///
+/// let file = b"events=2\nvalues=4\ntop=3\nmeet=0 0 0 0 0 1 0 1 0 0 2 2 0 1 2 3\nrule=A O0.1 O0.2\n";
+/// let mut word = [0; gurvazze::WORD_BYTES];
+/// let open = Table { states: 1, start: 0, bytes: &[3, 0, 3, 0] };
+/// assert_eq!(gurvazze::trial(file, open, &mut word)?, Verdict::Fail(1));
+/// assert_eq!(word[0], 0);
+/// let conflict = Table { states: 1, start: 0, bytes: &[0, 0, 0, 0] };
+/// assert_eq!(gurvazze::trial(file, conflict, &mut word)?, Verdict::Pass);
+/// # Ok::<(), gurvazze::Refusal>(())
+/// ```
+pub fn trial(text: &[u8], device: Table<'_>, word: &mut [u8]) -> Result<Verdict, Refusal> {
+    // SAFETY: as in `table`.
+    let code = unsafe {
+        library::gurvazze_trial(
+            text.as_ptr(),
+            text.len(),
+            device.states,
+            device.start,
+            device.bytes.as_ptr(),
+            device.bytes.len(),
+            word.as_mut_ptr(),
+            word.len(),
+        )
+    };
+    verdict(code)
+}
+
+/// Trial of a device against a rule's table. Refusals 1 to 3, 11, 13.
+///
+/// ```
+/// use gurvazze::{SetUp, Table, Verdict};
+///
+/// let set_up = SetUp { events: 1, values: 2, top: 1, meet: &[0, 0, 0, 1] };
+/// let mut word = [0; gurvazze::WORD_BYTES];
+/// let device = Table { states: 2, start: 0, bytes: &[0, 1, 1, 1] };
+/// assert_eq!(gurvazze::trial_of_table(set_up, 1, &[0, 0], device, &mut word)?, Verdict::Fail(2));
+/// # Ok::<(), gurvazze::Refusal>(())
+/// ```
+pub fn trial_of_table(
+    set_up: SetUp<'_>,
+    states: usize,
+    table: &[u8],
+    device: Table<'_>,
+    word: &mut [u8],
+) -> Result<Verdict, Refusal> {
+    // SAFETY: as in `table`.
+    let code = unsafe {
+        library::gurvazze_trial_table(
+            set_up.events,
+            set_up.values,
+            set_up.top,
+            set_up.meet.as_ptr(),
+            set_up.meet.len(),
+            states,
+            table.as_ptr(),
+            table.len(),
+            device.states,
+            device.start,
+            device.bytes.as_ptr(),
+            device.bytes.len(),
+            word.as_mut_ptr(),
+            word.len(),
+        )
+    };
+    verdict(code)
+}
+
+/// The rule of a table goes into `to`, three bytes a node; returns its number of nodes. Refusals 1 to 3, 11, 12, 13.
+///
+/// ```
+/// use gurvazze::{SetUp, Table};
+///
+/// let set_up = SetUp { events: 1, values: 2, top: 1, meet: &[0, 0, 0, 1] };
+/// let mut to = [0; gurvazze::RULE_BYTES];
+/// let nodes = gurvazze::rule(set_up, Table { states: 1, start: 0, bytes: &[0, 0] }, &mut to)?;
+/// // V A G0 X0 O0.0
+/// assert_eq!(to[..3 * nodes], [5, 0, 0, 4, 0, 0, 2, 0, 0, 1, 0, 0, 3, 0, 0]);
+/// # Ok::<(), gurvazze::Refusal>(())
+/// ```
+pub fn rule(set_up: SetUp<'_>, table: Table<'_>, to: &mut [u8]) -> Result<usize, Refusal> {
+    // SAFETY: as in `table`.
+    let code = unsafe {
+        library::gurvazze_rule(
+            set_up.events,
+            set_up.values,
+            set_up.top,
+            set_up.meet.as_ptr(),
+            set_up.meet.len(),
+            table.states,
+            table.start,
+            table.bytes.as_ptr(),
+            table.bytes.len(),
+            to.as_mut_ptr(),
+            to.len(),
+        )
+    };
+    yielded(code).map(|count| count as usize)
+}
+
+fn verdict(code: u64) -> Result<Verdict, Refusal> {
+    yielded(code).map(|length| if length == 0 { Verdict::Pass } else { Verdict::Fail(length as usize) })
+}
+
+/// The low byte of an answer is the refusal's number, 0 where there is none; above it stands the place or what was yielded.
+fn yielded(code: u64) -> Result<u64, Refusal> {
+    let (number, rest) = ((code & 255) as u8, code >> 8);
+    if number == 0 {
+        return Ok(rest);
+    }
+    let has_place = number == 4 || (6..=9).contains(&number);
+    Err(Refusal { number, place: has_place.then_some(rest as usize) })
+}
+
+/// The exported functions. A slice is handed over as its pointer, never null, and its length.
+mod library {
+    extern "C" {
+        pub fn gurvazze_table(text: *const u8, text_length: usize, to: *mut u8, to_length: usize) -> u64;
+
+        pub fn gurvazze_replay(
+            text: *const u8,
+            text_length: usize,
+            word: *const u8,
+            word_length: usize,
+            to: *mut u8,
+            to_length: usize,
+        ) -> u64;
+
+        pub fn gurvazze_trial(
+            text: *const u8,
+            text_length: usize,
+            device_states: usize,
+            device_start: usize,
+            device: *const u8,
+            device_length: usize,
+            word: *mut u8,
+            word_length: usize,
+        ) -> u64;
+
+        pub fn gurvazze_trial_table(
+            events: usize,
+            values: usize,
+            top: usize,
+            meet: *const u8,
+            meet_length: usize,
+            states: usize,
+            table: *const u8,
+            table_length: usize,
+            device_states: usize,
+            device_start: usize,
+            device: *const u8,
+            device_length: usize,
+            word: *mut u8,
+            word_length: usize,
+        ) -> u64;
+
+        pub fn gurvazze_rule(
+            events: usize,
+            values: usize,
+            top: usize,
+            meet: *const u8,
+            meet_length: usize,
+            states: usize,
+            start: usize,
+            table: *const u8,
+            table_length: usize,
+            to: *mut u8,
+            to_length: usize,
+        ) -> u64;
+    }
+}
