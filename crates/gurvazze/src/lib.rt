@@ -103,14 +103,15 @@ fn file_table(text: &[u8], meet: &mut [u8], to: &mut [u8]) -> FileTable
     }
 }
 
-// Whether all events of a sequence are below the event count.
-fn word_in_order(word: &[u8], events: usize) -> bool
+// Whether all events of a sequence are below the event count. Bytes are compared, and no event ends the loop, so that many are
+// looked at in one step.
+fn word_in_order(word: &[u8], events: u8) -> bool
     ensures { λ r. ⌜ r ≡ every (length (now (word .entry))) (λ i. ltb (getD (now (word .entry)) i 0) events) ⌝ }
 {
     let mut all = true;
     let mut i: usize = 0;
     while i < word.len() {
-        all = (wide(word[i]) < events) & all;
+        all = (word[i] < events) & all;
         i += 1;
     }
     all
@@ -136,7 +137,7 @@ fn replay_word(table: &[u8], events: usize, states: usize, word: &[u8], to: &mut
     requires { ⌜ Playable events states (now table) ⌝ }
     ensures { λ r. ⌜ Replays events (now (table .entry)) (now (word .entry)) (now (to .entry)) (now (to .exit)) r ⌝ }
 {
-    if !word_in_order(word, events) {
+    if !word_in_order(word, events as u8) {
         return refusal::EVENT_NUMBER as u64;
     }
     if to.len() < word.len() {

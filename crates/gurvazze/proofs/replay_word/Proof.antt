@@ -8,6 +8,9 @@ use borrow.Author.Needs.{needs}
 use Rattle.gurvazze.proofs.replay_word.Statement.{statement}
 use Rattle.gurvazze.proofs.replay_word.Tie as tie
 
+cast-word-in-order : tie.Need-cast-word-in-order
+cast-word-in-order c = omega (arith, c .before .before .before .pre .few-events)
+
 word-in-order-requires : tie.Need-word-in-order-requires
 word-in-order-requires c κs = search needs
 
@@ -36,6 +39,7 @@ pub replay-word-spec : {M : Type 1} → statement M
 replay-word-spec =
     tie.close
     (tie.spec
+    cast-word-in-order
     word-in-order-requires
     cast-result
     returns

@@ -1,6 +1,6 @@
 -- `word_in_order` meets its contract. The invariant: the test of the events passed.
 -- Assumes nothing.
-use mathlib.Core.Path.{_≡_, sym, ap, _∙_}
+use mathlib.Core.Path.{_≡_, refl, sym, ap, _∙_}
 use lib.ListN.{length, getD}
 use lib.Dec.{ltb}
 use Prim.Native.Nat.{ℕ, _-_, _≤_}
@@ -21,11 +21,8 @@ abbrev μ-loop : tie.MeasureT-loop
 loop-holds : tie.Need-loop-holds Inv-loop μ-loop
 loop-holds c = (search needs, sym (every-none _))
 
-shared-slice-read-wide : tie.Need-shared-slice-read-wide Inv-loop μ-loop
-shared-slice-read-wide c = search needs
-
-wide-requires : tie.Need-wide-requires Inv-loop μ-loop
-wide-requires c κs = search needs
+shared-slice-read-all : tie.Need-shared-slice-read-all Inv-loop μ-loop
+shared-slice-read-all c = search needs
 
 add-i : tie.Need-add-i Inv-loop μ-loop
 add-i c = search needs
@@ -34,21 +31,12 @@ loop-less : tie.Need-loop-less Inv-loop μ-loop
 loop-less c = search needs
 
 loop-again : tie.Need-loop-again Inv-loop μ-loop
-loop-again c = (search needs, every-step _ _ _ _ (ap (λ (x : ℕ). ltb x (c .before .before .before .before .before .args .events)) (c .wide .ensures)) (c .before .before .before .loop .inv .1))
+loop-again c = (search needs, every-step _ _ _ _ refl (c .before .before .loop .inv .1))
 
 returns : tie.Need-returns Inv-loop μ-loop
-returns c = let e : c .before .loop .i ≡ length (c .before .before .before .args .word .now) = omega (arith, c .before .loop .inv .0) in c .before .loop .inv .1 ∙ ap (λ (k : ℕ). every k (λ j. ltb (getD (c .before .before .before .args .word .now) j 0) (c .before .before .before .args .events))) e
+returns c = let e : c .before .loop .i ≡ length (c .before .before .args .word .now) = omega (arith, c .before .loop .inv .0) in c .before .loop .inv .1 ∙ ap (λ (k : ℕ). every k (λ j. ltb (getD (c .before .before .args .word .now) j 0) (c .before .before .args .events))) e
 
 pub word-in-order-spec : {M : Type 1} → statement M
 word-in-order-spec =
     tie.close
-    (tie.spec
-    Inv-loop
-    μ-loop
-    loop-holds
-    shared-slice-read-wide
-    wide-requires
-    add-i
-    loop-less
-    loop-again
-    returns)
+    (tie.spec Inv-loop μ-loop loop-holds shared-slice-read-all add-i loop-less loop-again returns)
