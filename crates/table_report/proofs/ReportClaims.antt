@@ -96,7 +96,8 @@ module _ (events values top : ℕ) (meet rule : List ℕ) where
       let few = leb-true N 64 (plain-none (leb N 64) 10 (or-else-none (rule-refusal events (value-count (Numbered values)) rule) _ e .1)) in
       ap (λ (b : Bool). plain-unless b 13) (le-leb (N * events * 2) (length blank) (let m = mul-le-mul few h in omega (arith, blank-length)))
 
-  report-first : First (setup-conditions s ++ rest) (compile-refusal 64 s rule blank)
+  -- the twin of the conditions on a set-up and a rule whose table is made
+  pub report-first : First (setup-conditions s ++ rest) (compile-refusal 64 s rule blank)
   unfolding compile-refusal or-else setup
   report-first = go (setup-refusal s) refl
     where
