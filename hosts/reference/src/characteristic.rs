@@ -1,21 +1,32 @@
 //! The rule of a table: the characteristic formula of a state.
 
-use crate::formula::{Node, Rule, MAX_NODES};
+use crate::formula::{Node, Rule, MAX_NODES, NODE_BYTES};
+use crate::refusal::room;
 use crate::table::{Lent, Table, MAX_STATES};
 use crate::values::{RawSetUp, SetUp};
 use crate::Refusal;
 
 /// The rule of a table from a start state: refusal 12. Writing stops at node 257, since the whole may be very long.
 pub fn rule_of(table: &Table, start: usize) -> Result<Rule, Refusal> {
+    Ok(Rule::from_nodes(nodes_of(table, start)?).expect("each rule so written is accepted as a rule"))
+}
+
+/// The nodes of that rule.
+fn nodes_of(table: &Table, start: usize) -> Result<Vec<Node>, Refusal> {
     let mut writer = Writer { table, open: [None; MAX_STATES], depth: 0, nodes: Vec::new() };
     writer.state(start)?;
-    Ok(Rule::from_nodes(writer.nodes).expect("each rule so written is accepted as a rule"))
+    Ok(writer.nodes)
 }
 
 /// Writes the rule of a table handed in into lent memory and returns its size in nodes: refusals 1 to 3, 11, 12, 13.
 pub fn write_rule(set_up: &RawSetUp, table: Lent<'_>, lent: &mut [u8]) -> Result<usize, Refusal> {
     let set_up = SetUp::new(set_up.clone())?;
-    rule_of(&table.table(&set_up)?, table.start)?.write_bytes(lent)
+    let nodes = nodes_of(&table.table(&set_up)?, table.start)?;
+    room(lent, nodes.len() * NODE_BYTES)?;
+    for (bytes, node) in lent.chunks_exact_mut(NODE_BYTES).zip(&nodes) {
+        bytes.copy_from_slice(&node.to_bytes());
+    }
+    Ok(nodes.len())
 }
 
 struct Writer<'a> {
