@@ -1,0 +1,403 @@
+//! Times the proved library beside plain Rust on the same inputs, in one run, and prints ratios.
+
+use std::fmt::Write;
+use std::hint::black_box;
+
+use gurvazze_reference::channel_file;
+use gurvazze_reference::formula::{Node, Rule};
+use gurvazze_reference::generate::{Generator, RawTable};
+use gurvazze_reference::table::{Entry, Table};
+use gurvazze_reference::trial::{trial_of_rule, trial_of_table, Outcome};
+use gurvazze_reference::values::{RawSetUp, SetUp};
+use gurvazze_reference::{characteristic, Refusal};
+
+/// A sample of a case lasts at least so many nanoseconds, and so many are taken; the fastest counts.
+const SAMPLE: f64 = 3e6;
+const SAMPLES: usize = 15;
+
+fn main() {
+    println!("{:44} {:>12} {:>12} {:>7}", "case", "library ns", "Rust ns", "ratio");
+    reading();
+    tables();
+    replays();
+    trials();
+    rules();
+    worst();
+}
+
+/// Times both versions in turn and prints a line.
+fn compare<A, B>(case: &str, mut library: impl FnMut() -> A, mut rust: impl FnMut() -> B) {
+    let rounds = [rounds(&mut library), rounds(&mut rust)];
+    let mut best = [f64::INFINITY; 2];
+    for _ in 0..SAMPLES {
+        best[0] = best[0].min(sample(&mut library, rounds[0]));
+        best[1] = best[1].min(sample(&mut rust, rounds[1]));
+    }
+    println!("{case:44} {:12.0} {:12.0} {:7.2}", best[0], best[1], best[0] / best[1]);
+}
+
+fn rounds<T>(call: &mut impl FnMut() -> T) -> u32 {
+    let mut rounds = 1;
+    while sample(call, rounds) * f64::from(rounds) < SAMPLE {
+        rounds *= 2;
+    }
+    rounds
+}
+
+/// Nanoseconds a call.
+fn sample<T>(call: &mut impl FnMut() -> T, rounds: u32) -> f64 {
+    let start = processor_time();
+    for _ in 0..rounds {
+        black_box(call());
+    }
+    (processor_time() - start) / f64::from(rounds)
+}
+
+/// The nanoseconds for which this thread has run, so that other programs on the machine count little.
+fn processor_time() -> f64 {
+    #[repr(C)]
+    struct Time {
+        seconds: i64,
+        nanoseconds: i64,
+    }
+    extern "C" {
+        fn clock_gettime(clock: i32, time: *mut Time) -> i32;
+    }
+    const THREAD_TIME: i32 = 3;
+    let mut time = Time { seconds: 0, nanoseconds: 0 };
+    // SAFETY: the C library's function writes the time it is lent.
+    let status = unsafe { clock_gettime(THREAD_TIME, &mut time) };
+    assert_eq!(status, 0, "Linux has this clock");
+    time.seconds as f64 * 1e9 + time.nanoseconds as f64
+}
+
+// What the reference has for each call of the library.
+
+fn rust_table(text: &[u8], to: &mut [u8]) -> Result<usize, Refusal> {
+    let file = channel_file::read(text)?;
+    Table::of_rule(&file.set_up, &file.rule)?.write_bytes(to)
+}
+
+fn rust_trial(text: &[u8], device: &RawTable, word: &mut [u8]) -> Result<Outcome, Refusal> {
+    let file = channel_file::read(text)?;
+    trial_of_rule(file.set_up.raw(), device.lent(), &file.rule.to_bytes(), word)
+}
+
+/// Replay with the library's checks: the file's, 16 and 13.
+fn rust_replay(text: &[u8], events: &[u8], to: &mut [u8]) -> Result<(), Refusal> {
+    let file = channel_file::read(text)?;
+    let table = Table::of_rule(&file.set_up, &file.rule)?;
+    if events.iter().any(|&event| usize::from(event) >= file.set_up.events()) {
+        return Err(Refusal::new(16));
+    }
+    if to.len() < events.len() {
+        return Err(Refusal::new(13));
+    }
+    let mut state = 0;
+    for (to, &event) in to.iter_mut().zip(events) {
+        let Entry { value, next } = table.entry(state, event.into());
+        *to = value;
+        state = next.into();
+    }
+    Ok(())
+}
+
+/// The loop alone, with no check at all.
+///
+/// # Safety
+/// Events and next states are those of the table, and `to` is as long as `events`.
+unsafe fn unchecked_loop(table: &[Entry], width: usize, events: &[u8], to: &mut [u8]) {
+    let mut state = 0;
+    for i in 0..events.len() {
+        // SAFETY: the caller's.
+        unsafe {
+            let entry = *table.get_unchecked(state * width + usize::from(*events.get_unchecked(i)));
+            *to.get_unchecked_mut(i) = entry.value;
+            state = usize::from(entry.next);
+        }
+    }
+}
+
+fn four(events: usize) -> SetUp {
+    SetUp::new(RawSetUp::four_values(events)).expect("the four-value set is lawful")
+}
+
+/// The largest set-up: sixteen values, the sets of four things.
+fn sixteen(events: usize) -> SetUp {
+    let meet = (0..16).flat_map(|b| (0..16).map(move |c| b & c)).collect();
+    SetUp::new(RawSetUp { events, values: 16, top: 15, meet }).expect("intersections obey the laws")
+}
+
+fn file(set_up: &SetUp, nodes: &[Node]) -> Vec<u8> {
+    let bytes: Vec<u8> = nodes.iter().flat_map(|node| node.to_bytes()).collect();
+    let rule = Rule::from_bytes(set_up, &bytes).expect("the rule is accepted");
+    channel_file::to_text(set_up, &rule).into_bytes()
+}
+
+/// A conjunction of G and O nodes; as many nodes as asked for, few states.
+fn wide_rule(set_up: &SetUp, size: usize) -> Vec<Node> {
+    let mut nodes = Vec::new();
+    let mut event = 0;
+    while nodes.len() + 4 <= size {
+        nodes.extend([Node::Both, Node::Output(event, 1), Node::Both, Node::After(event)]);
+        nodes.push(Node::True);
+        event = (event + 1) % set_up.events() as u8;
+    }
+    nodes.truncate(size - 1);
+    // close what is open
+    let mut waiting = 1usize;
+    for node in &nodes {
+        waiting = waiting + node.parts() - 1;
+    }
+    while waiting > 1 && nodes.len() + waiting > size {
+        let node = nodes.pop().expect("there are nodes");
+        waiting = waiting + 1 - node.parts();
+    }
+    nodes.extend(std::iter::repeat_n(Node::True, waiting));
+    nodes
+}
+
+/// A loop of so many states on event 0.
+fn ring(states: usize) -> Vec<Node> {
+    let mut nodes = vec![Node::Greatest];
+    for _ in 0..states {
+        nodes.push(Node::After(0));
+    }
+    nodes.push(Node::Variable(0));
+    nodes
+}
+
+fn reading() {
+    println!("-- reading alone: a file that 9 refuses at its last node");
+    for size in [16, 64, 250] {
+        let set_up = four(2);
+        let mut text = file(&set_up, &wide_rule(&set_up, size));
+        // A V X0 in the place of the last item.
+        let end = text.iter().rposition(|&byte| byte == b' ').expect("there are items") + 1;
+        text.truncate(end);
+        text.extend_from_slice(b"V X0\n");
+        let mut to = [0; 2048];
+        assert_eq!(gurvazze::table(&text, &mut to).unwrap_err().number, 9);
+        compare(
+            &format!("  file of {size} nodes, 4 values"),
+            || gurvazze::table(&text, &mut to.clone()),
+            || channel_file::read(&text),
+        );
+    }
+    let set_up = sixteen(16);
+    let mut text = file(&set_up, &wide_rule(&set_up, 250));
+    let end = text.iter().rposition(|&byte| byte == b' ').expect("there are items") + 1;
+    text.truncate(end);
+    text.extend_from_slice(b"V X0\n");
+    let mut to = [0; 2048];
+    assert_eq!(gurvazze::table(&text, &mut to).unwrap_err().number, 9);
+    compare("  file of 250 nodes, 16 values", || gurvazze::table(&text, &mut to), || channel_file::read(&text));
+    let refused = b"events=2\nvalues=4\ntop=3\nmeet=0 0 0 0 0 1 0 1 0 0 2 2 0 1 2 3\nrule=A O1.1 V G1 X0!\n";
+    let mut to = [0; 2048];
+    compare("  file that 4 refuses", || gurvazze::table(refused, &mut to), || channel_file::read(refused));
+}
+
+fn tables() {
+    println!("-- table of a channel file");
+    let mut to = [0; 2048];
+    let mut lent = [0; 2048];
+    let mut line = |case: String, text: &[u8]| {
+        let answer = gurvazze::table(text, &mut to).expect("accepted");
+        assert_eq!(Ok(answer.states), rust_table(text, &mut lent));
+        assert_eq!(to, lent);
+        let case = format!("  {case}, {} states", answer.states);
+        compare(&case, || gurvazze::table(text, &mut to), || rust_table(text, &mut lent));
+    };
+    for size in [16, 32, 64, 128, 256] {
+        let set_up = four(2);
+        line(format!("{size} nodes, 2 events"), &file(&set_up, &wide_rule(&set_up, size)));
+    }
+    for states in [1, 2, 4, 8, 16, 32, 64] {
+        let set_up = four(1);
+        line(format!("loop of {states}, 1 event"), &file(&set_up, &ring(states)));
+    }
+    for events in [1, 2, 4, 8, 16] {
+        let set_up = four(events);
+        line(format!("loop of 31, {events} events"), &file(&set_up, &ring(31)));
+    }
+    for events in [1, 2, 4, 8, 16] {
+        let set_up = four(events);
+        line(format!("128 nodes, {events} events"), &file(&set_up, &wide_rule(&set_up, 128)));
+    }
+    let set_up = sixteen(16);
+    line("128 nodes, 16 events, 16 values".to_string(), &file(&set_up, &wide_rule(&set_up, 128)));
+}
+
+fn replays() {
+    println!("-- replay of a million events, beside a loop without checks");
+    for (events, states) in [(2, 3), (2, 31), (4, 31), (16, 31)] {
+        let set_up = four(events);
+        let nodes = if states == 3 {
+            vec![Node::Both, Node::Output(1, 1), Node::Greatest, Node::After(1), Node::Variable(0)]
+        } else {
+            ring(states)
+        };
+        let text = file(&set_up, &nodes);
+        let read = channel_file::read(&text).expect("accepted");
+        let table = Table::of_rule(&read.set_up, &read.rule).expect("accepted");
+        let word = Generator::new(1).word(&set_up, 1_000_000);
+        let mut to = vec![0; word.len()];
+        let mut other = vec![0; word.len()];
+        gurvazze::replay(&text, &word, &mut to).expect("accepted");
+        // SAFETY: the events are the set-up's, and the buffer has their length.
+        unsafe { unchecked_loop(table.entries(), events, &word, &mut other) };
+        assert!(to == other);
+        compare(
+            &format!("  {events} events, {} states", table.states()),
+            || gurvazze::replay(&text, &word, &mut to),
+            || {
+                // SAFETY: as above.
+                unsafe { unchecked_loop(black_box(table.entries()), events, &word, &mut other) }
+            },
+        );
+    }
+    println!("-- replay of few events, beside the same checks in Rust");
+    for length in [0, 1, 10, 100, 1000] {
+        let set_up = four(2);
+        let text = file(&set_up, &ring(8));
+        let word = Generator::new(1).word(&set_up, length);
+        let mut to = vec![0; word.len()];
+        let mut other = vec![0; word.len()];
+        compare(
+            &format!("  {length} events"),
+            || gurvazze::replay(&text, &word, &mut to),
+            || rust_replay(&text, &word, &mut other),
+        );
+    }
+}
+
+fn lent(table: &RawTable) -> gurvazze::Table<'_> {
+    gurvazze::Table { states: table.states, start: table.start, bytes: &table.bytes }
+}
+
+fn raw(set_up: &SetUp) -> gurvazze::SetUp<'_> {
+    let raw = set_up.raw();
+    gurvazze::SetUp { events: raw.events, values: raw.values, top: raw.top, meet: &raw.meet }
+}
+
+fn line_trial(case: &str, set_up: &SetUp, table: &RawTable, device: &RawTable) {
+    let mut word = [0; 4096];
+    let mut other = [0; 4096];
+    let verdict = gurvazze::trial_of_table(raw(set_up), table.states, &table.bytes, lent(device), &mut word).expect("accepted");
+    let length = match verdict {
+        gurvazze::Verdict::Pass => 0,
+        gurvazze::Verdict::Fail(length) => length,
+    };
+    let reference = trial_of_table(set_up.raw(), device.lent(), table.states, &table.bytes, &mut other).expect("accepted");
+    assert_eq!(reference, if length == 0 { Outcome::Passes } else { Outcome::Fails(length) });
+    assert!(word == other);
+    let said = if length == 0 { "passes".to_string() } else { format!("word of {length}") };
+    compare(
+        &format!("  {case}, {said}"),
+        || gurvazze::trial_of_table(raw(set_up), table.states, &table.bytes, lent(device), &mut word),
+        || trial_of_table(set_up.raw(), device.lent(), table.states, &table.bytes, &mut other),
+    );
+}
+
+/// A loop of states on event 0, to which other events return; with these values.
+fn loop_table(set_up: &SetUp, states: usize, value: impl Fn(usize) -> u8) -> RawTable {
+    let bytes = (0..states)
+        .flat_map(|state| (0..set_up.events()).map(move |event| (state, event)))
+        .flat_map(|(state, event)| [value(state), if event == 0 { (state + 1) % states } else { state } as u8])
+        .collect();
+    RawTable { states, start: 0, bytes }
+}
+
+fn trials() {
+    println!("-- trial of a device against a table");
+    for states in [1, 4, 16, 64] {
+        let set_up = four(2);
+        let table = loop_table(&set_up, states, |_| 3);
+        line_trial(&format!("{states} states against {states}, 2 events"), &set_up, &table, &table);
+    }
+    for events in [1, 2, 4, 8, 16] {
+        let set_up = four(events);
+        let (device, table) = (loop_table(&set_up, 16, |_| 1), loop_table(&set_up, 15, |_| 3));
+        line_trial(&format!("16 states against 15, {events} events"), &set_up, &table, &device);
+    }
+    println!("-- trial of a device against a channel file");
+    for states in [1, 8, 31] {
+        let set_up = four(2);
+        let text = file(&set_up, &ring(states));
+        let device = loop_table(&set_up, states, |_| 1);
+        let mut word = [0; 4096];
+        let mut other = [0; 4096];
+        compare(
+            &format!("  {states} states"),
+            || gurvazze::trial(&text, lent(&device), &mut word),
+            || rust_trial(&text, &device, &mut other),
+        );
+    }
+}
+
+fn line_rule(case: &str, set_up: &SetUp, table: &RawTable) {
+    let mut to = [0; 768];
+    let mut other = [0; 768];
+    let nodes = gurvazze::rule(raw(set_up), lent(table), &mut to);
+    assert_eq!(nodes.is_ok(), characteristic::write_rule(set_up.raw(), table.lent(), &mut other).is_ok());
+    let mut said = String::new();
+    match nodes {
+        Ok(nodes) => write!(said, "{nodes} nodes").expect("a string has room"),
+        Err(refusal) => write!(said, "{refusal}").expect("a string has room"),
+    }
+    compare(
+        &format!("  {case}, {said}"),
+        || gurvazze::rule(raw(set_up), lent(table), &mut to),
+        || characteristic::write_rule(set_up.raw(), table.lent(), &mut other),
+    );
+}
+
+fn chain(states: usize) -> RawTable {
+    RawTable { states, start: 0, bytes: (0..states).flat_map(|state| [3, (state + 1).min(states - 1) as u8]).collect() }
+}
+
+fn rules() {
+    println!("-- rule of a table");
+    for states in [1, 4, 16, 63] {
+        line_rule(&format!("chain of {states}, 1 event"), &four(1), &chain(states));
+    }
+    for events in [1, 4, 16] {
+        let set_up = four(events);
+        line_rule(&format!("1 state, {events} events"), &set_up, &loop_table(&set_up, 1, |_| 1));
+    }
+}
+
+fn worst() {
+    println!("-- worst cases");
+    let set_up = four(1);
+    let primes = [2, 3, 5, 7, 11, 13, 17, 19, 23];
+    let loops: Vec<Node> =
+        std::iter::repeat_n(Node::Both, primes.len() - 1).chain(primes.iter().flat_map(|&prime| ring(prime))).collect();
+    let text = file(&set_up, &loops);
+    let (mut to, mut other) = ([0; 2048], [0; 2048]);
+    assert_eq!(gurvazze::table(&text, &mut to).unwrap_err().number, 10);
+    compare("  table: nine loops of prime lengths, 10", || gurvazze::table(&text, &mut to), || rust_table(&text, &mut other));
+    let nested = |node: Node| {
+        let mut nodes = vec![node; 255];
+        nodes.push(Node::True);
+        nodes
+    };
+    for (name, node) in [("V", Node::Greatest), ("G", Node::After(0))] {
+        let text = file(&set_up, &nested(node));
+        compare(&format!("  table: 255 nested {name}"), || gurvazze::table(&text, &mut to), || rust_table(&text, &mut other));
+    }
+    let mut left = vec![Node::Both; 127];
+    left.extend([Node::True; 128]);
+    let text = file(&set_up, &left);
+    compare("  table: A nested to the left", || gurvazze::table(&text, &mut to), || rust_table(&text, &mut other));
+    let full = four(16);
+    let bytes = (0..64 * 16).flat_map(|entry: usize| [1, ((entry * 7 + entry / 16) % 64) as u8]).collect();
+    line_rule("rule: 64 states, 16 events, all joined", &full, &RawTable { states: 64, start: 0, bytes });
+    // The device is low but for its last state, and the rule is low in its last state alone.
+    let table = loop_table(&set_up, 63, |state| if state == 62 { 1 } else { 3 });
+    let device = loop_table(&set_up, 64, |state| if state == 63 { 3 } else { 1 });
+    line_trial("trial: loops of 64 and 63", &set_up, &table, &device);
+    let set_up = four(16);
+    let (device, table) = (loop_table(&set_up, 64, |_| 1), loop_table(&set_up, 63, |_| 3));
+    line_trial("trial: loops of 64 and 63, 16 events", &set_up, &table, &device);
+}
