@@ -1,15 +1,17 @@
--- The value of a set, node by node, is the value of the set in the formula; one more entry.
+-- The value of a set, node by node, is the value of the set in the formula; the row of a state.
 -- Assumes nothing.
 use mathlib.Core.Path.{_≡_, refl, sym, _∙_, ap, ap₂, subst}
 use mathlib.Core.Bool.{Bool, true, false, _&&_, cond, and-false}
 use mathlib.Core.List.{List, [], _∷_, _++_}
 use Prim.Native.Nat.{ℕ, suc, _+_, _*_, _-_, _/_, _%_, _≤_, _<_}
 use native.Mathlib.Decide.{ℕ-discrete}
+use native.Mathlib.Nat.{not-suc-le-zero}
 use native.Mathlib.Numerals.{add-one}
 use native.Mathlib.Omega.{arith}
 use lib.Arith.{digits-div, digits-mod}
-use lib.Dec.{eqb}
-use lib.ListN.{length, getD, set}
+use borrow.Author.Tests.{ne-eqb, ltb-true, ltb-false}
+use lib.Dec.{eqb, ltb}
+use lib.ListN.{length, getD, set, length-set}
 use lib.Seq.{getD-set-same, getD-set-other}
 use Rattle.theory.specs.Formula.{Formula, truth, variable, transition, output, conjunction, greatest, size}
 use Rattle.theory.specs.PrefixCode.{Node, nodes}
@@ -17,7 +19,7 @@ use Rattle.theory.specs.Demands.{NodeSet, outputs, meet-all, value-of-set}
 use Rattle.formulas.specs.NodeReading.{Reads}
 use Rattle.formulas.specs.NodeWalks.{field}
 use Rattle.synthesis.specs.Exploring.{for-event}
-use Rattle.synthesis.specs.TableEntries.{meet-from, EntriesTo}
+use Rattle.synthesis.specs.TableEntries.{meet-from, EntriesTo, RowTo, OpenRow}
 use Rattle.synthesis.proofs.Stepping.{other-kind, same-kind}
 
 module _ (meet : ℕ → ℕ → ℕ) (top : ℕ) (kinds firsts values : List ℕ) (D : NodeSet) (e : ℕ) where
@@ -118,17 +120,127 @@ module _ (meet : ℕ → ℕ → ℕ) (top : ℕ) (kinds firsts values : List �
       let z : size φ ≡ size φ + 0 = omega arith in
       ap (from 0) z ∙ formula-from φ 0 0 [] d refl ∙ ap (all 0) (append-nil (nodes φ))
 
+-- ---- the row of one state
+
+pub row-none : (f : ℕ → ℕ) (events l : ℕ) (to : List ℕ) → RowTo f events l 0 to to
+row-none f events l to =
+    record { sized = refl; entries = λ e h. absurd (not-suc-le-zero h); below = λ x h. refl; above = λ x h. refl }
+
 -- One more entry.
-pub entries-more :
-    (f : ℕ → ℕ → ℕ) (events l e at v : ℕ) (to : List ℕ) → e < events → at ≡ l * events + e → at < length to → v ≡ f l e →
-    EntriesTo f events (l * events + e) to → EntriesTo f events (l * events + (e + 1)) (set to at v)
-entries-more f events l e at v to h a fits q old x u = go (ℕ-discrete x at)
+pub row-more :
+    (f : ℕ → ℕ) (events l m at v : ℕ) (before to : List ℕ) → m < events → at ≡ l * events + m → at < length to → v ≡ f m →
+    RowTo f events l m before to → RowTo f events l (m + 1) before (set to at v)
+row-more f events l m at v before to h a fits q old =
+    record {
+      sized = length-set to at v ∙ old .sized;
+      entries = λ e u. go e u (ℕ-discrete e m);
+      below = λ x u. getD-set-other to at x v 0 (λ p. omega (arith, p, a, u)) ∙ old .below x u;
+      above = λ x u. getD-set-other to at x v 0 (λ p. omega (arith, p, a, u)) ∙ old .above x (omega arith);
+    }
   where
-    go : Dec (x ≡ at) → getD (set to at v) x 0 ≡ f (x / events) (x % events)
-    go (yes p) =
-        ap (λ y. getD (set to at v) y 0) p
-        ∙ getD-set-same to at v 0 fits
-        ∙ q
-        ∙ ap₂ f (sym (digits-div l h)) (sym (digits-mod l h))
-        ∙ ap (λ y. f (y / events) (y % events)) (sym (p ∙ a))
-    go (no p) = getD-set-other to at x v 0 p ∙ old x (omega (arith, a))
+    go : (e : ℕ) → e < m + 1 → Dec (e ≡ m) → getD (set to at v) (l * events + e) 0 ≡ f e
+    go e u (yes p) =
+        ap (λ y. getD (set to at v) y 0) (ap (λ y. l * events + y) p ∙ sym a) ∙ getD-set-same to at v 0 fits ∙ q ∙ ap f (sym p)
+    go e u (no p) = getD-set-other to at (l * events + e) v 0 (λ w. p (omega (arith, w, a))) ∙ old .entries e (omega (arith, p))
+
+-- One entry of the whole row anew.
+pub row-set :
+    (f g : ℕ → ℕ) (events l m at v : ℕ) (before to : List ℕ) → m < events → at ≡ l * events + m → at < length to → v ≡ g m →
+    ((e : ℕ) → e < events → ¬ (e ≡ m) → f e ≡ g e) →
+    RowTo f events l events before to → RowTo g events l events before (set to at v)
+row-set f g events l m at v before to h a fits q same old =
+    record {
+      sized = length-set to at v ∙ old .sized;
+      entries = λ e u. go e u (ℕ-discrete e m);
+      below = λ x u. getD-set-other to at x v 0 (λ p. omega (arith, p, a, u)) ∙ old .below x u;
+      above = λ x u. getD-set-other to at x v 0 (λ p. omega (arith, p, a, u)) ∙ old .above x u;
+    }
+  where
+    go : (e : ℕ) → e < events → Dec (e ≡ m) → getD (set to at v) (l * events + e) 0 ≡ g e
+    go e u (yes p) =
+        ap (λ y. getD (set to at v) y 0) (ap (λ y. l * events + y) p ∙ sym a) ∙ getD-set-same to at v 0 fits ∙ q ∙ ap g (sym p)
+    go e u (no p) =
+        getD-set-other to at (l * events + e) v 0 (λ w. p (omega (arith, w, a))) ∙ old .entries e u ∙ same e u p
+
+pub row-same :
+    (f g : ℕ → ℕ) (events l : ℕ) (before to : List ℕ) → ((e : ℕ) → e < events → f e ≡ g e) →
+    RowTo f events l events before to → RowTo g events l events before to
+row-same f g events l before to same old =
+    record { sized = old .sized; entries = λ e u. old .entries e u ∙ same e u; below = old .below; above = old .above }
+
+-- After a row is filled, the entries of one state more are right.
+pub row-filled :
+    (f : ℕ → ℕ → ℕ) (events l : ℕ) (before to : List ℕ) → RowTo (f l) events l events before to →
+    EntriesTo f events (l * events) before → EntriesTo f events (l * events + events) to
+row-filled f events l before to r old x u = go (ltb x (l * events)) refl
+  where
+    go : (b : Bool) → ltb x (l * events) ≡ b → getD to x 0 ≡ f (x / events) (x % events)
+    go true i = let h = ltb-true x (l * events) i in r .below x h ∙ old x h
+    go false i =
+        let h = ltb-false x (l * events) i in
+        let e : ℕ = x - l * events in
+        let p : x ≡ l * events + e = omega arith in
+        let k : e < events = omega arith in
+        ap (λ y. getD to y 0) p ∙ r .entries e k ∙ ap₂ f (sym (digits-div l k)) (sym (digits-mod l k))
+        ∙ ap (λ y. f (y / events) (y % events)) (sym p)
+
+-- A row filled anew.
+pub row-again :
+    (f g : ℕ → ℕ) (events l : ℕ) (before between to : List ℕ) → RowTo g events l events before between →
+    RowTo f events l events between to → RowTo f events l events before to
+row-again f g events l before between to one two =
+    record {
+      sized = two .sized ∙ one .sized;
+      entries = two .entries;
+      below = λ x u. two .below x u ∙ one .below x u;
+      above = λ x u. two .above x u ∙ one .above x u;
+    }
+
+-- A node comes to the row of a state, from the last to the first.
+module _ (meet : ℕ → ℕ → ℕ) (top : ℕ) (kinds firsts values : List ℕ) (D : NodeSet) (count events l : ℕ) (before : List ℕ) where
+  -- The row with the nodes from `node` on.
+  abbrev pub RowFrom : ℕ → List ℕ → Type 0
+  RowFrom node to = RowTo (λ e. meet-from meet top kinds firsts values D e node (count - node)) events l events before to
+
+  pub row-open : OpenRow top events l before → RowFrom count before
+  row-open h =
+      let z : 0 ≡ count - count = omega arith in
+      record {
+        sized = refl;
+        entries = λ e u. h e u ∙ ap (meet-from meet top kinds firsts values D e count) z;
+        below = λ x u. refl;
+        above = λ x u. refl;
+      }
+
+  not-here : (node e : ℕ) → ¬ (field firsts node ≡ e) → D node && for-event kinds firsts 3 e node ≡ false
+  unfolding for-event
+  not-here node e h =
+      ap (λ t. D node && (eqb (field kinds node) 3 && t)) (ne-eqb (field firsts node) e h)
+      ∙ ap (λ t. D node && t) (and-false (eqb (field kinds node) 3)) ∙ and-false (D node)
+
+  module _ (node : ℕ) (to : List ℕ) (some : 0 < node) (small : node ≤ count) (old : RowFrom node to) where
+    pass : (e : ℕ) → D (node - 1) && for-event kinds firsts 3 e (node - 1) ≡ false
+        → meet-from meet top kinds firsts values D e node (count - node) ≡ meet-from meet top kinds firsts values D e (node - 1) (count - (node - 1))
+    pass e h = pass-node meet top kinds firsts values D e count node _ some small refl h
+
+    -- its event is none of the table's
+    pub row-past : events ≤ field firsts (node - 1) → RowFrom (node - 1) to
+    row-past h = row-same _ _ events l before to (λ e u. pass e (not-here (node - 1) e (λ p. omega (arith, p)))) old
+
+    -- it is not in the set, or no O
+    pub row-unmoved : (e : ℕ) → e ≡ field firsts (node - 1) → D (node - 1) && for-event kinds firsts 3 e (node - 1) ≡ false → RowFrom (node - 1) to
+    row-unmoved e i h = row-same _ _ events l before to (λ y u. pass y (go y (ℕ-discrete y e))) old
+      where
+        go : (y : ℕ) → Dec (y ≡ e) → D (node - 1) && for-event kinds firsts 3 y (node - 1) ≡ false
+        go y (yes p) = subst (λ z. D (node - 1) && for-event kinds firsts 3 z (node - 1) ≡ false) (sym p) h
+        go y (no p) = not-here (node - 1) y (λ q. p (sym q ∙ sym i))
+
+    -- its value is met
+    pub row-met :
+        (e at v : ℕ) → e ≡ field firsts (node - 1) → e < events → at ≡ l * events + e → at < length to →
+        D (node - 1) && for-event kinds firsts 3 e (node - 1) ≡ true → v ≡ meet (field values (node - 1)) (getD to at 0) →
+        RowFrom (node - 1) (set to at v)
+    row-met e at v i u a fits h q =
+        row-set _ _ events l e at v before to u a fits
+        (take-node meet top kinds firsts values D e count node (getD to at 0) some small (ap (λ y. getD to y 0) a ∙ old .entries e u) v h q)
+        (λ y w p. pass y (not-here (node - 1) y (λ r. p (sym r ∙ sym i)))) old

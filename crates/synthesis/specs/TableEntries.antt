@@ -4,8 +4,8 @@
 use mathlib.Core.Path.{_≡_}
 use mathlib.Core.Bool.{_&&_, cond}
 use mathlib.Core.List.{List}
-use Prim.Native.Nat.{ℕ, zero, suc, _/_, _%_, _<_}
-use lib.ListN.{getD}
+use Prim.Native.Nat.{ℕ, zero, suc, _+_, _*_, _/_, _%_, _≤_, _<_}
+use lib.ListN.{length, getD}
 use Rattle.theory.specs.Demands.{NodeSet}
 use Rattle.synthesis.specs.NodeWords.{row}
 use Rattle.formulas.specs.NodeWalks.{field}
@@ -26,3 +26,14 @@ module _ (meet : ℕ → ℕ → ℕ) (top : ℕ) (kinds firsts values : List �
 -- The first m entries are those of f.
 abbrev pub EntriesTo : (ℕ → ℕ → ℕ) → ℕ → ℕ → List ℕ → Type 0
 EntriesTo f events m to = (x : ℕ) → x < m → getD to x 0 ≡ f (x / events) (x % events)
+
+-- The first m entries of state l are f's, and all others are as before.
+pub record RowTo (f : ℕ → ℕ) (events l m : ℕ) (before after : List ℕ) : Type 0 where
+  pub sized : length after ≡ length before
+  pub entries : (e : ℕ) → e < m → getD after (l * events + e) 0 ≡ f e
+  pub below : (x : ℕ) → x < l * events → getD after x 0 ≡ getD before x 0
+  pub above : (x : ℕ) → l * events + m ≤ x → getD after x 0 ≡ getD before x 0
+
+-- Every entry of state l is top.
+abbrev pub OpenRow : ℕ → ℕ → ℕ → List ℕ → Type 0
+OpenRow top events l to = (e : ℕ) → e < events → getD to (l * events + e) 0 ≡ top

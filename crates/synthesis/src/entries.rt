@@ -1,6 +1,7 @@
 // The values of a table, by state and then event (document 01, "Table of a rule").
 use crate::node_sets::active;
 use crate::numbers::entry_at;
+use crate::numbers::wide;
 use formulas::OUTPUT;
 use values::ValueKind;
 use values::meet_of;
@@ -8,12 +9,24 @@ ghost use mathlib.Core.Path.{_≡_};
 ghost use Prim.Native.Nat.{ℕ, _+_, _*_, _<_, _≤_};
 ghost use lib.ListN.{length};
 ghost use Rattle.values.specs.ValueKind.{meetOf};
-ghost use Rattle.synthesis.specs.NodeWords.{set-at};
 ghost use Rattle.synthesis.specs.Exploring.{Unchanged};
-ghost use Rattle.synthesis.specs.TableEntries.{meet-from, state-value, EntriesTo};
+ghost use Rattle.synthesis.specs.TableEntries.{state-value, EntriesTo, RowTo, OpenRow};
 
-// The value of a set on an event: the meet of the values of its O nodes for the event, top if there is none.
-fn value_of(
+// Every event of a state gets top.
+fn open_row(top: u32, state: usize, events: usize, to: &mut [u32; 1024])
+    requires { ⌜ (state < 64) × (events ≤ 16) × (length (now to) ≡ 1024) ⌝ }
+    ensures { λ _. ⌜ RowTo (λ e. top) events state events (now (to .entry)) (now (to .exit)) ⌝ }
+{
+    let mut event: usize = 0;
+    while event < events {
+        let at = entry_at(state, events, event);
+        to[at] = top;
+        event += 1;
+    }
+}
+
+// Each O node of a state's set brings its value to the entry of its event, the last node first.
+fn meet_row(
     kind: ValueKind,
     meet: &[u8],
     top: u32,
@@ -22,23 +35,27 @@ fn value_of(
     values: &[u32; 256],
     count: usize,
     states: &[u64; 1028],
-    base: usize,
-    event: usize,
-) -> u32
-    requires { ⌜ (count ≤ 256) × (base + 4 ≤ 1028) × (length (now kinds) ≡ 256) × (length (now firsts) ≡ 256) × (length (now values) ≡ 256)
-        × (length (now states) ≡ 1028) ⌝ }
-    ensures { λ r. ⌜ r ≡ meet-from (meetOf kind (now (meet .entry))) top (now (kinds .entry)) (now (firsts .entry)) (now (values .entry))
-        (set-at (now (states .entry)) base) event 0 count ⌝ }
+    state: usize,
+    events: usize,
+    to: &mut [u32; 1024],
+)
+    requires { ⌜ (count ≤ 256) × (state < 64) × (events ≤ 16) × (length (now kinds) ≡ 256) × (length (now firsts) ≡ 256)
+        × (length (now values) ≡ 256) × (length (now states) ≡ 1028) × (length (now to) ≡ 1024) × OpenRow top events state (now to) ⌝ }
+    ensures { λ _. ⌜ RowTo (state-value (meetOf kind (now (meet .entry))) top (now (kinds .entry)) (now (firsts .entry)) (now (values .entry)) count (now (states .entry)) state)
+        events state events (now (to .entry)) (now (to .exit)) ⌝ }
 {
-    let mut value = top;
     let mut node = count;
     while 0 < node {
         node -= 1;
-        if active(kinds, firsts, OUTPUT, node, event, states, base) {
-            value = meet_of(kind, meet, values[node], value);
+        let event = wide(firsts[node]);
+        if event < events {
+            if active(kinds, firsts, OUTPUT, node, event, states, state * 4) {
+                let at = entry_at(state, events, event);
+                let value = meet_of(kind, meet, values[node], to[at]);
+                to[at] = value;
+            }
         }
     }
-    value
 }
 
 // The values of one state.
@@ -57,30 +74,23 @@ fn fill_row(
 )
     requires { ⌜ (count ≤ 256) × (state < 64) × (events ≤ 16) × (length (now kinds) ≡ 256) × (length (now firsts) ≡ 256)
         × (length (now values) ≡ 256) × (length (now states) ≡ 1028) × (length (now to) ≡ 1024) ⌝ }
-    ensures { λ _. ⌜ (length (now (to .exit)) ≡ 1024) × Unchanged (state * events + events) (now (to .entry)) (now (to .exit))
-        × ((EntriesTo (state-value (meetOf kind (now (meet .entry))) top (now (kinds .entry)) (now (firsts .entry)) (now (values .entry)) count (now (states .entry)))
-        events (state * events) (now (to .entry)))
-        → EntriesTo (state-value (meetOf kind (now (meet .entry))) top (now (kinds .entry)) (now (firsts .entry)) (now (values .entry)) count (now (states .entry)))
-        events (state * events + events) (now (to .exit))) ⌝ }
+    ensures { λ _. ⌜ RowTo (state-value (meetOf kind (now (meet .entry))) top (now (kinds .entry)) (now (firsts .entry)) (now (values .entry)) count (now (states .entry)) state)
+        events state events (now (to .entry)) (now (to .exit)) ⌝ }
 {
-    let mut event: usize = 0;
-    while event < events {
-        let at = entry_at(state, events, event);
-        let value = value_of(
-            kind,
-            meet,
-            top,
-            kinds,
-            firsts,
-            values,
-            count,
-            states,
-            state * 4,
-            event,
-        );
-        to[at] = value;
-        event += 1;
-    }
+    open_row(top, state, events, to);
+    meet_row(
+        kind,
+        meet,
+        top,
+        kinds,
+        firsts,
+        values,
+        count,
+        states,
+        state,
+        events,
+        to,
+    );
 }
 
 // The values of n states.

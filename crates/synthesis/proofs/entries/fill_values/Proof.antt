@@ -9,6 +9,7 @@ use lib.ListN.{length}
 use Rattle.values.specs.ValueKind.{meetOf}
 use Rattle.synthesis.specs.Exploring.{Unchanged}
 use Rattle.synthesis.specs.TableEntries.{state-value, EntriesTo}
+use Rattle.synthesis.proofs.TableEntries.{row-filled}
 use Rattle.synthesis.proofs.entries.fill_values.Statement.{statement}
 use Rattle.synthesis.proofs.entries.fill_values.Tie as tie
 
@@ -41,9 +42,9 @@ loop-again c =
     let r = c .fill-row .ensures in
     let z : l .state * a .events + a .events ≡ (l .state + 1) * a .events = omega (arith, add-mul (l .state) 1 (a .events)) in (
       search needs,
-      r .0,
-      (λ x h. r .1 x (omega (arith, h, z)) ∙ l .inv .2 x (omega (arith, h, z))),
-      λ x h. r .2 (l .inv .3) x (omega (arith, h, z)),
+      r .sized ∙ l .inv .1,
+      (λ x h. r .above x (omega (arith, h, z)) ∙ l .inv .2 x (omega (arith, h, z))),
+      λ x h. row-filled (state-value (meetOf (a .kind) (a .meet .now)) (a .top) (a .kinds .now) (a .firsts .now) (a .values .now) (a .count) (a .states .now)) (a .events) (l .state) _ _ r (l .inv .3) x (omega (arith, h, z)),
     )
 
 returns : tie.Need-returns Inv-loop μ-loop
