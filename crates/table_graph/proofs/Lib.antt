@@ -1,0 +1,2 @@
+-- Texts piece by piece, how long they are, and the answers.
+pub mod Graphs
