@@ -25,10 +25,11 @@ use Rattle.text_format.specs.Decimal.{Numeral}
 use Rattle.text_format.proofs.Decimal.{decimal-numeral}
 use Rattle.channel_file.specs.ChannelFile.{Token, token-T, token-A, token-V, token-X, token-G, token-O, Contents, number, Small, SmallToken, token-text, text, SmallContents, Shows}
 use Rattle.channel_file.specs.Reading.{file-limit, read-file}
-use Rattle.channel_file.specs.Bytes.{entry, node, encoded, meet-bytes, rule-bytes, put-in, fits, stored-reply, stored-meet, stored-rule, Stores}
+use Rattle.channel_file.specs.Bytes.{encoded, meet-bytes, rule-bytes, put-in, fits, stored-reply, stored-meet, stored-rule, Stores}
 use Rattle.channel_file.specs.declared.Stored.{Stored}
 use Rattle.channel_file.proofs.Claims.{shown}
 use Rattle.channel_file.proofs.Buffers.{encoded-length}
+use Rattle.channel_file.proofs.Accepted.{meet-bytes-length, rule-bytes-length}
 use Rattle.channel_io.specs.declared.FileRead.{FileRead}
 use Rattle.channel_io.specs.declared.FileRead.the-variants.{Accepted as Read, Refused as Unread}
 use Rattle.channel_io.specs.FileJudgement.{node-numbers, rule-numbers, pair-refusal, contents-refusal, has-room, stored-refusal, contents-read-refusal}
@@ -133,12 +134,6 @@ text-items c s =
     let y = items-few SmallToken token-text token-some (c .rule) (s .rule) in
     (simp length-append (omega arith), simp length-append (omega arith))
 
-pub meet-length : (c : Contents) → length (meet-bytes c) ≡ length (c .meet)
-meet-length c = omega (arith, encoded-length entry 1 (λ a. refl) (c .meet))
-
-pub rule-length : (c : Contents) → length (rule-bytes c) ≡ 3 * length (c .rule)
-rule-length c = omega (arith, encoded-length node 3 (λ a. refl) (c .rule))
-
 numbers-length : (c : Contents) → length (rule-numbers c) ≡ 3 * length (c .rule)
 numbers-length c = omega (arith, encoded-length node-numbers 3 (λ a. refl) (c .rule))
 
@@ -173,8 +168,8 @@ module _ {t meet rule meet′ rule′ : List ℕ} {r : Stored} (s : Stores t mee
           let hr = leb-true (length (rule-bytes c)) (length rule) (and-right (leb (length (meet-bytes c)) (length meet)) _ q) in
           let em : m ≡ length (c .meet) = cc in
           let en : n ≡ length (c .rule) = cc in
-          let lm : m ≡ length (meet-bytes c) = em ∙ sym (meet-length c) in
-          let ln : 3 * n ≡ length (rule-bytes c) = ap (λ (k : ℕ). 3 * k) en ∙ sym (rule-length c) in
+          let lm : m ≡ length (meet-bytes c) = em ∙ sym (meet-bytes-length c) in
+          let ln : 3 * n ≡ length (rule-bytes c) = ap (λ (k : ℕ). 3 * k) en ∙ sym (rule-bytes-length c) in
           record {
             inside = c;
             answer = f;
@@ -208,8 +203,8 @@ module _ {t meet rule meet′ rule′ : List ℕ} {r : Stored} (s : Stores t mee
           let w = text-items c (a .1 .small) in
           let z : length (text c) ≡ length t = ap length (a .1 .printed) in
           ⊎-elim
-          (λ h. let k = leb-false (length (meet-bytes c)) (length meet) h in omega (arith, w .0, meet-length c))
-          (λ h. let k = leb-false (length (rule-bytes c)) (length rule) h in omega (arith, w .1, rule-length c))
+          (λ h. let k = leb-false (length (meet-bytes c)) (length meet) h in omega (arith, w .0, meet-bytes-length c))
+          (λ h. let k = leb-false (length (rule-bytes c)) (length rule) h in omega (arith, w .1, rule-bytes-length c))
           (and-cases (leb (length (meet-bytes c)) (length meet)) (leb (length (rule-bytes c)) (length rule)) q)
 
       go : (x : Outcome Contents) → read-file t ≡ x → Stored.Short ≡ stored-reply x meet rule → ⊥
@@ -244,7 +239,7 @@ module _ (c : Contents) (meet rule : List ℕ) where
   unfolding stored-refusal has-room
   refusal-same =
       ap₂ (λ (o : Option Refusal) (b : Bool). or-else o (plain-unless b 13)) (file-same c)
-      (ap₂ (λ (x y : ℕ). leb x (length meet) && leb y (length rule)) (meet-length c) (rule-length c ∙ sym (numbers-length c)))
+      (ap₂ (λ (x y : ℕ). leb x (length meet) && leb y (length rule)) (meet-bytes-length c) (rule-bytes-length c ∙ sym (numbers-length c)))
 
   -- and what is put was not clamped
   put-same :
@@ -269,7 +264,7 @@ reads-kept t E N E′ N′ meet rule meet′ rule′ r events values top entries
     ∙ refusal-same c meet rule in
     record {
       answer = k .answer
-          ∙ ap₂ (λ (o : Option Refusal) (n : ℕ). accepted-or o (numbers events values top n items)) same (ap length eE ∙ meet-length c)
+          ∙ ap₂ (λ (o : Option Refusal) (n : ℕ). accepted-or o (numbers events values top n items)) same (ap length eE ∙ meet-bytes-length c)
           ∙ ap₂ (λ (x y : ℕ). accepted-or (contents-read-refusal c meet rule) (numbers x y top (length (c .meet)) items)) (f .events-is) (f .values-is)
           ∙ ap₂ (λ (x y : ℕ). accepted-or (contents-read-refusal c meet rule) (numbers (c .events) (c .values) x (length (c .meet)) y)) (f .top-is) (f .items-is)
           ∙ sym (ap (λ (x : Outcome Contents). read-answer x meet rule) (f .answer));
