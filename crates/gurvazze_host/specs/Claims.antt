@@ -1,0 +1,66 @@
+-- What is claimed of the codes, of replay and of trial; each claim is inhabited in proofs/.
+-- Assumes nothing.
+use mathlib.Core.Path.{_≡_}
+use mathlib.Core.Logic.{_↔_}
+use mathlib.Core.List.{List, [], _∷_, _++_}
+use mathlib.Core.Option.{Option, none, some}
+use Prim.Native.Nat.{ℕ, zero, _/_, _%_, _≤_, _<_}
+use lib.ListN.{length, getD, take}
+use Rattle.theory.specs.ValueSets.{meetAt}
+use Rattle.theory.specs.Formula.{Formula}
+use Rattle.theory.specs.Semantics.{Answers}
+use Rattle.theory.specs.MealyMachine.{Word}
+use Rattle.theory.specs.Satisfaction.{TableSatisfies}
+use Rattle.refusal.specs.declared.Refusal.{Refusal}
+use Rattle.refusal.specs.declared.Refusal.the-variants.{At}
+use Rattle.refusal.specs.Refusal.{Condition, number, plain, First}
+use Rattle.formulas.specs.Claims.{AcceptedFormula}
+use Rattle.text_format.specs.Format.{contents}
+use Rattle.channel_file.specs.ChannelFile.{Contents}
+use Rattle.machines.specs.TableBytes.{machine-of}
+use Rattle.conformance.specs.declared.Verdict.the-variants.{Pass}
+use Rattle.table_report.specs.Claims.{report-conditions}
+use Rattle.channel_io.specs.FileJudgement.{rule-numbers}
+use Rattle.gurvazze_host.specs.Codes.{refusal-code, code, table-numbers}
+use Rattle.gurvazze_host.specs.FileCalls.{file-machine, outputs, replay-refusal, file-trial-refusal, file-trial-answer}
+
+-- A code says all of an answer: the refusal's number, its place, and what the call yields.
+pub record CodeClaim : Type 0 where
+  pub number-is : (r : Refusal) (yield : ℕ) → number r < 256 → code (some r) yield % 256 ≡ number r
+  pub place-is : (n p yield : ℕ) → n < 256 → code (some (At n p)) yield / 256 ≡ p
+  pub accepted : (yield : ℕ) → code none yield % 256 ≡ 0
+  pub yield-is : (yield : ℕ) → code none yield / 256 ≡ yield
+
+-- The conditions of a replay: those of the table of a file's rule, 1 to 3 and 5 to 10; then 16, which the file's event count decides;
+-- then 13.
+abbrev pub replay-conditions : Contents → List ℕ → List ℕ → List Condition
+replay-conditions c word old =
+    report-conditions c ++ (plain 16 (¬ Word (c .events) word) ∷ plain 13 (length old < length word) ∷ [])
+
+abbrev pub ReplayRefusalClaim : Type 0
+ReplayRefusalClaim = (c : Contents) (word old : List ℕ) → First (replay-conditions c word old) (replay-refusal c word old)
+
+-- The values that a replay writes are the rule's: on each event its value after the events before it, by followers (`Answers`).
+pub record Replayed (c : Contents) (word : List ℕ) : Type 0 where
+  pub rule : Formula ℕ
+  pub rule-is : AcceptedFormula (c .events) (c .values) (rule-numbers c) rule
+  pub same-length : length (outputs (file-machine c) 0 word) ≡ length word
+  pub answers :
+      (i : ℕ) → i < length word →
+      Answers (meetAt (c .values) (c .meet)) (c .top) rule (take i word) (getD word i 0) (getD (outputs (file-machine c) 0 word) i 0)
+
+abbrev pub ReplayClaim : Type 0
+ReplayClaim = (c : Contents) (word old : List ℕ) → replay-refusal c word old ≡ none → Replayed c word
+
+-- A trial against a file's rule passes exactly if the device's start satisfies the rule by the set definition.
+pub record Tried (c : Contents) (states start : ℕ) (device old : List ℕ) : Type 0 where
+  pub rule : Formula ℕ
+  pub rule-is : AcceptedFormula (c .events) (c .values) (rule-numbers c) rule
+  pub passes :
+      (file-trial-answer (contents c) states start device old ≡ Pass)
+      ↔ TableSatisfies (meetAt (c .values) (c .meet)) states (machine-of (c .events) device) rule start
+
+abbrev pub FileTrialClaim : Type 0
+FileTrialClaim =
+    (c : Contents) (states start : ℕ) (device old : List ℕ) → file-trial-refusal c states start device old ≡ none →
+    Tried c states start device old

@@ -1,0 +1,273 @@
+// The static library for programs in C and Rust. Each exported function is an entry of the crates below with its answer in one number
+// of 64 bits: the refusal's number in the low byte, 0 where there is none, and above it the refusal's place or what the call yields.
+use channel_io::FileNumbers;
+use channel_io::FileRead;
+use channel_io::read_file;
+use characteristic::write_rule;
+use conformance::Verdict;
+use conformance::trial;
+use refusal::Counted;
+use refusal::Refusal;
+use synthesis::compile;
+ghost use mathlib.Core.Path.{_≡_};
+ghost use Prim.Native.Nat.{_≤_};
+ghost use lib.Dec.{ltb};
+ghost use lib.ListN.{length, getD};
+ghost use Rattle.theory.specs.ValueSetClaims.{every};
+ghost use Rattle.values.specs.Setup.{setup};
+ghost use Rattle.machines.specs.TableBytes.{machine-of};
+ghost use Rattle.machines.specs.StoredEntries.{put};
+ghost use Rattle.characteristic.specs.RuleOfTable.{write-answer, write-contents};
+ghost use Rattle.conformance.specs.Trial.{input, device-limit, table-limit, trial-answer, trial-buffer};
+ghost use Rattle.channel_file.specs.Reading.{read-file};
+ghost use Rattle.gurvazze_host.specs.Codes.{refusal-code, yield-code, counted-code, verdict-code, table-numbers, SmallPlace, SmallCount, SmallVerdict, SmallNumbers};
+ghost use Rattle.gurvazze_host.specs.FileCalls.{table-code, table-after, outputs, replay-code, replay-after, file-trial-answer, file-trial-buffer, MakesTable, Playable, Runnable, Replays};
+
+// A file's numbers and the states of its rule's table, or the refusal.
+enum FileTable {
+    Made(FileNumbers, usize),
+    Refused(Refusal),
+}
+
+fn wide(x: u8) -> usize
+    ensures { λ r. ⌜ r ≡ x ⌝ }
+{
+    x as usize
+}
+
+// A refusal's number, and its place above it.
+fn refusal_code(refusal: Refusal) -> u64
+    requires { ⌜ SmallPlace refusal ⌝ }
+    ensures { λ r. ⌜ r ≡ refusal-code refusal ⌝ }
+{
+    match refusal {
+        Refusal::Plain(n) => n as u64,
+        Refusal::At(n, p) => p as u64 * 256 + n as u64,
+    }
+}
+
+fn counted_code(counted: Counted) -> u64
+    requires { ⌜ SmallCount counted ⌝ }
+    ensures { λ r. ⌜ r ≡ counted-code counted ⌝ }
+{
+    match counted {
+        Counted::Count(n) => n as u64 * 256,
+        Counted::Refused(refusal) => refusal_code(refusal),
+    }
+}
+
+fn verdict_code(verdict: Verdict) -> u64
+    requires { ⌜ SmallVerdict verdict ⌝ }
+    ensures { λ r. ⌜ r ≡ verdict-code verdict ⌝ }
+{
+    match verdict {
+        Verdict::Pass => 0,
+        Verdict::Fail(n) => n as u64 * 256,
+        Verdict::Refused(refusal) => refusal_code(refusal),
+    }
+}
+
+// States in sixteen bits; events, values and top in eight each.
+fn table_code(states: usize, events: usize, values: usize, top: usize) -> u64
+    requires { ⌜ SmallNumbers states events values top ⌝ }
+    ensures { λ r. ⌜ r ≡ yield-code (table-numbers states events values top) ⌝ }
+{
+    (states + (events + (values + top * 256) * 256) * 65536) as u64 * 256
+}
+
+// Reads a channel file, its meet entries into one buffer, and makes its rule's table in the other.
+fn file_table(text: &[u8], meet: &mut [u8], to: &mut [u8]) -> FileTable
+    requires { ⌜ length (now meet) ≡ 256 ⌝ }
+    ensures { λ r. ⌜ MakesTable (now (text .entry)) (now (to .entry)) (now (meet .exit)) (now (to .exit)) r ⌝ }
+{
+    let mut rule = [0u8; 768];
+    let answer = read_file(text, meet, &mut rule);
+    match answer {
+        FileRead::Refused(refusal) => FileTable::Refused(refusal),
+        FileRead::Accepted(numbers) => {
+            let entries = numbers.entries;
+            let size = 3 * numbers.nodes;
+            let compiled = compile(
+                numbers.events,
+                numbers.values,
+                numbers.top,
+                &meet[..entries],
+                &rule[..size],
+                to,
+            );
+            match compiled {
+                Counted::Refused(refusal) => FileTable::Refused(refusal),
+                Counted::Count(states) => FileTable::Made(numbers, states),
+            }
+        }
+    }
+}
+
+// Whether all events of a sequence are below the event count. Bytes are compared, and no event ends the loop, so that many are
+// looked at in one step.
+fn word_in_order(word: &[u8], events: u8) -> bool
+    ensures { λ r. ⌜ r ≡ every (length (now (word .entry))) (λ i. ltb (getD (now (word .entry)) i 0) events) ⌝ }
+{
+    let mut all = true;
+    let mut i: usize = 0;
+    while i < word.len() {
+        all = (word[i] < events) & all;
+        i += 1;
+    }
+    all
+}
+
+// Plays a sequence of events from state 0 of a table: a value for each goes to the buffer.
+fn run(table: &[u8], events: usize, states: usize, word: &[u8], to: &mut [u8])
+    requires { ⌜ Runnable events states (now table) (now word) (now to) ⌝ }
+    ensures { λ _. ⌜ now (to .exit) ≡ put (outputs (machine-of events (now (table .entry))) 0 (now (word .entry))) (now (to .entry)) ⌝ }
+{
+    let mut state: usize = 0;
+    let mut i: usize = 0;
+    while i < word.len() {
+        let at = (state * events + wide(word[i])) * 2;
+        to[i] = table[at];
+        state = wide(table[at + 1]);
+        i += 1;
+    }
+}
+
+// 16 for any event of the sequence, then 13, then the values.
+fn replay_word(table: &[u8], events: usize, states: usize, word: &[u8], to: &mut [u8]) -> u64
+    requires { ⌜ Playable events states (now table) ⌝ }
+    ensures { λ r. ⌜ Replays events (now (table .entry)) (now (word .entry)) (now (to .entry)) (now (to .exit)) r ⌝ }
+{
+    if !word_in_order(word, events as u8) {
+        return refusal::EVENT_NUMBER as u64;
+    }
+    if to.len() < word.len() {
+        return refusal::BUFFER_LENGTH as u64;
+    }
+    run(table, events, states, word, to);
+    0
+}
+
+// The table of a channel file's rule, two bytes an entry, and its numbers: 4, 1 to 3, 5 to 10, 13.
+#[no_mangle]
+pub extern "C" fn gurvazze_table(text: &[u8], to: &mut [u8]) -> u64
+    ensures answer { λ r. ⌜ r ≡ table-code (read-file (now (text .entry))) (now (to .entry)) ⌝ }
+    ensures contents { λ _. ⌜ now (to .exit) ≡ table-after (read-file (now (text .entry))) (now (to .entry)) ⌝ }
+{
+    let mut meet = [0u8; 256];
+    let made = file_table(text, &mut meet, to);
+    match made {
+        FileTable::Refused(refusal) => refusal_code(refusal),
+        FileTable::Made(numbers, states) => {
+            table_code(states, numbers.events, numbers.values, numbers.top)
+        }
+    }
+}
+
+// The values of a channel file's rule on a sequence of events, one byte each: 4, 1 to 3, 5 to 10, 16, 13.
+#[no_mangle]
+pub extern "C" fn gurvazze_replay(text: &[u8], word: &[u8], to: &mut [u8]) -> u64
+    ensures answer { λ r. ⌜ r ≡ replay-code (read-file (now (text .entry))) (now (word .entry)) (now (to .entry)) ⌝ }
+    ensures contents { λ _. ⌜ now (to .exit) ≡ replay-after (read-file (now (text .entry))) (now (word .entry)) (now (to .entry)) ⌝ }
+{
+    let mut meet = [0u8; 256];
+    let mut table = [0u8; 2048];
+    let made = file_table(text, &mut meet, &mut table);
+    match made {
+        FileTable::Refused(refusal) => refusal_code(refusal),
+        FileTable::Made(numbers, states) => {
+            let events = numbers.events;
+            replay_word(&table, events, states, word, to)
+        }
+    }
+}
+
+// Trial of a device against a channel file's rule: 4, 1 to 3, 5 to 10, 11, 13.
+#[no_mangle]
+pub extern "C" fn gurvazze_trial(
+    text: &[u8],
+    device_states: usize,
+    device_start: usize,
+    device: &[u8],
+    word: &mut [u8],
+) -> u64
+    ensures answer { λ r. ⌜ r ≡ verdict-code (file-trial-answer (read-file (now (text .entry))) «device_states» «device_start» (now (device .entry)) (now (word .entry))) ⌝ }
+    ensures contents { λ _. ⌜ now (word .exit) ≡ file-trial-buffer (read-file (now (text .entry))) «device_states» «device_start» (now (device .entry)) (now (word .entry)) ⌝ }
+{
+    let mut meet = [0u8; 256];
+    let mut table = [0u8; 2048];
+    let made = file_table(text, &mut meet, &mut table);
+    match made {
+        FileTable::Refused(refusal) => refusal_code(refusal),
+        FileTable::Made(numbers, states) => {
+            let events = numbers.events;
+            let entries = numbers.entries;
+            let size = states * events * 2;
+            let verdict = trial(
+                events,
+                numbers.values,
+                numbers.top,
+                &meet[..entries],
+                states,
+                &table[..size],
+                device_states,
+                device_start,
+                device,
+                word,
+            );
+            verdict_code(verdict)
+        }
+    }
+}
+
+// Trial of a device against a rule's table, both in bytes: 1 to 3, 11, 13.
+#[no_mangle]
+pub extern "C" fn gurvazze_trial_table(
+    events: usize,
+    values: usize,
+    top: usize,
+    meet: &[u8],
+    states: usize,
+    table: &[u8],
+    device_states: usize,
+    device_start: usize,
+    device: &[u8],
+    word: &mut [u8],
+) -> u64
+    ensures answer { λ r. ⌜ r ≡ verdict-code (trial-answer device-limit table-limit
+        (input (setup events values top (now (meet .entry))) states (now (table .entry)) «device_states» «device_start» (now (device .entry))) (now (word .entry))) ⌝ }
+    ensures contents { λ _. ⌜ now (word .exit) ≡ trial-buffer device-limit table-limit
+        (input (setup events values top (now (meet .entry))) states (now (table .entry)) «device_states» «device_start» (now (device .entry))) (now (word .entry)) ⌝ }
+{
+    let verdict = trial(
+        events,
+        values,
+        top,
+        meet,
+        states,
+        table,
+        device_states,
+        device_start,
+        device,
+        word,
+    );
+    verdict_code(verdict)
+}
+
+// The rule of a table from a start, three bytes a node; yields the node count: 1 to 3, 11, 12, 13.
+#[no_mangle]
+pub extern "C" fn gurvazze_rule(
+    events: usize,
+    values: usize,
+    top: usize,
+    meet: &[u8],
+    states: usize,
+    start: usize,
+    table: &[u8],
+    to: &mut [u8],
+) -> u64
+    ensures answer { λ r. ⌜ r ≡ counted-code (write-answer 64 256 (setup events values top (now (meet .entry))) states start (now (table .entry)) (now (to .entry))) ⌝ }
+    ensures contents { λ _. ⌜ now (to .exit) ≡ write-contents 64 256 (setup events values top (now (meet .entry))) states start (now (table .entry)) (now (to .entry)) ⌝ }
+{
+    let counted = write_rule(events, values, top, meet, states, start, table, to);
+    counted_code(counted)
+}
