@@ -37,12 +37,11 @@ use Rattle.conformance.specs.Trial.{TrialInput, input, trial-refusal, trial-ans
 use Rattle.channel_io.specs.declared.FileNumbers.{FileNumbers}
 use Rattle.channel_io.specs.FileJudgement.{setup-of, rule-numbers}
 use Rattle.channel_io.specs.FileReading.{numbers, file-numbers, put-unless}
-use Rattle.table_report.proofs.Places.{SmallAnswer, compile-small, text-small}
 use Rattle.gurvazze_host.specs.declared.FileTable.{FileTable}
 use Rattle.gurvazze_host.specs.declared.FileTable.the-variants.{Made, Refused as Unmade}
 use Rattle.gurvazze_host.specs.Codes.{refusal-code, yield-code, code, verdict-code, table-numbers, SmallPlace, SmallNumbers}
 use Rattle.gurvazze_host.specs.FileCalls.{file-refusal, file-states, file-contents, table-code, table-after, blank, file-machine, outputs, word-refusal, replay-refusal, replay-code, replay-after, file-trial, file-trial-refusal, file-trial-answer, file-trial-buffer, MakesTable, off-form, turned-away, made, Playable, Runnable, Replays}
-use Rattle.gurvazze_host.proofs.Small.{printed-small}
+use Rattle.gurvazze_host.proofs.Places.{SmallAnswer, compile-small, text-small}
 
 or-some : (b : Option Refusal) (a : Option Refusal) (r : Refusal) → a ≡ some r → or-else a b ≡ some r
 unfolding or-else
@@ -74,7 +73,7 @@ module _ (t old meet new : List ℕ) where
           let z : q ≡ r = cc in
           record {
             small =
-                printed-small r (subst SmallAnswer (f ∙ ap some z) (compile-small 64 (setup-of c) (rule-numbers c) old));
+                subst SmallAnswer (f ∙ ap some z) (compile-small 64 (setup-of c) (rule-numbers c) old);
             kept = k;
             why = inr (c, e, f ∙ ap some z);
           }

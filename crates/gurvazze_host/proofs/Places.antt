@@ -1,0 +1,130 @@
+-- Every refusal of a file and of a compiled rule has a place that has room in a code, if it has one.
+-- Assumes nothing.
+use Prim.Native.Nat.{ℕ, zero, suc, _+_, _*_, _/_, _≤_, _<_}
+use mathlib.Core.Path.{_≡_, refl, sym, ap, _∙_, subst}
+use mathlib.Core.List.{List}
+use mathlib.Core.Bool.{Bool, true, false, cond}
+use mathlib.Core.Option.{Option, none, some}
+use native.Mathlib.Omega.{arith}
+use lib.Dec.{ltb, leb}
+use lib.ListN.{length}
+use Rattle.theory.specs.Formula.{Formula, truth, variable, transition, output, conjunction, greatest, size}
+use Rattle.refusal.specs.declared.Refusal.{Refusal}
+use Rattle.refusal.specs.declared.Refusal.the-variants.{Plain, At}
+use Rattle.refusal.specs.Refusal.{or-else, plain-unless, at-found}
+use Rattle.values.specs.Setup.{Setup, events-test, values-test, meet-test, setup-refusal}
+use Rattle.formulas.specs.RuleConditions.{closed-to-variable}
+use Rattle.formulas.specs.RuleReading.{kind-of, awaited, end-fault, first-of, formula-read, lowest-variable, lowest-unbound, lowest-closed}
+use Rattle.formulas.specs.RuleRefusal.{count-fits, variables-refusal, structure-refusal, misfit-place, nodes-refusal, kind-at, first-at, second-at, rule-refusal}
+use Rattle.formulas.proofs.Search.{FoundFrom, lowest-found}
+use Rattle.formulas.proofs.Decoding.{CountFits, count-facts}
+use Rattle.text_format.specs.Format.{Outcome, contents, refused}
+use Rattle.text_format.specs.Place.{Refused, at, early}
+use Rattle.channel_file.specs.ChannelFile.{Form}
+use Rattle.channel_file.specs.Reading.{file-limit, Refused4, over-long, off-form, AnswersFile, read-file}
+use Rattle.channel_file.proofs.Claims.{answer-claim}
+use Rattle.synthesis.specs.Compilation.{rule-states, rule-table-refusal, setup-states, compile-refusal}
+use Rattle.values.specs.declared.ValueKind.the-variants.{Numbered}
+use Rattle.channel_io.proofs.Clamping.{read-size}
+use Rattle.gurvazze_host.specs.Codes.{SmallPlace}
+
+abbrev pub SmallAnswer : Option Refusal → Type 0
+SmallAnswer none = Unit {0}
+SmallAnswer (some r) = SmallPlace r
+
+pub or-small : (a b : Option Refusal) → SmallAnswer a → SmallAnswer b → SmallAnswer (or-else a b)
+unfolding or-else
+or-small none b x y = y
+or-small (some r) b x y = x
+
+pub plain-small : (b : Bool) (n : ℕ) → SmallAnswer (plain-unless b n)
+unfolding plain-unless
+plain-small true n = tt
+plain-small false n = tt
+
+found-small : (o : Option ℕ) (n : ℕ) → ((p : ℕ) → o ≡ some p → p ≤ 256) → SmallAnswer (at-found o n)
+unfolding at-found
+found-small none n h = tt
+found-small (some p) n h = let l = h p refl in omega arith
+
+-- 7
+end-bound : (kind : ℕ → ℕ) (k left i p : ℕ) → end-fault kind k left i ≡ some p → p ≤ i + left
+unfolding end-fault
+end-bound kind zero zero i p e = let z : _≡_ {A = ℕ} 0 1 = cc in absurd (omega arith)
+end-bound kind zero (suc left) i p e = let z : i ≡ p = cc in omega arith
+end-bound kind (suc k) zero i p e = let z : i ≡ p = cc in omega arith
+end-bound kind (suc k) (suc left) i p e = let h = end-bound kind (awaited (kind-of (kind i)) k) left (suc i) p e in omega arith
+
+-- 8 and 9
+either : (b : Bool) (i p : ℕ) → cond b (some i) none ≡ some p → i ≡ p
+either true i p e = cc
+either false i p e = let z : _≡_ {A = ℕ} 0 1 = cc in absurd (omega arith)
+
+first-bound : (a b : Option ℕ) (p n : ℕ) → first-of a b ≡ some p → (a ≡ some p → p < n) → (b ≡ some p → p < n) → p < n
+unfolding first-of
+first-bound none b p n e x y = y e
+first-bound (some i) b p n e x y = x e
+
+module _ {S : Type 0} (faulty : S → ℕ → Bool) (g v : S → S) where
+  variable-bound : (s : S) (i : ℕ) (φ : Formula ℕ) (p : ℕ) → lowest-variable faulty g v s i φ ≡ some p → p < i + size φ
+  unfolding lowest-variable
+  variable-bound s i truth p e = let z : _≡_ {A = ℕ} 0 1 = cc in absurd (omega arith)
+  variable-bound s i (variable n) p e = let z = either (faulty s n) i p e in omega arith
+  variable-bound s i (transition a φ) p e = let h = variable-bound (g s) (suc i) φ p e in omega arith
+  variable-bound s i (output a b) p e = let z : _≡_ {A = ℕ} 0 1 = cc in absurd (omega arith)
+  variable-bound s i (conjunction φ χ) p e =
+      first-bound (lowest-variable faulty g v s (suc i) φ) (lowest-variable faulty g v s (suc i + size φ) χ) p (i + suc (size φ + size χ)) e
+      (λ d. let h = variable-bound s (suc i) φ p d in omega arith) (λ d. let h = variable-bound s (suc i + size φ) χ p d in omega arith)
+  variable-bound s i (greatest φ) p e = let h = variable-bound (v s) (suc i) φ p e in omega arith
+
+variables-small : (φ : Formula ℕ) → size φ ≤ 256 → SmallAnswer (variables-refusal φ)
+unfolding variables-refusal
+variables-small φ h =
+    or-small (at-found (lowest-unbound 0 0 φ) 8) (at-found (lowest-closed closed-to-variable 0 φ) 9)
+    (found-small (lowest-unbound 0 0 φ) 8 (λ p e. let b = variable-bound _ _ _ 0 0 φ p e in omega arith))
+    (found-small (lowest-closed closed-to-variable 0 φ) 9 (λ p e. let b = variable-bound _ _ _ closed-to-variable 0 φ p e in omega arith))
+
+nodes-small : (kind first value : ℕ → ℕ) (count : ℕ) (fits : ℕ → Bool) (events : ℕ) → count ≤ 256 → SmallAnswer (nodes-refusal kind first value count fits events)
+unfolding nodes-refusal structure-refusal misfit-place
+nodes-small kind first value count fits events h =
+    or-small _ _
+    (found-small _ 6 (λ p e. let w = lowest-found _ count 0 p e .high in omega arith))
+    (or-small _ _ (found-small (end-fault kind 1 count 0) 7 (λ p e. let w = end-bound kind 1 count 0 p e in omega arith))
+    (variables-small (formula-read kind first value count) (read-size kind first value count h)))
+
+rule-small : (events values : ℕ) (rule : List ℕ) → SmallAnswer (rule-refusal events values rule)
+unfolding rule-refusal plain-unless or-else
+rule-small events values rule = go (count-fits 3 256 (length rule)) refl
+  where
+    go : (b : Bool) → count-fits 3 256 (length rule) ≡ b
+        → SmallAnswer (or-else (plain-unless b 5) (nodes-refusal (kind-at rule) (first-at rule) (second-at rule) (length rule / 3) (λ v. ltb v values) events))
+    go true e =
+        let w : CountFits 3 256 (length rule) = count-facts 3 256 (length rule) e in
+        nodes-small (kind-at rule) (first-at rule) (second-at rule) (length rule / 3) (λ v. ltb v values) events (w .within)
+    go false e = tt
+
+pub setup-small : (s : Setup) → SmallAnswer (setup-refusal s)
+unfolding setup-refusal
+setup-small s =
+    or-small (plain-unless (events-test (s .events)) 1) _ (plain-small (events-test (s .events)) 1)
+    (or-small (plain-unless (values-test (s .values) (s .top)) 2) _ (plain-small (values-test (s .values) (s .top)) 2) (plain-small (meet-test (s .values) (s .top) (s .meet)) 3))
+
+pub compile-small : (limit : ℕ) (s : Setup) (rule old : List ℕ) → SmallAnswer (compile-refusal limit s rule old)
+unfolding compile-refusal rule-table-refusal
+compile-small limit s rule old =
+    or-small (setup-refusal s) _ (setup-small s)
+    (or-small _ _
+    (or-small _ _ (rule-small _ _ rule) (plain-small (leb (rule-states (Numbered (s .values)) (s .events) (s .top) (s .meet) rule limit) limit) 10))
+    (plain-small (leb (setup-states limit s rule old * s .events * 2) (length old)) 13))
+
+-- 4
+form-small : (t : List ℕ) (p : ℕ) → length t ≤ file-limit → Refused Form t p → p ≤ file-limit
+form-small t p h (at q l begins stops) = omega arith
+form-small t p h (early begins stops) = h
+
+pub text-small : (t : List ℕ) (p : ℕ) → read-file t ≡ refused p → p ≤ 4096
+text-small t p e = go p (subst (AnswersFile t) e (answer-claim t))
+  where
+    go : (q : ℕ) → Refused4 t q → q ≤ 4096
+    go q (over-long l) = omega arith
+    go q (off-form r h d) = form-small t q h d
