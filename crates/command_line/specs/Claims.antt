@@ -1,0 +1,42 @@
+-- What is claimed of lines; each claim is inhabited in proofs/Claims.
+-- Assumes nothing.
+use Prim.Native.Nat.{ℕ}
+use mathlib.Core.Path.{_≡_}
+use mathlib.Core.List.{List, [], _∷_, _++_, List·Memᴰ}
+use mathlib.Core.Option.{Option, none, some}
+use lib.ListN.{drop}
+use Rattle.command_line.specs.declared.Command.{Command}
+use Rattle.command_line.specs.Words.{Words, words, rest}
+use Rattle.command_line.specs.Numbers.{IsNumber, number-of}
+use Rattle.command_line.specs.Lists.{Numbers, numbers-from}
+use Rattle.command_line.specs.Names.{names, named}
+
+-- A line has one list of words: the computed one.
+pub record WordsClaim : Type 0 where
+  pub its-words : (line : List ℕ) → Words line (words line)
+  pub only : (line : List ℕ) (ws : List (List ℕ)) → Words line ws → ws ≡ words line
+
+-- The line from its word n on is an end of the line, has the words from word n on, and begins with no space.
+pub record EndOf (r line : List ℕ) : Type 0 where
+  pub before : List ℕ
+  pub whole : before ++ r ≡ line
+
+pub record RestClaim : Type 0 where
+  pub an-end : (n : ℕ) (line : List ℕ) → EndOf (rest n line) line
+  pub its-words : (n : ℕ) (line : List ℕ) → words (rest n line) ≡ drop n (words line)
+  pub no-space : (n : ℕ) (line s : List ℕ) → rest n line ≡ 32 ∷ s → ⊥
+
+-- A word has one answer: the computed one.
+pub record NumberClaim : Type 0 where
+  pub answered : (w : List ℕ) → IsNumber w (number-of w)
+  pub only : (w : List ℕ) (answer : Option ℕ) → IsNumber w answer → answer ≡ number-of w
+
+-- Words have a list of numbers exactly where the computed answer is that list.
+pub record NumbersClaim : Type 0 where
+  pub found : (ws : List (List ℕ)) (vs : List ℕ) → numbers-from [] ws ≡ some vs → Numbers ws vs
+  pub only : (ws : List (List ℕ)) (vs : List ℕ) → Numbers ws vs → numbers-from [] ws ≡ some vs
+
+-- A word names a command exactly if the two stand beside each other in the list of names.
+pub record NamesClaim : Type 0 where
+  pub named-so : (p : List ℕ × Command) → List·Memᴰ p names → named (p .0) ≡ p .1
+  pub listed-so : (w : List ℕ) → (named w ≡ Command.Unknown → ⊥) → List·Memᴰ (w, named w) names

@@ -1,0 +1,34 @@
+-- A number of a line: one or more digits, in decimal; leading zeros say nothing.
+-- Assumes nothing.
+use Prim.Native.Nat.{ℕ, _+_, _-_, _*_, _≤_, min}
+use mathlib.Core.List.{List, [], _∷_}
+use mathlib.Core.Bool.{cond}
+use mathlib.Core.Option.{Option, none, some}
+use lib.ListN.{length}
+use Rattle.text_format.specs.Decimal.{is-digit, Digits, value-from}
+use Rattle.command_line.specs.declared.Number.{Number}
+
+-- ---- the sentence
+
+pub data IsNumber (w : List ℕ) : Option ℕ → Type 0 where
+  number : Digits w → 1 ≤ length w → IsNumber w (some (value-from 0 w))
+  other : (Digits w → 1 ≤ length w → ⊥) → IsNumber w none
+
+-- ---- the computing twin
+
+unfoldable pub digits-from : ℕ → List ℕ → Option ℕ
+digits-from v [] = some v
+digits-from v (b ∷ s) = cond (is-digit b) (digits-from (v * 10 + (b - 48)) s) none
+
+unfoldable pub number-of : List ℕ → Option ℕ
+number-of [] = none
+number-of (b ∷ s) = digits-from 0 (b ∷ s)
+
+-- ---- the answer: a number above 65,535 stands as 65,535, and document 01 refuses both alike wherever a number is judged
+
+abbrev pub capped : ℕ → ℕ
+capped v = min v 65535
+
+abbrev pub number-answer : Option ℕ → Number
+number-answer none = Number.Malformed
+number-answer (some v) = Number.Value (capped v)

@@ -1,0 +1,43 @@
+-- What the private functions of src/ say.
+-- Assumes nothing.
+use Prim.Native.Nat.{ℕ, suc, _+_, _≤_}
+use mathlib.Core.Path.{_≡_}
+use mathlib.Core.List.{List, [], _∷_, map}
+use mathlib.Core.Bool.{cond}
+use mathlib.Core.Option.{Option, none, some}
+use lib.ListN.{length, drop}
+use Rattle.channel_file.specs.Bytes.{clamp, put-in}
+use Rattle.command_line.specs.declared.Number.{Number}
+use Rattle.command_line.specs.Words.{is-space, rest}
+use Rattle.command_line.specs.Lists.{numbers-of}
+
+-- How many spaces lead a text, and how many other bytes.
+unfoldable pub gap : List ℕ → ℕ
+gap [] = 0
+gap (b ∷ s) = cond (is-space b) (suc (gap s)) 0
+
+unfoldable pub letters : List ℕ → ℕ
+letters [] = 0
+letters (b ∷ s) = cond (is-space b) 0 (suc (letters s))
+
+pub record Skips (count : List ℕ → ℕ) (line : List ℕ) (at r : ℕ) : Type 0 where
+  pub from : at ≤ r
+  pub within : r ≤ length line
+  pub same : r ≡ at + count (drop at line)
+
+pub record Starts (line : List ℕ) (n r : ℕ) : Type 0 where
+  pub within : r ≤ length line
+  pub same : drop r line ≡ rest n line
+
+abbrev pub count-answer : Option (List ℕ) → Number
+count-answer none = Number.Malformed
+count-answer (some vs) = Number.Value (length vs)
+
+-- The text has numbers alone, and the buffer has room for them.
+pub record Storable (text to : List ℕ) : Type 0 where
+  pub list : List ℕ
+  pub stands : numbers-of text ≡ some list
+  pub room : length list ≤ length to
+
+abbrev pub Stores : List ℕ → List ℕ → List ℕ → Type 0
+Stores text old new = (vs : List ℕ) → numbers-of text ≡ some vs → new ≡ put-in (map clamp vs) old

@@ -1,0 +1,270 @@
+// A line of commands: its words, its numbers and the command that it names.
+ghost use mathlib.Core.Path.{_≡_};
+ghost use Prim.Native.Nat.{_+_, _-_, _*_, _≤_, _<_};
+ghost use lib.ListN.{length};
+ghost use Rattle.text_format.specs.Decimal.{is-digit};
+ghost use Rattle.channel_file.specs.Bytes.{clamp};
+ghost use Rattle.command_line.specs.Words.{rest, word};
+ghost use Rattle.command_line.specs.Numbers.{number-of, capped, number-answer};
+ghost use Rattle.command_line.specs.Lists.{numbers-of, Lists};
+ghost use Rattle.command_line.specs.Names.{equal, named};
+ghost use Rattle.command_line.specs.Steps.{gap, letters, Skips, Starts, count-answer, Storable, Stores};
+
+// A number above this one stands as this one.
+pub const NUMBER_LIMIT: usize = 65535;
+
+// The answer to a word: its number, or that it is none.
+pub enum Number {
+    Value(usize),
+    Malformed,
+}
+
+// The answer to a list of numbers: how many were stored, that a word is no number, or that the buffer is too short.
+pub enum Listed {
+    Count(usize),
+    Malformed,
+    Short,
+}
+
+// The commands.
+pub enum Command {
+    Setup,
+    Table,
+    Load,
+    Event,
+    Events,
+    Restart,
+    Clear,
+    Show,
+    Device,
+    Trial,
+    Write,
+    Dot,
+    Help,
+    Unknown,
+}
+
+fn wide(b: u8) -> usize
+    ensures { λ r. ⌜ r ≡ b ⌝ }
+{
+    b as usize
+}
+
+fn digit(b: u8) -> bool
+    ensures { λ r. ⌜ r ≡ is-digit b ⌝ }
+{
+    if b < 48 { false } else { b < 58 }
+}
+
+// The offset behind the spaces at an offset.
+fn skip_spaces(line: &[u8], at: usize) -> usize
+    requires { ⌜ at ≤ length (now line) ⌝ }
+    ensures { λ r. ⌜ Skips gap (now (line .entry)) at r ⌝ }
+{
+    let mut i = at;
+    while i < line.len() {
+        if line[i] != 32 {
+            return i;
+        }
+        i += 1;
+    }
+    i
+}
+
+// The offset of the first space from an offset on.
+fn skip_word(line: &[u8], at: usize) -> usize
+    requires { ⌜ at ≤ length (now line) ⌝ }
+    ensures { λ r. ⌜ Skips letters (now (line .entry)) at r ⌝ }
+{
+    let mut i = at;
+    while i < line.len() {
+        if line[i] == 32 {
+            return i;
+        }
+        i += 1;
+    }
+    i
+}
+
+// The offset where word n starts; the length where there is none.
+fn start_of(line: &[u8], n: usize) -> usize
+    ensures { λ r. ⌜ Starts (now (line .entry)) n r ⌝ }
+{
+    let mut at = skip_spaces(line, 0);
+    let mut left = n;
+    while 0 < left {
+        if line.len() <= at {
+            return at;
+        }
+        at = skip_spaces(line, skip_word(line, at));
+        left -= 1;
+    }
+    at
+}
+
+// The line from its word n on.
+pub fn rest(line: &[u8], n: usize) -> &[u8]
+    ensures { λ r. ⌜ now r ≡ rest n (now (line .entry)) ⌝ }
+{
+    let at = start_of(line, n);
+    &line[at..]
+}
+
+// Word n of a line; empty where there is none.
+pub fn word(line: &[u8], n: usize) -> &[u8]
+    ensures { λ r. ⌜ now r ≡ word n (now (line .entry)) ⌝ }
+{
+    let from = start_of(line, n);
+    let to = skip_word(line, from);
+    &line[from..to]
+}
+
+// The number behind the digits of v and one digit more.
+fn add_digit(v: usize, b: u8) -> usize
+    requires { ⌜ (v ≤ 65535) × (48 ≤ b) × (b < 58) ⌝ }
+    ensures { λ r. ⌜ r ≡ capped (v * 10 + (b - 48)) ⌝ }
+{
+    let n = v * 10 + (wide(b) - 48);
+    if n < NUMBER_LIMIT { n } else { NUMBER_LIMIT }
+}
+
+// The number that a word is.
+pub fn read_number(word: &[u8]) -> Number
+    ensures { λ r. ⌜ r ≡ number-answer (number-of (now (word .entry))) ⌝ }
+{
+    if word.len() == 0 {
+        return Number::Malformed;
+    }
+    let mut v: usize = 0;
+    let mut i: usize = 0;
+    while i < word.len() {
+        let b = word[i];
+        if !digit(b) {
+            return Number::Malformed;
+        }
+        v = add_digit(v, b);
+        i += 1;
+    }
+    Number::Value(v)
+}
+
+fn clip(v: usize) -> u8
+    ensures { λ r. ⌜ r ≡ clamp v ⌝ }
+{
+    if v < 255 { v as u8 } else { 255 }
+}
+
+// How many numbers a text has, unless a word is none.
+fn count_numbers(text: &[u8]) -> Number
+    ensures { λ r. ⌜ r ≡ count-answer (numbers-of (now (text .entry))) ⌝ }
+{
+    let mut at = skip_spaces(text, 0);
+    let mut n: usize = 0;
+    while at < text.len() {
+        let end = skip_word(text, at);
+        let found = read_number(&text[at..end]);
+        let Number::Value(_) = found else {
+            return Number::Malformed;
+        };
+        at = skip_spaces(text, end);
+        n += 1;
+    }
+    Number::Value(n)
+}
+
+// Puts the numbers of a text that has no other words into a buffer.
+fn store_numbers(text: &[u8], to: &mut [u8])
+    requires { ⌜ Storable (now text) (now to) ⌝ }
+    ensures { λ _. ⌜ Stores (now (text .entry)) (now (to .entry)) (now (to .exit)) ⌝ }
+{
+    let mut at = skip_spaces(text, 0);
+    let mut n: usize = 0;
+    while at < text.len() {
+        let end = skip_word(text, at);
+        let found = read_number(&text[at..end]);
+        let Number::Value(v) = found else {
+            return;
+        };
+        to[n] = clip(v);
+        at = skip_spaces(text, end);
+        n += 1;
+    }
+}
+
+// The numbers of a text into a lent buffer, a number above 255 as 255.
+pub fn read_numbers(text: &[u8], to: &mut [u8]) -> Listed
+    ensures { λ r. ⌜ Lists (now (text .entry)) (now (to .entry)) (now (to .exit)) r ⌝ }
+{
+    let counted = count_numbers(text);
+    let Number::Value(n) = counted else {
+        return Listed::Malformed;
+    };
+    if to.len() < n {
+        return Listed::Short;
+    }
+    store_numbers(text, to);
+    Listed::Count(n)
+}
+
+// Whether two lists of bytes are the same.
+fn equal(a: &[u8], b: &[u8]) -> bool
+    ensures { λ r. ⌜ r ≡ equal (now (a .entry)) (now (b .entry)) ⌝ }
+{
+    if a.len() != b.len() {
+        return false;
+    }
+    let mut i: usize = 0;
+    while i < a.len() {
+        if a[i] != b[i] {
+            return false;
+        }
+        i += 1;
+    }
+    true
+}
+
+// The command that a word names.
+pub fn read_command(word: &[u8]) -> Command
+    ensures { λ r. ⌜ r ≡ named (now (word .entry)) ⌝ }
+{
+    if equal(word, b"setup") {
+        return Command::Setup;
+    }
+    if equal(word, b"table") {
+        return Command::Table;
+    }
+    if equal(word, b"load") {
+        return Command::Load;
+    }
+    if equal(word, b"event") {
+        return Command::Event;
+    }
+    if equal(word, b"events") {
+        return Command::Events;
+    }
+    if equal(word, b"restart") {
+        return Command::Restart;
+    }
+    if equal(word, b"clear") {
+        return Command::Clear;
+    }
+    if equal(word, b"show") {
+        return Command::Show;
+    }
+    if equal(word, b"device") {
+        return Command::Device;
+    }
+    if equal(word, b"trial") {
+        return Command::Trial;
+    }
+    if equal(word, b"write") {
+        return Command::Write;
+    }
+    if equal(word, b"dot") {
+        return Command::Dot;
+    }
+    if equal(word, b"help") {
+        return Command::Help;
+    }
+    Command::Unknown
+}
