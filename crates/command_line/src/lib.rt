@@ -1,7 +1,7 @@
 // A line of commands: its words, its numbers and the command that it names.
 ghost use mathlib.Core.Path.{_≡_};
 ghost use Prim.Native.Nat.{_+_, _-_, _*_, _≤_, _<_};
-ghost use lib.ListN.{length};
+ghost use lib.ListN.{length, take};
 ghost use Rattle.text_format.specs.Decimal.{is-digit};
 ghost use Rattle.channel_file.specs.Bytes.{clamp};
 ghost use Rattle.command_line.specs.Words.{rest, word};
@@ -119,6 +119,16 @@ pub fn word(line: &[u8], n: usize) -> &[u8]
     &line[from..to]
 }
 
+// The first n bytes; all where there are fewer.
+pub fn front(bytes: &[u8], n: usize) -> &[u8]
+    ensures { λ r. ⌜ now r ≡ take n (now (bytes .entry)) ⌝ }
+{
+    if n <= bytes.len() {
+        return &bytes[..n];
+    }
+    bytes
+}
+
 // The number behind the digits of v and one digit more.
 fn add_digit(v: usize, b: u8) -> usize
     requires { ⌜ (v ≤ 65535) × (48 ≤ b) × (b < 58) ⌝ }
@@ -207,7 +217,7 @@ pub fn read_numbers(text: &[u8], to: &mut [u8]) -> Listed
 }
 
 // Whether two lists of bytes are the same.
-fn equal(a: &[u8], b: &[u8]) -> bool
+pub fn equal(a: &[u8], b: &[u8]) -> bool
     ensures { λ r. ⌜ r ≡ equal (now (a .entry)) (now (b .entry)) ⌝ }
 {
     if a.len() != b.len() {
