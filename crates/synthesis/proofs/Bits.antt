@@ -76,6 +76,15 @@ pub zero-bit : (k : ℕ) → eqb (bit-at 0 k) 1 ≡ false
 unfolding bit-at
 zero-bit k = ap (λ x. eqb (x % 2) 1) (zero-div (2 ^ k))
 
+-- No bits from k on.
+pub no-rest : (a k j : ℕ) → a / 2 ^ k ≡ 0 → k ≤ j → eqb (bit-at a j) 1 ≡ false
+unfolding bit-at
+no-rest a k j e h =
+    let z : j ≡ k + (j - k) = omega arith in
+    ap (λ x. eqb (a / 2 ^ x % 2) 1) z
+    ∙ ap (λ x. eqb (x % 2) 1) (sym (shr-shr a k (j - k)) ∙ ap (λ x. x / 2 ^ (j - k)) e)
+    ∙ zero-bit (j - k)
+
 same-bit : (x y : ℕ) → x < 2 → y < 2 → eqb x 1 ≡ eqb y 1 → x ≡ y
 same-bit x y h k e = go (zero-or-one x h) (zero-or-one y k)
   where

@@ -17,7 +17,7 @@ use Rattle.theory.specs.DemandSets.{empty, union, only}
 use Rattle.theory.specs.Exploration.{member, bits}
 use Rattle.theory.proofs.BitSets.{member-bits}
 use Rattle.synthesis.specs.NodeWords.{bit-at, set-at, row, bits-at, Stored}
-use Rattle.synthesis.proofs.Bits.{or-bit, power-bit, zero-bit, same-number}
+use Rattle.synthesis.proofs.Bits.{or-bit, power-bit, zero-bit, no-rest, same-number}
 
 pub in-words : (l : List ℕ) (b j : ℕ) → j < 256 → set-at l b j ≡ eqb (bit-at (getD l (b + j / 64) 0) (j % 64)) 1
 unfolding set-at
@@ -70,24 +70,21 @@ set-insert l k h n = fun-ext λ j. go j (decLt j 256)
 
 -- The bitwise or of the words is the union.
 pub set-unite :
-    (after before rows : List ℕ) (base : ℕ) →
-    ((w : ℕ) → w < 4 → getD after w 0 ≡ bitOr (getD before w 0) (getD rows (base + w) 0)) →
-    set-at after 0 ≡ union (set-at before 0) (set-at rows base)
+    (after before rows : List ℕ) (to base : ℕ) →
+    ((w : ℕ) → w < 4 → getD after (to + w) 0 ≡ bitOr (getD before (to + w) 0) (getD rows (base + w) 0)) →
+    set-at after to ≡ union (set-at before to) (set-at rows base)
 unfolding union
-set-unite after before rows base f = fun-ext λ j. go j (decLt j 256)
+set-unite after before rows to base f = fun-ext λ j. go j (decLt j 256)
   where
-    go : (j : ℕ) → Dec (j < 256) → set-at after 0 j ≡ set-at before 0 j || set-at rows base j
+    go : (j : ℕ) → Dec (j < 256) → set-at after to j ≡ set-at before to j || set-at rows base j
     go j (yes u) =
-        let z : 0 + j / 64 ≡ j / 64 = omega arith in
-        in-words after 0 j u
-        ∙ ap (λ x. eqb (bit-at x (j % 64)) 1)
-        (ap (λ x. getD after x 0) z ∙ f (j / 64) (omega arith)
-        ∙ ap (λ x. bitOr (getD before x 0) (getD rows (base + j / 64) 0)) (sym z))
-        ∙ or-bit (getD before (0 + j / 64) 0) (getD rows (base + j / 64) 0) (j % 64)
-        ∙ sym (ap₂ (λ a b. a || b) (in-words before 0 j u) (in-words rows base j u))
+        in-words after to j u
+        ∙ ap (λ x. eqb (bit-at x (j % 64)) 1) (f (j / 64) (omega arith))
+        ∙ or-bit (getD before (to + j / 64) 0) (getD rows (base + j / 64) 0) (j % 64)
+        ∙ sym (ap₂ (λ a b. a || b) (in-words before to j u) (in-words rows base j u))
     go j (no u) =
-        past-words after 0 j (omega arith)
-        ∙ sym (ap₂ (λ a b. a || b) (past-words before 0 j (omega arith)) (past-words rows base j (omega arith)))
+        past-words after to j (omega arith)
+        ∙ sym (ap₂ (λ a b. a || b) (past-words before to j (omega arith)) (past-words rows base j (omega arith)))
 
 -- Equal words, equal sets.
 pub set-same :
@@ -100,33 +97,56 @@ set-same l m b c f = fun-ext λ j. go j (decLt j 256)
     go j (no u) = past-words l b j (omega arith) ∙ sym (past-words m c j (omega arith))
 
 -- Words of zeros are the empty set.
-pub no-members : set-at (replicate 4 0) 0 ≡ empty
+pub none-at : (n base : ℕ) → base + 4 ≤ n → set-at (replicate n 0) base ≡ empty
 unfolding empty
-no-members = fun-ext λ j. go j (decLt j 256)
+none-at n base h = fun-ext λ j. go j (decLt j 256)
   where
-    go : (j : ℕ) → Dec (j < 256) → set-at (replicate 4 0) 0 j ≡ false
+    go : (j : ℕ) → Dec (j < 256) → set-at (replicate n 0) base j ≡ false
     go j (yes u) =
-        in-words (replicate 4 0) 0 j u
-        ∙ ap (λ x. eqb (bit-at x (j % 64)) 1) (getD-replicate 4 (0 + j / 64) 0 0 (omega arith))
+        in-words (replicate n 0) base j u
+        ∙ ap (λ x. eqb (bit-at x (j % 64)) 1) (getD-replicate n (base + j / 64) 0 0 (omega arith))
         ∙ zero-bit (j % 64)
-    go j (no u) = past-words (replicate 4 0) 0 j (omega arith)
+    go j (no u) = past-words (replicate n 0) base j (omega arith)
+
+pub no-members : set-at (replicate 4 0) 0 ≡ empty
+no-members = none-at 4 0 (omega arith)
+
+-- A word without nodes from k on is passed.
+pub no-more :
+    (l : List ℕ) (b from end k : ℕ) → end ≤ 256 → getD l (b + k / 64) 0 / 2 ^ (k % 64) ≡ 0 →
+    ((j : ℕ) → j < k → from ≤ j → j < end → set-at l b j ≡ false) →
+    (j : ℕ) → j < k / 64 * 64 + 64 → from ≤ j → j < end → set-at l b j ≡ false
+no-more l b from end k n e f j u h v = go (decLt j k)
+  where
+    go : Dec (j < k) → set-at l b j ≡ false
+    go (yes w) = f j w h v
+    go (no w) =
+        let q : j / 64 ≡ k / 64 = omega arith in
+        in-words l b j (omega arith)
+        ∙ ap (λ x. eqb (bit-at (getD l (b + x) 0) (j % 64)) 1) q
+        ∙ no-rest (getD l (b + k / 64) 0) (k % 64) (j % 64) e (omega arith)
 
 -- What is stored is read there, and elsewhere what was.
 pub stored-there : (before after from : List ℕ) (base : ℕ) → Stored before after base from → set-at after base ≡ set-at from 0
 stored-there before after from base h =
     set-same after from base 0 (λ w l. h .there w l ∙ ap (λ x. getD from x 0) (omega arith))
 
-pub stored-else :
-    (before after from : List ℕ) (i j : ℕ) → Stored before after (i * 4) from → ¬ (j ≡ i) → row after j ≡ row before j
-stored-else before after from i j h d = set-same after before (j * 4) (j * 4) (λ w l. go w l (decLt (j * 4 + w) (i * 4)))
+pub set-else :
+    (before after : List ℕ) (i j : ℕ) → ((x : ℕ) → x < i * 4 → getD after x 0 ≡ getD before x 0) →
+    ((x : ℕ) → i * 4 + 4 ≤ x → getD after x 0 ≡ getD before x 0) → ¬ (j ≡ i) → row after j ≡ row before j
+set-else before after i j below above d = set-same after before (j * 4) (j * 4) (λ w l. go w l (decLt (j * 4 + w) (i * 4)))
   where
     go : (w : ℕ) → w < 4 → Dec (j * 4 + w < i * 4) → getD after (j * 4 + w) 0 ≡ getD before (j * 4 + w) 0
-    go w l (yes u) = h .below (j * 4 + w) u
-    go w l (no u) = h .above (j * 4 + w) (far (decLt i j))
+    go w l (yes u) = below (j * 4 + w) u
+    go w l (no u) = above (j * 4 + w) (far (decLt i j))
       where
         far : Dec (i < j) → i * 4 + 4 ≤ j * 4 + w
         far (yes x) = omega arith
         far (no x) = absurd (d (omega arith))
+
+pub stored-else :
+    (before after from : List ℕ) (i j : ℕ) → Stored before after (i * 4) from → ¬ (j ≡ i) → row after j ≡ row before j
+stored-else before after from i j h d = set-else before after i j (h .below) (h .above) d
 
 -- The members of the bits are the set's.
 pub member-bits-at : (words : List ℕ) (base : ℕ) → member (bits-at words base) ≡ set-at words base

@@ -2,12 +2,13 @@
 -- states reached, and the next state of each).
 -- Assumes nothing.
 use mathlib.Core.Path.{_≡_}
-use mathlib.Core.Bool.{Bool, false, _&&_, _||_}
+use mathlib.Core.Bool.{Bool, false, _&&_, _||_, cond}
 use mathlib.Core.List.{List, [], _∷_}
 use Prim.Native.Nat.{ℕ, zero, suc, _+_, _*_, _/_, _%_, _≤_, _<_}
 use lib.Dec.{eqb}
 use lib.ListN.{length, getD}
 use Rattle.theory.specs.Demands.{NodeSet}
+use Rattle.theory.specs.DemandSets.{union}
 use Rattle.theory.specs.Exploration.{reached, add, explored, index, member, bits, same-bits}
 use Rattle.synthesis.specs.NodeWords.{row, bits-at}
 use Rattle.formulas.specs.NodeWalks.{field}
@@ -28,6 +29,16 @@ brings kinds firsts rows D e d i = (D i && for-event kinds firsts 2 e i) && row 
 -- The next set on e of what D has among the first n nodes.
 unfoldable pub stepped : List ℕ → List ℕ → List ℕ → ℕ → NodeSet → ℕ → NodeSet
 stepped kinds firsts rows n D e d = some-in (brings kinds firsts rows D e d) 0 n
+
+-- Node i was passed: where it is a G, the demands of its part came into the set of its event.
+abbrev pub Passed : List ℕ → List ℕ → List ℕ → ℕ → ℕ → List ℕ → List ℕ → Type 0
+Passed kinds firsts rows events i before after =
+    (e : ℕ) → e < events →
+    row after e ≡ cond (for-event kinds firsts 2 e i) (union (row before e) (row rows (i + 1))) (row before e)
+
+-- Set e of the sets is the next set on e of what D has among the first n nodes, for each event.
+abbrev pub NextSets : List ℕ → List ℕ → List ℕ → ℕ → NodeSet → ℕ → List ℕ → Type 0
+NextSets kinds firsts rows n D events sets = (e : ℕ) → e < events → row sets e ≡ stepped kinds firsts rows n D e
 
 unfoldable pub next-bits : List ℕ → List ℕ → List ℕ → ℕ → List Bool → ℕ → List Bool
 next-bits kinds firsts rows n L e = bits 256 0 (stepped kinds firsts rows n (member L) e)

@@ -1,12 +1,13 @@
 -- Sets of node numbers in words of 64 bits, four words a set.
 -- Assumes nothing.
 use mathlib.Core.Path.{_≡_}
-use mathlib.Core.Bool.{Bool, _&&_}
+use mathlib.Core.Bool.{Bool, true, false, _&&_}
 use mathlib.Core.List.{List}
 use Prim.Native.Nat.{ℕ, _+_, _*_, _/_, _%_, _^_, _≤_, _<_}
 use lib.Dec.{ltb, eqb}
 use lib.ListN.{length, getD}
 use Rattle.theory.specs.Demands.{NodeSet}
+use Rattle.theory.specs.DemandSets.{union}
 use Rattle.theory.specs.Exploration.{bits}
 
 -- Bit k of a number.
@@ -31,3 +32,16 @@ pub record Stored (before after : List ℕ) (base : ℕ) (set : List ℕ) : Type
   pub there : (w : ℕ) → w < 4 → getD after (base + w) 0 ≡ getD set w 0
   pub below : (x : ℕ) → x < base → getD after x 0 ≡ getD before x 0
   pub above : (x : ℕ) → base + 4 ≤ x → getD after x 0 ≡ getD before x 0
+
+-- Set i of the sets has the members of D too, and the others are as before.
+pub record United (before after : List ℕ) (i : ℕ) (D : NodeSet) : Type 0 where
+  pub sized : length after ≡ length before
+  pub there : row after i ≡ union (row before i) D
+  pub others : (j : ℕ) → ¬ (j ≡ i) → row after j ≡ row before j
+
+-- r is the first node of D from `from` on and below `end`, or `end`.
+pub record FirstMember (D : NodeSet) (from end r : ℕ) : Type 0 where
+  pub low : from ≤ r
+  pub high : r ≤ end
+  pub before : (j : ℕ) → from ≤ j → j < r → D j ≡ false
+  pub here : r < end → D r ≡ true

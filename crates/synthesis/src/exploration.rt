@@ -1,22 +1,47 @@
 // The states that event sequences reach, in document 01's order ("Table of a rule"), and the next state of each on each event.
-use crate::node_sets::active;
+use crate::node_sets::copy_row;
+use crate::node_sets::next_member;
 use crate::node_sets::same;
 use crate::node_sets::store;
-use crate::node_sets::unite;
+use crate::node_sets::unite_row;
 use crate::numbers::entry_at;
 use crate::numbers::narrow;
+use crate::numbers::wide;
 use formulas::TRANSITION;
 ghost use mathlib.Core.Path.{_≡_};
 ghost use Prim.Native.Nat.{ℕ, _+_, _*_, _<_, _≤_};
 ghost use lib.ListN.{length};
 ghost use Rattle.theory.specs.DemandSets.{empty};
-ghost use Rattle.synthesis.specs.NodeWords.{set-at, bits-at};
-ghost use Rattle.synthesis.specs.Exploring.{stepped, next-bits, Found, Counted, Expanded, sequences, Unchanged};
+ghost use Rattle.synthesis.specs.NodeWords.{set-at, row, bits-at};
+ghost use Rattle.synthesis.specs.Exploring.{Passed, NextSets, next-bits, Found, Counted, Expanded, sequences, Unchanged};
 
 // The most states of a table.
 pub const STATE_LIMIT: usize = 64;
 
-// The next set: the demands of the parts of the set's G nodes for the event.
+// A node of a set is passed: where it is a G, the demands of its part come into the next set on its event.
+fn advance_node(
+    kinds: &[u8; 256],
+    firsts: &[u8; 256],
+    rows: &[u64; 1028],
+    events: usize,
+    node: usize,
+    sets: &mut [u64; 64],
+)
+    requires { ⌜ (node < 256) × (events ≤ 16) × (length (now kinds) ≡ 256) × (length (now firsts) ≡ 256) × (length (now rows) ≡ 1028)
+        × (length (now sets) ≡ 64) ⌝ }
+    ensures { λ _. ⌜ (length (now (sets .exit)) ≡ 64)
+        × Passed (now (kinds .entry)) (now (firsts .entry)) (now (rows .entry)) events node (now (sets .entry)) (now (sets .exit)) ⌝ }
+{
+    if kinds[node] != TRANSITION {
+        return;
+    }
+    let event = wide(firsts[node]);
+    if event < events {
+        unite_row(sets, event, rows, (node + 1) * 4);
+    }
+}
+
+// The next sets of a state, one for each event: the demands of the parts of the set's G nodes for the event.
 fn advance(
     kinds: &[u8; 256],
     firsts: &[u8; 256],
@@ -24,21 +49,19 @@ fn advance(
     rows: &[u64; 1028],
     states: &[u64; 1028],
     base: usize,
-    event: usize,
-    next: &mut [u64; 4],
+    events: usize,
+    sets: &mut [u64; 64],
 )
-    requires { ⌜ (count ≤ 256) × (base + 4 ≤ 1028) × (length (now kinds) ≡ 256) × (length (now firsts) ≡ 256) × (length (now rows) ≡ 1028)
-        × (length (now states) ≡ 1028) × (length (now next) ≡ 4) × (set-at (now next) 0 ≡ empty) ⌝ }
-    ensures { λ _. ⌜ (length (now (next .exit)) ≡ 4)
-        × (set-at (now (next .exit)) 0
-        ≡ stepped (now (kinds .entry)) (now (firsts .entry)) (now (rows .entry)) count (set-at (now (states .entry)) base) event) ⌝ }
+    requires { ⌜ (count ≤ 256) × (base + 4 ≤ 1028) × (events ≤ 16) × (length (now kinds) ≡ 256) × (length (now firsts) ≡ 256)
+        × (length (now rows) ≡ 1028) × (length (now states) ≡ 1028) × (length (now sets) ≡ 64)
+        × ((e : ℕ) → e < events → row (now sets) e ≡ empty) ⌝ }
+    ensures { λ _. ⌜ (length (now (sets .exit)) ≡ 64)
+        × NextSets (now (kinds .entry)) (now (firsts .entry)) (now (rows .entry)) count (set-at (now (states .entry)) base) events (now (sets .exit)) ⌝ }
 {
-    let mut node: usize = 0;
+    let mut node = next_member(states, base, 0, count);
     while node < count {
-        if active(kinds, firsts, TRANSITION, node, event, states, base) {
-            unite(next, rows, (node + 1) * 4);
-        }
-        node += 1;
+        advance_node(kinds, firsts, rows, events, node, sets);
+        node = next_member(states, base, node + 1, count);
     }
 }
 
@@ -77,11 +100,22 @@ fn expand(
         × Expanded (next-bits (now (kinds .entry)) (now (firsts .entry)) (now (rows .entry)) count) events 64 i n
         (now (states .entry)) (now (nexts .entry)) r (now (states .exit)) (now (nexts .exit)) ⌝ }
 {
+    let mut sets = [0u64; 64];
+    advance(
+        kinds,
+        firsts,
+        count,
+        rows,
+        &*states,
+        i * 4,
+        events,
+        &mut sets,
+    );
     let mut k = n;
     let mut event: usize = 0;
     while event < events {
         let mut set = [0u64; 4];
-        advance(kinds, firsts, count, rows, &*states, i * 4, event, &mut set);
+        copy_row(&mut set, &sets, event);
         let j = find(&*states, k, &set);
         if j == k {
             if k == STATE_LIMIT {

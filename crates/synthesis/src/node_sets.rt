@@ -6,7 +6,7 @@ ghost use mathlib.Core.Bool.{true, false, _&&_};
 ghost use Prim.Native.Nat.{ℕ, _+_, _*_, _<_, _≤_, _^_};
 ghost use lib.ListN.{length};
 ghost use Rattle.theory.specs.DemandSets.{union, only};
-ghost use Rattle.synthesis.specs.NodeWords.{set-at, bits-at, Stored};
+ghost use Rattle.synthesis.specs.NodeWords.{set-at, row, bits-at, Stored, United, FirstMember};
 ghost use Rattle.synthesis.specs.Exploring.{for-event};
 
 // 2 to the k-th.
@@ -40,6 +40,30 @@ pub fn unite(set: &mut [u64; 4], rows: &[u64; 1028], base: usize)
     }
 }
 
+// The set from base on comes into set i of the sets.
+pub fn unite_row(sets: &mut [u64; 64], i: usize, rows: &[u64; 1028], base: usize)
+    requires { ⌜ (i < 16) × (base + 4 ≤ 1028) × (length (now sets) ≡ 64) × (length (now rows) ≡ 1028) ⌝ }
+    ensures { λ _. ⌜ United (now (sets .entry)) (now (sets .exit)) i (set-at (now (rows .entry)) base) ⌝ }
+{
+    let mut w: usize = 0;
+    while w < 4 {
+        sets[i * 4 + w] = sets[i * 4 + w] | rows[base + w];
+        w += 1;
+    }
+}
+
+// Set i of the sets is copied.
+pub fn copy_row(set: &mut [u64; 4], sets: &[u64; 64], i: usize)
+    requires { ⌜ (i < 16) × (length (now set) ≡ 4) × (length (now sets) ≡ 64) ⌝ }
+    ensures { λ _. ⌜ (length (now (set .exit)) ≡ 4) × (set-at (now (set .exit)) 0 ≡ row (now (sets .entry)) i) ⌝ }
+{
+    let mut w: usize = 0;
+    while w < 4 {
+        set[w] = sets[i * 4 + w];
+        w += 1;
+    }
+}
+
 // A set is stored from base on.
 pub fn store(rows: &mut [u64; 1028], base: usize, set: &[u64; 4])
     requires { ⌜ (base + 4 ≤ 1028) × (length (now rows) ≡ 1028) × (length (now set) ≡ 4) ⌝ }
@@ -59,6 +83,28 @@ pub fn contains(rows: &[u64; 1028], base: usize, node: usize) -> bool
 {
     let w = rows[base + node / 64];
     (w >> ((node % 64) as u64)) % 2 == 1
+}
+
+// The first node from `from` on and below `end` that is in the set from base on, or `end`. The rest of a word is passed at once
+// where it has no node.
+pub fn next_member(rows: &[u64; 1028], base: usize, from: usize, end: usize) -> usize
+    requires { ⌜ (base + 4 ≤ 1028) × (from ≤ end) × (end ≤ 256) × (length (now rows) ≡ 1028) ⌝ }
+    ensures { λ r. ⌜ FirstMember (set-at (now (rows .entry)) base) from end r ⌝ }
+{
+    let mut node = from;
+    while node < end {
+        let w = rows[base + node / 64];
+        let rest = w >> ((node % 64) as u64);
+        if rest % 2 == 1 {
+            return node;
+        }
+        if rest == 0 {
+            node = node / 64 * 64 + 64;
+        } else {
+            node += 1;
+        }
+    }
+    end
 }
 
 // Whether the set from base on is the given one.

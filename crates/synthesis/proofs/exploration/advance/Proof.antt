@@ -1,73 +1,71 @@
--- `advance` meets its contract. The loop's invariant: the set is that of the nodes passed.
+-- `advance` meets its contract. The loop's invariant: the sets are those of the nodes passed, and the node is in the set.
 -- Assumes nothing.
 use borrow.Author.Needs.{needs}
-use Prim.Native.Nat.{_≤_, _-_, _+_}
-use mathlib.Core.Path.{_≡_, sym, _∙_, ap, subst}
-use mathlib.Core.Logic.{⊎-elim}
+use Prim.Native.Nat.{_≤_, _<_, _-_, _+_}
+use mathlib.Core.Path.{_≡_, sym, _∙_, ap}
+use mathlib.Core.Bool.{true}
 use native.Mathlib.Omega.{arith}
 use lib.ListN.{length}
-use Rattle.theory.specs.DemandSets.{union}
-use Rattle.synthesis.specs.NodeWords.{set-at, row}
-use Rattle.synthesis.specs.Exploring.{stepped}
-use Rattle.synthesis.proofs.Stepping.{stepped-none, stepped-yes, stepped-no}
+use Rattle.synthesis.specs.NodeWords.{set-at}
+use Rattle.synthesis.specs.Exploring.{stepped, NextSets}
+use Rattle.synthesis.proofs.Stepping.{stepped-none, stepped-skip, stepped-member}
 use Rattle.synthesis.proofs.exploration.advance.Statement.{statement}
 use Rattle.synthesis.proofs.exploration.advance.Tie as tie
 
 abbrev Inv-loop : tie.InvT-loop
-Inv-loop kinds firsts count rows states base event next₀ node₀ next node = (node ≤ count) × (length next ≡ 4) × (set-at next 0 ≡ stepped kinds firsts rows node (set-at states base) event)
+Inv-loop kinds firsts count rows states base events sets₀ node₀ sets node =
+    (node ≤ count) × (length sets ≡ 64) × NextSets kinds firsts rows node (set-at states base) events sets
+    × (node < count → set-at states base node ≡ true)
 
 abbrev μ-loop : tie.MeasureT-loop
-μ-loop kinds firsts count rows states base event next₀ node₀ next node = count - node
+μ-loop kinds firsts count rows states base events sets₀ node₀ sets node = count - node
+
+next-member-requires : tie.Need-next-member-requires Inv-loop μ-loop
+next-member-requires c κs = search needs
 
 loop-holds : tie.Need-loop-holds Inv-loop μ-loop
 loop-holds c =
-    let a = c .args in
-    (search needs, search needs, c .pre .7 ∙ sym (stepped-none (a .kinds .now) (a .firsts .now) (a .rows .now) 0 (set-at (a .states .now) (a .base)) (a .event)))
+    let a = c .before .args in
+    let D = set-at (a .states .now) (a .base) in
+    let x = c .next-member .ensures in (
+      x .high,
+      search needs,
+      (λ e h. c .before .pre .8 e h ∙ sym (stepped-none (a .kinds .now) (a .firsts .now) (a .rows .now) 0 D e)
+          ∙ sym (stepped-skip (a .kinds .now) (a .firsts .now) (a .rows .now) D e 0 (c .next-member .result) (x .low) (x .before))),
+      x .here,
+    )
 
-active-requires : tie.Need-active-requires Inv-loop μ-loop
-active-requires c κs = search needs
+advance-node-requires : tie.Need-advance-node-requires Inv-loop μ-loop
+advance-node-requires c κs = search needs
 
-add-unite : tie.Need-add-unite Inv-loop μ-loop
-add-unite c = search needs
+add-next-member : tie.Need-add-next-member Inv-loop μ-loop
+add-next-member c = search needs
 
-mul-unite : tie.Need-mul-unite Inv-loop μ-loop
-mul-unite c = search needs
-
-unite-requires : tie.Need-unite-requires Inv-loop μ-loop
-unite-requires c κs = search needs
-
-add-node : tie.Need-add-node Inv-loop μ-loop
-add-node c = search needs
+next-member-requires-2 : tie.Need-next-member-requires-2 Inv-loop μ-loop
+next-member-requires-2 c κs = search needs
 
 loop-less : tie.Need-loop-less Inv-loop μ-loop
-loop-less c = search needs
+loop-less c = omega (arith, c .next-member2 .ensures .low)
 
 loop-again : tie.Need-loop-again Inv-loop μ-loop
 loop-again c =
-    let a = c .before .before .before .before .args in
-    let m = c .before .before .before .loop .node in
-    let v = c .before .before .before .loop .inv in
+    let a = c .before .before .before .before .before .before .args in
+    let l = c .before .before .before .before .loop in
     let D = set-at (a .states .now) (a .base) in
-    ⊎-elim
-    (λ w. (
-      search needs,
-      ap length (w .3) ∙ w .2 .ensures .0,
-      ap (λ x. set-at x 0) (w .3) ∙ w .2 .ensures .1 ∙ ap (λ C. union C (row (a .rows .now) (m + 1))) (v .2)
-          ∙ sym (stepped-yes (a .kinds .now) (a .firsts .now) (a .rows .now) m D (a .event) (sym (c .before .active .ensures) ∙ w .0 .taken)),
-    ))
-    (λ w. (
-      search needs,
-      ap length (w .1) ∙ v .1,
-      ap (λ x. set-at x 0) (w .1) ∙ v .2 ∙ sym (stepped-no (a .kinds .now) (a .firsts .now) (a .rows .now) m D (a .event) (sym (c .before .active .ensures) ∙ w .0 .left)),
-    ))
-    (c .if1 .came)
+    let x = c .next-member2 .ensures in (
+      x .high,
+      c .before .advance-node .ensures .0,
+      (λ e h. stepped-member (a .kinds .now) (a .firsts .now) (a .rows .now) D e (l .node) (l .sets) _ (l .inv .3 (c .before .before .before .loop-test .taken)) (l .inv .2 e h) (c .before .advance-node .ensures .1 e h)
+          ∙ sym (stepped-skip (a .kinds .now) (a .firsts .now) (a .rows .now) D e (l .node + 1) (c .next-member2 .result) (x .low) (x .before))),
+      x .here,
+    )
 
 returns : tie.Need-returns Inv-loop μ-loop
 returns c =
-    let a = c .before .before .args in
+    let a = c .before .before .before .args in
     let v = c .before .loop .inv in
-    let e : c .before .loop .node ≡ a .count = omega arith in
-    (v .1, subst (λ n. set-at (c .before .loop .next) 0 ≡ stepped (a .kinds .now) (a .firsts .now) (a .rows .now) n (set-at (a .states .now) (a .base)) (a .event)) e (v .2))
+    let q : c .before .loop .node ≡ a .count = omega arith in
+    (v .1, λ e h. v .2 e h ∙ ap (λ n. stepped (a .kinds .now) (a .firsts .now) (a .rows .now) n (set-at (a .states .now) (a .base)) e) q)
 
 pub advance-spec : {M : Type 1} → statement M
 advance-spec =
@@ -75,12 +73,11 @@ advance-spec =
     (tie.spec
     Inv-loop
     μ-loop
+    next-member-requires
     loop-holds
-    active-requires
-    add-unite
-    mul-unite
-    unite-requires
-    add-node
+    advance-node-requires
+    add-next-member
+    next-member-requires-2
     loop-less
     loop-again
     returns)

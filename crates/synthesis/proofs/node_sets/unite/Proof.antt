@@ -1,7 +1,7 @@
 -- `unite` meets its contract. The loop's invariant: the words passed are united, the others as before.
 -- Assumes nothing.
 use Prim.Native.Nat.{ℕ, _≤_, _<_, _-_, _+_}
-use mathlib.Core.Path.{_≡_, _∙_, ap}
+use mathlib.Core.Path.{_≡_, sym, _∙_, ap}
 use native.Mathlib.Omega.{arith}
 use borrow.Author.Count.{below-more}
 use lib.ListN.{length, getD, set}
@@ -65,10 +65,14 @@ loop-again c =
     )
 
 returns : tie.Need-returns Inv-loop μ-loop
-returns c = (
-  c .before .loop .inv .1,
-  set-unite (c .before .loop .set) (c .before .before .args .set .now) (c .before .before .args .rows .now) (c .before .before .args .base) (λ w h. c .before .loop .inv .2 w (omega arith)),
-)
+returns c =
+    let l = c .before .loop .set in
+    let l₀ = c .before .before .args .set .now in
+    let r = c .before .before .args .rows .now in
+    let base = c .before .before .args .base in (
+      c .before .loop .inv .1,
+      set-unite l l₀ r 0 base (λ w h. let z : 0 + w ≡ w = omega arith in ap (λ x. getD l x 0) z ∙ c .before .loop .inv .2 w (omega arith) ∙ ap (λ x. bitOr (getD l₀ x 0) (getD r (base + w) 0)) (sym z)),
+    )
 
 pub unite-spec : {M : Type 1} → statement M
 unite-spec =
