@@ -5,10 +5,10 @@ use crate::answers::say_field;
 use crate::answers::say_list;
 use crate::answers::say_number;
 use crate::answers::say_refusal;
+use crate::rules::Nodes;
 use crate::rules::meet_of;
 use crate::rules::read_rule;
 use crate::rules::setup_of;
-use channel_file::Stored;
 use command_line::Listed;
 use command_line::Number;
 use command_line::equal;
@@ -175,13 +175,13 @@ pub fn load(tool: Tool, line: &[u8]) -> Tool {
     };
     let setup = setup_of(tool.events, tool.values, tool.top);
     let mut nodes = [0u8; NODE_ROOM];
-    let stored = read_rule(
+    let read = read_rule(
         setup,
         meet_of(&tool.meet, setup.values),
         rest(line, 2),
         &mut nodes,
     );
-    let Stored::Bytes(n) = stored else {
+    let Nodes::Bytes(n) = read else {
         say_error(b"tokens");
         return tool;
     };

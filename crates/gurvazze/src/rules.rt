@@ -2,17 +2,14 @@
 ghost use Prim.Native.Nat.{_≤_};
 use crate::answers::say;
 use crate::answers::say_error;
-use crate::answers::say_number;
 use crate::answers::say_refusal;
 use channel_file::Checked;
 use channel_file::Stored;
 use channel_file::check_form;
-use channel_file::store_rule;
+use channel_file::read_text;
 use channel_io::write_file;
 use command_line::front;
 use command_line::rest;
-use machines::next_at;
-use machines::value_at;
 use recorder::Tool;
 use refusal::Counted;
 use refusal::Refusal;
@@ -92,11 +89,32 @@ fn put_text(setup: Setup, meet: &[u8], tokens: &[u8], text: &mut [u8]) -> usize 
     put(b"\n", text, b)
 }
 
-// The nodes of a rule in tokens: how many bytes, unless the tokens are not in the form.
-pub fn read_rule(setup: Setup, meet: &[u8], tokens: &[u8], nodes: &mut [u8]) -> Stored {
+// Entries of a meet line that a channel file has room for.
+const ENTRY_ROOM: usize = 2048;
+
+// The answer to tokens: the bytes of their nodes, or that they are not in the form.
+pub enum Nodes {
+    Bytes(usize),
+    Malformed,
+}
+
+// The bytes of so many nodes; a text has no more than 4,096.
+fn node_bytes(nodes: usize) -> usize {
+    if nodes < 4097 { 3 * nodes } else { 0 }
+}
+
+// The nodes of a rule in tokens.
+pub fn read_rule(setup: Setup, meet: &[u8], tokens: &[u8], nodes: &mut [u8]) -> Nodes {
     let mut text = [0u8; TEXT_ROOM];
+    let mut entries = [0u8; ENTRY_ROOM];
     let n = put_text(setup, meet, tokens, &mut text);
-    store_rule(front(&text, n), nodes)
+    let stored = read_text(front(&text, n), &mut entries, nodes);
+    match stored {
+        Stored::Form { items, .. } => Nodes::Bytes(node_bytes(items)),
+        // the buffers have room for every text within the limit
+        Stored::Short => Nodes::Malformed,
+        Stored::Refused(_) => Nodes::Malformed,
+    }
 }
 
 // The answer to a rule in tokens: the states of its table, a refusal, or that the tokens are not in the form.
@@ -118,8 +136,8 @@ fn compile_rule(setup: Setup, meet: &[u8], rule: &[u8], table: &mut [u8]) -> Mad
 // The table of a rule in tokens.
 pub fn make_table(setup: Setup, meet: &[u8], tokens: &[u8], table: &mut [u8]) -> Made {
     let mut nodes = [0u8; TEXT_ROOM];
-    let stored = read_rule(setup, meet, tokens, &mut nodes);
-    let Stored::Bytes(n) = stored else {
+    let read = read_rule(setup, meet, tokens, &mut nodes);
+    let Nodes::Bytes(n) = read else {
         return Made::Malformed;
     };
     compile_rule(setup, meet, front(&nodes, n), table)
@@ -168,39 +186,21 @@ pub fn table(tool: Tool, line: &[u8]) {
     say_table(front(&text, n));
 }
 
-fn say_label(event: usize, value: usize, top: usize) {
-    say(b" [label=\"");
-    say_number(event);
-    say(b"/");
-    if value == top {
-        say(b"open");
-    } else {
-        say_number(value);
-    }
-    say(b"\"];\n");
-}
-
-fn say_arrow(setup: Setup, table: &[u8], i: usize) {
-    let events = setup.events;
-    if events == 0 {
-        return;
-    }
-    say(b"  ");
-    say_number(i / events);
-    say(b" -> ");
-    say_number(next_at(table, i));
-    let value = value_at(table, i);
-    say_label(i % events, value as usize, setup.top);
-}
-
-// A table as a Graphviz digraph: an arrow for each entry, by state, then event.
+// A table as a Graphviz digraph.
 fn say_digraph(setup: Setup, states: usize, table: &[u8]) {
-    say(b"digraph table {\n");
-    let count = product(states, setup.events);
-    for i in 0..count {
-        say_arrow(setup, table, i);
+    let mut out = [0u8; 65554];
+    let entries = product(states, setup.events);
+    let drawn = table_graph::dot(
+        setup.events,
+        setup.values,
+        setup.top,
+        states,
+        front(table, 2 * entries),
+        &mut out,
+    );
+    if let Counted::Count(n) = drawn {
+        say(front(&out, n));
     }
-    say(b"}\n");
 }
 
 // dot TOKENS
