@@ -11,7 +11,6 @@ use Rattle.theory.specs.MealyMachine.{Machine}
 use Rattle.theory.specs.Demands.{value-of-set}
 use Rattle.theory.specs.Exploration.{explored, numbered, member, bits, same-bits, bit-machine, first-bits}
 use Rattle.formulas.specs.NodeReading.{Reads}
-use Rattle.formulas.proofs.Walking.{size-positive}
 use Rattle.synthesis.specs.NodeWords.{set-at, bits-at}
 use Rattle.formulas.specs.NodeWalks.{field}
 use Rattle.synthesis.specs.NodeWalks.{Binds}
@@ -22,6 +21,7 @@ use Rattle.synthesis.specs.TableEntries.{state-value, EntriesTo}
 use Rattle.synthesis.specs.FormulaTable.{formula-states, formula-table}
 use Rattle.synthesis.specs.MadeTable.{Tabled, Tables}
 use Rattle.synthesis.proofs.NodeWords.{member-bits-at}
+use Rattle.synthesis.proofs.DemandRows.{unguarded-row}
 use Rattle.synthesis.proofs.Stepping.{stepped-moved}
 use Rattle.synthesis.proofs.TableEntries.{value-from}
 
@@ -59,7 +59,9 @@ module _ (kinds firsts fields stack b rows states : List ℕ) (meet : ℕ → �
 
   start-is : start ≡ first-bits 256 meet top φ
   unfolding bits-at
-  start-is = ap (bits 256 0) (p .filled 0 (size-positive φ) (field firsts) (field fields) φ [] d (omega arith) guarded binds tt)
+  start-is =
+      ap (bits 256 0)
+      (unguarded-row rows [] 0 φ (p .filled .root (field firsts) (field fields) φ [] d (omega arith) guarded binds tt))
 
   abbrev m : Machine (List Bool) ℕ
   m = record { value = bit-machine 256 meet top φ .value; next = next }

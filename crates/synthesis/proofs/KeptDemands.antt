@@ -20,15 +20,15 @@ use Rattle.formulas.specs.NodeReading.{Reads}
 use Rattle.formulas.specs.NodeWalks.{field}
 use Rattle.formulas.specs.RuleRefusal.{rule-refusal, formula-of}
 use Rattle.formulas.specs.Claims.{AcceptedFormula}
-use Rattle.formulas.proofs.Walking.{size-positive}
 use Rattle.formulas.proofs.RuleClaims.{accepted-formula-of, decoded-reads}
 use Rattle.synthesis.specs.NodeWords.{row}
 use Rattle.synthesis.specs.NodeWalks.{Binds}
 use Rattle.synthesis.specs.Binding.{AllBound}
-use Rattle.synthesis.specs.DemandRows.{AllBelow, RowsTo}
+use Rattle.synthesis.specs.DemandRows.{AllBelow, UnguardedRows, RowsTo}
 use Rattle.synthesis.specs.Exploring.{stepped}
 use Rattle.synthesis.specs.KeptDemands.{KeptRows, KeptDemandsClaim, KeptUnionClaim}
-use Rattle.synthesis.proofs.Stepping.{below-more, below-far, stepped-moved}
+use Rattle.synthesis.proofs.DemandRows.{below-later, unguarded-row}
+use Rattle.synthesis.proofs.Stepping.{stepped-moved}
 
 module _ (kinds firsts b rows : List ℕ) (value : ℕ → ℕ) (φ : Formula ℕ) (filled : RowsTo kinds b (size φ) rows (size φ))
     (read : Reads (field kinds) (field firsts) value 0 φ) (guarded : Guarded φ) (bound : Binds (field b) [] 0 φ) where
@@ -39,17 +39,28 @@ module _ (kinds firsts b rows : List ℕ) (value : ℕ → ℕ) (φ : Formula �
     guards : Guarded ψ
     binds : Binds (field b) bs i ψ
     below : AllBelow i bs
+    rows-there : UnguardedRows rows (map (row rows) bs) i ψ
 
   part : {i : ℕ} {bs : List ℕ} {ψ : Formula ℕ} → Stands φ i bs ψ → Part i bs ψ
-  part root = record { reads = read; fits = omega arith; guards = guarded; binds = bound; below = tt }
-  part (part-of-transition {i = i} {bs = bs} s) =
+  part root =
+      record {
+        reads = read;
+        fits = omega arith;
+        guards = guarded;
+        binds = bound;
+        below = tt;
+        rows-there = filled .root (field firsts) value φ [] read (omega arith) guarded bound tt;
+      }
+  part (part-of-transition {i = i} {bs = bs} {ψ = ψ} s) =
       let p = part s in
+      let o : AllBelow (suc i) bs = below-later i (suc i) bs (omega arith) (p .below) in
       record {
         reads = p .reads .2;
         fits = omega (arith, p .fits);
         guards = p .guards;
         binds = p .binds;
-        below = below-more i bs (p .below);
+        below = o;
+        rows-there = filled .parts i (omega (arith, p .fits)) (p .reads .0) (field firsts) value ψ bs (p .reads .2) (omega (arith, p .fits)) (p .guards) (p .binds) o;
       }
   part (left-part {i = i} {bs = bs} s) =
       let p = part s in
@@ -58,7 +69,8 @@ module _ (kinds firsts b rows : List ℕ) (value : ℕ → ℕ) (φ : Formula �
         fits = omega (arith, p .fits);
         guards = p .guards .0;
         binds = p .binds .0;
-        below = below-more i bs (p .below);
+        below = below-later i (suc i) bs (omega arith) (p .below);
+        rows-there = p .rows-there .1;
       }
   part (right-part {i = i} {bs = bs} {ψ = ψ} s) =
       let p = part s in
@@ -67,7 +79,8 @@ module _ (kinds firsts b rows : List ℕ) (value : ℕ → ℕ) (φ : Formula �
         fits = omega (arith, p .fits);
         guards = p .guards .1;
         binds = p .binds .1;
-        below = below-far (suc i) (size ψ) bs (below-more i bs (p .below));
+        below = below-later i (suc i + size ψ) bs (omega arith) (p .below);
+        rows-there = p .rows-there .2;
       }
   part (part-of-greatest {i = i} {bs = bs} s) =
       let p = part s in
@@ -76,13 +89,12 @@ module _ (kinds firsts b rows : List ℕ) (value : ℕ → ℕ) (φ : Formula �
         fits = omega (arith, p .fits);
         guards = p .guards .1;
         binds = p .binds;
-        below = (omega arith, below-more i bs (p .below));
+        below = (omega arith, below-later i (suc i) bs (omega arith) (p .below));
+        rows-there = p .rows-there .1;
       }
 
   row-is : {i : ℕ} {bs : List ℕ} {ψ : Formula ℕ} → Stands φ i bs ψ → row rows i ≡ demands (map (row rows) bs) i ψ
-  row-is {i} {bs} {ψ} s =
-      let p = part s in
-      filled i (omega (arith, p .fits, size-positive ψ)) (field firsts) value ψ bs (p .reads) (p .fits) (p .guards) (p .binds) (p .below)
+  row-is {i} {bs} {ψ} s = unguarded-row rows (map (row rows) bs) i ψ (part s .rows-there)
 
   binders-are : {i : ℕ} {bs : List ℕ} {ψ : Formula ℕ} (s : Stands φ i bs ψ) → map (row rows) bs ≡ binder-demands φ s
   binders-are root = refl

@@ -1,20 +1,18 @@
 -- One step of a walk over nodes, for each kind of node.
 -- Assumes nothing.
-use mathlib.Core.Path.{_≡_, refl, sym, _∙_, ap, ap₂, subst}
-use mathlib.Core.List.{List, _∷_, map}
+use mathlib.Core.Path.{_≡_, refl, sym, subst}
+use mathlib.Core.List.{List}
 use Prim.Native.Nat.{ℕ, suc, _+_, _-_, _<_}
+use native.Mathlib.Decide.{ℕ-discrete}
 use native.Mathlib.Numerals.{add-one}
 use native.Mathlib.Omega.{arith}
+use lib.ListN.{length, getD, set}
+use lib.Seq.{getD-set-same, getD-set-other}
 use Rattle.theory.specs.Formula.{Formula, truth, variable, transition, output, conjunction, greatest, size}
-use Rattle.theory.specs.Demands.{NodeSet}
-use Rattle.theory.specs.DemandSets.{empty, union, only, demands}
-use Rattle.theory.proofs.NodeSets.{union-empty, demands-swap}
 use Rattle.formulas.specs.NodeReading.{Reads}
 use Rattle.formulas.proofs.Walking.{size-positive}
-use Rattle.synthesis.specs.NodeWords.{set-at, row}
 use Rattle.formulas.specs.NodeWalks.{field}
-use Rattle.synthesis.specs.NodeWalks.{Ends, Binds, Gathers}
-use Rattle.synthesis.proofs.NodeSetLaws.{union-assoc, binder-map}
+use Rattle.synthesis.specs.NodeWalks.{Ends, Walked, EndsFrom, EndsHere, Binds}
 
 pub reads-at :
     (kind first value : ℕ → ℕ) (φ : Formula ℕ) {i j : ℕ} → i ≡ j → Reads kind first value i φ → Reads kind first value j φ
@@ -70,89 +68,76 @@ module _ (kinds : List ℕ) (at left : ℕ) where
         omega (arith, two first value χ (reads-at (field kinds) first value χ (omega (arith, e)) (d .2)) (omega arith))
     end-conjunction g first value (greatest φ) d h = absurd (omega (arith, g, d .0))
 
--- The demands of a formula.
-module _ (kinds b rows : List ℕ) (at left : ℕ) where
-  abbrev kind-at : ℕ
-  kind-at = field kinds at
+-- The nodes after the formulas, one node more.
+module _ (kinds ends : List ℕ) (at : ℕ) where
+  abbrev kind-of : ℕ
+  kind-of = field kinds at
 
-  pub gather-none : left ≡ 0 → (before after : List ℕ) → Gathers kinds b rows at left before after
-  gather-none e before after first value φ σ d h w n = absurd (omega (arith, size-positive φ))
+  abbrev next-end : ℕ
+  next-end = getD ends (at + 1) 0
 
-  pub gather-truth :
-      (before : List ℕ) → ¬ (kind-at ≡ 1) → ¬ (kind-at ≡ 2) → ¬ (kind-at ≡ 3) → ¬ (kind-at ≡ 4) → ¬ (kind-at ≡ 5) →
-      Gathers kinds b rows at left before before
-  gather-truth before k1 k2 k3 k4 k5 first value truth σ d h w n = sym (union-empty (set-at before 0))
-  gather-truth before k1 k2 k3 k4 k5 first value (variable m) σ d h w n = absurd (k1 (d .0))
-  gather-truth before k1 k2 k3 k4 k5 first value (transition a φ) σ d h w n = absurd (k2 (d .0))
-  gather-truth before k1 k2 k3 k4 k5 first value (output a v) σ d h w n = absurd (k3 (d .0))
-  gather-truth before k1 k2 k3 k4 k5 first value (conjunction φ χ) σ d h w n = absurd (k4 (d .0))
-  gather-truth before k1 k2 k3 k4 k5 first value (greatest φ) σ d h w n = absurd (k5 (d .0))
+  next-walked : (total : ℕ) → at < total → EndsFrom kinds total ends (suc at) → Walked kinds (at + 1) (total - at - 1) next-end
+  next-walked total h f =
+      subst (λ n. Walked kinds (at + 1) n next-end) (omega arith) (f (at + 1) (omega arith) (omega arith))
 
-  pub gather-variable :
-      (before after : List ℕ) → kind-at ≡ 1 → set-at after 0 ≡ union (set-at before 0) (row rows (field b at)) →
-      Gathers kinds b rows at left before after
-  gather-variable before after k e first value truth σ d h w n = absurd (omega (arith, k, d))
-  gather-variable before after k e first value (variable m) σ d h w n =
-      e ∙ ap (union (set-at before 0)) (ap (row rows) (n .1) ∙ sym (binder-map (row rows) σ m (n .0)))
-  gather-variable before after k e first value (transition a φ) σ d h w n = absurd (omega (arith, k, d .0))
-  gather-variable before after k e first value (output a v) σ d h w n = absurd (omega (arith, k, d .0))
-  gather-variable before after k e first value (conjunction φ χ) σ d h w n = absurd (omega (arith, k, d .0))
-  gather-variable before after k e first value (greatest φ) σ d h w n = absurd (omega (arith, k, d .0))
+  pub here-leaf : ¬ (kind-of ≡ 2) → ¬ (kind-of ≡ 4) → ¬ (kind-of ≡ 5) → EndsHere kinds ends at (at + 1)
+  here-leaf g a v total h f = record { low = omega arith; high = omega arith; end = end-leaf kinds at (total - at) g a v }
 
-  pub gather-transition :
-      (before after : List ℕ) → kind-at ≡ 2 → set-at after 0 ≡ union (set-at before 0) (only at) →
-      Gathers kinds b rows at left before after
-  gather-transition before after k e first value truth σ d h w n = absurd (omega (arith, k, d))
-  gather-transition before after k e first value (variable m) σ d h w n = absurd (omega (arith, k, d .0))
-  gather-transition before after k e first value (transition a φ) σ d h w n = e
-  gather-transition before after k e first value (output a v) σ d h w n = absurd (omega (arith, k, d .0))
-  gather-transition before after k e first value (conjunction φ χ) σ d h w n = absurd (omega (arith, k, d .0))
-  gather-transition before after k e first value (greatest φ) σ d h w n = absurd (omega (arith, k, d .0))
+  pub here-transition : kind-of ≡ 2 → EndsHere kinds ends at next-end
+  here-transition g total h f =
+      let w = next-walked total h f in
+      record {
+        low = omega (arith, w .low);
+        high = omega (arith, w .high);
+        end = end-transition kinds at (total - at) next-end (w .end) g;
+      }
 
-  pub gather-output :
-      (before after : List ℕ) → kind-at ≡ 3 → set-at after 0 ≡ union (set-at before 0) (only at) →
-      Gathers kinds b rows at left before after
-  gather-output before after k e first value truth σ d h w n = absurd (omega (arith, k, d))
-  gather-output before after k e first value (variable m) σ d h w n = absurd (omega (arith, k, d .0))
-  gather-output before after k e first value (transition a φ) σ d h w n = absurd (omega (arith, k, d .0))
-  gather-output before after k e first value (output a v) σ d h w n = e
-  gather-output before after k e first value (conjunction φ χ) σ d h w n = absurd (omega (arith, k, d .0))
-  gather-output before after k e first value (greatest φ) σ d h w n = absurd (omega (arith, k, d .0))
+  pub here-greatest : kind-of ≡ 5 → EndsHere kinds ends at next-end
+  here-greatest g total h f =
+      let w = next-walked total h f in
+      record {
+        low = omega (arith, w .low);
+        high = omega (arith, w .high);
+        end = end-greatest kinds at (total - at) next-end (w .end) g;
+      }
 
-  pub gather-greatest :
-      (before after : List ℕ) → kind-at ≡ 5 → Gathers kinds b rows (at + 1) (left - 1) before after →
-      Gathers kinds b rows at left before after
-  gather-greatest before after k e first value truth σ d h w n = absurd (omega (arith, k, d))
-  gather-greatest before after k e first value (variable m) σ d h w n = absurd (omega (arith, k, d .0))
-  gather-greatest before after k e first value (transition a φ) σ d h w n = absurd (omega (arith, k, d .0))
-  gather-greatest before after k e first value (output a v) σ d h w n = absurd (omega (arith, k, d .0))
-  gather-greatest before after k e first value (conjunction φ χ) σ d h w n = absurd (omega (arith, k, d .0))
-  gather-greatest before after k e first value (greatest φ) σ d h w n =
-      let z : suc at ≡ at + 1 = sym (add-one at) in
-      e first value φ (at ∷ σ) (reads-at (field kinds) first value φ z (d .1)) (omega arith) (w .1)
-      (binds-at (field b) (at ∷ σ) φ z n)
-      ∙ ap (union (set-at before 0))
-      (ap (λ i. demands (map (row rows) (at ∷ σ)) i φ) (add-one at)
-      ∙ sym (demands-swap 0 empty (map (row rows) (at ∷ σ)) (suc at) φ (w .0)))
+  pub here-conjunction : kind-of ≡ 4 → EndsHere kinds ends at (getD ends next-end 0)
+  here-conjunction g total h f =
+      let w = next-walked total h f in
+      let v = f next-end (omega (arith, w .low)) (omega (arith, w .high)) in
+      let e : total - next-end ≡ at + (total - at) - next-end = omega (arith, w .low, w .high) in
+      record {
+        low = omega (arith, w .low, v .low);
+        high = omega (arith, w .high, v .high);
+        end = end-conjunction kinds at (total - at) next-end (getD ends next-end 0) (w .end) (subst (λ n. Ends kinds next-end n (getD ends next-end 0)) e (v .end)) g;
+      }
 
-  pub gather-conjunction :
-      (before middle after : List ℕ) (m : ℕ) → kind-at ≡ 4 → Ends kinds (at + 1) (left - 1) m →
-      Gathers kinds b rows (at + 1) (left - 1) before middle → Gathers kinds b rows m (at + left - m) middle after →
-      Gathers kinds b rows at left before after
-  gather-conjunction before middle after m k r one two first value truth σ d h w n = absurd (omega (arith, k, d))
-  gather-conjunction before middle after m k r one two first value (variable v) σ d h w n = absurd (omega (arith, k, d .0))
-  gather-conjunction before middle after m k r one two first value (transition a φ) σ d h w n = absurd (omega (arith, k, d .0))
-  gather-conjunction before middle after m k r one two first value (output a v) σ d h w n = absurd (omega (arith, k, d .0))
-  gather-conjunction before middle after m k r one two first value (conjunction φ χ) σ d h w n =
-      let z : suc at ≡ at + 1 = sym (add-one at) in
-      let e : m ≡ at + 1 + size φ = r first value φ (reads-at (field kinds) first value φ z (d .1)) (omega arith) in
-      let y : suc at + size φ ≡ m = omega (arith, e) in
-      let ρ : List NodeSet = map (row rows) σ in
-      two first value χ σ (reads-at (field kinds) first value χ y (d .2)) (omega (arith, e)) (w .1)
-      (binds-at (field b) σ χ y (n .1))
-      ∙ ap (λ C. union C (demands ρ m χ))
-      (one first value φ σ (reads-at (field kinds) first value φ z (d .1)) (omega arith) (w .0)
-      (binds-at (field b) σ φ z (n .0)))
-      ∙ union-assoc (set-at before 0) (demands ρ (at + 1) φ) (demands ρ m χ)
-      ∙ ap (union (set-at before 0)) (ap₂ (λ i j. union (demands ρ i φ) (demands ρ j χ)) (add-one at) (sym y))
-  gather-conjunction before middle after m k r one two first value (greatest φ) σ d h w n = absurd (omega (arith, k, d .0))
+-- At a transition of the nodes that are left.
+pub transition-end :
+    (kinds ends : List ℕ) (at left : ℕ) → 0 < left → EndsFrom kinds (at + left) ends 0 → field kinds at ≡ 2 →
+    (at < getD ends (at + 1) 0) × Walked kinds at left (getD ends (at + 1) 0)
+transition-end kinds ends at left l f k = (
+  omega (arith, f (at + 1) (omega arith) (omega arith) .low),
+  subst (λ n. Walked kinds at n (getD ends (at + 1) 0)) (omega arith)
+      (here-transition kinds ends at k (at + left) (omega arith) (λ j h. f j (omega arith))),
+)
+
+-- What the loop from the last node down stores.
+pub ends-last : (kinds ends : List ℕ) (count : ℕ) → count < length ends → EndsFrom kinds count (set ends count count) count
+ends-last kinds ends count n j l h =
+    let e : count ≡ j = omega arith in
+    subst (λ x. Walked kinds x (count - x) (getD (set ends count count) x 0)) e
+    (subst (Walked kinds count (count - count)) (sym (getD-set-same ends count count 0 n))
+    (record { low = omega arith; high = omega arith; end = end-none kinds count (count - count) (omega arith) count }))
+
+pub ends-more :
+    (kinds ends : List ℕ) (count i r : ℕ) → i < count → i < length ends → EndsHere kinds ends i r →
+    EndsFrom kinds count ends (suc i) → EndsFrom kinds count (set ends i r) i
+ends-more kinds ends count i r h n here f j l u = go (ℕ-discrete j i)
+  where
+    go : Dec (j ≡ i) → Walked kinds j (count - j) (getD (set ends i r) j 0)
+    go (yes e) =
+        subst (λ x. Walked kinds x (count - x) (getD (set ends i r) x 0)) (sym e)
+        (subst (Walked kinds i (count - i)) (sym (getD-set-same ends i r 0 n)) (here count h f))
+    go (no e) =
+        subst (Walked kinds j (count - j)) (sym (getD-set-other ends i j r 0 (λ q. omega (arith, q)))) (f j (omega arith) u)

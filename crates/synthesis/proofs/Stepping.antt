@@ -13,12 +13,12 @@ use Rattle.theory.specs.Formula.{Formula, truth, variable, transition, output, 
 use Rattle.theory.specs.Demands.{NodeSet}
 use Rattle.theory.specs.DemandSets.{empty, union, demands, moved}
 use Rattle.formulas.specs.NodeReading.{Reads}
-use Rattle.formulas.proofs.Walking.{size-positive}
 use Rattle.synthesis.specs.NodeWords.{row, United}
 use Rattle.formulas.specs.NodeWalks.{field}
 use Rattle.synthesis.specs.NodeWalks.{Binds}
-use Rattle.synthesis.specs.DemandRows.{AllBelow, RowsTo}
+use Rattle.synthesis.specs.DemandRows.{AllBelow, UnguardedRows, RowsTo}
 use Rattle.synthesis.specs.Exploring.{some-in, for-event, brings, stepped, Passed}
+use Rattle.synthesis.proofs.DemandRows.{below-later, unguarded-row}
 
 some-split : (p : ℕ → Bool) (i n m : ℕ) → some-in p i (n + m) ≡ some-in p i n || some-in p (i + n) m
 some-split p i zero m =
@@ -116,14 +116,6 @@ module _ (kinds firsts : List ℕ) (k e i : ℕ) (x : Bool) where
   test-both h q =
       sym (ap (λ t. x && t) (ap₂ (λ a b. a && b) (eq-eqb (field kinds i) k h) (eq-eqb (field firsts i) e q)) ∙ and-true x)
 
-pub below-more : (i : ℕ) (σ : List ℕ) → AllBelow i σ → AllBelow (suc i) σ
-below-more i [] u = tt
-below-more i (x ∷ σ) u = (omega (arith, u .0), below-more i σ (u .1))
-
-pub below-far : (i n : ℕ) (σ : List ℕ) → AllBelow i σ → AllBelow (i + n) σ
-below-far i n [] u = tt
-below-far i n (x ∷ σ) u = (omega (arith, u .0), below-far i n σ (u .1))
-
 -- A node of another kind, and a node of the kind.
 module _ (kinds firsts : List ℕ) (k e i : ℕ) where
   pub other-kind : ¬ (field kinds i ≡ k) → for-event kinds firsts k e i ≡ false
@@ -171,31 +163,32 @@ module _ (kinds firsts b : List ℕ) (total : ℕ) (rows : List ℕ) (ok : RowsT
 
   moved-rows :
       (φ : Formula ℕ) (σ : List ℕ) (i : ℕ) → Reads (field kinds) (field firsts) value i φ → i + size φ ≤ total → Guarded φ →
-      Binds (field b) σ i φ → AllBelow i σ → (k : ℕ) →
+      Binds (field b) σ i φ → AllBelow i σ → UnguardedRows rows (map (row rows) σ) i φ → (k : ℕ) →
       moved D e (map (row rows) σ) i φ k ≡ some-in (brings kinds firsts rows D e k) i (size φ)
   unfolding empty union
-  moved-rows truth σ i d h w n u k = sym (ap (λ t. t || false) (brings-not i k (λ q. omega (arith, q, d))))
-  moved-rows (variable m) σ i d h w n u k = sym (ap (λ t. t || false) (brings-not i k (λ q. omega (arith, q, d .0))))
-  moved-rows (transition a φ) σ i d h w n u k =
+  moved-rows truth σ i d h w n u v k = sym (ap (λ t. t || false) (brings-not i k (λ q. omega (arith, q, d))))
+  moved-rows (variable m) σ i d h w n u v k = sym (ap (λ t. t || false) (brings-not i k (λ q. omega (arith, q, d .0))))
+  moved-rows (transition a φ) σ i d h w n u v k =
+      let o : AllBelow (suc i) σ = below-later i (suc i) σ (omega arith) u in
+      let part : UnguardedRows rows (map (row rows) σ) (suc i) φ
+      = ok .parts i (omega arith) (d .0) (field firsts) value φ σ (d .2) (omega arith) w n o in
       ap₂ (λ x y. x || y)
       (cond-at (D i && eqb a e) (demands (map (row rows) σ) (suc i) φ) k
       ∙ ap₂ (λ x y. x && y)
       (ap (λ t. D i && t) (sym (same-kind kinds firsts 2 e i (d .0) ∙ ap (λ x. eqb x e) (d .1))))
-      (ap (λ C. C k)
-      (sym (ok (suc i) (omega (arith, h, size-positive φ)) (field firsts) value φ σ (d .2) (omega arith) w n (below-more i σ u)))))
-      (moved-rows φ σ (suc i) (d .2) (omega arith) w n (below-more i σ u) k)
-  moved-rows (output a v) σ i d h w n u k = sym (ap (λ t. t || false) (brings-not i k (λ q. omega (arith, q, d .0))))
-  moved-rows (conjunction φ χ) σ i d h w n u k =
+      (ap (λ C. C k) (sym (unguarded-row rows (map (row rows) σ) (suc i) φ part))))
+      (moved-rows φ σ (suc i) (d .2) (omega arith) w n o part k)
+  moved-rows (output a c) σ i d h w n u v k = sym (ap (λ t. t || false) (brings-not i k (λ q. omega (arith, q, d .0))))
+  moved-rows (conjunction φ χ) σ i d h w n u v k =
       ap₂ (λ x y. x || y)
-      (moved-rows φ σ (suc i) (d .1) (omega arith) (w .0) (n .0) (below-more i σ u) k)
-      (moved-rows χ σ (suc i + size φ) (d .2) (omega arith) (w .1) (n .1) (below-far (suc i) (size φ) σ (below-more i σ u)) k)
+      (moved-rows φ σ (suc i) (d .1) (omega arith) (w .0) (n .0) (below-later i (suc i) σ (omega arith) u) (v .1) k)
+      (moved-rows χ σ (suc i + size φ) (d .2) (omega arith) (w .1) (n .1) (below-later i (suc i + size φ) σ (omega arith) u) (v .2) k)
       ∙ sym (some-split (brings kinds firsts rows D e k) (suc i) (size φ) (size χ))
       ∙ sym (ap (λ t. t || some-in (brings kinds firsts rows D e k) (suc i) (size φ + size χ))
       (brings-not i k (λ z. omega (arith, z, d .0))))
-  moved-rows (greatest φ) σ i d h w n u k =
-      ap (λ C. moved D e (C ∷ map (row rows) σ) (suc i) φ k)
-      (sym (ok i (omega (arith, h)) (field firsts) value (greatest φ) σ d h w n u))
-      ∙ moved-rows φ (i ∷ σ) (suc i) (d .1) (omega arith) (w .1) n (omega arith, below-more i σ u) k
+  moved-rows (greatest φ) σ i d h w n u v k =
+      ap (λ C. moved D e (C ∷ map (row rows) σ) (suc i) φ k) (sym (v .0))
+      ∙ moved-rows φ (i ∷ σ) (suc i) (d .1) (omega arith) (w .1) n (omega arith, below-later i (suc i) σ (omega arith) u) (v .1) k
       ∙ sym (ap (λ t. t || some-in (brings kinds firsts rows D e k) (suc i) (size φ))
       (brings-not i k (λ q. omega (arith, q, d .0))))
 
@@ -206,4 +199,6 @@ pub stepped-moved :
     (D : NodeSet) (e : ℕ) → stepped kinds firsts rows (size φ) D e ≡ moved D e [] 0 φ
 unfolding stepped
 stepped-moved kinds firsts b rows value φ ok d w n D e =
-    fun-ext λ k. sym (moved-rows kinds firsts b (size φ) rows ok value D e φ [] 0 d (omega arith) w n tt k)
+    fun-ext λ k. sym
+    (moved-rows kinds firsts b (size φ) rows ok value D e φ [] 0 d (omega arith) w n tt
+    (ok .root (field firsts) value φ [] d (omega arith) w n tt) k)

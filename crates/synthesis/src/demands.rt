@@ -11,32 +11,45 @@ use formulas::OUTPUT;
 use formulas::TRANSITION;
 use formulas::VARIABLE;
 ghost use mathlib.Core.Path.{_≡_};
-ghost use Prim.Native.Nat.{ℕ, _+_, _*_, _<_, _≤_};
-ghost use lib.ListN.{length};
-ghost use Rattle.synthesis.specs.NodeWalks.{Walked, Gathered};
+ghost use Prim.Native.Nat.{_+_, _<_, _≤_};
+ghost use lib.ListN.{length, getD};
+ghost use Rattle.theory.specs.DemandSets.{empty, only, union};
+ghost use Rattle.synthesis.specs.NodeWords.{row};
+ghost use Rattle.synthesis.specs.NodeWalks.{EndsHere, EndsFrom};
 ghost use Rattle.synthesis.specs.Binding.{Bound};
-ghost use Rattle.synthesis.specs.DemandRows.{RowsTo};
+ghost use Rattle.synthesis.specs.DemandRows.{RowStored, Gathered, RowsTo};
 
-// The node after the formula at a node.
-pub fn end_of(kinds: &[u8; 256], at: usize, left: usize) -> usize
-    requires { ⌜ (at + left ≤ 256) × (length (now kinds) ≡ 256) ⌝ }
-    ensures { λ r. ⌜ Walked (now (kinds .entry)) at left r ⌝ }
+// The node after the formula at a node, those of the nodes behind it being known.
+fn end_of(kinds: &[u8; 256], ends: &[usize; 257], at: usize) -> usize
+    requires { ⌜ (at < 256) × (length (now kinds) ≡ 256) × (length (now ends) ≡ 257) × (getD (now ends) (at + 1) 0 ≤ 256) ⌝ }
+    ensures { λ r. ⌜ EndsHere (now (kinds .entry)) (now (ends .entry)) at r ⌝ }
 {
-    if left == 0 {
-        return at;
-    }
     let kind = kinds[at];
     if kind == CONJUNCTION {
-        let second = end_of(kinds, at + 1, left - 1);
-        return end_of(kinds, second, at + left - second);
+        let second = ends[at + 1];
+        return ends[second];
     }
     if kind == TRANSITION {
-        return end_of(kinds, at + 1, left - 1);
+        return ends[at + 1];
     }
     if kind == GREATEST {
-        return end_of(kinds, at + 1, left - 1);
+        return ends[at + 1];
     }
     at + 1
+}
+
+// The node after the formula at each node, from the last node down.
+pub fn fill_ends(kinds: &[u8; 256], count: usize, ends: &mut [usize; 257])
+    requires { ⌜ (count ≤ 256) × (length (now kinds) ≡ 256) × (length (now ends) ≡ 257) ⌝ }
+    ensures { λ _. ⌜ (length (now (ends .exit)) ≡ 257) × EndsFrom (now (kinds .entry)) count (now (ends .exit)) 0 ⌝ }
+{
+    ends[count] = count;
+    let mut i = count;
+    while 0 < i {
+        i -= 1;
+        let end = end_of(kinds, &*ends, i);
+        ends[i] = end;
+    }
 }
 
 // Gives each variable of the formula at a node its binder's node. The stack has the binders around, the innermost last.
@@ -87,18 +100,59 @@ pub fn bind(
     at + 1
 }
 
-// Adds the demands of the formula at a node to a set; the answer is the node after that formula.
+// No demands at a node.
+fn store_none(rows: &mut [u64; 1028], at: usize)
+    requires { ⌜ (at < 256) × (length (now rows) ≡ 1028) ⌝ }
+    ensures { λ _. ⌜ RowStored (now (rows .entry)) (now (rows .exit)) at empty ⌝ }
+{
+    let set = [0u64; 4];
+    store(rows, at * 4, &set);
+}
+
+// A node that demands itself.
+fn store_self(rows: &mut [u64; 1028], at: usize)
+    requires { ⌜ (at < 256) × (length (now rows) ≡ 1028) ⌝ }
+    ensures { λ _. ⌜ RowStored (now (rows .entry)) (now (rows .exit)) at (only at) ⌝ }
+{
+    let mut set = [0u64; 4];
+    insert(&mut set, at);
+    store(rows, at * 4, &set);
+}
+
+// A node that demands what another does.
+fn store_copy(rows: &mut [u64; 1028], at: usize, from: usize)
+    requires { ⌜ (at < 256) × (from ≤ 256) × (length (now rows) ≡ 1028) ⌝ }
+    ensures { λ _. ⌜ RowStored (now (rows .entry)) (now (rows .exit)) at (row (now (rows .entry)) from) ⌝ }
+{
+    let mut set = [0u64; 4];
+    unite(&mut set, &*rows, from * 4);
+    store(rows, at * 4, &set);
+}
+
+// A node that demands what two others do.
+fn store_union(rows: &mut [u64; 1028], at: usize, first: usize, second: usize)
+    requires { ⌜ (at < 256) × (first ≤ 256) × (second ≤ 256) × (length (now rows) ≡ 1028) ⌝ }
+    ensures { λ _. ⌜ RowStored (now (rows .entry)) (now (rows .exit)) at
+        (union (row (now (rows .entry)) first) (row (now (rows .entry)) second)) ⌝ }
+{
+    let mut set = [0u64; 4];
+    unite(&mut set, &*rows, first * 4);
+    unite(&mut set, &*rows, second * 4);
+    store(rows, at * 4, &set);
+}
+
+// Gives each node of the formula at a node its demands, except below its G nodes; the answer is the node after that formula.
 pub fn gather(
     kinds: &[u8; 256],
     binders: &[u8; 256],
-    rows: &[u64; 1028],
+    ends: &[usize; 257],
     at: usize,
     left: usize,
-    set: &mut [u64; 4],
+    rows: &mut [u64; 1028],
 ) -> usize
-    requires { ⌜ (at + left ≤ 256) × (length (now kinds) ≡ 256) × (length (now binders) ≡ 256) × (length (now rows) ≡ 1028)
-        × (length (now set) ≡ 4) ⌝ }
-    ensures { λ r. ⌜ Gathered (now (kinds .entry)) (now (binders .entry)) (now (rows .entry)) at left (now (set .entry)) (now (set .exit)) r ⌝ }
+    requires { ⌜ (at + left ≤ 256) × (length (now kinds) ≡ 256) × (length (now binders) ≡ 256) × (length (now ends) ≡ 257)
+        × (length (now rows) ≡ 1028) × EndsFrom (now kinds) (at + left) (now ends) 0 ⌝ }
+    ensures { λ r. ⌜ Gathered (now (kinds .entry)) (now (binders .entry)) at left (now (rows .entry)) (now (rows .exit)) r ⌝ }
 {
     if left == 0 {
         return at;
@@ -106,38 +160,52 @@ pub fn gather(
     let kind = kinds[at];
     if kind == VARIABLE {
         let binder = wide(binders[at]);
-        unite(set, rows, binder * 4);
+        store_copy(rows, at, binder);
         return at + 1;
     }
     if kind == TRANSITION {
-        insert(set, at);
-        return end_of(kinds, at + 1, left - 1);
+        store_self(rows, at);
+        return ends[at + 1];
     }
     if kind == OUTPUT {
-        insert(set, at);
+        store_self(rows, at);
         return at + 1;
     }
     if kind == CONJUNCTION {
-        let second = gather(kinds, binders, rows, at + 1, left - 1, set);
-        return gather(kinds, binders, rows, second, at + left - second, set);
+        let second = gather(kinds, binders, ends, at + 1, left - 1, rows);
+        let end = gather(kinds, binders, ends, second, at + left - second, rows);
+        store_union(rows, at, at + 1, second);
+        return end;
     }
     if kind == GREATEST {
-        return gather(kinds, binders, rows, at + 1, left - 1, set);
+        let end = gather(kinds, binders, ends, at + 1, left - 1, rows);
+        store_copy(rows, at, at + 1);
+        return end;
     }
+    store_none(rows, at);
     at + 1
 }
 
-// Each node's row gets its demands, in rising order: a variable's binder stands before it.
-pub fn fill_rows(kinds: &[u8; 256], binders: &[u8; 256], count: usize, rows: &mut [u64; 1028])
-    requires { ⌜ (count ≤ 256) × (length (now kinds) ≡ 256) × (length (now binders) ≡ 256) × (length (now rows) ≡ 1028) ⌝ }
+// Each node's row gets its demands: the root's formula, then the part of each G in rising order. A G lies between a variable and its
+// binder, so that the binder's row is there before.
+pub fn fill_rows(
+    kinds: &[u8; 256],
+    binders: &[u8; 256],
+    ends: &[usize; 257],
+    count: usize,
+    rows: &mut [u64; 1028],
+)
+    requires { ⌜ (count ≤ 256) × (length (now kinds) ≡ 256) × (length (now binders) ≡ 256) × (length (now ends) ≡ 257)
+        × (length (now rows) ≡ 1028) × EndsFrom (now kinds) count (now ends) 0 ⌝ }
     ensures { λ _. ⌜ (length (now (rows .exit)) ≡ 1028)
         × RowsTo (now (kinds .entry)) (now (binders .entry)) count (now (rows .exit)) count ⌝ }
 {
+    gather(kinds, binders, ends, 0, count, rows);
     let mut i: usize = 0;
     while i < count {
-        let mut set = [0u64; 4];
-        gather(kinds, binders, &*rows, i, count - i, &mut set);
-        store(rows, i * 4, &set);
+        if kinds[i] == TRANSITION {
+            gather(kinds, binders, ends, i + 1, count - i - 1, rows);
+        }
         i += 1;
     }
 }

@@ -1,5 +1,6 @@
 // The table of the formula whose nodes these are (document 01, "Table of a rule").
 use crate::demands::bind;
+use crate::demands::fill_ends;
 use crate::demands::fill_rows;
 use crate::entries::fill_values;
 use crate::exploration::STATE_LIMIT;
@@ -33,8 +34,10 @@ pub fn table_of(
     let mut stack = [0u8; 256];
     let mut binders = [0u8; 256];
     bind(kinds, firsts, 0, count, 0, &mut stack, &mut binders);
+    let mut ends = [0usize; 257];
+    fill_ends(kinds, count, &mut ends);
     let mut rows = [0u64; 1028];
-    fill_rows(kinds, &binders, count, &mut rows);
+    fill_rows(kinds, &binders, &ends, count, &mut rows);
     let mut states = rows;
     let n = explore(kinds, firsts, count, &rows, events, &mut states, nexts);
     if STATE_LIMIT < n {

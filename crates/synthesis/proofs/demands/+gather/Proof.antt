@@ -1,20 +1,22 @@
 -- `gather` meets its contract. The nodes left fall.
 -- Assumes nothing.
-use borrow.Author.Needs.{needs}
-use Prim.Native.Nat.{_*_, ℕ, _<_}
-use mathlib.Core.Path.{_∙_, ap}
+use mathlib.Core.Path.{refl, ap, subst}
 use native.Mathlib.Omega.{arith}
-use Rattle.theory.specs.DemandSets.{union}
-use Rattle.synthesis.specs.NodeWords.{set-at}
-use Rattle.synthesis.proofs.NodeWalks.{end-none, end-leaf, end-transition, end-greatest, end-conjunction, gather-none, gather-truth, gather-variable, gather-transition, gather-output, gather-greatest, gather-conjunction}
+use Rattle.synthesis.specs.NodeWords.{row}
+use Rattle.synthesis.specs.NodeWalks.{EndsFrom}
+use Rattle.synthesis.proofs.NodeWalks.{end-leaf, transition-end}
+use Rattle.synthesis.proofs.DemandRows.{gathered-none, gathered-one, gathers-truth, gathers-variable, gathers-transition, gathers-output, gathered-greatest, gathered-conjunction}
+use borrow.Author.Needs.{needs}
+use Prim.Native.Nat.{ℕ, _<_}
 use borrow.Fn.Kinds.{In}
 use borrow.Fn.PlainCycle.{Measures, is, falls, and}
 use Rattle.synthesis.proofs.demands.gather.Reads as gather
 use Rattle.synthesis.proofs.demands.gather.Kinds as gather-kinds
 use Rattle.synthesis.proofs.demands.+gather.Lts-gather as gather-lts
-use Rattle.synthesis.proofs.demands.end_of.Reads as end-of-reads
-use Rattle.synthesis.proofs.node_sets.insert.Reads as insert-reads
-use Rattle.synthesis.proofs.node_sets.unite.Reads as unite-reads
+use Rattle.synthesis.proofs.demands.store_copy.Reads as store-copy-reads
+use Rattle.synthesis.proofs.demands.store_none.Reads as store-none-reads
+use Rattle.synthesis.proofs.demands.store_self.Reads as store-self-reads
+use Rattle.synthesis.proofs.demands.store_union.Reads as store-union-reads
 use Rattle.synthesis.proofs.numbers.wide.Reads as wide-reads
 use Rattle.synthesis.proofs.demands.+gather.{statement}
 use Rattle.synthesis.proofs.demands.+gather.Tie.{close}
@@ -31,482 +33,584 @@ gather-below t = and 4 gather-kinds.ps (falls 4 gather-kinds.ps _<_ μ-gather t)
 gather-returns : (t : ℕ) → gather-lts.Need-returns (
   wide-reads.Asked,
   wide-reads.Learnt,
-  unite-reads.Asked,
-  unite-reads.Learnt,
-  insert-reads.Asked,
-  insert-reads.Learnt,
-  end-of-reads.Asked,
-  end-of-reads.Learnt,
+  store-copy-reads.Asked,
+  store-copy-reads.Learnt,
+  store-self-reads.Asked,
+  store-self-reads.Learnt,
   gather-below t,
   gather.Post,
+  store-union-reads.Asked,
+  store-union-reads.Learnt,
+  store-none-reads.Asked,
+  store-none-reads.Learnt,
 ) (gather-at t) gather.Post
 gather-returns t c =
     let a = c .before .args in
-    record {
-      low = search needs;
-      high = search needs;
-      end = end-none (a .kinds .now) _ _ (c .if1 .taken) _;
-      sized = search needs;
-      set = gather-none (a .kinds .now) (a .binders .now) (a .rows .now) _ _ (c .if1 .taken) _ _;
-    }
+    gathered-none (a .kinds .now) (a .binders .now) _ _ (c .if1 .taken) _ (search needs)
 
 gather-element-copy-out-kind : (t : ℕ) → gather-lts.Need-element-copy-out-kind (
   wide-reads.Asked,
   wide-reads.Learnt,
-  unite-reads.Asked,
-  unite-reads.Learnt,
-  insert-reads.Asked,
-  insert-reads.Learnt,
-  end-of-reads.Asked,
-  end-of-reads.Learnt,
+  store-copy-reads.Asked,
+  store-copy-reads.Learnt,
+  store-self-reads.Asked,
+  store-self-reads.Learnt,
   gather-below t,
   gather.Post,
+  store-union-reads.Asked,
+  store-union-reads.Learnt,
+  store-none-reads.Asked,
+  store-none-reads.Learnt,
 ) (gather-at t) gather.Post
 gather-element-copy-out-kind t c = search needs
 
 gather-element-copy-out-wide : (t : ℕ) → gather-lts.Need-element-copy-out-wide (
   wide-reads.Asked,
   wide-reads.Learnt,
-  unite-reads.Asked,
-  unite-reads.Learnt,
-  insert-reads.Asked,
-  insert-reads.Learnt,
-  end-of-reads.Asked,
-  end-of-reads.Learnt,
+  store-copy-reads.Asked,
+  store-copy-reads.Learnt,
+  store-self-reads.Asked,
+  store-self-reads.Learnt,
   gather-below t,
   gather.Post,
+  store-union-reads.Asked,
+  store-union-reads.Learnt,
+  store-none-reads.Asked,
+  store-none-reads.Learnt,
 ) (gather-at t) gather.Post
 gather-element-copy-out-wide t c = search needs
 
 gather-wide-requires : (t : ℕ) → gather-lts.Need-wide-requires (
   wide-reads.Asked,
   wide-reads.Learnt,
-  unite-reads.Asked,
-  unite-reads.Learnt,
-  insert-reads.Asked,
-  insert-reads.Learnt,
-  end-of-reads.Asked,
-  end-of-reads.Learnt,
+  store-copy-reads.Asked,
+  store-copy-reads.Learnt,
+  store-self-reads.Asked,
+  store-self-reads.Learnt,
   gather-below t,
   gather.Post,
+  store-union-reads.Asked,
+  store-union-reads.Learnt,
+  store-none-reads.Asked,
+  store-none-reads.Learnt,
 ) (gather-at t) gather.Post
 gather-wide-requires t c κs = search needs
 
-gather-mul-unite : (t : ℕ) → gather-lts.Need-mul-unite (
+gather-store-copy-requires : (t : ℕ) → gather-lts.Need-store-copy-requires (
   wide-reads.Asked,
   wide-reads.Learnt,
-  unite-reads.Asked,
-  unite-reads.Learnt,
-  insert-reads.Asked,
-  insert-reads.Learnt,
-  end-of-reads.Asked,
-  end-of-reads.Learnt,
+  store-copy-reads.Asked,
+  store-copy-reads.Learnt,
+  store-self-reads.Asked,
+  store-self-reads.Learnt,
   gather-below t,
   gather.Post,
+  store-union-reads.Asked,
+  store-union-reads.Learnt,
+  store-none-reads.Asked,
+  store-none-reads.Learnt,
 ) (gather-at t) gather.Post
-gather-mul-unite t c = search needs
-
-gather-unite-requires : (t : ℕ) → gather-lts.Need-unite-requires (
-  wide-reads.Asked,
-  wide-reads.Learnt,
-  unite-reads.Asked,
-  unite-reads.Learnt,
-  insert-reads.Asked,
-  insert-reads.Learnt,
-  end-of-reads.Asked,
-  end-of-reads.Learnt,
-  gather-below t,
-  gather.Post,
-) (gather-at t) gather.Post
-gather-unite-requires t c κs = search needs
+gather-store-copy-requires t c κs = search needs
 
 gather-add-result : (t : ℕ) → gather-lts.Need-add-result (
   wide-reads.Asked,
   wide-reads.Learnt,
-  unite-reads.Asked,
-  unite-reads.Learnt,
-  insert-reads.Asked,
-  insert-reads.Learnt,
-  end-of-reads.Asked,
-  end-of-reads.Learnt,
+  store-copy-reads.Asked,
+  store-copy-reads.Learnt,
+  store-self-reads.Asked,
+  store-self-reads.Learnt,
   gather-below t,
   gather.Post,
+  store-union-reads.Asked,
+  store-union-reads.Learnt,
+  store-none-reads.Asked,
+  store-none-reads.Learnt,
 ) (gather-at t) gather.Post
 gather-add-result t c = search needs
 
 gather-returns-2 : (t : ℕ) → gather-lts.Need-returns-2 (
   wide-reads.Asked,
   wide-reads.Learnt,
-  unite-reads.Asked,
-  unite-reads.Learnt,
-  insert-reads.Asked,
-  insert-reads.Learnt,
-  end-of-reads.Asked,
-  end-of-reads.Learnt,
+  store-copy-reads.Asked,
+  store-copy-reads.Learnt,
+  store-self-reads.Asked,
+  store-self-reads.Learnt,
   gather-below t,
   gather.Post,
+  store-union-reads.Asked,
+  store-union-reads.Learnt,
+  store-none-reads.Asked,
+  store-none-reads.Learnt,
 ) (gather-at t) gather.Post
 gather-returns-2 t c =
     let a = c .before .before .before .before .before .before .before .args in
     let k = c .before .before .before .before .if2 .taken in
-    record {
-      low = search needs;
-      high = search needs;
-      end = end-leaf (a .kinds .now) _ _ (λ e. omega (arith, e, k)) (λ e. omega (arith, e, k)) (λ e. omega (arith, e, k));
-      sized = c .unite .ensures .0;
-      set = gather-variable (a .kinds .now) (a .binders .now) (a .rows .now) _ _ _ _ k (c .unite .ensures .1 ∙ ap (λ x. union (set-at (a .set .now) 0) (set-at (a .rows .now) (x * 4))) (c .before .before .wide .ensures .0));
-    }
+    let s = c .store-copy .ensures in
+    gathered-one (a .kinds .now) (a .binders .now) _ _ _ _ _ s _ (search needs) (search needs) (end-leaf (a .kinds .now) _ _ (λ e. omega (arith, e, k)) (λ e. omega (arith, e, k)) (λ e. omega (arith, e, k)))
+    (gathers-variable (a .kinds .now) (a .binders .now) _ _ _ _ _ s (ap (row (a .rows .now)) (c .before .before .wide .ensures .0)) k)
 
-gather-insert-requires : (t : ℕ) → gather-lts.Need-insert-requires (
+gather-store-self-requires : (t : ℕ) → gather-lts.Need-store-self-requires (
   wide-reads.Asked,
   wide-reads.Learnt,
-  unite-reads.Asked,
-  unite-reads.Learnt,
-  insert-reads.Asked,
-  insert-reads.Learnt,
-  end-of-reads.Asked,
-  end-of-reads.Learnt,
+  store-copy-reads.Asked,
+  store-copy-reads.Learnt,
+  store-self-reads.Asked,
+  store-self-reads.Learnt,
   gather-below t,
   gather.Post,
+  store-union-reads.Asked,
+  store-union-reads.Learnt,
+  store-none-reads.Asked,
+  store-none-reads.Learnt,
 ) (gather-at t) gather.Post
-gather-insert-requires t c κs = search needs
-
-gather-add-end-of : (t : ℕ) → gather-lts.Need-add-end-of (
-  wide-reads.Asked,
-  wide-reads.Learnt,
-  unite-reads.Asked,
-  unite-reads.Learnt,
-  insert-reads.Asked,
-  insert-reads.Learnt,
-  end-of-reads.Asked,
-  end-of-reads.Learnt,
-  gather-below t,
-  gather.Post,
-) (gather-at t) gather.Post
-gather-add-end-of t c = search needs
-
-gather-sub-end-of : (t : ℕ) → gather-lts.Need-sub-end-of (
-  wide-reads.Asked,
-  wide-reads.Learnt,
-  unite-reads.Asked,
-  unite-reads.Learnt,
-  insert-reads.Asked,
-  insert-reads.Learnt,
-  end-of-reads.Asked,
-  end-of-reads.Learnt,
-  gather-below t,
-  gather.Post,
-) (gather-at t) gather.Post
-gather-sub-end-of t c = search needs
-
-gather-end-of-requires : (t : ℕ) → gather-lts.Need-end-of-requires (
-  wide-reads.Asked,
-  wide-reads.Learnt,
-  unite-reads.Asked,
-  unite-reads.Learnt,
-  insert-reads.Asked,
-  insert-reads.Learnt,
-  end-of-reads.Asked,
-  end-of-reads.Learnt,
-  gather-below t,
-  gather.Post,
-) (gather-at t) gather.Post
-gather-end-of-requires t c κs = search needs
-
-gather-returns-3 : (t : ℕ) → gather-lts.Need-returns-3 (
-  wide-reads.Asked,
-  wide-reads.Learnt,
-  unite-reads.Asked,
-  unite-reads.Learnt,
-  insert-reads.Asked,
-  insert-reads.Learnt,
-  end-of-reads.Asked,
-  end-of-reads.Learnt,
-  gather-below t,
-  gather.Post,
-) (gather-at t) gather.Post
-gather-returns-3 t c =
-    let a = c .before .before .before .before .before .before .before .args in
-    let k = c .before .before .before .if3 .taken in
-    record {
-      low = search needs;
-      high = search needs;
-      end = end-transition (a .kinds .now) _ _ _ (c .end-of .ensures .end) k;
-      sized = c .before .insert .ensures .0;
-      set = gather-transition (a .kinds .now) (a .binders .now) (a .rows .now) _ _ _ _ k (c .before .insert .ensures .1);
-    }
-
-gather-insert-requires-2 : (t : ℕ) → gather-lts.Need-insert-requires-2 (
-  wide-reads.Asked,
-  wide-reads.Learnt,
-  unite-reads.Asked,
-  unite-reads.Learnt,
-  insert-reads.Asked,
-  insert-reads.Learnt,
-  end-of-reads.Asked,
-  end-of-reads.Learnt,
-  gather-below t,
-  gather.Post,
-) (gather-at t) gather.Post
-gather-insert-requires-2 t c κs = search needs
+gather-store-self-requires t c κs = search needs
 
 gather-add-result-2 : (t : ℕ) → gather-lts.Need-add-result-2 (
   wide-reads.Asked,
   wide-reads.Learnt,
-  unite-reads.Asked,
-  unite-reads.Learnt,
-  insert-reads.Asked,
-  insert-reads.Learnt,
-  end-of-reads.Asked,
-  end-of-reads.Learnt,
+  store-copy-reads.Asked,
+  store-copy-reads.Learnt,
+  store-self-reads.Asked,
+  store-self-reads.Learnt,
   gather-below t,
   gather.Post,
+  store-union-reads.Asked,
+  store-union-reads.Learnt,
+  store-none-reads.Asked,
+  store-none-reads.Learnt,
 ) (gather-at t) gather.Post
 gather-add-result-2 t c = search needs
+
+gather-mul-result : (t : ℕ) → gather-lts.Need-mul-result (
+  wide-reads.Asked,
+  wide-reads.Learnt,
+  store-copy-reads.Asked,
+  store-copy-reads.Learnt,
+  store-self-reads.Asked,
+  store-self-reads.Learnt,
+  gather-below t,
+  gather.Post,
+  store-union-reads.Asked,
+  store-union-reads.Learnt,
+  store-none-reads.Asked,
+  store-none-reads.Learnt,
+) (gather-at t) gather.Post
+gather-mul-result t c = search needs
+
+gather-element-copy-out-result : (t : ℕ) → gather-lts.Need-element-copy-out-result (
+  wide-reads.Asked,
+  wide-reads.Learnt,
+  store-copy-reads.Asked,
+  store-copy-reads.Learnt,
+  store-self-reads.Asked,
+  store-self-reads.Learnt,
+  gather-below t,
+  gather.Post,
+  store-union-reads.Asked,
+  store-union-reads.Learnt,
+  store-none-reads.Asked,
+  store-none-reads.Learnt,
+) (gather-at t) gather.Post
+gather-element-copy-out-result t c = search needs
+
+gather-returns-3 : (t : ℕ) → gather-lts.Need-returns-3 (
+  wide-reads.Asked,
+  wide-reads.Learnt,
+  store-copy-reads.Asked,
+  store-copy-reads.Learnt,
+  store-self-reads.Asked,
+  store-self-reads.Learnt,
+  gather-below t,
+  gather.Post,
+  store-union-reads.Asked,
+  store-union-reads.Learnt,
+  store-none-reads.Asked,
+  store-none-reads.Learnt,
+) (gather-at t) gather.Post
+gather-returns-3 t c =
+    let n = c .before .before .before .before .before .before .before in
+    let a = n .args in
+    let k = c .before .before .before .if3 .taken in
+    let s = c .before .store-self .ensures in
+    let w = transition-end (a .kinds .now) (a .ends .now) (a .at) (a .left) (omega arith) (n .pre .1 .5) k in
+    gathered-one (a .kinds .now) (a .binders .now) _ _ _ _ _ s _ (w .0) (w .1 .high) (w .1 .end) (gathers-transition (a .kinds .now) (a .binders .now) _ _ _ _ _ s refl k)
+
+gather-store-self-requires-2 : (t : ℕ) → gather-lts.Need-store-self-requires-2 (
+  wide-reads.Asked,
+  wide-reads.Learnt,
+  store-copy-reads.Asked,
+  store-copy-reads.Learnt,
+  store-self-reads.Asked,
+  store-self-reads.Learnt,
+  gather-below t,
+  gather.Post,
+  store-union-reads.Asked,
+  store-union-reads.Learnt,
+  store-none-reads.Asked,
+  store-none-reads.Learnt,
+) (gather-at t) gather.Post
+gather-store-self-requires-2 t c κs = search needs
+
+gather-add-result-3 : (t : ℕ) → gather-lts.Need-add-result-3 (
+  wide-reads.Asked,
+  wide-reads.Learnt,
+  store-copy-reads.Asked,
+  store-copy-reads.Learnt,
+  store-self-reads.Asked,
+  store-self-reads.Learnt,
+  gather-below t,
+  gather.Post,
+  store-union-reads.Asked,
+  store-union-reads.Learnt,
+  store-none-reads.Asked,
+  store-none-reads.Learnt,
+) (gather-at t) gather.Post
+gather-add-result-3 t c = search needs
 
 gather-returns-4 : (t : ℕ) → gather-lts.Need-returns-4 (
   wide-reads.Asked,
   wide-reads.Learnt,
-  unite-reads.Asked,
-  unite-reads.Learnt,
-  insert-reads.Asked,
-  insert-reads.Learnt,
-  end-of-reads.Asked,
-  end-of-reads.Learnt,
+  store-copy-reads.Asked,
+  store-copy-reads.Learnt,
+  store-self-reads.Asked,
+  store-self-reads.Learnt,
   gather-below t,
   gather.Post,
+  store-union-reads.Asked,
+  store-union-reads.Learnt,
+  store-none-reads.Asked,
+  store-none-reads.Learnt,
 ) (gather-at t) gather.Post
 gather-returns-4 t c =
     let a = c .before .before .before .before .before .before .before .args in
     let k = c .before .before .if4 .taken in
-    record {
-      low = search needs;
-      high = search needs;
-      end = end-leaf (a .kinds .now) _ _ (λ e. omega (arith, e, k)) (λ e. omega (arith, e, k)) (λ e. omega (arith, e, k));
-      sized = c .insert2 .ensures .0;
-      set = gather-output (a .kinds .now) (a .binders .now) (a .rows .now) _ _ _ _ k (c .insert2 .ensures .1);
-    }
+    let s = c .store-self2 .ensures in
+    gathered-one (a .kinds .now) (a .binders .now) _ _ _ _ _ s _ (search needs) (search needs) (end-leaf (a .kinds .now) _ _ (λ e. omega (arith, e, k)) (λ e. omega (arith, e, k)) (λ e. omega (arith, e, k))) (gathers-output (a .kinds .now) (a .binders .now) _ _ _ _ _ s refl k)
 
 gather-add-gather : (t : ℕ) → gather-lts.Need-add-gather (
   wide-reads.Asked,
   wide-reads.Learnt,
-  unite-reads.Asked,
-  unite-reads.Learnt,
-  insert-reads.Asked,
-  insert-reads.Learnt,
-  end-of-reads.Asked,
-  end-of-reads.Learnt,
+  store-copy-reads.Asked,
+  store-copy-reads.Learnt,
+  store-self-reads.Asked,
+  store-self-reads.Learnt,
   gather-below t,
   gather.Post,
+  store-union-reads.Asked,
+  store-union-reads.Learnt,
+  store-none-reads.Asked,
+  store-none-reads.Learnt,
 ) (gather-at t) gather.Post
 gather-add-gather t c = search needs
 
 gather-sub-gather : (t : ℕ) → gather-lts.Need-sub-gather (
   wide-reads.Asked,
   wide-reads.Learnt,
-  unite-reads.Asked,
-  unite-reads.Learnt,
-  insert-reads.Asked,
-  insert-reads.Learnt,
-  end-of-reads.Asked,
-  end-of-reads.Learnt,
+  store-copy-reads.Asked,
+  store-copy-reads.Learnt,
+  store-self-reads.Asked,
+  store-self-reads.Learnt,
   gather-below t,
   gather.Post,
+  store-union-reads.Asked,
+  store-union-reads.Learnt,
+  store-none-reads.Asked,
+  store-none-reads.Learnt,
 ) (gather-at t) gather.Post
 gather-sub-gather t c = search needs
 
 gather-gather-requires : (t : ℕ) → gather-lts.Need-gather-requires (
   wide-reads.Asked,
   wide-reads.Learnt,
-  unite-reads.Asked,
-  unite-reads.Learnt,
-  insert-reads.Asked,
-  insert-reads.Learnt,
-  end-of-reads.Asked,
-  end-of-reads.Learnt,
+  store-copy-reads.Asked,
+  store-copy-reads.Learnt,
+  store-self-reads.Asked,
+  store-self-reads.Learnt,
   gather-below t,
   gather.Post,
+  store-union-reads.Asked,
+  store-union-reads.Learnt,
+  store-none-reads.Asked,
+  store-none-reads.Learnt,
 ) (gather-at t) gather.Post
-gather-gather-requires t c κs = search needs
+gather-gather-requires t c κs =
+    let n = c .before .before .before .before .before .before .before in
+    let a = n .args in
+    (search needs, (search needs, search needs, search needs, search needs, search needs, subst (λ m. EndsFrom (a .kinds .now) m (a .ends .now) 0) (omega arith) (n .pre .1 .5)))
 
 gather-add-gather-2 : (t : ℕ) → gather-lts.Need-add-gather-2 (
   wide-reads.Asked,
   wide-reads.Learnt,
-  unite-reads.Asked,
-  unite-reads.Learnt,
-  insert-reads.Asked,
-  insert-reads.Learnt,
-  end-of-reads.Asked,
-  end-of-reads.Learnt,
+  store-copy-reads.Asked,
+  store-copy-reads.Learnt,
+  store-self-reads.Asked,
+  store-self-reads.Learnt,
   gather-below t,
   gather.Post,
+  store-union-reads.Asked,
+  store-union-reads.Learnt,
+  store-none-reads.Asked,
+  store-none-reads.Learnt,
 ) (gather-at t) gather.Post
 gather-add-gather-2 t c = search needs
 
 gather-sub-gather-2 : (t : ℕ) → gather-lts.Need-sub-gather-2 (
   wide-reads.Asked,
   wide-reads.Learnt,
-  unite-reads.Asked,
-  unite-reads.Learnt,
-  insert-reads.Asked,
-  insert-reads.Learnt,
-  end-of-reads.Asked,
-  end-of-reads.Learnt,
+  store-copy-reads.Asked,
+  store-copy-reads.Learnt,
+  store-self-reads.Asked,
+  store-self-reads.Learnt,
   gather-below t,
   gather.Post,
+  store-union-reads.Asked,
+  store-union-reads.Learnt,
+  store-none-reads.Asked,
+  store-none-reads.Learnt,
 ) (gather-at t) gather.Post
 gather-sub-gather-2 t c = search needs
 
 gather-gather-requires-2 : (t : ℕ) → gather-lts.Need-gather-requires-2 (
   wide-reads.Asked,
   wide-reads.Learnt,
-  unite-reads.Asked,
-  unite-reads.Learnt,
-  insert-reads.Asked,
-  insert-reads.Learnt,
-  end-of-reads.Asked,
-  end-of-reads.Learnt,
+  store-copy-reads.Asked,
+  store-copy-reads.Learnt,
+  store-self-reads.Asked,
+  store-self-reads.Learnt,
   gather-below t,
   gather.Post,
+  store-union-reads.Asked,
+  store-union-reads.Learnt,
+  store-none-reads.Asked,
+  store-none-reads.Learnt,
 ) (gather-at t) gather.Post
-gather-gather-requires-2 t c κs = search needs
+gather-gather-requires-2 t c κs =
+    let n = c .before .before .before .before .before .before .before .before .before in
+    let a = n .args in
+    (search needs, (search needs, search needs, search needs, search needs, c .before .gather .ensures .sized, subst (λ m. EndsFrom (a .kinds .now) m (a .ends .now) 0) (omega arith) (n .pre .1 .5)))
+
+gather-add-store-union : (t : ℕ) → gather-lts.Need-add-store-union (
+  wide-reads.Asked,
+  wide-reads.Learnt,
+  store-copy-reads.Asked,
+  store-copy-reads.Learnt,
+  store-self-reads.Asked,
+  store-self-reads.Learnt,
+  gather-below t,
+  gather.Post,
+  store-union-reads.Asked,
+  store-union-reads.Learnt,
+  store-none-reads.Asked,
+  store-none-reads.Learnt,
+) (gather-at t) gather.Post
+gather-add-store-union t c = search needs
+
+gather-store-union-requires : (t : ℕ) → gather-lts.Need-store-union-requires (
+  wide-reads.Asked,
+  wide-reads.Learnt,
+  store-copy-reads.Asked,
+  store-copy-reads.Learnt,
+  store-self-reads.Asked,
+  store-self-reads.Learnt,
+  gather-below t,
+  gather.Post,
+  store-union-reads.Asked,
+  store-union-reads.Learnt,
+  store-none-reads.Asked,
+  store-none-reads.Learnt,
+) (gather-at t) gather.Post
+gather-store-union-requires t c κs = search needs
 
 gather-returns-5 : (t : ℕ) → gather-lts.Need-returns-5 (
   wide-reads.Asked,
   wide-reads.Learnt,
-  unite-reads.Asked,
-  unite-reads.Learnt,
-  insert-reads.Asked,
-  insert-reads.Learnt,
-  end-of-reads.Asked,
-  end-of-reads.Learnt,
+  store-copy-reads.Asked,
+  store-copy-reads.Learnt,
+  store-self-reads.Asked,
+  store-self-reads.Learnt,
   gather-below t,
   gather.Post,
+  store-union-reads.Asked,
+  store-union-reads.Learnt,
+  store-none-reads.Asked,
+  store-none-reads.Learnt,
 ) (gather-at t) gather.Post
 gather-returns-5 t c =
-    let a = c .before .before .before .before .before .before .before .before .before .before .args in
-    let k = c .before .before .before .before .if5 .taken in
-    record {
-      low = search needs;
-      high = search needs;
-      end = end-conjunction (a .kinds .now) _ _ (c .before .before .gather .result) _ (c .before .before .gather .ensures .end) (c .gather2 .ensures .end) k;
-      sized = c .gather2 .ensures .sized;
-      set = gather-conjunction (a .kinds .now) (a .binders .now) (a .rows .now) _ _ _ _ _ (c .before .before .gather .result) k (c .before .before .gather .ensures .end) (c .before .before .gather .ensures .set) (c .gather2 .ensures .set);
-    }
+    let a = c .before .before .before .before .before .before .before .before .before .before .before .before .args in
+    gathered-conjunction (a .kinds .now) (a .binders .now) _ _ _ _ _ _ (c .before .before .before .before .gather .result) _ (c .before .before .before .before .gather .ensures) (c .before .before .gather2 .ensures) (c .store-union .ensures) (omega arith) (c .before .before .before .before .before .before .if5 .taken)
 
 gather-add-gather-3 : (t : ℕ) → gather-lts.Need-add-gather-3 (
   wide-reads.Asked,
   wide-reads.Learnt,
-  unite-reads.Asked,
-  unite-reads.Learnt,
-  insert-reads.Asked,
-  insert-reads.Learnt,
-  end-of-reads.Asked,
-  end-of-reads.Learnt,
+  store-copy-reads.Asked,
+  store-copy-reads.Learnt,
+  store-self-reads.Asked,
+  store-self-reads.Learnt,
   gather-below t,
   gather.Post,
+  store-union-reads.Asked,
+  store-union-reads.Learnt,
+  store-none-reads.Asked,
+  store-none-reads.Learnt,
 ) (gather-at t) gather.Post
 gather-add-gather-3 t c = search needs
 
 gather-sub-gather-3 : (t : ℕ) → gather-lts.Need-sub-gather-3 (
   wide-reads.Asked,
   wide-reads.Learnt,
-  unite-reads.Asked,
-  unite-reads.Learnt,
-  insert-reads.Asked,
-  insert-reads.Learnt,
-  end-of-reads.Asked,
-  end-of-reads.Learnt,
+  store-copy-reads.Asked,
+  store-copy-reads.Learnt,
+  store-self-reads.Asked,
+  store-self-reads.Learnt,
   gather-below t,
   gather.Post,
+  store-union-reads.Asked,
+  store-union-reads.Learnt,
+  store-none-reads.Asked,
+  store-none-reads.Learnt,
 ) (gather-at t) gather.Post
 gather-sub-gather-3 t c = search needs
 
 gather-gather-requires-3 : (t : ℕ) → gather-lts.Need-gather-requires-3 (
   wide-reads.Asked,
   wide-reads.Learnt,
-  unite-reads.Asked,
-  unite-reads.Learnt,
-  insert-reads.Asked,
-  insert-reads.Learnt,
-  end-of-reads.Asked,
-  end-of-reads.Learnt,
+  store-copy-reads.Asked,
+  store-copy-reads.Learnt,
+  store-self-reads.Asked,
+  store-self-reads.Learnt,
   gather-below t,
   gather.Post,
+  store-union-reads.Asked,
+  store-union-reads.Learnt,
+  store-none-reads.Asked,
+  store-none-reads.Learnt,
 ) (gather-at t) gather.Post
-gather-gather-requires-3 t c κs = search needs
+gather-gather-requires-3 t c κs =
+    let n = c .before .before .before .before .before .before .before .before in
+    let a = n .args in
+    (search needs, (search needs, search needs, search needs, search needs, search needs, subst (λ m. EndsFrom (a .kinds .now) m (a .ends .now) 0) (omega arith) (n .pre .1 .5)))
+
+gather-add-store-copy : (t : ℕ) → gather-lts.Need-add-store-copy (
+  wide-reads.Asked,
+  wide-reads.Learnt,
+  store-copy-reads.Asked,
+  store-copy-reads.Learnt,
+  store-self-reads.Asked,
+  store-self-reads.Learnt,
+  gather-below t,
+  gather.Post,
+  store-union-reads.Asked,
+  store-union-reads.Learnt,
+  store-none-reads.Asked,
+  store-none-reads.Learnt,
+) (gather-at t) gather.Post
+gather-add-store-copy t c = search needs
+
+gather-store-copy-requires-2 : (t : ℕ) → gather-lts.Need-store-copy-requires-2 (
+  wide-reads.Asked,
+  wide-reads.Learnt,
+  store-copy-reads.Asked,
+  store-copy-reads.Learnt,
+  store-self-reads.Asked,
+  store-self-reads.Learnt,
+  gather-below t,
+  gather.Post,
+  store-union-reads.Asked,
+  store-union-reads.Learnt,
+  store-none-reads.Asked,
+  store-none-reads.Learnt,
+) (gather-at t) gather.Post
+gather-store-copy-requires-2 t c κs = search needs
 
 gather-returns-6 : (t : ℕ) → gather-lts.Need-returns-6 (
   wide-reads.Asked,
   wide-reads.Learnt,
-  unite-reads.Asked,
-  unite-reads.Learnt,
-  insert-reads.Asked,
-  insert-reads.Learnt,
-  end-of-reads.Asked,
-  end-of-reads.Learnt,
+  store-copy-reads.Asked,
+  store-copy-reads.Learnt,
+  store-self-reads.Asked,
+  store-self-reads.Learnt,
   gather-below t,
   gather.Post,
+  store-union-reads.Asked,
+  store-union-reads.Learnt,
+  store-none-reads.Asked,
+  store-none-reads.Learnt,
 ) (gather-at t) gather.Post
 gather-returns-6 t c =
-    let a = c .before .before .before .before .before .before .before .before .before .args in
-    let k = c .before .before .if6 .taken in
-    record {
-      low = search needs;
-      high = search needs;
-      end = end-greatest (a .kinds .now) _ _ _ (c .gather3 .ensures .end) k;
-      sized = c .gather3 .ensures .sized;
-      set = gather-greatest (a .kinds .now) (a .binders .now) (a .rows .now) _ _ _ _ k (c .gather3 .ensures .set);
-    }
+    let a = c .before .before .before .before .before .before .before .before .before .before .before .args in
+    gathered-greatest (a .kinds .now) (a .binders .now) _ _ _ _ _ _ (c .before .before .gather3 .ensures) (c .store-copy2 .ensures) (omega arith) (c .before .before .before .before .if6 .taken)
 
-gather-add-result-3 : (t : ℕ) → gather-lts.Need-add-result-3 (
+gather-store-none-requires : (t : ℕ) → gather-lts.Need-store-none-requires (
   wide-reads.Asked,
   wide-reads.Learnt,
-  unite-reads.Asked,
-  unite-reads.Learnt,
-  insert-reads.Asked,
-  insert-reads.Learnt,
-  end-of-reads.Asked,
-  end-of-reads.Learnt,
+  store-copy-reads.Asked,
+  store-copy-reads.Learnt,
+  store-self-reads.Asked,
+  store-self-reads.Learnt,
   gather-below t,
   gather.Post,
+  store-union-reads.Asked,
+  store-union-reads.Learnt,
+  store-none-reads.Asked,
+  store-none-reads.Learnt,
 ) (gather-at t) gather.Post
-gather-add-result-3 t c = search needs
+gather-store-none-requires t c κs = search needs
+
+gather-add-result-4 : (t : ℕ) → gather-lts.Need-add-result-4 (
+  wide-reads.Asked,
+  wide-reads.Learnt,
+  store-copy-reads.Asked,
+  store-copy-reads.Learnt,
+  store-self-reads.Asked,
+  store-self-reads.Learnt,
+  gather-below t,
+  gather.Post,
+  store-union-reads.Asked,
+  store-union-reads.Learnt,
+  store-none-reads.Asked,
+  store-none-reads.Learnt,
+) (gather-at t) gather.Post
+gather-add-result-4 t c = search needs
 
 gather-returns-7 : (t : ℕ) → gather-lts.Need-returns-7 (
   wide-reads.Asked,
   wide-reads.Learnt,
-  unite-reads.Asked,
-  unite-reads.Learnt,
-  insert-reads.Asked,
-  insert-reads.Learnt,
-  end-of-reads.Asked,
-  end-of-reads.Learnt,
+  store-copy-reads.Asked,
+  store-copy-reads.Learnt,
+  store-self-reads.Asked,
+  store-self-reads.Learnt,
   gather-below t,
   gather.Post,
+  store-union-reads.Asked,
+  store-union-reads.Learnt,
+  store-none-reads.Asked,
+  store-none-reads.Learnt,
 ) (gather-at t) gather.Post
 gather-returns-7 t c =
-    let a = c .before .before .before .before .before .before .before .args in
-    record {
-      low = search needs;
-      high = search needs;
-      end = end-leaf (a .kinds .now) _ _ (c .before .before .before .if3 .left) (c .before .if5 .left) (c .if6 .left);
-      sized = search needs;
-      set = gather-truth (a .kinds .now) (a .binders .now) (a .rows .now) _ _ _ (c .before .before .before .before .if2 .left) (c .before .before .before .if3 .left) (c .before .before .if4 .left) (c .before .if5 .left) (c .if6 .left);
-    }
+    let a = c .before .before .before .before .before .before .before .before .before .args in
+    let s = c .store-none .ensures in
+    let k1 = c .before .before .before .before .before .before .if2 .left in
+    let k2 = c .before .before .before .before .before .if3 .left in
+    let k3 = c .before .before .before .before .if4 .left in
+    let k4 = c .before .before .before .if5 .left in
+    let k5 = c .before .before .if6 .left in
+    gathered-one (a .kinds .now) (a .binders .now) _ _ _ _ _ s _ (search needs) (search needs) (end-leaf (a .kinds .now) _ _ k2 k4 k5)
+    (gathers-truth (a .kinds .now) (a .binders .now) _ _ _ _ _ s refl k1 k2 k3 k4 k5)
 
 pub +gather-spec : {M : Type 1} → statement M
 +gather-spec = close μ-gather λ t. gather-lts.spec (
   wide-reads.Asked,
   wide-reads.Learnt,
-  unite-reads.Asked,
-  unite-reads.Learnt,
-  insert-reads.Asked,
-  insert-reads.Learnt,
-  end-of-reads.Asked,
-  end-of-reads.Learnt,
+  store-copy-reads.Asked,
+  store-copy-reads.Learnt,
+  store-self-reads.Asked,
+  store-self-reads.Learnt,
   gather-below t,
   gather.Post,
+  store-union-reads.Asked,
+  store-union-reads.Learnt,
+  store-none-reads.Asked,
+  store-none-reads.Learnt,
 )
     (gather-at t)
     gather.Post
@@ -514,17 +618,16 @@ pub +gather-spec : {M : Type 1} → statement M
     (gather-element-copy-out-kind t)
     (gather-element-copy-out-wide t)
     (gather-wide-requires t)
-    (gather-mul-unite t)
-    (gather-unite-requires t)
+    (gather-store-copy-requires t)
     (gather-add-result t)
     (gather-returns-2 t)
-    (gather-insert-requires t)
-    (gather-add-end-of t)
-    (gather-sub-end-of t)
-    (gather-end-of-requires t)
-    (gather-returns-3 t)
-    (gather-insert-requires-2 t)
+    (gather-store-self-requires t)
     (gather-add-result-2 t)
+    (gather-mul-result t)
+    (gather-element-copy-out-result t)
+    (gather-returns-3 t)
+    (gather-store-self-requires-2 t)
+    (gather-add-result-3 t)
     (gather-returns-4 t)
     (gather-add-gather t)
     (gather-sub-gather t)
@@ -532,10 +635,15 @@ pub +gather-spec : {M : Type 1} → statement M
     (gather-add-gather-2 t)
     (gather-sub-gather-2 t)
     (gather-gather-requires-2 t)
+    (gather-add-store-union t)
+    (gather-store-union-requires t)
     (gather-returns-5 t)
     (gather-add-gather-3 t)
     (gather-sub-gather-3 t)
     (gather-gather-requires-3 t)
+    (gather-add-store-copy t)
+    (gather-store-copy-requires-2 t)
     (gather-returns-6 t)
-    (gather-add-result-3 t)
+    (gather-store-none-requires t)
+    (gather-add-result-4 t)
     (gather-returns-7 t)
