@@ -15,7 +15,7 @@ use Rattle.theory.proofs.ValueSets.{and-left, and-right, and-cases}
 use Rattle.refusal.specs.declared.Refusal.{Refusal}
 use Rattle.refusal.specs.Refusal.{Condition, plain, First, HasNumbers, InOrder, has-place, part-of, order, or-else, plain-unless}
 use Rattle.refusal.specs.RefusalClaims.{AllFunctional}
-use Rattle.refusal.proofs.Refusals.{plain-functional, plain-number, plain-first, first-append, first-unique}
+use Rattle.refusal.proofs.Refusals.{plain-functional, plain-number, plain-first, first-append, first-unique, functional-append, numbers-append}
 use Rattle.values.specs.Setup.{Setup, setup, EventsFault, ValuesFault, MeetFault, setup-conditions}
 use Rattle.values.proofs.Setups.{setup-correct}
 use Rattle.formulas.specs.NodeBytes.{three-bytes}
@@ -29,18 +29,6 @@ use Rattle.channel_file.proofs.Claims.{answer-claim, one-answer-claim}
 use Rattle.channel_io.specs.FileJudgement.{rule-numbers, pair-conditions, contents-conditions, Short, short-meet, short-rule, read-conditions, FileJudged, off-form, of-contents, pair-refusal, has-room, stored-refusal, contents-read-refusal, read-refusal}
 use Rattle.channel_io.specs.FileWriting.{file-text, write-conditions, write-refusal}
 use Rattle.channel_io.specs.Claims.{ReadClaim, WriteRefusalClaim}
-
-functional-append : (cs ds : List Condition) → AllFunctional cs → AllFunctional ds → AllFunctional (cs ++ ds)
-unfolding AllFunctional
-functional-append [] ds f g = g
-functional-append (C ∷ cs) ds f g = (f .0, functional-append cs ds (f .1) g)
-
-numbers-append : (ns ms : List ℕ) (cs ds : List Condition) → HasNumbers ns cs → HasNumbers ms ds → HasNumbers (ns ++ ms) (cs ++ ds)
-unfolding HasNumbers
-numbers-append [] ms [] ds f g = g
-numbers-append [] ms (C ∷ cs) ds f g = absurd f
-numbers-append (n ∷ ns) ms [] ds f g = absurd f
-numbers-append (n ∷ ns) ms (C ∷ cs) ds f g = (f .0, numbers-append ns ms cs ds (f .1) g)
 
 -- ---- 1 to 3, then 5 to 9
 module _ (events values top : ℕ) (meet rule : List ℕ) where

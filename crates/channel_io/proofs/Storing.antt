@@ -16,7 +16,7 @@ use Rattle.refusal.specs.declared.Refusal.{Refusal}
 use Rattle.refusal.specs.declared.Refusal.the-variants.{Plain, At}
 use Rattle.refusal.specs.declared.Judgement.the-variants.{Accepted, Refused}
 use Rattle.refusal.specs.Refusal.{or-else, plain-unless, judgement}
-use Rattle.refusal.proofs.Refusals.{judgement-accepted, or-else-none}
+use Rattle.refusal.proofs.Refusals.{judgement-accepted, judgement-refused, or-else-none}
 use Rattle.values.specs.Setup.{setup, setup-refusal}
 use Rattle.formulas.specs.RuleRefusal.{rule-refusal}
 use Rattle.text_format.specs.Format.{Outcome, contents, refused}
@@ -36,18 +36,13 @@ use Rattle.channel_io.specs.FileJudgement.{node-numbers, rule-numbers, p
 use Rattle.channel_io.specs.FileReading.{numbers, accepted-or, read-answer, put-unless, meet-after, rule-after, Reads, Keeps}
 use Rattle.channel_io.proofs.Clamping.{file-same, nothing-clamped}
 
-pub judged-refused : (a : Option Refusal) (r : Refusal) → judgement a ≡ Refused r → a ≡ some r
-unfolding judgement
-judged-refused none r e = let z : _≡_ {A = ℕ} 0 1 = cc in absurd (omega arith)
-judged-refused (some s) r e = let q : s ≡ r = cc in ap some q
-
 -- ---- 1 to 3, then 5 to 9
 module _ (events values top : ℕ) (meet rule : List ℕ) where
   pub pair-setup :
       (r : Refusal) → judgement (setup-refusal (setup events values top meet)) ≡ Refused r → Refused r ≡ judgement (pair-refusal events values top meet rule)
   unfolding pair-refusal or-else judgement
   pair-setup r e =
-      sym (ap (λ (o : Option Refusal). judgement (or-else o (rule-refusal events values rule))) (judged-refused (setup-refusal (setup events values top meet)) r e))
+      sym (ap (λ (o : Option Refusal). judgement (or-else o (rule-refusal events values rule))) (judgement-refused (setup-refusal (setup events values top meet)) r e))
 
   pub pair-rule :
       judgement (setup-refusal (setup events values top meet)) ≡ Accepted
@@ -76,7 +71,7 @@ module _ (events values top count : ℕ) (entries nodes meet rule : List ℕ) wh
   unfolding stored-refusal or-else accepted-or put-unless
   keeps-refused r e =
       keeps (some r) meet rule (Unread r)
-      (ap (λ (o : Option Refusal). or-else o (plain-unless (has-room entries nodes meet rule) 13)) (judged-refused (pair-refusal events values top entries nodes) r e))
+      (ap (λ (o : Option Refusal). or-else o (plain-unless (has-room entries nodes meet rule) 13)) (judgement-refused (pair-refusal events values top entries nodes) r e))
       refl refl refl
 
   room-answer :

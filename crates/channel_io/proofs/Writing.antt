@@ -18,7 +18,7 @@ use Rattle.refusal.specs.declared.Judgement.the-variants.{Accepted as Passed, R
 use Rattle.refusal.specs.declared.Counted.{Counted}
 use Rattle.refusal.specs.declared.Counted.the-variants.{Count, Refused}
 use Rattle.refusal.specs.Refusal.{or-else, plain-unless, judgement, counted}
-use Rattle.refusal.proofs.Refusals.{judgement-accepted, or-else-none}
+use Rattle.refusal.proofs.Refusals.{judgement-accepted, judgement-refused, or-else-none}
 use Rattle.values.specs.Setup.{setup, WellFormed, setup-refusal}
 use Rattle.values.proofs.Setups.{setup-accepted, square-small}
 use Rattle.formulas.specs.NodeBytes.{three-bytes, encode-all}
@@ -36,7 +36,6 @@ use Rattle.channel_io.specs.FileJudgement.{node-numbers, rule-numbers, p
 use Rattle.channel_io.specs.FileReading.{put-unless}
 use Rattle.channel_io.specs.FileWriting.{text-or-empty, file-text, write-refusal, WritesFile}
 use Rattle.channel_io.proofs.Clamping.{limits, meet-kept, rule-kept}
-use Rattle.channel_io.proofs.Storing.{judged-refused}
 
 -- ---- the tokens of a formula's nodes
 
@@ -173,7 +172,7 @@ module _ (events values top : ℕ) (meet rule old : List ℕ) where
   unfolding write-refusal or-else counted put-unless
   writes-refused r e =
       writes (some r) old (Refused r)
-      (ap (λ (o : Option Refusal). or-else o (plain-unless (leb (length T) (length old)) 13)) (judged-refused (pair-refusal events values top meet rule) r e)) refl refl
+      (ap (λ (o : Option Refusal). or-else o (plain-unless (leb (length T) (length old)) 13)) (judgement-refused (pair-refusal events values top meet rule) r e)) refl refl
 
   pub small-numbers : judgement (pair-refusal events values top meet rule) ≡ Passed → (events ≤ 16) × (values ≤ 16) × (top < values)
   unfolding pair-refusal setup

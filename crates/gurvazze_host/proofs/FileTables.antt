@@ -15,7 +15,7 @@ use Rattle.refusal.specs.declared.Refusal.{Refusal}
 use Rattle.refusal.specs.declared.Refusal.the-variants.{At}
 use Rattle.refusal.specs.declared.Counted.the-variants.{Count, Refused}
 use Rattle.refusal.specs.Refusal.{or-else, plain-unless, counted}
-use Rattle.refusal.proofs.Refusals.{counted-accepted, or-else-none, plain-none}
+use Rattle.refusal.proofs.Refusals.{counted-accepted, counted-refused, or-else-none, plain-none}
 use Rattle.values.specs.Setup.{Setup, setup, WellFormed, setup-refusal}
 use Rattle.values.proofs.Setups.{setup-accepted, square-small}
 use Rattle.formulas.specs.RuleRefusal.{count-fits, rule-refusal}
@@ -33,11 +33,6 @@ use Rattle.channel_io.specs.FileReading.{numbers, file-numbers, accepted-or, re
 use Rattle.gurvazze_host.specs.declared.FileTable.{FileTable}
 use Rattle.gurvazze_host.specs.declared.FileTable.the-variants.{Made, Refused as Unmade}
 use Rattle.gurvazze_host.specs.FileCalls.{file-refusal, file-states, file-contents, MakesTable, off-form, turned-away, made}
-
-counted-refused : (a : Option Refusal) (n : ℕ) (r : Refusal) → counted a n ≡ Refused r → a ≡ some r
-unfolding counted
-counted-refused none n r e = let z : _≡_ {A = ℕ} 0 1 = cc in absurd (omega arith)
-counted-refused (some s) n r e = let q : s ≡ r = cc in ap some q
 
 answer-refused : (o : Option Refusal) (n : FileNumbers) (r : Refusal) → Unread r ≡ accepted-or o n → o ≡ some r
 unfolding accepted-or
