@@ -9,11 +9,12 @@ use native.Mathlib.Omega.{arith}
 use borrow.Author.Tests.{le-leb, lt-leb}
 use lib.Dec.{leb}
 use lib.ListN.{length, drop}
+use Rattle.refusal.specs.LentBuffers.{put}
 use Rattle.text_format.specs.Format.{Parsed, ok, bad, Format, Outcome, contents, refused}
 use Rattle.channel_file.specs.ChannelFile.{Token, Contents, text, Shows}
 use Rattle.channel_file.specs.FileFormat.{entries, tokens}
 use Rattle.channel_file.specs.Reading.{read-file, meet-start, rule-start, stretch, tokens-stretch, checked}
-use Rattle.channel_file.specs.Bytes.{node, entry, encoded, meet-bytes, rule-bytes, put-in, fits, stored-reply, stored-meet, stored-rule, Stores}
+use Rattle.channel_file.specs.Bytes.{node, entry, encoded, meet-bytes, rule-bytes, fits, stored-reply, stored-meet, stored-rule, Stores}
 use Rattle.channel_file.specs.Steps.{SpansTokens, puts, IsOk, values-of, codes-at, Storable}
 use Rattle.channel_file.specs.declared.Checked.{Checked}
 use Rattle.channel_file.specs.declared.Stored.{Stored}
@@ -136,10 +137,10 @@ module _ (t : List ℕ) {e v p m a n b : ℕ} (g : Accepted t e v p m a n b) whe
   full = Stored.Form (c .events) (c .values) (c .top) (length (c .meet)) (length (c .rule))
 
   stored-by : (f : Bool) (meet rule meet′ rule′ : List ℕ) (r : Stored) → fits c meet rule ≡ f → r ≡ cond f full Stored.Short
-      → meet′ ≡ cond f (put-in (meet-bytes c) meet) meet → rule′ ≡ cond f (put-in (rule-bytes c) rule) rule → Stores t meet rule meet′ rule′ r
+      → meet′ ≡ cond f (put (meet-bytes c) meet) meet → rule′ ≡ cond f (put (rule-bytes c) rule) rule → Stores t meet rule meet′ rule′ r
   stored-by f meet rule meet′ rule′ r q x y z =
       stored-as t meet rule meet′ rule′ (contents c) r (g .answer) (x ∙ ap (λ (b : Bool). cond b full Stored.Short) (sym q))
-      (y ∙ ap (λ (b : Bool). cond b (put-in (meet-bytes c) meet) meet) (sym q)) (z ∙ ap (λ (b : Bool). cond b (put-in (rule-bytes c) rule) rule) (sym q))
+      (y ∙ ap (λ (b : Bool). cond b (put (meet-bytes c) meet) meet) (sym q)) (z ∙ ap (λ (b : Bool). cond b (put (rule-bytes c) rule) rule) (sym q))
 
   meet-size : length (meet-bytes c) ≡ m
   meet-size = meet-bytes-length c ∙ sym (g .meet-count)

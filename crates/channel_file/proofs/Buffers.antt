@@ -8,10 +8,11 @@ use native.Mathlib.Nat.{suc-mul}
 use native.Mathlib.Numerals.{add-one}
 use lib.ListN.{length, set, drop, take, getD, length-set, length-append}
 use lib.Seq.{take-suc, sets, sets-eq}
+use Rattle.refusal.specs.LentBuffers.{put}
 use Rattle.text_format.specs.Format.{Parsed, ok, bad, bind, Format, Laws}
 use Rattle.text_format.specs.Series.{Separator, space, newline, series}
 use Rattle.text_format.proofs.Series.{series-bad, series-ends, series-goes}
-use Rattle.channel_file.specs.Bytes.{encoded, put-in}
+use Rattle.channel_file.specs.Bytes.{encoded}
 use Rattle.channel_file.specs.Steps.{puts, Wrote, IsOk, values-of, codes-at, Storable}
 
 -- ---- bytes
@@ -31,7 +32,8 @@ puts-sets l i [] = refl
 puts-sets l i (b ∷ s) = puts-sets (set l i b) (i + 1) s ∙ ap (λ (n : ℕ). sets (set l i b) n s) (add-one i)
 
 -- the output, and what lies behind it is as it was
-pub puts-whole : (l s : List ℕ) → length s ≤ length l → puts l 0 s ≡ put-in s l
+pub puts-whole : (l s : List ℕ) → length s ≤ length l → puts l 0 s ≡ put s l
+unfolding put
 puts-whole l s h =
     let e : 0 + length s ≡ length s = omega arith in
     puts-sets l 0 s ∙ sets-eq s l 0 (omega arith) ∙ ap (λ (n : ℕ). s ++ drop n l) e

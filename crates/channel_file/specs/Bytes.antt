@@ -6,7 +6,8 @@ use mathlib.Core.Path.{_≡_}
 use mathlib.Core.List.{List, [], _∷_, _++_}
 use mathlib.Core.Bool.{Bool, cond, _&&_}
 use lib.Dec.{leb}
-use lib.ListN.{length, drop}
+use lib.ListN.{length}
+use Rattle.refusal.specs.LentBuffers.{put}
 use Rattle.text_format.specs.Format.{Outcome, contents, refused}
 use Rattle.channel_file.specs.ChannelFile.{Token, token-T, token-A, token-V, token-X, token-G, token-O, Contents}
 use Rattle.channel_file.specs.FileFormat.{first, second}
@@ -45,10 +46,6 @@ rule-bytes c = encoded node (c .rule)
 
 -- ---- storing into two lent buffers
 
--- An output at the front of a buffer: "what lies after an output keeps its contents".
-abbrev pub put-in : List ℕ → List ℕ → List ℕ
-put-in s old = s ++ drop (length s) old
-
 -- Both buffers have room for their outputs.
 abbrev pub fits : Contents → List ℕ → List ℕ → Bool
 fits c meet rule = leb (length (meet-bytes c)) (length meet) && leb (length (rule-bytes c)) (length rule)
@@ -61,11 +58,11 @@ stored-reply (refused p) meet rule = Stored.Refused p
 
 -- The buffers afterwards; both are as before unless both outputs were stored.
 abbrev pub stored-meet : Outcome Contents → List ℕ → List ℕ → List ℕ
-stored-meet (contents c) meet rule = cond (fits c meet rule) (put-in (meet-bytes c) meet) meet
+stored-meet (contents c) meet rule = cond (fits c meet rule) (put (meet-bytes c) meet) meet
 stored-meet (refused p) meet rule = meet
 
 abbrev pub stored-rule : Outcome Contents → List ℕ → List ℕ → List ℕ
-stored-rule (contents c) meet rule = cond (fits c meet rule) (put-in (rule-bytes c) rule) rule
+stored-rule (contents c) meet rule = cond (fits c meet rule) (put (rule-bytes c) rule) rule
 stored-rule (refused p) meet rule = rule
 
 -- Reply and buffers of a call that reads the text t.

@@ -17,6 +17,7 @@ use Rattle.refusal.specs.declared.Refusal.the-variants.{Plain, At}
 use Rattle.refusal.specs.declared.Judgement.the-variants.{Accepted, Refused}
 use Rattle.refusal.specs.Refusal.{or-else, plain-unless, judgement}
 use Rattle.refusal.proofs.Refusals.{judgement-accepted, judgement-refused, or-else-none}
+use Rattle.refusal.specs.LentBuffers.{put, put-unless}
 use Rattle.values.specs.Setup.{setup, setup-refusal}
 use Rattle.formulas.specs.RuleRefusal.{rule-refusal}
 use Rattle.text_format.specs.Format.{Outcome, contents, refused}
@@ -25,7 +26,7 @@ use Rattle.text_format.specs.Decimal.{Numeral}
 use Rattle.text_format.proofs.Decimal.{decimal-numeral}
 use Rattle.channel_file.specs.ChannelFile.{Token, token-T, token-A, token-V, token-X, token-G, token-O, Contents, number, Small, SmallToken, token-text, text, SmallContents, Shows}
 use Rattle.channel_file.specs.Reading.{file-limit, read-file}
-use Rattle.channel_file.specs.Bytes.{encoded, meet-bytes, rule-bytes, put-in, fits, stored-reply, stored-meet, stored-rule, Stores}
+use Rattle.channel_file.specs.Bytes.{encoded, meet-bytes, rule-bytes, fits, stored-reply, stored-meet, stored-rule, Stores}
 use Rattle.channel_file.specs.declared.Stored.{Stored}
 use Rattle.channel_file.proofs.Claims.{shown}
 use Rattle.channel_file.proofs.Buffers.{encoded-length}
@@ -33,7 +34,7 @@ use Rattle.channel_file.proofs.Accepted.{meet-bytes-length, rule-bytes-length}
 use Rattle.channel_io.specs.declared.FileRead.{FileRead}
 use Rattle.channel_io.specs.declared.FileRead.the-variants.{Accepted as Read, Refused as Unread}
 use Rattle.channel_io.specs.FileJudgement.{node-numbers, rule-numbers, pair-refusal, contents-refusal, has-room, stored-refusal, contents-read-refusal}
-use Rattle.channel_io.specs.FileReading.{numbers, accepted-or, read-answer, put-unless, meet-after, rule-after, Reads, Keeps}
+use Rattle.channel_io.specs.FileReading.{numbers, accepted-or, read-answer, meet-after, rule-after, Reads, Keeps}
 use Rattle.channel_io.proofs.Clamping.{file-same, nothing-clamped}
 
 -- ---- 1 to 3, then 5 to 9
@@ -94,7 +95,7 @@ module _ (events values top count : ℕ) (entries nodes meet rule : List ℕ) wh
 
   pub keeps-all :
       (meet′ rule′ : List ℕ) → judgement (pair-refusal events values top entries nodes) ≡ Accepted → length entries ≤ length meet
-      → length nodes ≤ length rule → meet′ ≡ put-in entries meet → rule′ ≡ put-in nodes rule
+      → length nodes ≤ length rule → meet′ ≡ put entries meet → rule′ ≡ put nodes rule
       → Keeps events values top count entries nodes meet rule meet′ rule′ (Read (numbers events values top (length entries) count))
   unfolding plain-unless accepted-or put-unless has-room
   keeps-all meet′ rule′ e h g m n =
@@ -135,7 +136,8 @@ numbers-length c = omega (arith, encoded-length node-numbers 3 (λ a. refl) (c .
 -- ---- what a caller of read_text knows
 
 -- the bytes that were stored stand at the front
-front : (n : ℕ) (s old new : List ℕ) → new ≡ put-in s old → n ≡ length s → take n new ≡ s
+front : (n : ℕ) (s old new : List ℕ) → new ≡ put s old → n ≡ length s → take n new ≡ s
+unfolding put
 front n s old new e l = ap (take n) e ∙ take-at s (drop (length s) old) n (sym l)
 
 pub record Formed (t meet rule meet′ rule′ : List ℕ) (events values top entries items : ℕ) : Type 0 where
@@ -157,7 +159,7 @@ module _ {t meet rule meet′ rule′ : List ℕ} {r : Stored} (s : Stores t mee
     where
       within : (c : Contents) → read-file t ≡ contents c → (b : Bool) → fits c meet rule ≡ b
           → Stored.Form e v p m n ≡ cond b (Stored.Form (c .events) (c .values) (c .top) (length (c .meet)) (length (c .rule))) Stored.Short
-          → meet′ ≡ cond b (put-in (meet-bytes c) meet) meet → rule′ ≡ cond b (put-in (rule-bytes c) rule) rule → Formed t meet rule meet′ rule′ e v p m n
+          → meet′ ≡ cond b (put (meet-bytes c) meet) meet → rule′ ≡ cond b (put (rule-bytes c) rule) rule → Formed t meet rule meet′ rule′ e v p m n
       within c f true q r x y =
           let hm = leb-true (length (meet-bytes c)) (length meet) (and-left (leb (length (meet-bytes c)) (length meet)) _ q) in
           let hr = leb-true (length (rule-bytes c)) (length rule) (and-right (leb (length (meet-bytes c)) (length meet)) _ q) in
@@ -241,7 +243,7 @@ module _ (c : Contents) (meet rule : List ℕ) where
       (bytes output old : List ℕ) → (contents-refusal c ≡ none → bytes ≡ output) → (o : Option Refusal) → contents-read-refusal c meet rule ≡ o
       → put-unless o bytes old ≡ put-unless o output old
   unfolding put-unless stored-refusal
-  put-same bytes output old h none e = ap (λ (s : List ℕ). put-in s old) (h (or-else-none (contents-refusal c) (plain-unless (has-room (c .meet) (rule-numbers c) meet rule) 13) e .0))
+  put-same bytes output old h none e = ap (λ (s : List ℕ). put s old) (h (or-else-none (contents-refusal c) (plain-unless (has-room (c .meet) (rule-numbers c) meet rule) 13) e .0))
   put-same bytes output old h (some r) e = refl
 
 pub reads-kept :

@@ -19,6 +19,7 @@ use Rattle.refusal.specs.declared.Counted.{Counted}
 use Rattle.refusal.specs.declared.Counted.the-variants.{Count, Refused}
 use Rattle.refusal.specs.Refusal.{or-else, plain-unless, judgement, counted}
 use Rattle.refusal.proofs.Refusals.{judgement-accepted, judgement-refused, or-else-none}
+use Rattle.refusal.specs.LentBuffers.{put, put-unless}
 use Rattle.values.specs.Setup.{setup, WellFormed, setup-refusal}
 use Rattle.values.proofs.Setups.{setup-accepted, square-small}
 use Rattle.formulas.specs.NodeBytes.{three-bytes, encode-all}
@@ -26,14 +27,13 @@ use Rattle.formulas.specs.RuleRefusal.{rule-refusal, formula-of}
 use Rattle.formulas.proofs.Prefix.{length-nodes}
 use Rattle.formulas.proofs.RuleClaims.{accepted-formula-of}
 use Rattle.channel_file.specs.ChannelFile.{Token, token-T, token-A, token-V, token-X, token-G, token-O, Contents, text, SmallContents}
-use Rattle.channel_file.specs.Bytes.{clamp, encoded, put-in}
+use Rattle.channel_file.specs.Bytes.{clamp, encoded}
 use Rattle.channel_file.proofs.Claims.{length-claim}
 use Rattle.channel_writer.specs.Writing.{with-token, node-tokens, contents-of, written-reply, written-buffer, Writes}
 use Rattle.channel_writer.specs.declared.Written.{Written}
 use Rattle.channel_writer.specs.Claims.{All, none-left, one-more, Byte}
 use Rattle.channel_writer.proofs.Claims.{written-claim}
 use Rattle.channel_io.specs.FileJudgement.{node-numbers, rule-numbers, pair-refusal}
-use Rattle.channel_io.specs.FileReading.{put-unless}
 use Rattle.channel_io.specs.FileWriting.{text-or-empty, file-text, write-refusal, WritesFile}
 use Rattle.channel_io.proofs.Clamping.{limits, meet-kept, rule-kept}
 
@@ -196,16 +196,16 @@ module _ (events values top : ℕ) (meet rule old : List ℕ) where
     where
       go : (c : Contents) → pair-refusal events values top meet rule ≡ none → T ≡ text c → length (text c) ≤ 4096 → (q : Bool) → ltb (min 4096 (length old)) (length (text c)) ≡ q
           → r ≡ reply-of (cond (ltb (min 4096 (length old)) (length (text c))) Written.Long (Written.Text (length (text c))))
-          → new ≡ cond (ltb (min 4096 (length old)) (length (text c))) old (put-in (text c) old) → WritesFile events values top meet rule old new r
+          → new ≡ cond (ltb (min 4096 (length old)) (length (text c))) old (put (text c) old) → WritesFile events values top meet rule old new r
       go c p t s true f a b =
           let h = ltb-true (min 4096 (length old)) (length (text c)) f in
           writes (some (Plain 13)) new r
           (ap₂ (λ (o : Option Refusal) (z : Bool). or-else o (plain-unless z 13)) p (lt-leb (length T) (length old) (omega (arith, ap length t))))
           (a ∙ ap (λ (z : Bool). reply-of (cond z Written.Long (Written.Text (length (text c))))) f)
-          (b ∙ ap (λ (z : Bool). cond z old (put-in (text c) old)) f)
+          (b ∙ ap (λ (z : Bool). cond z old (put (text c) old)) f)
       go c p t s false f a b =
           let h = ltb-false (min 4096 (length old)) (length (text c)) f in
           writes none new r
           (ap₂ (λ (o : Option Refusal) (z : Bool). or-else o (plain-unless z 13)) p (le-leb (length T) (length old) (omega (arith, ap length t))))
           (a ∙ ap (λ (z : Bool). reply-of (cond z Written.Long (Written.Text (length (text c))))) f ∙ ap (λ (l : List ℕ). Count (length l)) (sym t))
-          (b ∙ ap (λ (z : Bool). cond z old (put-in (text c) old)) f ∙ ap (λ (l : List ℕ). put-in l old) (sym t))
+          (b ∙ ap (λ (z : Bool). cond z old (put (text c) old)) f ∙ ap (λ (l : List ℕ). put l old) (sym t))

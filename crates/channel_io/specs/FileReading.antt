@@ -8,9 +8,9 @@ use mathlib.Core.Option.{Option, none, some}
 use lib.ListN.{length}
 use Rattle.refusal.specs.declared.Refusal.{Refusal}
 use Rattle.refusal.specs.declared.Refusal.the-variants.{At}
+use Rattle.refusal.specs.LentBuffers.{put-unless}
 use Rattle.text_format.specs.Format.{Outcome, contents, refused}
 use Rattle.channel_file.specs.ChannelFile.{Contents}
-use Rattle.channel_file.specs.Bytes.{put-in}
 use Rattle.channel_file.specs.Reading.{read-file}
 use Rattle.channel_io.specs.declared.FileNumbers.{FileNumbers}
 use Rattle.channel_io.specs.declared.FileRead.{FileRead}
@@ -33,11 +33,6 @@ accepted-or (some refusal) n = Refused refusal
 unfoldable pub read-answer : Outcome Contents → List ℕ → List ℕ → FileRead
 read-answer (refused p) meet rule = Refused (At 4 p)
 read-answer (contents c) meet rule = accepted-or (contents-read-refusal c meet rule) (file-numbers c)
-
--- A buffer afterwards: the output and behind it what was there; as it was beside a refusal.
-unfoldable pub put-unless : Option Refusal → List ℕ → List ℕ → List ℕ
-put-unless none output old = put-in output old
-put-unless (some refusal) output old = old
 
 -- The buffers after a text was read: the meet entries, and the nodes of the rule, three numbers each.
 unfoldable pub meet-after : Outcome Contents → List ℕ → List ℕ → List ℕ

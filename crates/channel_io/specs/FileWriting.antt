@@ -10,10 +10,10 @@ use lib.ListN.{length}
 use Rattle.refusal.specs.declared.Refusal.{Refusal}
 use Rattle.refusal.specs.declared.Counted.{Counted}
 use Rattle.refusal.specs.Refusal.{Condition, plain, or-else, plain-unless, counted}
+use Rattle.refusal.specs.LentBuffers.{put-unless}
 use Rattle.channel_file.specs.ChannelFile.{Contents, text}
 use Rattle.channel_writer.specs.Writing.{node-tokens, contents-of}
 use Rattle.channel_io.specs.FileJudgement.{pair-conditions, pair-refusal}
-use Rattle.channel_io.specs.FileReading.{put-unless}
 
 -- The text of contents; empty where there are none, which is never so where 1 to 3 and 5 to 9 are not met (Claims).
 abbrev pub text-or-empty : Option Contents → List ℕ

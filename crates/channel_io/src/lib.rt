@@ -15,7 +15,7 @@ ghost use mathlib.Core.Path.{_≡_};
 ghost use Prim.Native.Nat.{_≤_};
 ghost use lib.ListN.{length};
 ghost use Rattle.refusal.specs.Refusal.{judgement};
-ghost use Rattle.channel_file.specs.Bytes.{put-in};
+ghost use Rattle.refusal.specs.LentBuffers.{put};
 ghost use Rattle.channel_io.specs.FileJudgement.{pair-refusal};
 ghost use Rattle.channel_io.specs.FileReading.{Reads, Keeps};
 ghost use Rattle.channel_io.specs.FileWriting.{WritesFile};
@@ -54,7 +54,7 @@ fn check_pair(events: usize, values: usize, top: usize, meet: &[u8], rule: &[u8]
 // Puts bytes at the front of a buffer.
 fn copy_in(from: &[u8], to: &mut [u8])
     requires { ⌜ length (now from) ≤ length (now to) ⌝ }
-    ensures { λ _. ⌜ now (to .exit) ≡ put-in (now (from .entry)) (now (to .entry)) ⌝ }
+    ensures { λ _. ⌜ now (to .exit) ≡ put (now (from .entry)) (now (to .entry)) ⌝ }
 {
     let mut i: usize = 0;
     while i < from.len() {

@@ -8,6 +8,7 @@ use mathlib.Core.Option.{Option, some, none}
 use native.Mathlib.Omega.{arith}
 use borrow.Author.Tests.{lt-ltb, le-ltb}
 use lib.ListN.{length, take}
+use Rattle.refusal.specs.LentBuffers.{put}
 use Rattle.text_format.specs.Format.{ascii}
 use Rattle.text_format.specs.Series.{number-item, separated, OneOrMore}
 use Rattle.text_format.proofs.Series.{series-text}
@@ -15,7 +16,6 @@ use Rattle.text_output.specs.Output.{Puts}
 use Rattle.text_output.proofs.Outputs.{puts-as, puts-copied}
 use Rattle.channel_file.specs.ChannelFile.{Token, Contents, number, token-text, line, text}
 use Rattle.channel_file.specs.FileFormat.{token-item, tokens, entries}
-use Rattle.channel_file.specs.Bytes.{put-in}
 use Rattle.channel_file.proofs.FileFormat.{token-print}
 use Rattle.channel_writer.specs.Writing.{node-tokens, contents-of, written-reply, written-buffer, Writes}
 use Rattle.channel_writer.specs.Steps.{is-some, IsSome, items-of, nodes-text, lines-text}
@@ -80,17 +80,17 @@ pub writes-long : (o : Option Contents) (old : List ℕ) (c : Contents) → o �
 writes-long o old c e h =
     record {
       reply = sym (ap (written-reply old) e ∙ ap (λ (b : Bool). cond b Written.Long (Written.Text (length (text c)))) (lt-ltb (min 4096 (length old)) (length (text c)) h));
-      buffer = sym (ap (written-buffer old) e ∙ ap (λ (b : Bool). cond b old (put-in (text c) old)) (lt-ltb (min 4096 (length old)) (length (text c)) h));
+      buffer = sym (ap (written-buffer old) e ∙ ap (λ (b : Bool). cond b old (put (text c) old)) (lt-ltb (min 4096 (length old)) (length (text c)) h));
     }
 
 pub writes-all : (o : Option Contents) (old new : List ℕ) (c : Contents) (n : ℕ) → o ≡ some c → length (text c) ≤ min 4096 (length old) → n ≡ length (text c)
-    → new ≡ put-in (text c) old → Writes o old new (Written.Text n)
+    → new ≡ put (text c) old → Writes o old new (Written.Text n)
 writes-all o old new c n e h l w =
     record {
       reply = ap (λ (z : ℕ). Written.Text z) l
           ∙ sym (ap (written-reply old) e ∙ ap (λ (b : Bool). cond b Written.Long (Written.Text (length (text c)))) (le-ltb (min 4096 (length old)) (length (text c)) h));
       buffer = w
-          ∙ sym (ap (written-buffer old) e ∙ ap (λ (b : Bool). cond b old (put-in (text c) old)) (le-ltb (min 4096 (length old)) (length (text c)) h));
+          ∙ sym (ap (written-buffer old) e ∙ ap (λ (b : Bool). cond b old (put (text c) old)) (le-ltb (min 4096 (length old)) (length (text c)) h));
     }
 
 -- the text was put into an array of 4,097 bytes, up to the offset n
@@ -115,6 +115,7 @@ module _ (e v p : ℕ) (meet nodes l l′ : List ℕ) (n : ℕ) (f : Fine e v p 
   over-buffer old h = writes-long o old (f .inside) (f .is) (omega (arith, size))
 
   pub copied : (old new : List ℕ) (r : ℕ) → n ≤ 4096 → n ≤ length old → Puts old (take n l′) new 0 r → Writes o old new (Written.Text n)
+  unfolding put
   copied old new r h g k =
       writes-all o old new (f .inside) n (f .is) (omega (arith, size)) (omega (arith, size))
       (puts-copied put-all (omega (arith, size)) (omega (arith, size)) k)

@@ -7,9 +7,9 @@ use mathlib.Core.Bool.{cond}
 use mathlib.Core.Option.{Option, some, none}
 use lib.Dec.{ltb, eqb}
 use lib.ListN.{length}
+use Rattle.refusal.specs.LentBuffers.{put}
 use Rattle.channel_file.specs.ChannelFile.{Token, token-T, token-A, token-V, token-X, token-G, token-O, Contents, text}
 use Rattle.channel_file.specs.Reading.{file-limit}
-use Rattle.channel_file.specs.Bytes.{put-in}
 use Rattle.channel_writer.specs.declared.Written.{Written}
 
 -- The token of a node, for bytes: none for an unknown kind, or where an unused field is not 0 (Claims, NodeClaim).
@@ -49,7 +49,7 @@ written-reply old (some c) = cond (ltb (min file-limit (length old)) (length (te
 -- The buffer afterwards; it is as before unless the text was written.
 abbrev pub written-buffer : List ℕ → Option Contents → List ℕ
 written-buffer old none = old
-written-buffer old (some c) = cond (ltb (min file-limit (length old)) (length (text c))) old (put-in (text c) old)
+written-buffer old (some c) = cond (ltb (min file-limit (length old)) (length (text c))) old (put (text c) old)
 
 -- Reply and buffer of a call that writes a file.
 pub record Writes (c : Option Contents) (old new : List ℕ) (r : Written) : Type 0 where

@@ -16,13 +16,14 @@ use Rattle.refusal.specs.declared.Counted.{Counted}
 use Rattle.refusal.specs.declared.Counted.the-variants.{Refused as Uncounted}
 use Rattle.refusal.specs.Refusal.{or-else, judgement, counted}
 use Rattle.refusal.proofs.Refusals.{judgement-accepted, judgement-refused}
+use Rattle.refusal.specs.LentBuffers.{put-unless}
 use Rattle.values.specs.Setup.{Setup, setup-refusal, WellFormed}
 use Rattle.values.proofs.Setups.{setup-accepted}
 use Rattle.formulas.specs.NodeBytes.{encode-formula, three-bytes}
 use Rattle.machines.specs.TableBytes.{machine-of, TableInOrder}
 use Rattle.machines.specs.TableRefusal.{table-refusal}
 use Rattle.machines.proofs.TableRefusals.{none-in-order, accepted-table}
-use Rattle.characteristic.specs.RuleOfTable.{IsRuleOf, output-refusal, after-call, rule-of, write-refusal, write-answer, write-contents}
+use Rattle.characteristic.specs.RuleOfTable.{IsRuleOf, output-refusal, rule-of, write-refusal, write-answer, write-contents}
 use Rattle.characteristic.specs.NodeOutput.{Answered}
 use Rattle.characteristic.proofs.Outputs.{refused-answer}
 
@@ -119,7 +120,7 @@ module _ (state-limit node-limit : ℕ) (s : Setup) (states start : ℕ) (table 
       let rule = is-rule setup-in-order table-in-order in (
         a .answer (rule-of s states start table) rule ∙ ap (λ o. counted o (size (rule-of s states start table))) (sym last),
         a .contents (rule-of s states start table) rule
-            ∙ ap (λ o. after-call o (encode-formula three-bytes (rule-of s states start table)) old) (sym last),
+            ∙ ap (λ o. put-unless o (encode-formula three-bytes (rule-of s states start table)) old) (sym last),
       )
 
   -- What the walk asks of the numbers.

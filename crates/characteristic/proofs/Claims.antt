@@ -16,6 +16,7 @@ use Rattle.theory.proofs.CharacteristicFormula.{writes-one, writes-accepted, fe
 use Rattle.refusal.specs.Refusal.{plain, First, plain-unless, counted, has-place, HasNumbers, part-of, order, InOrder}
 use Rattle.refusal.specs.RefusalClaims.{AllFunctional}
 use Rattle.refusal.proofs.Refusals.{plain-first, plain-functional, plain-number, first-then, first-append, first-unique, or-else-none, plain-none}
+use Rattle.refusal.specs.LentBuffers.{put-unless}
 use Rattle.values.specs.Setup.{Setup, setup-conditions, setup-refusal}
 use Rattle.values.proofs.Setups.{setup-correct, setup-accepted}
 use Rattle.formulas.specs.NodeBytes.{encode-formula, three-bytes}
@@ -25,7 +26,7 @@ use Rattle.formulas.proofs.RuleClaims.{accepted-claim}
 use Rattle.machines.specs.TableBytes.{machine-of, table-condition}
 use Rattle.machines.specs.TableRefusal.{table-refusal}
 use Rattle.machines.proofs.TableRefusals.{table-refusal-first}
-use Rattle.characteristic.specs.RuleOfTable.{IsRuleOf, TooManyNodes, BufferTooShort, write-conditions, output-refusal, after-call, rule-of, write-refusal, write-answer, write-contents}
+use Rattle.characteristic.specs.RuleOfTable.{IsRuleOf, TooManyNodes, BufferTooShort, write-conditions, output-refusal, rule-of, write-refusal, write-answer, write-contents}
 use Rattle.characteristic.specs.Claims.{WriteRefusalClaim, RefusedClaim, RuleWritten, Written, WrittenClaim}
 use Rattle.characteristic.proofs.Outputs.{refused-answer}
 use Rattle.characteristic.proofs.Answers.{is-rule, runs, last-event, start-within}
@@ -176,13 +177,13 @@ module _ (s : Setup) (states start : ℕ) (table old : List ℕ)
       at-most few (m, first, is-machine, (W, numbering, count)) = (m, first, is-machine, (W, numbering, omega arith))
 
   written : Written s states start table old
-  unfolding rule write-answer write-contents counted after-call
+  unfolding rule write-answer write-contents counted put-unless
   written =
       record {
         rule = rule;
         rule-written = rule-written;
         count-is-size = ap (λ o. counted o (size (rule-of s states start table))) passes;
-        bytes-put = ap (λ o. after-call o (encode-formula three-bytes (rule-of s states start table)) old) passes;
+        bytes-put = ap (λ o. put-unless o (encode-formula three-bytes (rule-of s states start table)) old) passes;
       }
 
 pub written-claim : WrittenClaim

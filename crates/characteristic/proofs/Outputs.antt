@@ -17,11 +17,11 @@ use Rattle.refusal.specs.declared.Refusal.the-variants.{Plain}
 use Rattle.refusal.specs.declared.Counted.{Counted}
 use Rattle.refusal.specs.declared.Counted.the-variants.{Count, Refused}
 use Rattle.refusal.specs.Refusal.{or-else, plain-unless, counted}
+use Rattle.refusal.specs.LentBuffers.{put, put-unless}
 use Rattle.formulas.specs.NodeBytes.{encode-formula, three-bytes}
 use Rattle.machines.specs.TableBytes.{machine-of}
-use Rattle.machines.specs.StoredEntries.{put}
 use Rattle.machines.proofs.Stores.{put-snoc}
-use Rattle.characteristic.specs.RuleOfTable.{IsRuleOf, output-refusal, after-call}
+use Rattle.characteristic.specs.RuleOfTable.{IsRuleOf, output-refusal}
 use Rattle.characteristic.specs.NodeOutput.{Appends, open-path, Walked, Listed, Answered}
 
 -- ---- a copy, byte by byte
@@ -63,15 +63,15 @@ module _ (limit : ℕ) (φ : Formula ℕ) (room : ℕ) where
 -- A refusal leaves the buffer.
 pub refused-answer :
     {answer : Option Refusal} (refusal : Refusal) (count : ℕ) (output old : List ℕ) → answer ≡ some refusal
-    → (Refused refusal ≡ counted answer count) × (old ≡ after-call answer output old)
-unfolding counted after-call
-refused-answer refusal count output old e = (ap (λ o. counted o count) (sym e), ap (λ o. after-call o output old) (sym e))
+    → (Refused refusal ≡ counted answer count) × (old ≡ put-unless answer output old)
+unfolding counted put-unless
+refused-answer refusal count output old e = (ap (λ o. counted o count) (sym e), ap (λ o. put-unless o output old) (sym e))
 
 accepted-answer :
     {answer : Option Refusal} (count : ℕ) (output old : List ℕ) → answer ≡ none
-    → (Count count ≡ counted answer count) × (put output old ≡ after-call answer output old)
-unfolding counted after-call
-accepted-answer count output old e = (ap (λ o. counted o count) (sym e), ap (λ o. after-call o output old) (sym e))
+    → (Count count ≡ counted answer count) × (put output old ≡ put-unless answer output old)
+unfolding counted put-unless
+accepted-answer count output old e = (ap (λ o. counted o count) (sym e), ap (λ o. put-unless o output old) (sym e))
 
 module _ {limit events start count : ℕ} {table blank nodes old : List ℕ} (l : Listed limit events start table blank nodes count) where
   pub too-many : limit < count → Answered limit events start table old old (Refused (Plain 12))
@@ -80,7 +80,7 @@ module _ {limit events start count : ℕ} {table blank nodes old : List ℕ} (l 
       both :
           (φ : Formula ℕ) → IsRuleOf events start table φ
           → (Refused (Plain 12) ≡ counted (output-refusal limit φ (length old)) (size φ))
-          × (old ≡ after-call (output-refusal limit φ (length old)) (encode-formula three-bytes φ) old)
+          × (old ≡ put-unless (output-refusal limit φ (length old)) (encode-formula three-bytes φ) old)
       both φ w =
           refused-answer (Plain 12) (size φ) (encode-formula three-bytes φ) old
           (over-limit limit φ (length old) (omega (arith, l .listed φ w .position)))
@@ -91,7 +91,7 @@ module _ {limit events start count : ℕ} {table blank nodes old : List ℕ} (l 
       both :
           (φ : Formula ℕ) → IsRuleOf events start table φ
           → (Refused (Plain 13) ≡ counted (output-refusal limit φ (length old)) (size φ))
-          × (old ≡ after-call (output-refusal limit φ (length old)) (encode-formula three-bytes φ) old)
+          × (old ≡ put-unless (output-refusal limit φ (length old)) (encode-formula three-bytes φ) old)
       both φ w =
           let x = l .listed φ w .position in
           refused-answer (Plain 13) (size φ) (encode-formula three-bytes φ) old
@@ -105,7 +105,7 @@ module _ {limit events start count : ℕ} {table blank nodes old : List ℕ} (l 
       both :
           (φ : Formula ℕ) → IsRuleOf events start table φ
           → (Count count ≡ counted (output-refusal limit φ (length old)) (size φ))
-          × (after ≡ after-call (output-refusal limit φ (length old)) (encode-formula three-bytes φ) old)
+          × (after ≡ put-unless (output-refusal limit φ (length old)) (encode-formula three-bytes φ) old)
       both φ w =
           let x = l .listed φ w .position in
           let same : count ≡ size φ = omega (arith, x) in

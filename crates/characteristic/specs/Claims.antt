@@ -13,11 +13,11 @@ use Rattle.theory.specs.ReachableStates.{IsTableOf, StatesAtMost}
 use Rattle.refusal.specs.declared.Refusal.{Refusal}
 use Rattle.refusal.specs.declared.Counted.the-variants.{Count, Refused}
 use Rattle.refusal.specs.Refusal.{First, InOrder}
+use Rattle.refusal.specs.LentBuffers.{put}
 use Rattle.values.specs.Setup.{Setup}
 use Rattle.formulas.specs.NodeBytes.{encode-formula, three-bytes}
 use Rattle.formulas.specs.RuleRefusal.{node-width, node-limit, rule-refusal}
 use Rattle.machines.specs.TableBytes.{machine-of}
-use Rattle.machines.specs.StoredEntries.{put}
 use Rattle.characteristic.specs.RuleOfTable.{IsRuleOf, write-conditions, write-refusal, write-answer, write-contents}
 
 -- The computed refusal is the first condition of the list that is met, and the only answer; the list stands in document 01's order.

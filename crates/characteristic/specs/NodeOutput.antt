@@ -8,9 +8,10 @@ use Rattle.theory.specs.Formula.{Formula, size}
 use Rattle.theory.specs.CharacteristicFormula.{OpenAt}
 use Rattle.refusal.specs.declared.Counted.{Counted}
 use Rattle.refusal.specs.Refusal.{counted}
+use Rattle.refusal.specs.LentBuffers.{put-unless}
 use Rattle.formulas.specs.NodeBytes.{encode-formula, three-bytes}
 use Rattle.formulas.specs.RuleRefusal.{node-width}
-use Rattle.characteristic.specs.RuleOfTable.{IsRuleOf, output-refusal, after-call}
+use Rattle.characteristic.specs.RuleOfTable.{IsRuleOf, output-refusal}
 
 -- After `at` nodes, `count` nodes more are appended, with these bytes; `r` is the node count afterwards. One more than the limit
 -- says that the nodes do not fit, and then the buffer's contents are no matter.
@@ -64,4 +65,4 @@ pub record Answered (limit events start : ℕ) (table before after : List ℕ) (
   pub answer : (φ : Formula ℕ) → IsRuleOf events start table φ → r ≡ counted (output-refusal limit φ (length before)) (size φ)
   pub contents :
       (φ : Formula ℕ) → IsRuleOf events start table φ
-      → after ≡ after-call (output-refusal limit φ (length before)) (encode-formula three-bytes φ) before
+      → after ≡ put-unless (output-refusal limit φ (length before)) (encode-formula three-bytes φ) before

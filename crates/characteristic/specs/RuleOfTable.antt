@@ -14,12 +14,12 @@ use Rattle.theory.specs.CharacteristicFormula.{Writes, written}
 use Rattle.refusal.specs.declared.Refusal.{Refusal}
 use Rattle.refusal.specs.declared.Counted.{Counted}
 use Rattle.refusal.specs.Refusal.{Condition, plain, or-else, plain-unless, counted}
+use Rattle.refusal.specs.LentBuffers.{put-unless}
 use Rattle.values.specs.Setup.{Setup, setup-conditions, setup-refusal}
 use Rattle.formulas.specs.NodeBytes.{encode-formula, three-bytes}
 use Rattle.formulas.specs.RuleRefusal.{node-width}
 use Rattle.machines.specs.TableBytes.{machine-of, table-condition}
 use Rattle.machines.specs.TableRefusal.{table-refusal}
-use Rattle.machines.specs.StoredEntries.{put}
 
 -- φ is the rule of the table from the start: `Writes` of theory, with no state open yet.
 abbrev pub IsRuleOf : (events start : ℕ) → List ℕ → Formula ℕ → Type 0
@@ -49,11 +49,6 @@ unfoldable pub output-refusal : (node-limit : ℕ) → Formula ℕ → (room : �
 output-refusal node-limit φ room =
     or-else (plain-unless (leb (size φ) node-limit) 12) (plain-unless (leb (size φ * node-width) room) 13)
 
--- A buffer after a call: the output at its front where there is no refusal, and otherwise as it was.
-unfoldable pub after-call : Option Refusal → (output old : List ℕ) → List ℕ
-after-call none output old = put output old
-after-call (some refusal) output old = old
-
 -- The rule of the table.
 unfoldable pub rule-of : Setup → (states start : ℕ) → List ℕ → Formula ℕ
 rule-of s states start table = written (machine-of (s .events) table) states (s .events - 1) start
@@ -72,4 +67,4 @@ module _ (state-limit node-limit : ℕ) (s : Setup) (states start : ℕ) (table 
   -- The lent buffer afterwards: the rule's nodes at its front, three bytes each.
   unfoldable pub write-contents : List ℕ → List ℕ
   write-contents old =
-      after-call (write-refusal (length old)) (encode-formula three-bytes (rule-of s states start table)) old
+      put-unless (write-refusal (length old)) (encode-formula three-bytes (rule-of s states start table)) old

@@ -14,9 +14,9 @@ ghost use mathlib.Core.List.{[], _∷_};
 ghost use Prim.Native.Nat.{_+_, _*_, _≤_, _<_};
 ghost use lib.ListN.{length, take};
 ghost use Rattle.theory.specs.CharacteristicFormula.{Writes, Rows};
+ghost use Rattle.refusal.specs.LentBuffers.{put};
 ghost use Rattle.values.specs.Setup.{setup};
 ghost use Rattle.machines.specs.TableBytes.{machine-of};
-ghost use Rattle.machines.specs.StoredEntries.{put};
 ghost use Rattle.characteristic.specs.RuleOfTable.{write-answer, write-contents};
 ghost use Rattle.characteristic.specs.NodeOutput.{Appends, HasRoom, Looked, open-path, Ready, Walked, Listed, Answered};
 

@@ -8,8 +8,9 @@ use mathlib.Core.Option.{Option, none, some}
 use native.Mathlib.Omega.{arith}
 use lib.ListN.{length, getD, take, drop, set, length-append, length-drop, length-map}
 use borrow.Author.Tests.{lt-ltb, le-ltb}
+use Rattle.refusal.specs.LentBuffers.{put}
 use Rattle.text_format.specs.Decimal.{is-digit}
-use Rattle.channel_file.specs.Bytes.{clamp, put-in}
+use Rattle.channel_file.specs.Bytes.{clamp}
 use Rattle.channel_file.specs.Steps.{Wrote, puts}
 use Rattle.channel_file.proofs.Offsets.{here, over}
 use Rattle.channel_file.proofs.Buffers.{wrote-none, wrote-then, puts-whole}
@@ -196,7 +197,7 @@ storing-more text old new at n q r x h p w k e =
     }
 
 pub storing-done : (text old new : List ℕ) (at n : ℕ) → length text ≤ at → Storing text old new at n → Storable text old
-    → (vs : List ℕ) → numbers-of text ≡ some vs → new ≡ put-in (map clamp vs) old
+    → (vs : List ℕ) → numbers-of text ≡ some vs → new ≡ put (map clamp vs) old
 storing-done text old new at n h p s vs e =
     let l = counting-done text at n (p .counting) h in
     let a : p .counting .list ≡ vs = cc in

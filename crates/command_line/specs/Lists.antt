@@ -7,7 +7,8 @@ use mathlib.Core.Bool.{cond}
 use mathlib.Core.Option.{Option, none, some}
 use lib.Dec.{ltb}
 use lib.ListN.{length}
-use Rattle.channel_file.specs.Bytes.{clamp, put-in}
+use Rattle.refusal.specs.LentBuffers.{put}
+use Rattle.channel_file.specs.Bytes.{clamp}
 use Rattle.command_line.specs.Words.{words}
 use Rattle.command_line.specs.Numbers.{IsNumber, number-of}
 use Rattle.command_line.specs.declared.Listed.{Listed}
@@ -40,7 +41,7 @@ listed (some vs) old = cond (ltb (length old) (length vs)) Listed.Short (Listed.
 
 abbrev pub buffer-after : Option (List ℕ) → List ℕ → List ℕ
 buffer-after none old = old
-buffer-after (some vs) old = cond (ltb (length old) (length vs)) old (put-in (map clamp vs) old)
+buffer-after (some vs) old = cond (ltb (length old) (length vs)) old (put (map clamp vs) old)
 
 pub record Lists (text old new : List ℕ) (r : Listed) : Type 0 where
   pub answer : r ≡ listed (numbers-of text) old

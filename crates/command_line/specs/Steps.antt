@@ -6,7 +6,8 @@ use mathlib.Core.List.{List, [], _∷_, map}
 use mathlib.Core.Bool.{cond}
 use mathlib.Core.Option.{Option, none, some}
 use lib.ListN.{length, drop}
-use Rattle.channel_file.specs.Bytes.{clamp, put-in}
+use Rattle.refusal.specs.LentBuffers.{put}
+use Rattle.channel_file.specs.Bytes.{clamp}
 use Rattle.command_line.specs.declared.Number.{Number}
 use Rattle.command_line.specs.Words.{is-space, rest}
 use Rattle.command_line.specs.Lists.{numbers-of}
@@ -40,4 +41,4 @@ pub record Storable (text to : List ℕ) : Type 0 where
   pub room : length list ≤ length to
 
 abbrev pub Stores : List ℕ → List ℕ → List ℕ → Type 0
-Stores text old new = (vs : List ℕ) → numbers-of text ≡ some vs → new ≡ put-in (map clamp vs) old
+Stores text old new = (vs : List ℕ) → numbers-of text ≡ some vs → new ≡ put (map clamp vs) old

@@ -12,11 +12,11 @@ use Rattle.theory.specs.ValueSets.{four-value-meet, meetAt}
 use Rattle.theory.specs.DemandSets.{empty, only, union}
 use Rattle.refusal.specs.declared.Refusal.{Refusal}
 use Rattle.refusal.specs.Refusal.{or-else, plain-unless}
+use Rattle.refusal.specs.LentBuffers.{put}
 use Rattle.values.specs.Setup.{setup}
 use Rattle.values.specs.ValueKind.{meetOf}
 use Rattle.values.proofs.Setups.{four-value-setup}
 use Rattle.machines.specs.TableRefusal.{table-refusal, table-test, entry-test, all-below}
-use Rattle.machines.specs.StoredEntries.{put}
 use Rattle.conformance.specs.Trial.{input, device-limit, table-limit, word-limit, trial-refusal, first-failure, outcome, shown, answer-unless, buffer-unless, trial-answer, trial-buffer}
 use Rattle.conformance.specs.Claims.{case-3-bytes, case-12-input, Case12Claim}
 

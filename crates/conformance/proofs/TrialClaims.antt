@@ -23,11 +23,11 @@ use Rattle.refusal.specs.declared.Refusal.{Refusal}
 use Rattle.refusal.specs.Refusal.{has-place, First, HasNumbers}
 use Rattle.refusal.specs.RefusalClaims.{AllFunctional}
 use Rattle.refusal.proofs.Refusals.{plain-first, plain-functional, plain-number, first-append, first-unique}
+use Rattle.refusal.specs.LentBuffers.{put}
 use Rattle.values.specs.declared.ValueKind.the-variants.{Numbered}
 use Rattle.values.specs.Setup.{setup-conditions}
 use Rattle.values.proofs.Setups.{setup-correct}
 use Rattle.values.proofs.ValueKinds.{value-kinds}
-use Rattle.machines.specs.StoredEntries.{put}
 use Rattle.machines.proofs.TableRefusals.{table-refusal-first}
 use Rattle.conformance.specs.declared.Verdict.the-variants.{Pass, Fail, Refused}
 use Rattle.conformance.specs.Trial.{TrialInput, input, meet, below, device-machine, table-machine, Passes, FirstFailure, trial-conditions, trial-refusal, first-failure, outcome, shown, answer-unless, buffer-unless, trial-answer, trial-buffer}

@@ -6,7 +6,7 @@ use Prim.Native.Nat.{ℕ, zero, suc, _+_, _-_, _≤_, _<_}
 use native.Mathlib.Omega.{arith}
 use lib.ListN.{length, getD, set, drop, length-set, length-reverse}
 use lib.Seq.{drop-cons, drop-set-lt, getD-set-same}
-use Rattle.machines.specs.StoredEntries.{put}
+use Rattle.refusal.specs.LentBuffers.{put}
 use Rattle.conformance.specs.PairQueue.{Linked}
 
 module _ (P : List (List ℕ)) (parents last-events : List ℕ) (v : Linked P parents last-events) where

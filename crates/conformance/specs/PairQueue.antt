@@ -11,8 +11,8 @@ use lib.ListN.{length, getD, set}
 use Rattle.theory.specs.MealyMachine.{Machine}
 use Rattle.theory.specs.Exploration.{reached, has-state, add-events}
 use Rattle.theory.specs.Conformance.{same-pair, next-pair, counterexample}
+use Rattle.refusal.specs.LentBuffers.{put}
 use Rattle.machines.specs.TableBytes.{machine-of}
-use Rattle.machines.specs.StoredEntries.{put}
 use Rattle.values.specs.declared.ValueKind.the-variants.{Numbered}
 use Rattle.values.specs.ValueKind.{at-or-below}
 use Rattle.conformance.specs.declared.Verdict.{Verdict}

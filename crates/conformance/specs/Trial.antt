@@ -11,12 +11,12 @@ use Rattle.theory.specs.ValueSets.{Below}
 use Rattle.theory.specs.Conformance.{FirstCounterexample, counterexample}
 use Rattle.refusal.specs.declared.Refusal.{Refusal}
 use Rattle.refusal.specs.Refusal.{Condition, plain, or-else, plain-unless}
+use Rattle.refusal.specs.LentBuffers.{put}
 use Rattle.values.specs.declared.ValueKind.the-variants.{Numbered}
 use Rattle.values.specs.Setup.{Setup, setup-conditions, setup-refusal}
 use Rattle.values.specs.ValueKind.{meetOf, at-or-below}
 use Rattle.machines.specs.TableBytes.{machine-of, table-condition}
 use Rattle.machines.specs.TableRefusal.{table-refusal}
-use Rattle.machines.specs.StoredEntries.{put}
 use Rattle.conformance.specs.declared.Verdict.{Verdict}
 use Rattle.conformance.specs.declared.Verdict.the-variants.{Pass, Fail, Refused}
 

@@ -19,24 +19,24 @@ use Rattle.refusal.specs.declared.Refusal.{Refusal}
 use Rattle.refusal.specs.declared.Refusal.the-variants.{Plain, At}
 use Rattle.refusal.specs.Refusal.{or-else, plain-unless}
 use Rattle.refusal.proofs.Refusals.{or-else-none}
+use Rattle.refusal.specs.LentBuffers.{put, put-unless}
 use Rattle.values.specs.Setup.{Setup, setup, WellFormed, setup-refusal}
 use Rattle.values.proofs.Setups.{setup-accepted}
 use Rattle.text_format.specs.Format.{Outcome, contents, refused}
 use Rattle.channel_file.specs.ChannelFile.{Contents}
-use Rattle.channel_file.specs.Bytes.{put-in}
 use Rattle.channel_file.specs.Reading.{read-file}
 use Rattle.machines.specs.TableBytes.{machine-of, table-bytes, two-bytes}
-use Rattle.machines.specs.StoredEntries.{put}
 use Rattle.machines.proofs.EntryBytes.{table-length}
 use Rattle.machines.proofs.TableRoundTrip.{two-bytes-length}
-use Rattle.synthesis.specs.Compilation.{setup-states, setup-table, compile-refusal, compile-contents, contents-after}
+use Rattle.synthesis.specs.Compilation.{setup-states, setup-table, compile-refusal, compile-contents}
 use Rattle.synthesis.proofs.CompileClaims.{compile-claim}
+use Rattle.synthesis.proofs.LentTable.{contents-at}
 use Rattle.conformance.specs.declared.Verdict.{Verdict}
 use Rattle.conformance.specs.declared.Verdict.the-variants.{Refused}
 use Rattle.conformance.specs.Trial.{TrialInput, input, trial-refusal, trial-answer, trial-buffer, first-failure, answer-unless, buffer-unless}
 use Rattle.channel_io.specs.declared.FileNumbers.{FileNumbers}
 use Rattle.channel_io.specs.FileJudgement.{setup-of, rule-numbers}
-use Rattle.channel_io.specs.FileReading.{numbers, file-numbers, put-unless}
+use Rattle.channel_io.specs.FileReading.{numbers, file-numbers}
 use Rattle.gurvazze_host.specs.declared.FileTable.{FileTable}
 use Rattle.gurvazze_host.specs.declared.FileTable.the-variants.{Made, Refused as Unmade}
 use Rattle.gurvazze_host.specs.Codes.{refusal-code, yield-code, code, verdict-code, table-numbers, SmallPlace, SmallNumbers}
@@ -81,7 +81,7 @@ module _ (t old meet new : List ℕ) where
 
   module _ (r : Refusal) (w : Stopped r) where
     pub table-stopped : (refusal-code r ≡ table-code (read-file t) old) × (new ≡ table-after (read-file t) old)
-    unfolding table-code table-after code compile-contents contents-after
+    unfolding table-code table-after code put-unless
     table-stopped = go (w .why)
       where
         go : ((p : ℕ) × (read-file t ≡ refused p) × (r ≡ At 4 p))
@@ -91,7 +91,7 @@ module _ (t old meet new : List ℕ) where
             (ap refusal-code z ∙ sym (ap (λ (o : Outcome Contents). table-code o old) e), w .kept ∙ sym (ap (λ (o : Outcome Contents). table-after o old) e))
         go (inr (c, e, f)) = (
           sym (ap (λ (o : Outcome Contents). table-code o old) e ∙ ap (λ (o : Option Refusal). code o (table-numbers (file-states c) (c .events) (c .values) (c .top))) f),
-          w .kept ∙ sym (ap (λ (o : Outcome Contents). table-after o old) e ∙ ap (contents-after 64 (setup-of c) (rule-numbers c) old) f),
+          w .kept ∙ sym (ap (λ (o : Outcome Contents). table-after o old) e ∙ contents-at 64 (setup-of c) (rule-numbers c) old _ f),
         )
 
     pub replay-stopped :
@@ -252,8 +252,8 @@ module _ (t old meet new : List ℕ) where
     -- ---- trial
 
     table-put : new ≡ put (table-bytes two-bytes (c .events) (setup-table 64 (setup-of c) (rule-numbers c) []) (file-states c)) old
-    unfolding compile-contents contents-after setup
-    table-put = w .new-is ∙ ap (contents-after 64 (setup-of c) (rule-numbers c) old) (w .accepted)
+    unfolding put-unless setup
+    table-put = w .new-is ∙ contents-at 64 (setup-of c) (rule-numbers c) old _ (w .accepted)
 
     size-is : length (table-bytes two-bytes (c .events) (setup-table 64 (setup-of c) (rule-numbers c) []) (file-states c)) ≡ k * n .events * 2
     size-is =

@@ -21,22 +21,23 @@ use Rattle.refusal.specs.declared.Refusal.{Refusal}
 use Rattle.refusal.specs.declared.Refusal.the-variants.{Plain, At}
 use Rattle.refusal.specs.Refusal.{plain, number, or-else, plain-unless, First}
 use Rattle.refusal.proofs.Refusals.{or-else-none, plain-none, plain-first, first-append}
+use Rattle.refusal.specs.LentBuffers.{put, put-unless}
 use Rattle.values.specs.declared.ValueKind.the-variants.{Numbered}
 use Rattle.values.specs.ValueKind.{meetOf}
 use Rattle.values.specs.Setup.{setup, setup-refusal}
 use Rattle.channel_file.specs.ChannelFile.{Contents}
 use Rattle.text_format.specs.Format.{contents}
 use Rattle.machines.specs.TableBytes.{machine-of, table-bytes, two-bytes}
-use Rattle.machines.specs.StoredEntries.{put}
 use Rattle.machines.proofs.EntryBytes.{table-length}
 use Rattle.machines.proofs.TableRoundTrip.{two-bytes-length}
-use Rattle.synthesis.specs.Compilation.{rule-table-refusal, setup-states, setup-table, compile-refusal, compile-contents, contents-after}
+use Rattle.synthesis.specs.Compilation.{rule-table-refusal, setup-states, setup-table, compile-refusal, compile-contents}
 use Rattle.conformance.specs.Trial.{input, trial-refusal, trial-answer, first-failure, answer-unless}
 use Rattle.conformance.proofs.TrialClaims.{trial-satisfies}
 use Rattle.table_report.proofs.ReportClaims.{report-first}
 use Rattle.table_report.specs.Report.{blank as report-blank}
 use Rattle.channel_io.specs.FileJudgement.{setup-of, rule-numbers}
 use Rattle.synthesis.proofs.CompileClaims.{compile-claim}
+use Rattle.synthesis.proofs.LentTable.{contents-at}
 use Rattle.gurvazze_host.specs.Codes.{refusal-code, yield-code, code}
 use Rattle.gurvazze_host.specs.FileCalls.{file-refusal, file-states, file-machine, blank, outputs, word-refusal, replay-refusal, file-trial, file-trial-refusal, file-trial-answer}
 use Rattle.gurvazze_host.specs.Claims.{CodeClaim, ReplayRefusalClaim, Replayed, ReplayClaim, Tried, FileTrialClaim}
@@ -138,9 +139,9 @@ module _ (c : Contents) (e : file-refusal c blank ≡ none) where
   rows-length = table-length ℕ two-bytes 2 two-bytes-length (c .events) (setup-table 64 (setup-of c) (rule-numbers c) []) (file-states c)
 
   contents-there : compile-contents 64 (setup-of c) (rule-numbers c) room ≡ rows
-  unfolding compile-contents contents-after put setup
+  unfolding put-unless put setup
   contents-there =
-      ap (contents-after 64 (setup-of c) (rule-numbers c) room) accepted-there
+      contents-at 64 (setup-of c) (rule-numbers c) room _ accepted-there
       ∙ ap (λ (l : List ℕ). rows ++ l) (drop-of-length-le room {i = length rows} (omega (arith, rows-length, length-replicate {A = ℕ} size 0)))
       ∙ append-nil rows
 

@@ -16,6 +16,7 @@ use Rattle.refusal.specs.declared.Refusal.the-variants.{At}
 use Rattle.refusal.specs.declared.Counted.the-variants.{Count, Refused}
 use Rattle.refusal.specs.Refusal.{or-else, plain-unless, counted}
 use Rattle.refusal.proofs.Refusals.{counted-accepted, counted-refused, or-else-none, plain-none}
+use Rattle.refusal.specs.LentBuffers.{put, put-unless}
 use Rattle.values.specs.Setup.{Setup, setup, WellFormed, setup-refusal}
 use Rattle.values.proofs.Setups.{setup-accepted, square-small}
 use Rattle.formulas.specs.RuleRefusal.{count-fits, rule-refusal}
@@ -25,11 +26,12 @@ use Rattle.channel_file.specs.ChannelFile.{Contents}
 use Rattle.channel_file.specs.Reading.{read-file}
 use Rattle.channel_file.proofs.Buffers.{encoded-length}
 use Rattle.synthesis.specs.Compilation.{value-count, rule-table-refusal, setup-states, compile-refusal, compile-contents}
+use Rattle.synthesis.proofs.LentTable.{contents-at}
 use Rattle.channel_io.specs.declared.FileNumbers.{FileNumbers}
 use Rattle.channel_io.specs.declared.FileRead.{FileRead}
 use Rattle.channel_io.specs.declared.FileRead.the-variants.{Accepted as Read, Refused as Unread}
 use Rattle.channel_io.specs.FileJudgement.{setup-of, node-numbers, rule-numbers, pair-refusal, contents-refusal, has-room, stored-refusal, contents-read-refusal}
-use Rattle.channel_io.specs.FileReading.{numbers, file-numbers, accepted-or, read-answer, put-unless, meet-after, rule-after, Reads}
+use Rattle.channel_io.specs.FileReading.{numbers, file-numbers, accepted-or, read-answer, meet-after, rule-after, Reads}
 use Rattle.gurvazze_host.specs.declared.FileTable.{FileTable}
 use Rattle.gurvazze_host.specs.declared.FileTable.the-variants.{Made, Refused as Unmade}
 use Rattle.gurvazze_host.specs.FileCalls.{file-refusal, file-states, file-contents, MakesTable, off-form, turned-away, made}
@@ -117,7 +119,7 @@ module _ (t meet rule meet′ rule′ : List ℕ) where
     pub rule-taken : take (3 * n .nodes) rule′ ≡ rule-numbers inside
 
   pub read-accepted : (x : FileRead) (n : FileNumbers) → x ≡ Read n → Reads t meet rule meet′ rule′ x → Taken n
-  unfolding read-answer meet-after rule-after numbers put-unless stored-refusal has-room
+  unfolding read-answer meet-after rule-after numbers put-unless put stored-refusal has-room
   read-accepted x n is k = go (read-file t) refl (sym is ∙ k .answer) (k .meet-is) (k .rule-is)
     where
       go : (x : Outcome Contents) → read-file t ≡ x → Read n ≡ read-answer x meet rule → meet′ ≡ meet-after x meet rule → rule′ ≡ rule-after x meet rule → Taken n
@@ -167,11 +169,11 @@ module _ (t meet rule meet′ rule′ : List ℕ) where
     pub compiled-refused :
         (y : Refusal) (kept : new ≡ compile-contents 64 s nodes old)
         → Refused y ≡ counted (compile-refusal 64 s nodes old) (setup-states 64 s nodes old) → MakesTable t old meet′ new (Unmade y)
-    unfolding Rattle.synthesis.specs.Compilation.compile-contents Rattle.synthesis.specs.Compilation.contents-after
+    unfolding put-unless
     compiled-refused y kept e =
         let a = counted-refused (compile-refusal 64 s nodes old) (setup-states 64 s nodes old) y (sym e) in
         turned-away (w .inside) y (w .reads) (sym same-refusal ∙ a)
-        (kept ∙ ap (Rattle.synthesis.specs.Compilation.contents-after 64 s nodes old) a)
+        (kept ∙ contents-at 64 s nodes old _ a)
 
     pub compiled-made :
         (k : ℕ) → new ≡ compile-contents 64 s nodes old

@@ -11,8 +11,8 @@ use lib.ListN.{length, getD, set, take, drop, length-append, length-drop}
 use lib.Seq.{take-all, take-suc, length-take-le}
 use Rattle.theory.specs.MealyMachine.{Machine, after}
 use Rattle.theory.specs.ValueSetClaims.{every}
+use Rattle.refusal.specs.LentBuffers.{put}
 use Rattle.machines.specs.TableBytes.{machine-of}
-use Rattle.machines.specs.StoredEntries.{put}
 use Rattle.machines.proofs.EntryIndex.{index-below}
 use Rattle.machines.proofs.Stores.{put-snoc}
 use Rattle.gurvazze_host.specs.FileCalls.{outputs, Runnable}

@@ -12,6 +12,7 @@ use Rattle.theory.specs.ValueSetClaims.{every}
 use Rattle.refusal.specs.declared.Refusal.{Refusal}
 use Rattle.refusal.specs.declared.Refusal.the-variants.{At}
 use Rattle.refusal.specs.Refusal.{or-else, plain-unless}
+use Rattle.refusal.specs.LentBuffers.{put-unless}
 use Rattle.text_format.specs.Format.{Outcome, contents, refused}
 use Rattle.channel_file.specs.ChannelFile.{Contents}
 use Rattle.channel_file.specs.Reading.{read-file}
@@ -21,7 +22,7 @@ use Rattle.conformance.specs.declared.Verdict.{Verdict}
 use Rattle.conformance.specs.declared.Verdict.the-variants.{Refused}
 use Rattle.conformance.specs.Trial.{TrialInput, input, device-limit, table-limit, trial-refusal, first-failure, answer-unless, buffer-unless}
 use Rattle.channel_io.specs.FileJudgement.{setup-of, rule-numbers}
-use Rattle.channel_io.specs.FileReading.{put-unless, file-numbers}
+use Rattle.channel_io.specs.FileReading.{file-numbers}
 use Rattle.gurvazze_host.specs.declared.FileTable.{FileTable}
 use Rattle.gurvazze_host.specs.declared.FileTable.the-variants.{Made, Refused as Unmade}
 use Rattle.gurvazze_host.specs.Codes.{refusal-code, code, table-numbers}

@@ -11,8 +11,9 @@ use borrow.Author.Tests.{le-leb, lt-leb}
 use lib.ListN.{length, getD, drop, set, length-append}
 use lib.Dec.{leb}
 use lib.Seq.{drop-cons, set-append-seam, sets}
+use Rattle.refusal.specs.LentBuffers.{put}
 use Rattle.machines.specs.TableBytes.{two-bytes}
-use Rattle.machines.specs.StoredEntries.{entries-bytes, put, low-bytes, stored, storable, after-store}
+use Rattle.machines.specs.StoredEntries.{entries-bytes, low-bytes, stored, storable, after-store}
 use Rattle.machines.specs.Claims.{StoredTableClaim}
 use Rattle.machines.proofs.EntryBytes.{entries-same, entries-snoc, entries-length, table-flat}
 

@@ -4,8 +4,9 @@
 use mathlib.Core.Bool.{Bool, _&&_, cond}
 use mathlib.Core.List.{List, [], _++_}
 use Prim.Native.Nat.{ℕ, zero, suc, _*_, _%_}
-use lib.ListN.{length, getD, drop}
+use lib.ListN.{length, getD}
 use lib.Dec.{leb}
+use Rattle.refusal.specs.LentBuffers.{put}
 use Rattle.machines.specs.TableBytes.{two-bytes}
 
 -- The bytes of c entries from entry i on, where entries are numbered by state, then event.
@@ -13,10 +14,6 @@ module _ {B : Type 0} (encode : B → ℕ → List ℕ) (value-at : ℕ → B) (
   unfoldable pub entries-bytes : ℕ → ℕ → List ℕ
   entries-bytes zero i = []
   entries-bytes (suc c) i = encode (value-at i) (next-at i) ++ entries-bytes c (suc i)
-
--- An output put over the front of what a buffer held: what lies after it keeps its contents.
-unfoldable pub put : List ℕ → List ℕ → List ℕ
-put output old = output ++ drop (length output) old
 
 -- The low byte of a value and the next state.
 abbrev pub low-bytes : ℕ → ℕ → List ℕ

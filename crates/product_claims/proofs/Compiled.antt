@@ -23,13 +23,13 @@ use Rattle.theory.proofs.Claims.{grammar, answers, table-satisfaction}
 use Rattle.refusal.specs.declared.Refusal.{Refusal}
 use Rattle.refusal.specs.Refusal.{or-else, plain-unless}
 use Rattle.refusal.proofs.Refusals.{or-else-none}
+use Rattle.refusal.specs.LentBuffers.{put, put-unless}
 use Rattle.values.specs.declared.ValueKind.the-variants.{Numbered}
 use Rattle.values.specs.ValueKind.{meetOf, at-or-below}
 use Rattle.values.specs.Setup.{Setup, setup-refusal}
 use Rattle.values.proofs.ValueKinds.{value-kinds}
 use Rattle.machines.specs.TableBytes.{table-bytes, two-bytes, machine-of}
 use Rattle.machines.specs.TableRefusal.{table-refusal}
-use Rattle.machines.specs.StoredEntries.{put}
 use Rattle.machines.proofs.EntryBytes.{table-length}
 use Rattle.machines.proofs.TableRoundTrip.{read-back, two-bytes-length}
 use Rattle.machines.proofs.TableRefusals.{table-accepted, accepted-table}
@@ -37,10 +37,10 @@ use Rattle.formulas.specs.NodeBytes.{encode-formula, three-bytes}
 use Rattle.formulas.specs.RuleRefusal.{rule-refusal, formula-of}
 use Rattle.formulas.specs.Claims.{AcceptedFormula}
 use Rattle.formulas.proofs.RuleClaims.{accepted-formula-of, formula-of-only}
-use Rattle.synthesis.specs.Compilation.{value-count, rule-states, rule-table-refusal, setup-states, setup-table, compile-refusal, contents-after, compile-contents}
+use Rattle.synthesis.specs.Compilation.{value-count, rule-states, rule-table-refusal, setup-states, setup-table, compile-refusal, compile-contents}
 use Rattle.synthesis.specs.Claims.{CompiledBytes}
 use Rattle.synthesis.proofs.CompiledTable.{few-states, is-table, table-runs}
-use Rattle.synthesis.proofs.LentTable.{laws, few}
+use Rattle.synthesis.proofs.LentTable.{contents-at, laws, few}
 use Rattle.synthesis.proofs.CompileClaims.{table-agrees, compile-claim}
 use Rattle.characteristic.specs.RuleOfTable.{IsRuleOf, write-refusal}
 use Rattle.characteristic.specs.Claims.{Written}
@@ -109,9 +109,9 @@ module _ (s : Setup) (rule old : List ℕ) (accepted : compile-refusal states-li
   little = few s (none-of .0) states-limit rule (none-of .1)
 
   front : compiled-bytes s rule old ≡ output
-  unfolding compile-contents contents-after put
+  unfolding put-unless put
   front =
-      ap (take (n * s .events * 2)) (ap (contents-after states-limit s rule old) accepted)
+      ap (take (n * s .events * 2)) (contents-at states-limit s rule old _ accepted)
       ∙ ap (λ k. take k (output ++ drop (length output) old)) (sym (table-length ℕ two-bytes 2 two-bytes-length (s .events) t n))
       ∙ take-append-seam output (drop (length output) old)
 

@@ -2,13 +2,13 @@
 -- Assumes nothing.
 use mathlib.Core.Path.{_≡_, refl, sym, _∙_, ap, ap₂, subst}
 use mathlib.Core.Logic.{_↔_, inl, inr}
-use mathlib.Core.Bool.{Bool, true, false, _&&_}
+use mathlib.Core.Bool.{Bool, true, false}
 use mathlib.Core.Option.{Option, none, some}
 use mathlib.Core.List.{List, [], _∷_, _++_}
 use Prim.Native.Nat.{ℕ, _+_, _*_, _≤_, _<_}
 use native.Mathlib.Nat.{mul-le-mul-left, mul-le-mul-right}
 use native.Mathlib.Omega.{arith}
-use borrow.Author.Tests.{leb-true, leb-false, le-leb}
+use borrow.Author.Tests.{leb-true, leb-false}
 use lib.Dec.{leb}
 use lib.ListN.{length, getD, drop, length-append, length-drop, List·getD-append}
 use lib.Seq.{drop-append-seam}
@@ -25,28 +25,28 @@ use Rattle.refusal.specs.declared.Refusal.the-variants.{Plain}
 use Rattle.refusal.specs.Refusal.{Condition, plain, First, HasNumbers, has-place, part-of, order, InOrder, or-else, plain-unless}
 use Rattle.refusal.specs.RefusalClaims.{AllFunctional}
 use Rattle.refusal.proofs.Refusals.{plain-functional, plain-number, plain-first, first-unique, first-then, functional-append, numbers-append, or-else-none, or-else-assoc, plain-none}
+use Rattle.refusal.specs.LentBuffers.{put, put-unless}
 use Rattle.values.specs.declared.ValueKind.{ValueKind}
 use Rattle.values.specs.declared.ValueKind.the-variants.{Numbered}
 use Rattle.values.specs.ValueKind.{meetOf}
-use Rattle.values.specs.Setup.{Setup, setup, EventsFault, ValuesFault, MeetFault, setup-conditions, setup-refusal, events-test, event-limit}
-use Rattle.values.proofs.Setups.{setup-correct}
+use Rattle.values.specs.Setup.{Setup, setup, EventsFault, ValuesFault, MeetFault, setup-conditions, setup-refusal, events-test}
+use Rattle.values.proofs.Setups.{events-first, setup-correct}
 use Rattle.formulas.specs.NodeBytes.{three-bytes}
 use Rattle.formulas.specs.RuleRefusal.{rule-refusal, formula-of}
 use Rattle.formulas.specs.Claims.{AcceptedFormula}
 use Rattle.formulas.proofs.ThreeBytes.{three-bytes-code}
 use Rattle.formulas.proofs.RuleClaims.{functional, in-order, rule-refusal-first, accepted-formula-of, formula-of-only}
 use Rattle.machines.specs.TableBytes.{table-bytes, two-bytes, machine-of}
-use Rattle.machines.specs.StoredEntries.{put}
 use Rattle.machines.specs.Claims.{Agree}
 use Rattle.machines.proofs.EntryBytes.{table-length}
 use Rattle.machines.proofs.EntryIndex.{index-below, index-state, index-event}
 use Rattle.machines.proofs.TableRoundTrip.{read-back, two-bytes-length}
 use Rattle.synthesis.specs.FormulaTable.{formula-states, formula-table}
-use Rattle.synthesis.specs.Compilation.{value-count, rule-states, rule-table, rule-table-refusal, compile-rule-refusal, entry-count, flat, compiled-within, setup-states, setup-table, compile-refusal, contents-after, compile-contents}
+use Rattle.synthesis.specs.Compilation.{value-count, rule-states, rule-table, rule-table-refusal, compile-rule-refusal, entry-count, flat, compiled-within, setup-states, setup-table, compile-refusal, compile-contents}
 use Rattle.synthesis.specs.Claims.{states-condition, buffer-condition, three-byte-conditions, compile-conditions, CompileRefusalClaim, RuleTable, CompiledBytes, CompileClaim, compile-rule-conditions, array-machine, CompiledArrays, CompileRuleClaim}
 use Rattle.synthesis.proofs.Compilation.{flat-at, few-events}
 use Rattle.synthesis.proofs.CompiledTable.{few-states, is-table}
-use Rattle.synthesis.proofs.LentTable.{laws, few}
+use Rattle.synthesis.proofs.LentTable.{contents-at, laws, few}
 
 -- Machines with the same entries are the same table.
 pub table-agrees :
@@ -275,8 +275,8 @@ module _ (limit : ℕ) (s : Setup) (rule old : List ℕ) (accepted : compile-ref
       (a .0, b .0, b .1)
 
   contents-are : compile-contents limit s rule old ≡ output ++ drop (length output) old
-  unfolding compile-contents contents-after put
-  contents-are = ap (contents-after limit s rule old) accepted
+  unfolding put-unless put
+  contents-are = contents-at limit s rule old _ accepted
 
   output-length : length output ≡ n * s .events * 2
   output-length = table-length ℕ two-bytes 2 two-bytes-length (s .events) t n
@@ -323,34 +323,13 @@ module _ (limit : ℕ) (s : Setup) (rule old : List ℕ) (accepted : compile-ref
       }
 
 same-contents : (limit : ℕ) (s : Setup) (rule old : List ℕ) (r : Refusal) → compile-refusal limit s rule old ≡ some r → compile-contents limit s rule old ≡ old
-unfolding compile-contents contents-after
-same-contents limit s rule old r e = ap (contents-after limit s rule old) e
+unfolding put-unless
+same-contents limit s rule old r e = contents-at limit s rule old _ e
 
 pub compile-claim : CompileClaim
 compile-claim = record { accepted = compiled-bytes; refused = same-contents }
 
 -- The compiler that answers by value.
-events-first :
-    (events values top : ℕ) (table : List ℕ) → First (plain 1 (EventsFault (setup events values top table)) ∷ []) (plain-unless (events-test events) 1)
-unfolding events-test setup
-events-first events values top table =
-    plain-first 1 (EventsFault (setup events values top table)) (leb 1 events && leb events event-limit)
-    (λ e f. absurd (clash (leb 1 events) (leb events event-limit) (le-leb 1 events (f .0)) (le-leb events event-limit (f .1)) e))
-    (λ e f. f (leb-true 1 events (left (leb 1 events) (leb events event-limit) e), leb-true events event-limit (right (leb 1 events) (leb events event-limit) e)))
-  where
-    clash : (a b : Bool) → a ≡ true → b ≡ true → a && b ≡ false → ⊥
-    clash true true p q e = mathlib.Core.Bool.true≢false e
-    clash true false p q e = mathlib.Core.Bool.false≢true q
-    clash false b p q e = mathlib.Core.Bool.false≢true p
-
-    left : (a b : Bool) → a && b ≡ true → a ≡ true
-    left true b e = refl
-    left false b e = e
-
-    right : (a b : Bool) → a && b ≡ true → b ≡ true
-    right true b e = e
-    right false b e = absurd (mathlib.Core.Bool.false≢true e)
-
 append-none : (a : Option Refusal) → or-else a none ≡ a
 unfolding or-else
 append-none none = refl
@@ -359,14 +338,14 @@ append-none (some r) = refl
 module _ (limit : ℕ) (kind : ValueKind) (events top : ℕ) (table rule : List ℕ) (little : limit ≤ 64)
     (L : MeetSemilattice (Below (value-count kind)) (meetOf kind table) top) where
   rule-first : First (compile-rule-conditions limit kind events top table rule) (compile-rule-refusal kind events top table rule limit)
-  unfolding compile-rule-refusal rule-table-refusal First
+  unfolding compile-rule-refusal rule-table-refusal First setup
   rule-first =
       first-then (plain 1 (EventsFault (setup events (value-count kind) top table)) ∷ [])
       (three-byte-conditions events (value-count kind) rule
       ++ (states-condition (meetOf kind table) top events (value-count kind) rule limit ∷ []))
       (plain-unless (events-test events) 1)
       (or-else (rule-refusal events (value-count kind) rule) (plain-unless (leb (rule-states kind events top table rule limit) limit) 10))
-      (events-first events (value-count kind) top table)
+      (events-first (setup events (value-count kind) top table))
       (λ e. subst
       (First (three-byte-conditions events (value-count kind) rule
       ++ (states-condition (meetOf kind table) top events (value-count kind) rule limit ∷ [])))

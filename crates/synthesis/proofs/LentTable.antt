@@ -21,6 +21,7 @@ use Rattle.refusal.specs.declared.Judgement.the-variants.{Accepted as AcceptedJ
 use Rattle.refusal.specs.declared.Counted.the-variants.{Count, Refused}
 use Rattle.refusal.specs.Refusal.{or-else, plain-unless, judgement, counted}
 use Rattle.refusal.proofs.Refusals.{judgement-accepted, judgement-refused, counted-accepted, counted-refused, or-else-none, plain-none}
+use Rattle.refusal.specs.LentBuffers.{put, put-unless}
 use Rattle.values.specs.declared.ValueKind.the-variants.{Numbered}
 use Rattle.values.specs.ValueKind.{meetOf}
 use Rattle.values.specs.Setup.{Setup, setup, setup-refusal, events-test}
@@ -30,14 +31,26 @@ use Rattle.formulas.specs.RuleRefusal.{rule-refusal, formula-of}
 use Rattle.formulas.proofs.RuleClaims.{accepted-formula-of}
 use Rattle.formulas.proofs.Padding.{padded-length}
 use Rattle.machines.specs.TableBytes.{table-bytes, two-bytes}
-use Rattle.machines.specs.StoredEntries.{put, stored, storable, after-store}
+use Rattle.machines.specs.StoredEntries.{stored, storable, after-store}
 use Rattle.machines.proofs.Stores.{stored-table, storable-room, after-none, after-all}
 use Rattle.machines.proofs.EntryIndex.{state-below, event-below}
 use Rattle.synthesis.specs.declared.Compiled.{Compiled}
-use Rattle.synthesis.specs.Compilation.{value-count, rule-states, rule-table, rule-table-refusal, compile-rule-refusal, entry-count, flat, compiled-within, compiled, setup-states, setup-table, compile-refusal, contents-after, compile-contents}
+use Rattle.synthesis.specs.Compilation.{value-count, rule-states, rule-table, rule-table-refusal, compile-rule-refusal, entry-count, flat, compiled-within, compiled, setup-states, setup-table, compile-refusal, compile-contents}
 use Rattle.synthesis.proofs.Compilation.{flat-at}
 use Rattle.synthesis.proofs.CompiledTable.{table-runs}
 use Rattle.values.specs.Setup as S
+
+-- The lent buffer beside an answer.
+pub contents-at :
+    (limit : ℕ) (s : Setup) (rule old : List ℕ) (answer : Option Refusal) → compile-refusal limit s rule old ≡ answer →
+    compile-contents limit s rule old
+    ≡ put-unless answer (table-bytes two-bytes (s .events) (setup-table limit s rule old) (setup-states limit s rule old)) old
+unfolding compile-contents
+contents-at limit s rule old answer e =
+    ap
+    (λ (a : Option Refusal).
+        put-unless a (table-bytes two-bytes (s .events) (setup-table limit s rule old) (setup-states limit s rule old)) old)
+    e
 
 -- What an accepted set-up and an accepted rule are.
 module _ (s : Setup) (ok : setup-refusal s ≡ none) where
@@ -102,15 +115,15 @@ module _ (limit : ℕ) (s : Setup) (rule old : List ℕ) where
 
   refused-there :
       (r : Refusal) → answer ≡ some r → (Refused r ≡ counted answer states) × (old ≡ compile-contents limit s rule old)
-  unfolding counted compile-contents contents-after
-  refused-there r e = (sym (ap (λ a. counted a states) e), sym (ap (contents-after limit s rule old) e))
+  unfolding counted put-unless
+  refused-there r e = (sym (ap (λ a. counted a states) e), sym (contents-at limit s rule old _ e))
 
   accepted-there :
       answer ≡ none →
       (Count states ≡ counted answer states)
       × (put (table-bytes two-bytes (s .events) (setup-table limit s rule old) states) old ≡ compile-contents limit s rule old)
-  unfolding counted compile-contents contents-after
-  accepted-there e = (sym (ap (λ a. counted a states) e), sym (ap (contents-after limit s rule old) e))
+  unfolding counted put-unless
+  accepted-there e = (sym (ap (λ a. counted a states) e), sym (contents-at limit s rule old _ e))
 
   -- Beside an accepted set-up, 1 is not met again.
   rule-answer : setup-refusal s ≡ none → compile-rule-refusal (Numbered (s .values)) (s .events) (s .top) (s .meet) rule limit ≡ from-rule

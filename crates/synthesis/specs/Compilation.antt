@@ -9,6 +9,7 @@ use Rattle.theory.specs.MealyMachine.{Machine}
 use Rattle.refusal.specs.declared.Refusal.{Refusal}
 use Rattle.refusal.specs.declared.Counted.the-variants.{Refused}
 use Rattle.refusal.specs.Refusal.{or-else, plain-unless, counted}
+use Rattle.refusal.specs.LentBuffers.{put-unless}
 use Rattle.values.specs.declared.ValueKind.{ValueKind}
 use Rattle.values.specs.declared.ValueKind.the-variants.{Numbered, Register}
 use Rattle.values.specs.ValueKind.{meetOf}
@@ -16,7 +17,6 @@ use Rattle.values.specs.Setup.{Setup, events-test, setup-refusal}
 use Rattle.formulas.specs.RuleRefusal.{rule-refusal, formula-of}
 use Rattle.formulas.specs.NodeArrays.{padded}
 use Rattle.machines.specs.TableBytes.{table-bytes, two-bytes}
-use Rattle.machines.specs.StoredEntries.{put}
 use Rattle.synthesis.specs.declared.Compiled.{Compiled}
 use Rattle.synthesis.specs.FormulaTable.{formula-states, formula-table}
 
@@ -97,9 +97,5 @@ module _ (limit : ℕ) (s : Setup) (rule old : List ℕ) where
       (plain-unless (leb (setup-states * s .events * 2) (length old)) 13))
 
   -- The buffer afterwards: the table's bytes, and what lies after them as it was; beside a refusal all as it was.
-  unfoldable pub contents-after : Option Refusal → List ℕ
-  contents-after none = put (table-bytes two-bytes (s .events) setup-table setup-states) old
-  contents-after (some refusal) = old
-
   unfoldable pub compile-contents : List ℕ
-  compile-contents = contents-after compile-refusal
+  compile-contents = put-unless compile-refusal (table-bytes two-bytes (s .events) setup-table setup-states) old

@@ -18,13 +18,14 @@ use Rattle.refusal.specs.declared.Judgement.the-variants.{Accepted, Refused as 
 use Rattle.refusal.specs.declared.Counted.the-variants.{Count, Refused}
 use Rattle.refusal.specs.Refusal.{or-else, plain-unless, judgement, counted}
 use Rattle.refusal.proofs.Refusals.{or-else-none, plain-none}
+use Rattle.refusal.specs.LentBuffers.{put, put-unless}
 use Rattle.values.specs.Setup.{events-test}
 use Rattle.machines.specs.TableRefusal.{table-test, entry-test, table-refusal}
 use Rattle.text_format.specs.Format.{ascii}
 use Rattle.text_output.specs.Output.{numeral, Puts, each}
 use Rattle.text_output.proofs.Outputs.{puts-front, puts-copied, numeral-length, numeral-short, each-length}
 use Rattle.table_graph.specs.GraphText.{value-text, arrow-line, entry-arrow, graph-text}
-use Rattle.table_graph.specs.Graph.{handed-refusal, graph-refusal, drawn, Draws, graph-limit, GraphLengthClaim, FewEntries}
+use Rattle.table_graph.specs.Graph.{handed-refusal, graph-refusal, Draws, graph-limit, GraphLengthClaim, FewEntries}
 
 -- ---- texts
 
@@ -172,11 +173,11 @@ module _ (events values top states : ℕ) (bytes old : List ℕ) where
   o = handed-refusal events values states bytes
 
   pub handed-refused : (r : Refusal) → o ≡ some r → Draws events values top states bytes old old (Refused r)
-  unfolding graph-refusal or-else counted drawn
+  unfolding graph-refusal or-else counted put-unless
   handed-refused r e =
       record {
         answer = sym (ap (λ (x : Option Refusal). counted (or-else x (plain-unless (leb (length text) (length old)) 13)) (length text)) e);
-        buffer = sym (ap (λ (x : Option Refusal). drawn (or-else x (plain-unless (leb (length text) (length old)) 13)) text old) e);
+        buffer = sym (ap (λ (x : Option Refusal). put-unless (or-else x (plain-unless (leb (length text) (length old)) 13)) text old) e);
       }
 
   -- the text was put into an array of the limit's length
@@ -188,19 +189,19 @@ module _ (events values top states : ℕ) (bytes old : List ℕ) where
     whole = puts-front w fits .end
 
     pub graph-short : length old < n → Draws events values top states bytes old old (Refused (Plain 13))
-    unfolding graph-refusal or-else plain-unless counted drawn
+    unfolding graph-refusal or-else plain-unless counted put-unless
     graph-short h =
         let b : leb (length text) (length old) ≡ false = lt-leb (length text) (length old) (omega (arith, whole)) in
         record {
           answer = sym (ap₂ (λ (x : Option Refusal) (y : Bool). counted (or-else x (plain-unless y 13)) (length text)) e b);
-          buffer = sym (ap₂ (λ (x : Option Refusal) (y : Bool). drawn (or-else x (plain-unless y 13)) text old) e b);
+          buffer = sym (ap₂ (λ (x : Option Refusal) (y : Bool). put-unless (or-else x (plain-unless y 13)) text old) e b);
         }
 
     pub graph-all : (new : List ℕ) (r : ℕ) → n ≤ length old → Puts old (take n l′) new 0 r → Draws events values top states bytes old new (Count n)
-    unfolding graph-refusal or-else plain-unless counted drawn
+    unfolding graph-refusal or-else plain-unless counted put-unless put
     graph-all new r h g =
         let b : leb (length text) (length old) ≡ true = le-leb (length text) (length old) (omega (arith, whole)) in
         record {
           answer = ap Count whole ∙ sym (ap₂ (λ (x : Option Refusal) (y : Bool). counted (or-else x (plain-unless y 13)) (length text)) e b);
-          buffer = puts-copied w fits (omega (arith, whole)) g ∙ sym (ap₂ (λ (x : Option Refusal) (y : Bool). drawn (or-else x (plain-unless y 13)) text old) e b);
+          buffer = puts-copied w fits (omega (arith, whole)) g ∙ sym (ap₂ (λ (x : Option Refusal) (y : Bool). put-unless (or-else x (plain-unless y 13)) text old) e b);
         }

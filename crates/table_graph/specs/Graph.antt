@@ -9,6 +9,7 @@ use lib.ListN.{length, drop}
 use Rattle.refusal.specs.declared.Refusal.{Refusal}
 use Rattle.refusal.specs.declared.Counted.{Counted}
 use Rattle.refusal.specs.Refusal.{or-else, plain-unless, counted}
+use Rattle.refusal.specs.LentBuffers.{put-unless}
 use Rattle.values.specs.Setup.{events-test}
 use Rattle.machines.specs.TableRefusal.{table-refusal}
 use Rattle.table_graph.specs.GraphText.{graph-text}
@@ -23,14 +24,9 @@ unfoldable pub graph-refusal : ℕ → ℕ → ℕ → ℕ → List ℕ → ℕ 
 graph-refusal events values top states bytes room =
     or-else (handed-refusal events values states bytes) (plain-unless (leb (length (graph-text events states top bytes)) room) 13)
 
--- The buffer afterwards: the text at its front; as it was beside a refusal.
-unfoldable pub drawn : Option Refusal → List ℕ → List ℕ → List ℕ
-drawn none text old = text ++ drop (length text) old
-drawn (some refusal) text old = old
-
 pub record Draws (events values top states : ℕ) (bytes old new : List ℕ) (r : Counted) : Type 0 where
   pub answer : r ≡ counted (graph-refusal events values top states bytes (length old)) (length (graph-text events states top bytes))
-  pub buffer : new ≡ drawn (graph-refusal events values top states bytes (length old)) (graph-text events states top bytes) old
+  pub buffer : new ≡ put-unless (graph-refusal events values top states bytes (length old)) (graph-text events states top bytes) old
 
 -- Every digraph has room in so many bytes.
 abbrev pub graph-limit : ℕ

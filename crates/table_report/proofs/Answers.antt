@@ -17,6 +17,7 @@ use Rattle.refusal.specs.declared.Counted.{Counted}
 use Rattle.refusal.specs.declared.Counted.the-variants.{Count, Refused}
 use Rattle.refusal.specs.Refusal.{or-else, plain-unless, counted}
 use Rattle.refusal.proofs.Refusals.{counted-accepted, or-else-none, plain-none}
+use Rattle.refusal.specs.LentBuffers.{put, put-unless}
 use Rattle.values.specs.declared.ValueKind.the-variants.{Numbered}
 use Rattle.values.specs.Setup.{Setup, setup, WellFormed, setup-refusal}
 use Rattle.values.proofs.Setups.{setup-accepted, square-small}
@@ -35,7 +36,7 @@ use Rattle.channel_io.specs.declared.FileNumbers.{FileNumbers}
 use Rattle.channel_io.specs.declared.FileRead.{FileRead}
 use Rattle.channel_io.specs.declared.FileRead.the-variants.{Accepted as Read, Refused as Unread}
 use Rattle.channel_io.specs.FileJudgement.{node-numbers, rule-numbers, pair-refusal, contents-refusal, has-room, stored-refusal, contents-read-refusal}
-use Rattle.channel_io.specs.FileReading.{numbers, file-numbers, accepted-or, read-answer, put-unless, meet-after, rule-after, Reads}
+use Rattle.channel_io.specs.FileReading.{numbers, file-numbers, accepted-or, read-answer, meet-after, rule-after, Reads}
 use Rattle.table_report.specs.TableText.{table-text, refusal-text}
 use Rattle.table_report.specs.Report.{blank, answer-text, pair-text, outcome-text, report-text, report-limit, Reports, FewEntries}
 use Rattle.table_report.proofs.Lengths.{setup-passed, report-length}
@@ -146,7 +147,7 @@ module _ (t meet rule meet′ rule′ : List ℕ) where
     pub same-text : pair-text (n .events) (n .values) (n .top) (take (n .entries) meet′) (take (3 * n .nodes) rule′) ≡ report-text t
 
   pub read-accepted : (x : FileRead) (n : FileNumbers) → x ≡ Read n → Reads t meet rule meet′ rule′ x → Taken n
-  unfolding read-answer outcome-text meet-after rule-after numbers put-unless stored-refusal has-room
+  unfolding read-answer outcome-text meet-after rule-after numbers put-unless put stored-refusal has-room
   read-accepted x n is k = go (read-file t) refl (sym is ∙ k .answer) (k .meet-is) (k .rule-is)
     where
       go : (x : Outcome Contents) → read-file t ≡ x → Read n ≡ read-answer x meet rule → meet′ ≡ meet-after x meet rule → rule′ ≡ rule-after x meet rule → Taken n
@@ -194,7 +195,7 @@ module _ (t old l l′ : List ℕ) (n : ℕ) (room : length l ≡ report-limit) 
       }
 
   pub report-all : (new : List ℕ) (r : ℕ) → n ≤ length old → Puts old (take n l′) new 0 r → Reports t old new (Count n)
-  unfolding plain-unless counted put-unless
+  unfolding plain-unless counted put-unless put
   report-all new r h g =
       let b : leb (length (report-text t)) (length old) ≡ true = le-leb (length (report-text t)) (length old) (omega (arith, whole)) in
       record {

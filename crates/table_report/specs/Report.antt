@@ -11,6 +11,7 @@ use Rattle.refusal.specs.declared.Refusal.{Refusal}
 use Rattle.refusal.specs.declared.Refusal.the-variants.{At}
 use Rattle.refusal.specs.declared.Counted.{Counted}
 use Rattle.refusal.specs.Refusal.{plain-unless, counted}
+use Rattle.refusal.specs.LentBuffers.{put-unless}
 use Rattle.values.specs.Setup.{setup}
 use Rattle.text_format.specs.Format.{Outcome, contents, refused}
 use Rattle.channel_file.specs.ChannelFile.{Contents}
@@ -18,7 +19,6 @@ use Rattle.channel_file.specs.Reading.{read-file}
 use Rattle.machines.specs.TableBytes.{machine-of}
 use Rattle.synthesis.specs.Compilation.{compile-refusal, setup-states, compile-contents}
 use Rattle.channel_io.specs.FileJudgement.{rule-numbers}
-use Rattle.channel_io.specs.FileReading.{put-unless}
 use Rattle.table_report.specs.TableText.{table-text, refusal-text}
 
 -- A buffer that has room for every table: 64 states, 16 events, two bytes an entry.

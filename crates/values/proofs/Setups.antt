@@ -131,7 +131,7 @@ entry-below values meet i positive h below =
 
 module _ (s : Setup) where
   -- Each test decides its condition.
-  events-first : First (plain 1 (EventsFault s) ∷ []) (plain-unless (events-test (s .events)) 1)
+  pub events-first : First (plain 1 (EventsFault s) ∷ []) (plain-unless (events-test (s .events)) 1)
   unfolding events-test
   events-first =
       plain-first 1 (EventsFault s) (events-test (s .events))

@@ -5,7 +5,7 @@ use mathlib.Core.List.{[], reverse}
 use Prim.Native.Nat.{_≤_}
 use native.Mathlib.Omega.{arith}
 use lib.ListN.{length, getD, length-set}
-use Rattle.machines.specs.StoredEntries.{put}
+use Rattle.refusal.specs.LentBuffers.{put}
 use Rattle.conformance.specs.Trial.{word-limit}
 use Rattle.conformance.specs.PairQueue.{Writable}
 use Rattle.conformance.proofs.Words.{Rest, write-start, write-step, write-end}

@@ -5,7 +5,8 @@ use Prim.Native.Nat.{_≤_, _-_}
 use native.Mathlib.Omega.{arith}
 use borrow.Author.Needs.{needs}
 use lib.ListN.{length, length-set}
-use Rattle.machines.specs.StoredEntries.{put, stored}
+use Rattle.refusal.specs.LentBuffers.{put}
+use Rattle.machines.specs.StoredEntries.{stored}
 use Rattle.machines.proofs.Stores.{store-none, store-more, not-stored, all-stored, few-values, few-nexts, short-buffer, enough}
 use Rattle.machines.proofs.store_entries.Statement.{statement}
 use Rattle.machines.proofs.store_entries.Tie as tie
