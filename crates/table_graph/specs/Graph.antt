@@ -1,20 +1,30 @@
 -- The call that renders a table as a digraph.
 -- Assumes nothing.
-use Prim.Native.Nat.{ℕ, _≤_}
+use Prim.Native.Nat.{ℕ, _≤_, _<_}
 use mathlib.Core.Path.{_≡_}
-use mathlib.Core.List.{List, _++_}
+use mathlib.Core.List.{List, [], _∷_}
 use mathlib.Core.Option.{Option, none, some}
 use lib.Dec.{leb}
-use lib.ListN.{length, drop}
+use lib.ListN.{length}
+use Rattle.theory.specs.ValueSets.{Below}
 use Rattle.refusal.specs.declared.Refusal.{Refusal}
 use Rattle.refusal.specs.declared.Counted.{Counted}
-use Rattle.refusal.specs.Refusal.{or-else, plain-unless, counted}
+use Rattle.refusal.specs.Refusal.{Condition, plain, First, InOrder, or-else, plain-unless, counted}
 use Rattle.refusal.specs.LentBuffers.{put-unless}
-use Rattle.values.specs.Setup.{events-test}
+use Rattle.values.specs.Setup.{setup, EventsFault, events-test}
+use Rattle.machines.specs.TableBytes.{machine-of, table-condition}
 use Rattle.machines.specs.TableRefusal.{table-refusal}
 use Rattle.table_graph.specs.GraphText.{graph-text}
 
--- 1 for the events, then 11 for the table, of which every state may be the start.
+-- The conditions of a call, in order: 1 for the events, 11 for the table, of which every state may be the start, and 13.
+abbrev pub graph-conditions : ℕ → ℕ → ℕ → ℕ → List ℕ → ℕ → List Condition
+graph-conditions events values top states bytes room =
+    plain 1 (EventsFault (setup events values top []))
+    ∷ table-condition 2 64 events (Below values) states 0 bytes (machine-of events bytes)
+    ∷ plain 13 (room < length (graph-text events states top bytes))
+    ∷ []
+
+-- The computing twin. 1, then 11.
 unfoldable pub handed-refusal : ℕ → ℕ → ℕ → List ℕ → Option Refusal
 handed-refusal events values states bytes =
     or-else (plain-unless (events-test events) 1) (table-refusal 64 events values states 0 bytes)
@@ -27,6 +37,18 @@ graph-refusal events values top states bytes room =
 pub record Draws (events values top states : ℕ) (bytes old new : List ℕ) (r : Counted) : Type 0 where
   pub answer : r ≡ counted (graph-refusal events values top states bytes (length old)) (length (graph-text events states top bytes))
   pub buffer : new ≡ put-unless (graph-refusal events values top states bytes (length old)) (graph-text events states top bytes) old
+
+-- The computed refusal is the first of the conditions that is met, or none, and the only answer; they stand in document 01's order.
+pub record GraphRefusalClaim : Type 0 where
+  pub first :
+      (events values top states : ℕ) (bytes : List ℕ) (room : ℕ)
+      → First (graph-conditions events values top states bytes room) (graph-refusal events values top states bytes room)
+  pub only :
+      (events values top states : ℕ) (bytes : List ℕ) (room : ℕ) (answer : Option Refusal)
+      → First (graph-conditions events values top states bytes room) answer → answer ≡ graph-refusal events values top states bytes room
+  pub ordered :
+      (events values top states : ℕ) (bytes : List ℕ) (room : ℕ)
+      → InOrder (1 ∷ 11 ∷ 13 ∷ []) (graph-conditions events values top states bytes room)
 
 -- Every digraph has room in so many bytes.
 abbrev pub graph-limit : ℕ
