@@ -2,11 +2,14 @@
 
 use std::fmt::Write;
 use std::hint::black_box;
+use std::io::Write as _;
+use std::process::{Command, Stdio};
 
 use gurvazze_reference::channel_file;
 use gurvazze_reference::formula::{Node, Rule};
 use gurvazze_reference::generate::{Generator, RawTable};
 use gurvazze_reference::table::{Entry, Table};
+use gurvazze_reference::tool::Tool;
 use gurvazze_reference::trial::{trial_of_rule, trial_of_table, Outcome};
 use gurvazze_reference::values::{RawSetUp, SetUp};
 use gurvazze_reference::{characteristic, Refusal};
@@ -23,6 +26,7 @@ fn main() {
     trials();
     rules();
     worst();
+    calls();
 }
 
 /// Times both versions in turn and prints a line.
@@ -69,6 +73,25 @@ fn processor_time() -> f64 {
     let status = unsafe { clock_gettime(THREAD_TIME, &mut time) };
     assert_eq!(status, 0, "Linux has this clock");
     time.seconds as f64 * 1e9 + time.nanoseconds as f64
+}
+
+/// The nanoseconds for which the programs that were run have run.
+fn programs_time() -> f64 {
+    /// The C library's `struct rusage`: the time of the programs, that of the system for them, and fourteen counts.
+    #[repr(C)]
+    struct Usage {
+        times: [[i64; 2]; 2],
+        counts: [i64; 14],
+    }
+    extern "C" {
+        fn getrusage(whose: i32, usage: *mut Usage) -> i32;
+    }
+    const CHILDREN: i32 = -1;
+    let mut usage = Usage { times: [[0; 2]; 2], counts: [0; 14] };
+    // SAFETY: the C library's function writes the usage it is lent.
+    let status = unsafe { getrusage(CHILDREN, &mut usage) };
+    assert_eq!(status, 0, "Linux has these times");
+    usage.times.iter().map(|[seconds, micros]| *seconds as f64 * 1e9 + *micros as f64 * 1e3).sum()
 }
 
 // What the reference has for each call of the library.
@@ -400,4 +423,44 @@ fn worst() {
     let set_up = four(16);
     let (device, table) = (loop_table(&set_up, 64, |_| 1), loop_table(&set_up, 63, |_| 3));
     line_trial("trial: loops of 64 and 63, 16 events", &set_up, &table, &device);
+}
+
+/// The program `event_calls` plays so many digits so many times over, each by an event call that tests the whole tool; its processor
+/// time is all but that of the calls. It is left out where `rt check event_calls` has not made it.
+fn calls() {
+    const PROGRAM: &str = "../target/bin/event_calls";
+    const DIGITS: usize = 4096;
+    const ROUNDS: usize = 256;
+    println!("-- a single event call on a tool, beside the same checks in Rust");
+    if !std::path::Path::new(PROGRAM).exists() {
+        println!("  not timed: there is no {PROGRAM}");
+        return;
+    }
+    let word = Generator::new(1).word(&four(2), DIGITS);
+    let digits: Vec<u8> = word.iter().map(|&event| b'0' + event).collect();
+    let rule = [
+        5, 0, 0, 4, 0, 0, 4, 0, 0, 3, 0, 1, 2, 0, 0, 1, 0, 0, 2, 1, 0, 5, 0, 0, 4, 0, 0, 4, 0, 0, 3, 1, 2, 2, 1, 0, 1, 0, 0, 2, 0,
+        0, 1, 1, 0,
+    ];
+    let mut best = [f64::INFINITY; 2];
+    let mut sums = [0; 2];
+    for _ in 0..5 {
+        let start = programs_time();
+        let mut child = Command::new(PROGRAM).stdin(Stdio::piped()).stdout(Stdio::piped()).spawn().expect("the program starts");
+        child.stdin.take().expect("a pipe").write_all(&digits).expect("the program reads");
+        let output = child.wait_with_output().expect("the program ends");
+        best[0] = best[0].min(programs_time() - start);
+        sums[0] = String::from_utf8_lossy(&output.stdout).trim().parse().expect("a sum");
+
+        let mut tool = Tool::new(RawSetUp::four_values(2)).expect("accepted");
+        tool.load(0, &rule).expect("accepted");
+        let start = processor_time();
+        for _ in 0..ROUNDS {
+            sums[1] = word.iter().map(|&event| u64::from(black_box(&mut tool).event(0, event.into()).expect("accepted"))).sum();
+        }
+        best[1] = best[1].min(processor_time() - start);
+    }
+    assert_eq!(sums[0], sums[1]);
+    let each = best.map(|time| time / (DIGITS * ROUNDS) as f64);
+    println!("{:44} {:12.0} {:12.0} {:7.2}", "  event call, 2 states, 2 events", each[0], each[1], each[0] / each[1]);
 }
