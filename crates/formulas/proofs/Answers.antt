@@ -1,23 +1,23 @@
 -- The answers of 6 to 9, one after the other, and that they depend on the nodes' fields alone.
 -- Assumes nothing.
-use mathlib.Core.Path.{_≡_, refl, _∙_, ap, ap₂}
-use mathlib.Core.Bool.{Bool, true, not}
+use mathlib.Core.Path.{_≡_, refl, sym, _∙_, ap, ap₂}
+use mathlib.Core.Bool.{Bool, true, false, not, _&&_}
 use mathlib.Core.Option.{Option, none, some}
 use mathlib.Core.List.{_∷_}
 use Prim.Native.Nat.{ℕ, zero, suc, _+_, _≤_, _<_}
 use native.Mathlib.Omega.{arith}
-use borrow.Author.Tests.{not-false}
+use lib.Dec.{ltb, leb}
+use borrow.Author.Tests.{not-false, lt-ltb, le-ltb, le-leb, lt-leb}
 use Rattle.theory.specs.Formula.{Formula, size}
-use Rattle.refusal.specs.Refusal.{or-else, at-found}
+use Rattle.refusal.specs.Refusal.{or-else, plain-unless, at-found}
 use Rattle.refusal.specs.declared.Refusal.{Refusal}
-use Rattle.refusal.specs.declared.Refusal.the-variants.{At}
-use Rattle.formulas.specs.declared.Step.the-variants.{Next, Fault}
+use Rattle.refusal.specs.declared.Refusal.the-variants.{Plain, At}
 use Rattle.formulas.specs.declared.Found.the-variants.{At as FoundAt, Nowhere}
 use Rattle.formulas.specs.RuleConditions.{closed-to-variable}
 use Rattle.formulas.specs.NodeReading.{Reads}
-use Rattle.formulas.specs.RuleReading.{kind-of, fields-fit, awaited, end-fault, node-of, nodes-from, formulas, first-formula, formula-read, lowest-unbound, lowest-closed}
-use Rattle.formulas.specs.RuleRefusal.{variables-refusal, structure-refusal, misfit-place, nodes-refusal}
-use Rattle.formulas.specs.NodeWalks.{found, step, KnownKinds}
+use Rattle.formulas.specs.RuleReading.{first-of, kind-of, fields-fit, awaited, end-fault, node-of, nodes-from, formulas, first-formula, formula-read, lowest-unbound, lowest-closed}
+use Rattle.formulas.specs.RuleRefusal.{node-limit, variables-refusal, structure-refusal, misfit-place, nodes-refusal, fields-refusal}
+use Rattle.formulas.specs.NodeWalks.{found, Noted, Keeps, KnownKinds}
 use Rattle.formulas.proofs.KindFacts.{fit-known}
 use Rattle.formulas.proofs.Search.{lowest-clear, lowest-same}
 use Rattle.formulas.proofs.Prefix.{no-fault}
@@ -34,15 +34,16 @@ unfolding found
 found-nowhere none e = refl
 found-nowhere (some i) e = let z : _≡_ {A = ℕ} 0 1 = cc in absurd (omega arith)
 
-pub step-fault : (o : Option ℕ) (p q : ℕ) → step o q ≡ Fault p → o ≡ some p
-unfolding step
-step-fault none p q e = let z : _≡_ {A = ℕ} 0 1 = cc in absurd (omega arith)
-step-fault (some i) p q e = let r : i ≡ p = cc in ap some r
+-- A note that was clear before, taken back to the place.
+pub kept-place : (o : Option ℕ) (n : ℕ) → Keeps o node-limit n → n < node-limit → o ≡ some n
+unfolding Keeps Noted first-of
+kept-place none n w h = let v : n ≡ 256 = w none refl in absurd (omega arith)
+kept-place (some i) n w h = ap some (sym (w none refl .0))
 
-pub step-next : (o : Option ℕ) (p q : ℕ) → step o q ≡ Next p → o ≡ none
-unfolding step
-step-next none p q e = refl
-step-next (some i) p q e = let z : _≡_ {A = ℕ} 0 1 = cc in absurd (omega arith)
+pub kept-clear : (o : Option ℕ) (n : ℕ) → Keeps o node-limit n → node-limit ≤ n → o ≡ none
+unfolding Keeps Noted first-of
+kept-clear none n w h = refl
+kept-clear (some i) n w h = let v : (n ≡ i) × (i < 256) = w none refl in absurd (omega (arith, v .0, v .1))
 
 -- The first of two answers.
 pub first-answer : (o : Option ℕ) (n p : ℕ) (later : Option Refusal) → o ≡ some p → or-else (at-found o n) later ≡ some (At n p)
@@ -89,6 +90,27 @@ module _ (kind first value : ℕ → ℕ) (count : ℕ) where
         → nodes-refusal kind first value count fits events ≡ structure-refusal kind first value count
     unfolding nodes-refusal
     answer-structure e = later-answer (misfit-place kind first value count fits events) 6 (structure-refusal kind first value count) e
+
+    -- 5 is met by the count, or is not.
+    pub answer-count : (t : Bool) → (ltb 0 count && leb count node-limit) ≡ t
+        → fields-refusal kind first value count fits events ≡ or-else (plain-unless t 5) (nodes-refusal kind first value count fits events)
+    unfolding fields-refusal
+    answer-count t e = ap (λ b. or-else (plain-unless b 5) (nodes-refusal kind first value count fits events)) e
+
+    pub no-node : count ≡ 0 → fields-refusal kind first value count fits events ≡ some (Plain 5)
+    unfolding or-else plain-unless
+    no-node e = answer-count false (ap (λ b. b && leb count node-limit) (le-ltb 0 count (omega arith)))
+
+    pub too-many : node-limit < count → fields-refusal kind first value count fits events ≡ some (Plain 5)
+    unfolding or-else plain-unless
+    too-many h =
+        answer-count false (ap₂ (λ a b. a && b) (lt-ltb 0 count (omega arith)) (lt-leb count node-limit h))
+
+    pub count-within :
+        ¬ (count ≡ 0) → count ≤ node-limit
+        → fields-refusal kind first value count fits events ≡ nodes-refusal kind first value count fits events
+    unfolding or-else plain-unless
+    count-within e h = answer-count true (ap₂ (λ a b. a && b) (lt-ltb 0 count (omega arith)) (le-leb count node-limit h))
 
     abbrev fit : ℕ → Bool
     fit i = fields-fit events (kind-of (kind i)) (first i) (value i) (fits (value i))

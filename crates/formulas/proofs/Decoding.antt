@@ -12,11 +12,11 @@ use lib.ListN.{length}
 use borrow.Author.Tests.{eqb-true, ltb-true, leb-true}
 use Rattle.refusal.specs.Refusal.{or-else, plain-unless}
 use Rattle.refusal.specs.declared.Refusal.the-variants.{Plain}
-use Rattle.formulas.specs.RuleRefusal.{count-fits, nodes-refusal, kind-at, first-at, second-at, rule-refusal}
+use Rattle.formulas.specs.RuleRefusal.{count-fits, nodes-refusal, fields-refusal, kind-at, first-at, second-at, rule-refusal}
 use Rattle.formulas.specs.NodeWalks.{field}
 use Rattle.formulas.specs.NodeArrays.{padded, decoded-count, decoded}
 use Rattle.formulas.proofs.Padding.{padded-field}
-use Rattle.formulas.proofs.Answers.{refusal-same}
+use Rattle.formulas.proofs.Answers.{refusal-same, count-within}
 
 -- What 5 asks.
 pub record CountFits (width limit n : ℕ) : Type 0 where
@@ -55,12 +55,12 @@ module _ (events values : ℕ) (bytes : List ℕ) where
   rule-fits e =
       ap (λ b. or-else (plain-unless b 5) (nodes-refusal (kind-at bytes) (first-at bytes) (second-at bytes) (length bytes / 3) (λ v. ltb v values) events)) e
 
-  pub decoded-refusal :
+  decoded-nodes :
       count-fits 3 256 (length bytes) ≡ true
       → nodes-refusal (field (decoded bytes .kinds)) (field (decoded bytes .firsts)) (field (decoded bytes .values)) (decoded bytes .count) (λ v. ltb v values) events
       ≡ rule-refusal events values bytes
   unfolding decoded decoded-count
-  decoded-refusal e =
+  decoded-nodes e =
       let w : CountFits 3 256 (length bytes) = count-facts 3 256 (length bytes) e in
       let n : min 256 (length bytes / 3) ≡ length bytes / 3 = min-eq-right (w .within) in
       refusal-same
@@ -78,3 +78,20 @@ module _ (events values : ℕ) (bytes : List ℕ) where
       (λ j h. padded-field (second-at bytes) (min 256 (length bytes / 3)) 256 j h (min-le-left 256 (length bytes / 3)))
       ∙ ap (λ c. nodes-refusal (kind-at bytes) (first-at bytes) (second-at bytes) c (λ v. ltb v values) events) n
       ∙ sym (rule-fits e)
+
+  decoded-some : count-fits 3 256 (length bytes) ≡ true → ¬ (decoded bytes .count ≡ 0)
+  unfolding decoded decoded-count
+  decoded-some e z =
+      let w : CountFits 3 256 (length bytes) = count-facts 3 256 (length bytes) e in
+      let n : min 256 (length bytes / 3) ≡ length bytes / 3 = min-eq-right (w .within) in
+      omega (arith, w .some-node, sym n ∙ z)
+
+  -- The decoded fields are judged as the bytes are.
+  pub decoded-refusal :
+      count-fits 3 256 (length bytes) ≡ true
+      → fields-refusal (field (decoded bytes .kinds)) (field (decoded bytes .firsts)) (field (decoded bytes .values)) (decoded bytes .count) (λ v. ltb v values) events
+      ≡ rule-refusal events values bytes
+  decoded-refusal e =
+      count-within (field (decoded bytes .kinds)) (field (decoded bytes .firsts)) (field (decoded bytes .values)) (decoded bytes .count) (λ v. ltb v values) events
+      (decoded-some e) (decoded-limit bytes)
+      ∙ decoded-nodes e

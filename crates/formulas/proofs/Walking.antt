@@ -1,17 +1,19 @@
--- One step of a walk that looks for the lowest variable at fault, for each kind of node.
+-- One step of a walk that notes the lowest variable at fault, for each kind of node.
 -- Assumes nothing.
-use mathlib.Core.Path.{_≡_, refl, sym, _∙_, ap, ap₂, subst}
-use mathlib.Core.Bool.{Bool, false, cond}
+use mathlib.Core.Path.{_≡_, refl, sym, _∙_, subst}
+use mathlib.Core.Bool.{Bool, cond}
 use mathlib.Core.Option.{Option, none, some}
-use Prim.Native.Nat.{ℕ, zero, suc, _+_, _-_, _≤_, _<_}
+use mathlib.Core.List.{List}
+use Prim.Native.Nat.{ℕ, suc, _+_, _-_, _≤_, _<_}
 use native.Mathlib.Numerals.{add-one}
 use native.Mathlib.Omega.{arith}
+use lib.ListN.{length, getD, set, length-set}
+use lib.Seq.{getD-set-same, getD-set-other}
 use Rattle.theory.specs.Formula.{Formula, truth, variable, transition, output, conjunction, greatest, size}
-use Rattle.formulas.specs.declared.Step.{Step}
-use Rattle.formulas.specs.declared.Step.the-variants.{Next, Fault}
 use Rattle.formulas.specs.NodeReading.{Reads}
-use Rattle.formulas.specs.RuleReading.{first-of, lowest-variable}
-use Rattle.formulas.specs.NodeWalks.{step, Within, Judged}
+use Rattle.formulas.specs.RuleConditions.{Position, open-to-variable, closed-to-variable}
+use Rattle.formulas.specs.RuleReading.{first-of, lowest-variable, unbound-below, closed-there}
+use Rattle.formulas.specs.NodeWalks.{Noted, Keeps, Judged, Scanned}
 
 pub size-positive : {B : Type 0} (φ : Formula B) → 0 < size φ
 size-positive truth = omega arith
@@ -21,6 +23,34 @@ size-positive (output e b) = omega arith
 size-positive (conjunction φ χ) = omega arith
 size-positive (greatest φ) = omega arith
 
+-- Nothing is found.
+pub keeps-none : (n : ℕ) → Keeps none n n
+unfolding Keeps first-of
+keeps-none n none w = w
+keeps-none n (some i) w = w
+
+-- A node is found where nothing is noted.
+pub keeps-here : (n at : ℕ) → n ≡ 256 → at < 256 → Keeps (some at) n at
+unfolding Keeps first-of Noted
+keeps-here n at e h none w = (refl, h)
+keeps-here n at e h (some i) w = absurd (omega (arith, w .0, w .1))
+
+-- A node is found where an earlier one is noted.
+pub keeps-earlier : (n at : ℕ) → ¬ (n ≡ 256) → Keeps (some at) n n
+unfolding Keeps first-of Noted
+keeps-earlier n at e none w = absurd (e w)
+keeps-earlier n at e (some i) w = w
+
+-- One search after the other.
+first-first : (o p q : Option ℕ) → first-of (first-of q o) p ≡ first-of q (first-of o p)
+unfolding first-of
+first-first o p none = refl
+first-first o p (some i) = refl
+
+keeps-both : (o p : Option ℕ) (before between after : ℕ) → Keeps o before between → Keeps p between after → Keeps (first-of o p) before after
+unfolding Keeps
+keeps-both o p before between after one two q w = subst (λ x. Noted x after) (first-first o p q) (two (first-of q o) (one q w))
+
 module _ (kind first value : ℕ → ℕ) {S : Type 0} (faulty : S → ℕ → Bool) (below-transition below-greatest : S → S) where
   abbrev J : S → ℕ → Formula ℕ → Option ℕ
   J = lowest-variable faulty below-transition below-greatest
@@ -28,138 +58,194 @@ module _ (kind first value : ℕ → ℕ) {S : Type 0} (faulty : S → ℕ → B
   moved-to : (φ : Formula ℕ) {i j : ℕ} → i ≡ j → Reads kind first value i φ → Reads kind first value j φ
   moved-to φ e d = subst (λ i. Reads kind first value i φ) e d
 
-  module _ (at left : ℕ) (s : S) where
-    -- No node is left.
-    pub walk-none : (r : Step) → left ≡ 0 → Judged kind first value (J s) at left r
-    unfolding Judged
-    walk-none r e φ d h = absurd (omega (arith, size-positive φ))
-
-    -- A leaf that is no variable, or a variable that is not at fault.
+  module _ (at left : ℕ) (s : S) (before : ℕ) where
+    -- A leaf that is no variable.
     pub walk-leaf :
-        (kind at ≡ 1 → (n : ℕ) → faulty s n ≡ false) → ¬ (kind at ≡ 2) → ¬ (kind at ≡ 4) → ¬ (kind at ≡ 5)
-        → Judged kind first value (J s) at left (Next (at + 1))
-    unfolding Judged lowest-variable step
-    walk-leaf k1 k2 k4 k5 truth d h = refl
-    walk-leaf k1 k2 k4 k5 (variable n) d h = sym (ap (λ b. step (cond b (some at) none) (at + 1)) (k1 (d .0) n))
+        ¬ (kind at ≡ 1) → ¬ (kind at ≡ 2) → ¬ (kind at ≡ 4) → ¬ (kind at ≡ 5)
+        → Judged kind first value (J s) at left before before (at + 1)
+    unfolding Judged lowest-variable
+    walk-leaf k1 k2 k4 k5 truth d h = (refl, keeps-none before)
+    walk-leaf k1 k2 k4 k5 (variable n) d h = absurd (k1 (d .0))
     walk-leaf k1 k2 k4 k5 (transition e φ) d h = absurd (k2 (d .0))
-    walk-leaf k1 k2 k4 k5 (output e b) d h = refl
+    walk-leaf k1 k2 k4 k5 (output e b) d h = (refl, keeps-none before)
     walk-leaf k1 k2 k4 k5 (conjunction φ χ) d h = absurd (k4 (d .0))
     walk-leaf k1 k2 k4 k5 (greatest φ) d h = absurd (k5 (d .0))
 
-    pub walk-variable :
-        (r : Step) → kind at ≡ 1 → r ≡ step (cond (faulty s (first at)) (some at) none) (at + 1) → Judged kind first value (J s) at left r
-    unfolding Judged lowest-variable
-    walk-variable r k e truth d h = absurd (omega (arith, k, d))
-    walk-variable r k e (variable n) d h = e ∙ ap (λ x. step (cond (faulty s x) (some at) none) (at + 1)) (d .1)
-    walk-variable r k e (transition a φ) d h = absurd (omega (arith, k, d .0))
-    walk-variable r k e (output a b) d h = absurd (omega (arith, k, d .0))
-    walk-variable r k e (conjunction φ χ) d h = absurd (omega (arith, k, d .0))
-    walk-variable r k e (greatest φ) d h = absurd (omega (arith, k, d .0))
+    module _ (after : ℕ) where
+      pub walk-variable :
+          kind at ≡ 1 → Keeps (cond (faulty s (first at)) (some at) none) before after
+          → Judged kind first value (J s) at left before after (at + 1)
+      unfolding Judged lowest-variable
+      walk-variable k w truth d h = absurd (omega (arith, k, d))
+      walk-variable k w (variable n) d h = (refl, subst (λ x. Keeps (cond (faulty s x) (some at) none) before after) (d .1) w)
+      walk-variable k w (transition a φ) d h = absurd (omega (arith, k, d .0))
+      walk-variable k w (output a b) d h = absurd (omega (arith, k, d .0))
+      walk-variable k w (conjunction φ χ) d h = absurd (omega (arith, k, d .0))
+      walk-variable k w (greatest φ) d h = absurd (omega (arith, k, d .0))
 
-    -- A node with one part, from the walk over the part.
-    part :
-        (t : S) (r : Step) → Judged kind first value (J t) (at + 1) (left - 1) r → (φ : Formula ℕ)
-        → Reads kind first value (suc at) φ → suc (size φ) ≤ left → r ≡ step (J t (suc at) φ) (at + suc (size φ))
-    unfolding Judged
-    part t r w φ d h =
-        let z : (at + 1) + size φ ≡ at + suc (size φ) = omega arith in
-        w φ (moved-to φ (sym (add-one at)) d) (omega arith) ∙ ap₂ (λ i p. step (J t i φ) p) (add-one at) z
+      module _ (r : ℕ) where
+        -- No node is left.
+        pub walk-none : left ≡ 0 → Judged kind first value (J s) at left before after r
+        unfolding Judged
+        walk-none e φ d h = absurd (omega (arith, size-positive φ))
 
-    pub walk-transition :
-        (r : Step) → kind at ≡ 2 → Judged kind first value (J (below-transition s)) (at + 1) (left - 1) r
-        → Judged kind first value (J s) at left r
-    unfolding Judged lowest-variable
-    walk-transition r k w truth d h = absurd (omega (arith, k, d))
-    walk-transition r k w (variable n) d h = absurd (omega (arith, k, d .0))
-    walk-transition r k w (transition e φ) d h = part (below-transition s) r w φ (d .2) h
-    walk-transition r k w (output e b) d h = absurd (omega (arith, k, d .0))
-    walk-transition r k w (conjunction φ χ) d h = absurd (omega (arith, k, d .0))
-    walk-transition r k w (greatest φ) d h = absurd (omega (arith, k, d .0))
+        -- A node with one part, from the walk over the part.
+        part :
+            (t : S) → Judged kind first value (J t) (at + 1) (left - 1) before after r → (φ : Formula ℕ)
+            → Reads kind first value (suc at) φ → suc (size φ) ≤ left → (r ≡ at + suc (size φ)) × Keeps (J t (suc at) φ) before after
+        unfolding Judged
+        part t w φ d h =
+            let v = w φ (moved-to φ (sym (add-one at)) d) (omega arith) in
+            (omega (arith, v .0), subst (λ i. Keeps (J t i φ) before after) (add-one at) (v .1))
 
-    pub walk-greatest :
-        (r : Step) → kind at ≡ 5 → Judged kind first value (J (below-greatest s)) (at + 1) (left - 1) r
-        → Judged kind first value (J s) at left r
-    unfolding Judged lowest-variable
-    walk-greatest r k w truth d h = absurd (omega (arith, k, d))
-    walk-greatest r k w (variable n) d h = absurd (omega (arith, k, d .0))
-    walk-greatest r k w (transition e φ) d h = absurd (omega (arith, k, d .0))
-    walk-greatest r k w (output e b) d h = absurd (omega (arith, k, d .0))
-    walk-greatest r k w (conjunction φ χ) d h = absurd (omega (arith, k, d .0))
-    walk-greatest r k w (greatest φ) d h = part (below-greatest s) r w φ (d .1) h
+        pub walk-transition :
+            kind at ≡ 2 → Judged kind first value (J (below-transition s)) (at + 1) (left - 1) before after r
+            → Judged kind first value (J s) at left before after r
+        unfolding Judged lowest-variable
+        walk-transition k w truth d h = absurd (omega (arith, k, d))
+        walk-transition k w (variable n) d h = absurd (omega (arith, k, d .0))
+        walk-transition k w (transition e φ) d h = part (below-transition s) w φ (d .2) h
+        walk-transition k w (output e b) d h = absurd (omega (arith, k, d .0))
+        walk-transition k w (conjunction φ χ) d h = absurd (omega (arith, k, d .0))
+        walk-transition k w (greatest φ) d h = absurd (omega (arith, k, d .0))
 
-    -- A node with two parts: the walk over the first part ends at a fault, or goes on with the second.
-    module _ (k : kind at ≡ 4) (one : Step) (w : Judged kind first value (J s) (at + 1) (left - 1) one) where
-      first-part : (φ : Formula ℕ) → Reads kind first value (suc at) φ → size φ ≤ left - 1 → one ≡ step (J s (suc at) φ) (suc at + size φ)
-      unfolding Judged
-      first-part φ d h =
-          let z : (at + 1) + size φ ≡ suc at + size φ = omega arith in
-          w φ (moved-to φ (sym (add-one at)) d) h ∙ ap₂ (λ i p. step (J s i φ) p) (add-one at) z
+        pub walk-greatest :
+            kind at ≡ 5 → Judged kind first value (J (below-greatest s)) (at + 1) (left - 1) before after r
+            → Judged kind first value (J s) at left before after r
+        unfolding Judged lowest-variable
+        walk-greatest k w truth d h = absurd (omega (arith, k, d))
+        walk-greatest k w (variable n) d h = absurd (omega (arith, k, d .0))
+        walk-greatest k w (transition e φ) d h = absurd (omega (arith, k, d .0))
+        walk-greatest k w (output e b) d h = absurd (omega (arith, k, d .0))
+        walk-greatest k w (conjunction φ χ) d h = absurd (omega (arith, k, d .0))
+        walk-greatest k w (greatest φ) d h = part (below-greatest s) w φ (d .1) h
 
-      pub walk-first : (j : ℕ) → one ≡ Fault j → Judged kind first value (J s) at left one
-      unfolding Judged lowest-variable step first-of
-      walk-first j e truth d h = absurd (omega (arith, k, d))
-      walk-first j e (variable n) d h = absurd (omega (arith, k, d .0))
-      walk-first j e (transition a φ) d h = absurd (omega (arith, k, d .0))
-      walk-first j e (output a b) d h = absurd (omega (arith, k, d .0))
-      walk-first j e (conjunction φ χ) d h = go (J s (suc at) φ) refl (first-part φ (d .1) (omega arith))
-        where
-          go :
-              (o : Option ℕ) → J s (suc at) φ ≡ o → one ≡ step o (suc at + size φ)
-              → one ≡ step (first-of (J s (suc at) φ) (J s (suc at + size φ) χ)) (at + suc (size φ + size χ))
-          go none x y = absurd (clash (sym e ∙ y))
-            where
-              clash : Fault j ≡ Next (suc at + size φ) → ⊥
-              clash y = let z : _≡_ {A = ℕ} 0 1 = cc in omega arith
-          go (some i) x y = y ∙ sym (ap (λ o. step (first-of o (J s (suc at + size φ) χ)) (at + suc (size φ + size χ))) x)
-      walk-first j e (greatest φ) d h = absurd (omega (arith, k, d .0))
+        -- A node with two parts: a walk over each.
+        pub walk-conjunction :
+            (m between : ℕ) → kind at ≡ 4 → Judged kind first value (J s) (at + 1) (left - 1) before between m
+            → Judged kind first value (J s) m (at + left - m) between after r → Judged kind first value (J s) at left before after r
+        unfolding Judged lowest-variable
+        walk-conjunction m between k one two truth d h = absurd (omega (arith, k, d))
+        walk-conjunction m between k one two (variable n) d h = absurd (omega (arith, k, d .0))
+        walk-conjunction m between k one two (transition e φ) d h = absurd (omega (arith, k, d .0))
+        walk-conjunction m between k one two (output e b) d h = absurd (omega (arith, k, d .0))
+        walk-conjunction m between k one two (conjunction φ χ) d h =
+            let u = one φ (moved-to φ (sym (add-one at)) (d .1)) (omega arith) in
+            let e : suc at + size φ ≡ m = omega (arith, u .0) in
+            let v = two χ (moved-to χ e (d .2)) (omega (arith, u .0)) in (
+              omega (arith, u .0, v .0),
+              keeps-both (J s (suc at) φ) (J s (suc at + size φ) χ) before between after
+                  (subst (λ i. Keeps (J s i φ) before between) (add-one at) (u .1))
+                  (subst (λ i. Keeps (J s i χ) between after) (sym e) (v .1)),
+            )
+        walk-conjunction m between k one two (greatest φ) d h = absurd (omega (arith, k, d .0))
 
-      pub walk-second : (m : ℕ) (r : Step) → one ≡ Next m → Judged kind first value (J s) m (at + left - m) r → Judged kind first value (J s) at left r
-      unfolding Judged lowest-variable step first-of
-      walk-second m r e two truth d h = absurd (omega (arith, k, d))
-      walk-second m r e two (variable n) d h = absurd (omega (arith, k, d .0))
-      walk-second m r e two (transition a φ) d h = absurd (omega (arith, k, d .0))
-      walk-second m r e two (output a b) d h = absurd (omega (arith, k, d .0))
-      walk-second m r e two (conjunction φ χ) d h = go (J s (suc at) φ) refl (first-part φ (d .1) (omega arith))
-        where
-          go :
-              (o : Option ℕ) → J s (suc at) φ ≡ o → one ≡ step o (suc at + size φ)
-              → r ≡ step (first-of (J s (suc at) φ) (J s (suc at + size φ) χ)) (at + suc (size φ + size χ))
-          go none x y =
-              let w : Next m ≡ Next (suc at + size φ) = sym e ∙ y in
-              let v : m ≡ suc at + size φ = cc in
-              let z : m + size χ ≡ at + suc (size φ + size χ) = omega (arith, v) in
-              two χ (moved-to χ (sym v) (d .2)) (omega (arith, v))
-              ∙ ap₂ (λ i t. step (J s i χ) t) v z
-              ∙ sym (ap (λ o. step (first-of o (J s (suc at + size φ) χ)) (at + suc (size φ + size χ))) x)
-          go (some i) x y = absurd (clash (sym e ∙ y))
-            where
-              clash : Next m ≡ Fault i → ⊥
-              clash y = let z : _≡_ {A = ℕ} 0 1 = cc in omega arith
-      walk-second m r e two (greatest φ) d h = absurd (omega (arith, k, d .0))
+-- The walk of 8 and 9: both notes.
+module _ (kind first : ℕ → ℕ) (depth : ℕ) (p : Position) (at left : ℕ) (before : List ℕ) where
+  pub scanned-none : left ≡ 0 → length before ≡ 2 → Scanned kind first depth p at left before before at
+  scanned-none e l =
+      record {
+        low = omega arith;
+        high = omega arith;
+        sized = l;
+        unbound = λ value. walk-none kind first value unbound-below (λ d. d) suc at left depth _ _ at e;
+        closed = λ value. walk-none kind first value closed-there (λ q. open-to-variable) (λ q. closed-to-variable) at left p _ _ at e;
+      }
 
--- The walk stays within the nodes that are left.
-pub within-part : (at left : ℕ) (r : Step) → ¬ (left ≡ 0) → Within (at + 1) (left - 1) r → Within at left r
-unfolding Within
-within-part at left (Next p) h w = (omega (arith, w .0), omega (arith, w .1, positive left h))
-  where
-    positive : (n : ℕ) → ¬ (n ≡ 0) → 0 < n
-    positive zero h = absurd (h refl)
-    positive (suc n) h = omega arith
-within-part at left (Fault i) h w = tt
+  pub scanned-leaf :
+      ¬ (left ≡ 0) → length before ≡ 2 → ¬ (kind at ≡ 1) → ¬ (kind at ≡ 2) → ¬ (kind at ≡ 4) → ¬ (kind at ≡ 5)
+      → Scanned kind first depth p at left before before (at + 1)
+  scanned-leaf e l k1 k2 k4 k5 =
+      record {
+        low = omega arith;
+        high = omega (arith, e);
+        sized = l;
+        unbound = λ value. walk-leaf kind first value unbound-below (λ d. d) suc at left depth _ k1 k2 k4 k5;
+        closed = λ value.
+            walk-leaf kind first value closed-there (λ q. open-to-variable) (λ q. closed-to-variable) at left p _ k1 k2 k4 k5;
+      }
 
-pub within-second : (at left m : ℕ) (r : Step) → at ≤ m → m ≤ at + left → Within m (at + left - m) r → Within at left r
-unfolding Within
-within-second at left m (Next p) h k w = (omega (arith, w .0), omega (arith, w .1))
-within-second at left m (Fault i) h k w = tt
+  module _ (after : List ℕ) where
+    scanned-variable :
+        ¬ (left ≡ 0) → length after ≡ 2 → kind at ≡ 1
+        → Keeps (cond (unbound-below depth (first at)) (some at) none) (getD before 0 0) (getD after 0 0)
+        → Keeps (cond (closed-there p (first at)) (some at) none) (getD before 1 0) (getD after 1 0)
+        → Scanned kind first depth p at left before after (at + 1)
+    scanned-variable e l k u v =
+        record {
+          low = omega arith;
+          high = omega (arith, e);
+          sized = l;
+          unbound = λ value. walk-variable kind first value unbound-below (λ d. d) suc at left depth _ _ k u;
+          closed = λ value. walk-variable kind first value closed-there (λ q. open-to-variable) (λ q. closed-to-variable) at left p _ _ k v;
+        }
 
-pub within-next : (at left m : ℕ) (r : Step) → r ≡ Next m → Within at left r → (at ≤ m) × (m ≤ at + left)
-unfolding Within
-within-next at left m r e w = subst (Within at left) e w
+    module _ (r : ℕ) where
+      pub scanned-transition :
+          ¬ (left ≡ 0) → kind at ≡ 2 → Scanned kind first depth open-to-variable (at + 1) (left - 1) before after r
+          → Scanned kind first depth p at left before after r
+      scanned-transition e k w =
+          record {
+            low = omega (arith, w .low);
+            high = omega (arith, e, w .high);
+            sized = w .sized;
+            unbound = λ value. walk-transition kind first value unbound-below (λ d. d) suc at left depth _ _ r k (w .unbound value);
+            closed = λ value.
+                walk-transition kind first value closed-there (λ q. open-to-variable) (λ q. closed-to-variable) at left p _ _ r k (w .closed value);
+          }
 
-pub within-here : (at left p : ℕ) → at ≤ p → p ≤ at + left → Within at left (Next p)
-unfolding Within
-within-here at left p h k = (h, k)
+      pub scanned-greatest :
+          ¬ (left ≡ 0) → kind at ≡ 5 → Scanned kind first (depth + 1) closed-to-variable (at + 1) (left - 1) before after r
+          → Scanned kind first depth p at left before after r
+      scanned-greatest e k w =
+          record {
+            low = omega (arith, w .low);
+            high = omega (arith, e, w .high);
+            sized = w .sized;
+            unbound = λ value. walk-greatest kind first value unbound-below (λ d. d) suc at left depth _ _ r k (rw (← (add-one depth)) (w .unbound value));
+            closed = λ value.
+                walk-greatest kind first value closed-there (λ q. open-to-variable) (λ q. closed-to-variable) at left p _ _ r k (w .closed value);
+          }
 
-pub within-fault : (at left p : ℕ) → Within at left (Fault p)
-unfolding Within
-within-fault at left p = tt
+      pub scanned-conjunction :
+          (m : ℕ) (between : List ℕ) → ¬ (left ≡ 0) → kind at ≡ 4 → Scanned kind first depth p (at + 1) (left - 1) before between m
+          → Scanned kind first depth p m (at + left - m) between after r → Scanned kind first depth p at left before after r
+      scanned-conjunction m between e k w v =
+          record {
+            low = omega (arith, w .low, v .low);
+            high = omega (arith, e, w .high, v .high);
+            sized = v .sized;
+            unbound = λ value.
+                walk-conjunction kind first value unbound-below (λ d. d) suc at left depth _ _ r m _ k (w .unbound value) (v .unbound value);
+            closed = λ value.
+                walk-conjunction kind first value closed-there (λ q. open-to-variable) (λ q. closed-to-variable) at left p _ _ r m _ k
+                (w .closed value) (v .closed value);
+          }
+
+-- A variable in a closed position has both notes, and one in an open position that of 8.
+module _ (kind first : ℕ → ℕ) (depth at left : ℕ) (before : List ℕ) (e : ¬ (left ≡ 0)) (l : length before ≡ 2) (k : kind at ≡ 1) where
+  pub scanned-closed-variable :
+      (n m : ℕ) → Keeps (cond (unbound-below depth (first at)) (some at) none) (getD before 0 0) n
+      → Keeps (some at) (getD (set before 0 n) 1 0) m
+      → Scanned kind first depth closed-to-variable at left before (set (set before 0 n) 1 m) (at + 1)
+  unfolding closed-there
+  scanned-closed-variable n m u v =
+      scanned-variable kind first depth closed-to-variable at left before (set (set before 0 n) 1 m) e (simp length-set l) k
+      (subst (Keeps (cond (unbound-below depth (first at)) (some at) none) (getD before 0 0)) (sym one) u)
+      (subst (λ x. Keeps (some at) x (getD (set (set before 0 n) 1 m) 1 0)) (getD-set-other before 0 1 n 0 (λ q. omega (arith, q)))
+      (subst (Keeps (some at) (getD (set before 0 n) 1 0)) (sym two) v))
+    where
+      one : getD (set (set before 0 n) 1 m) 0 0 ≡ n
+      one = getD-set-other (set before 0 n) 1 0 m 0 (λ q. omega (arith, q)) ∙ getD-set-same before 0 n 0 (omega (arith, l))
+
+      two : getD (set (set before 0 n) 1 m) 1 0 ≡ m
+      two = getD-set-same (set before 0 n) 1 m 0 (simp length-set (omega (arith, l)))
+
+  pub scanned-open-variable :
+      (n : ℕ) → Keeps (cond (unbound-below depth (first at)) (some at) none) (getD before 0 0) n
+      → Scanned kind first depth open-to-variable at left before (set before 0 n) (at + 1)
+  unfolding closed-there
+  scanned-open-variable n u =
+      scanned-variable kind first depth open-to-variable at left before (set before 0 n) e (simp length-set l) k
+      (subst (Keeps (cond (unbound-below depth (first at)) (some at) none) (getD before 0 0)) (sym (getD-set-same before 0 n 0 (omega (arith, l)))) u)
+      (subst (Keeps none (getD before 1 0)) (sym (getD-set-other before 0 1 n 0 (λ q. omega (arith, q)))) (keeps-none (getD before 1 0)))

@@ -4,51 +4,53 @@ use mathlib.Core.Path.{_≡_}
 use mathlib.Core.List.{List}
 use mathlib.Core.Option.{Option, none, some}
 use Prim.Native.Nat.{ℕ, _+_, _≤_, _<_}
-use lib.ListN.{getD}
+use lib.ListN.{length, getD}
 use Rattle.theory.specs.Formula.{Formula, size}
-use Rattle.formulas.specs.declared.Step.{Step}
-use Rattle.formulas.specs.declared.Step.the-variants.{Next, Fault}
 use Rattle.formulas.specs.declared.Found.{Found}
 use Rattle.formulas.specs.declared.Found.the-variants.{At, Nowhere}
 use Rattle.refusal.specs.Refusal.{judgement}
 use Rattle.refusal.specs.declared.Judgement.{Judgement}
 use Rattle.formulas.specs.NodeReading.{Reads}
-use Rattle.formulas.specs.RuleRefusal.{variables-refusal}
+use Rattle.formulas.specs.RuleConditions.{Position}
+use Rattle.formulas.specs.RuleReading.{first-of, lowest-unbound, lowest-closed}
+use Rattle.formulas.specs.RuleRefusal.{node-limit, variables-refusal, structure-refusal}
 
 -- A place that was looked for.
 unfoldable pub found : Option ℕ → Found
 found none = Nowhere
 found (some i) = At i
 
--- A walk ends at the node after the formula, or at a node at fault.
-unfoldable pub step : Option ℕ → ℕ → Step
-step none p = Next p
-step (some i) p = Fault i
+-- A note: the number of a node, or the limit, which is above every node's, where nothing is noted.
+unfoldable pub Noted : Option ℕ → ℕ → Type 0
+Noted none n = n ≡ node-limit
+Noted (some i) n = (n ≡ i) × (i < node-limit)
 
--- A walk that goes on goes on within the nodes that are left.
-unfoldable pub Within : ℕ → ℕ → Step → Type 0
-Within at left (Next p) = (at ≤ p) × (p ≤ at + left)
-Within at left (Fault i) = Unit {0}
+-- A note keeps the first place: what it is after a place was looked for, by what it was before.
+unfoldable pub Keeps : Option ℕ → ℕ → ℕ → Type 0
+Keeps place before after = (o : Option ℕ) → Noted o before → Noted (first-of o place) after
 
--- `judge at φ`: the lowest node at fault in φ that stands at node `at`. The walk's answer for each formula that stands there.
-unfoldable pub Judged : (ℕ → ℕ) → (ℕ → ℕ) → (ℕ → ℕ) → (ℕ → Formula ℕ → Option ℕ) → ℕ → ℕ → Step → Type 0
-Judged kind first value judge at left r =
-    (φ : Formula ℕ) → Reads kind first value at φ → size φ ≤ left → r ≡ step (judge at φ) (at + size φ)
+-- `judge at φ`: the lowest node at fault in φ that stands at node `at`. For each formula that stands there, the walk's answer is the
+-- node after it, and the lowest node at fault is noted.
+unfoldable pub Judged : (ℕ → ℕ) → (ℕ → ℕ) → (ℕ → ℕ) → (ℕ → Formula ℕ → Option ℕ) → ℕ → ℕ → ℕ → ℕ → ℕ → Type 0
+Judged kind first value judge at left before after r =
+    (φ : Formula ℕ) → Reads kind first value at φ → size φ ≤ left → (r ≡ at + size φ) × Keeps (judge at φ) before after
 
--- A walk that looks at the kinds alone.
-pub record KindsWalked (kind : ℕ → ℕ) (judge : ℕ → Formula ℕ → Option ℕ) (at left : ℕ) (r : Step) : Type 0 where
-  pub within : Within at left r
-  pub right : (first value : ℕ → ℕ) → Judged kind first value judge at left r
-
--- A walk that looks at the kinds and first fields.
-pub record FirstsWalked (kind first : ℕ → ℕ) (judge : ℕ → Formula ℕ → Option ℕ) (at left : ℕ) (r : Step) : Type 0 where
-  pub within : Within at left r
-  pub right : (value : ℕ → ℕ) → Judged kind first value judge at left r
+-- The walk of 8 and 9, with two notes: for 8 the first, for 9 the second.
+pub record Scanned (kind first : ℕ → ℕ) (depth : ℕ) (p : Position) (at left : ℕ) (before after : List ℕ) (r : ℕ) : Type 0 where
+  pub low : at ≤ r
+  pub high : r ≤ at + left
+  pub sized : length after ≡ 2
+  pub unbound : (value : ℕ → ℕ) → Judged kind first value (lowest-unbound depth) at left (getD before 0 0) (getD after 0 0) r
+  pub closed : (value : ℕ → ℕ) → Judged kind first value (lowest-closed p) at left (getD before 1 0) (getD after 1 0) r
 
 -- The answer of 8 and 9, for the formula whose nodes these are.
 unfoldable pub VariablesJudged : (ℕ → ℕ) → (ℕ → ℕ) → ℕ → Judgement → Type 0
 VariablesJudged kind first count r =
     (value : ℕ → ℕ) (φ : Formula ℕ) → Reads kind first value 0 φ → size φ ≡ count → r ≡ judgement (variables-refusal φ)
+
+-- The answer of 7 to 9, whatever the values are.
+unfoldable pub StructureJudged : (ℕ → ℕ) → (ℕ → ℕ) → ℕ → Judgement → Type 0
+StructureJudged kind first count r = (value : ℕ → ℕ) → r ≡ judgement (structure-refusal kind first value count)
 
 -- Every kind is known.
 abbrev pub KnownKinds : (ℕ → ℕ) → ℕ → Type 0

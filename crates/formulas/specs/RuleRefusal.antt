@@ -13,6 +13,13 @@ use Rattle.refusal.specs.declared.Refusal.{Refusal}
 use Rattle.formulas.specs.RuleConditions.{closed-to-variable}
 use Rattle.formulas.specs.RuleReading.{lowest-from, kind-of, fields-fit, end-fault, formula-read, lowest-unbound, lowest-closed}
 
+-- At most so many nodes, and the bytes of each.
+abbrev pub node-limit : ℕ
+node-limit = 256
+
+abbrev pub node-width : ℕ
+node-width = 3
+
 -- Of 5: so many bytes are 1 to `limit` whole nodes.
 unfoldable pub count-fits : ℕ → ℕ → ℕ → Bool
 count-fits width limit n = eqb (n % width) 0 && (ltb 0 (n / width) && leb (n / width) limit)
@@ -35,12 +42,9 @@ module _ (kind first value : ℕ → ℕ) (count : ℕ) where
     unfoldable pub nodes-refusal : Option Refusal
     nodes-refusal = or-else (at-found misfit-place 6) structure-refusal
 
--- At most so many nodes, and the bytes of each.
-abbrev pub node-limit : ℕ
-node-limit = 256
-
-abbrev pub node-width : ℕ
-node-width = 3
+    -- 5 to 9, where the nodes' fields are at hand: 5 by their count alone.
+    unfoldable pub fields-refusal : Option Refusal
+    fields-refusal = or-else (plain-unless (ltb 0 count && leb count node-limit) 5) nodes-refusal
 
 -- The fields of node i, in nodes of three bytes.
 module _ (bytes : List ℕ) where

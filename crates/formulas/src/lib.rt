@@ -1,14 +1,15 @@
 // Formulas in bytes (document 01, "Rules"): refusals 5 to 9.
 ghost use mathlib.Core.Path.{_≡_};
-ghost use Prim.Native.Nat.{ℕ, _+_, _*_, _/_, _≤_, _<_, min};
-ghost use mathlib.Core.Bool.{Bool};
+ghost use Prim.Native.Nat.{_+_, _/_, _≤_, _<_, min};
+ghost use mathlib.Core.Bool.{cond};
+ghost use mathlib.Core.Option.{none, some};
 ghost use lib.Dec.{ltb};
-ghost use lib.ListN.{length, getD};
+ghost use lib.ListN.{length};
 ghost use Rattle.refusal.specs.Refusal.{judgement};
 ghost use Rattle.formulas.specs.RuleConditions.{open-to-variable, closed-to-variable};
-ghost use Rattle.formulas.specs.RuleReading.{kind-of, fields-fit, awaited, end-fault, lowest-unbound, lowest-closed};
-ghost use Rattle.formulas.specs.RuleRefusal.{node-width, node-limit, count-fits, misfit-place, structure-refusal, nodes-refusal, rule-refusal};
-ghost use Rattle.formulas.specs.NodeWalks.{found, KindsWalked, FirstsWalked, VariablesJudged, KnownKinds, field};
+ghost use Rattle.formulas.specs.RuleReading.{kind-of, fields-fit, awaited, end-fault, unbound-below};
+ghost use Rattle.formulas.specs.RuleRefusal.{node-width, node-limit, count-fits, misfit-place, fields-refusal, rule-refusal};
+ghost use Rattle.formulas.specs.NodeWalks.{found, Keeps, Scanned, VariablesJudged, StructureJudged, KnownKinds, field};
 ghost use Rattle.formulas.specs.NodeArrays.{decoded};
 use refusal::CLOSED_VARIABLE;
 use refusal::Judgement;
@@ -51,12 +52,6 @@ enum Found {
     Nowhere,
 }
 
-// Where a walk over the nodes of a formula ends: at the node after them, or at a node at fault.
-enum Step {
-    Next(usize),
-    Fault(usize),
-}
-
 fn wide(x: u8) -> usize
     ensures { λ r. ⌜ (r ≡ x) × (r < 256) ⌝ }
 {
@@ -70,7 +65,7 @@ fn value_of(x: u8) -> u32
 }
 
 // 5: so many bytes are 1 to 256 whole nodes.
-fn count_fits(n: usize) -> bool
+pub fn count_fits(n: usize) -> bool
     ensures { λ r. ⌜ r ≡ count-fits node-width node-limit n ⌝ }
 {
     if n % NODE_WIDTH == 0 {
@@ -151,7 +146,7 @@ fn lowest_misfit(
     values: &[u32; NODE_LIMIT],
     count: usize,
 ) -> Found
-    requires { ⌜ (count ≤ 256) × (length (now kinds) ≡ 256) × (length (now firsts) ≡ 256) × (length (now values) ≡ 256) ⌝ }
+    requires { ⌜ count ≤ 256 ⌝ }
     ensures { λ r. ⌜ r ≡ found (misfit-place (field (now (kinds .entry))) (field (now (firsts .entry))) (field (now (values .entry))) count (λ v. ltb v limit) events) ⌝ }
 {
     let mut i: usize = 0;
@@ -184,7 +179,7 @@ fn awaited(kind: u8, others: usize) -> usize
 
 // 7: where the nodes run out, or the first of those left over.
 fn misplaced_end(kinds: &[u8; NODE_LIMIT], count: usize) -> Found
-    requires { ⌜ (count ≤ 256) × (length (now kinds) ≡ 256) ⌝ }
+    requires { ⌜ count ≤ 256 ⌝ }
     ensures { λ r. ⌜ r ≡ found (end-fault (field (now (kinds .entry))) 1 count 0) ⌝ }
 {
     let mut parts: usize = 1;
@@ -202,141 +197,146 @@ fn misplaced_end(kinds: &[u8; NODE_LIMIT], count: usize) -> Found
     Found::Nowhere
 }
 
-// 8: looks for a variable without binder, below so many binders.
-fn bound_position(
+// 8, for one variable: it counts as many binders as it stands below, or more.
+fn unbound(first: u8, depth: usize) -> bool
+    ensures { λ r. ⌜ r ≡ unbound-below depth first ⌝ }
+{
+    !(wide(first) < depth)
+}
+
+// What is noted after a node: the node itself where it is the first at fault.
+fn noted(before: usize, fault: bool, at: usize) -> usize
+    requires { ⌜ at < 256 ⌝ }
+    ensures { λ r. ⌜ Keeps (cond fault (some at) none) before r ⌝ }
+{
+    if fault {
+        if before == NODE_LIMIT {
+            return at;
+        }
+    }
+    before
+}
+
+// 8 and 9 over the formula at a node, in a closed position, below so many binders: notes the lowest variable without binder, and the
+// lowest in a closed position. The answer is the node after the formula.
+fn closed_position(
     kinds: &[u8; NODE_LIMIT],
     firsts: &[u8; NODE_LIMIT],
     at: usize,
     left: usize,
     depth: usize,
-) -> Step
-    requires { ⌜ (at + left ≤ 256) × (depth ≤ at) × (length (now kinds) ≡ 256) × (length (now firsts) ≡ 256) ⌝ }
-    ensures { λ r. ⌜ FirstsWalked (field (now (kinds .entry))) (field (now (firsts .entry))) (lowest-unbound depth) at left r ⌝ }
+    faults: &mut [usize; 2],
+) -> usize
+    requires { ⌜ (at + left ≤ 256) × (depth ≤ at) × (length (now faults) ≡ 2) ⌝ }
+    ensures { λ r. ⌜ Scanned (field (now (kinds .entry))) (field (now (firsts .entry))) depth closed-to-variable at left (now (faults .entry)) (now (faults .exit)) r ⌝ }
 {
     if left == 0 {
-        return Step::Next(at);
+        return at;
     }
     let kind = kinds[at];
     if kind == VARIABLE {
-        if wide(firsts[at]) < depth {
-            return Step::Next(at + 1);
-        }
-        return Step::Fault(at);
+        faults[0] = noted(faults[0], unbound(firsts[at], depth), at);
+        faults[1] = noted(faults[1], true, at);
+        return at + 1;
     }
     if kind == TRANSITION {
-        return bound_position(kinds, firsts, at + 1, left - 1, depth);
+        return open_position(kinds, firsts, at + 1, left - 1, depth, faults);
     }
     if kind == CONJUNCTION {
-        let one = bound_position(kinds, firsts, at + 1, left - 1, depth);
-        let Step::Next(p) = one else {
-            return one;
-        };
-        return bound_position(kinds, firsts, p, at + left - p, depth);
+        let second = closed_position(kinds, firsts, at + 1, left - 1, depth, faults);
+        return closed_position(kinds, firsts, second, at + left - second, depth, faults);
     }
     if kind == GREATEST {
-        return bound_position(kinds, firsts, at + 1, left - 1, depth + 1);
+        return closed_position(kinds, firsts, at + 1, left - 1, depth + 1, faults);
     }
-    Step::Next(at + 1)
+    at + 1
 }
 
-// 9, at a closed position: looks for a variable in a closed position.
-fn closed_position(kinds: &[u8; NODE_LIMIT], at: usize, left: usize) -> Step
-    requires { ⌜ (at + left ≤ 256) × (length (now kinds) ≡ 256) ⌝ }
-    ensures { λ r. ⌜ KindsWalked (field (now (kinds .entry))) (lowest-closed closed-to-variable) at left r ⌝ }
+// The same in an open position.
+fn open_position(
+    kinds: &[u8; NODE_LIMIT],
+    firsts: &[u8; NODE_LIMIT],
+    at: usize,
+    left: usize,
+    depth: usize,
+    faults: &mut [usize; 2],
+) -> usize
+    requires { ⌜ (at + left ≤ 256) × (depth ≤ at) × (length (now faults) ≡ 2) ⌝ }
+    ensures { λ r. ⌜ Scanned (field (now (kinds .entry))) (field (now (firsts .entry))) depth open-to-variable at left (now (faults .entry)) (now (faults .exit)) r ⌝ }
 {
     if left == 0 {
-        return Step::Next(at);
+        return at;
     }
     let kind = kinds[at];
     if kind == VARIABLE {
-        return Step::Fault(at);
+        faults[0] = noted(faults[0], unbound(firsts[at], depth), at);
+        return at + 1;
     }
     if kind == TRANSITION {
-        return open_position(kinds, at + 1, left - 1);
+        return open_position(kinds, firsts, at + 1, left - 1, depth, faults);
     }
     if kind == CONJUNCTION {
-        let one = closed_position(kinds, at + 1, left - 1);
-        let Step::Next(p) = one else {
-            return one;
-        };
-        return closed_position(kinds, p, at + left - p);
+        let second = open_position(kinds, firsts, at + 1, left - 1, depth, faults);
+        return open_position(kinds, firsts, second, at + left - second, depth, faults);
     }
     if kind == GREATEST {
-        return closed_position(kinds, at + 1, left - 1);
+        return closed_position(kinds, firsts, at + 1, left - 1, depth + 1, faults);
     }
-    Step::Next(at + 1)
-}
-
-// 9, at an open position.
-fn open_position(kinds: &[u8; NODE_LIMIT], at: usize, left: usize) -> Step
-    requires { ⌜ (at + left ≤ 256) × (length (now kinds) ≡ 256) ⌝ }
-    ensures { λ r. ⌜ KindsWalked (field (now (kinds .entry))) (lowest-closed open-to-variable) at left r ⌝ }
-{
-    if left == 0 {
-        return Step::Next(at);
-    }
-    let kind = kinds[at];
-    if kind == TRANSITION {
-        return open_position(kinds, at + 1, left - 1);
-    }
-    if kind == CONJUNCTION {
-        let one = open_position(kinds, at + 1, left - 1);
-        let Step::Next(p) = one else {
-            return one;
-        };
-        return open_position(kinds, p, at + left - p);
-    }
-    if kind == GREATEST {
-        return closed_position(kinds, at + 1, left - 1);
-    }
-    Step::Next(at + 1)
+    at + 1
 }
 
 // 8, then 9: every variable has its binder, and no variable is in a closed position.
 fn check_variables(kinds: &[u8; NODE_LIMIT], firsts: &[u8; NODE_LIMIT], count: usize) -> Judgement
-    requires { ⌜ (count ≤ 256) × (length (now kinds) ≡ 256) × (length (now firsts) ≡ 256) ⌝ }
+    requires { ⌜ count ≤ 256 ⌝ }
     ensures { λ r. ⌜ VariablesJudged (field (now (kinds .entry))) (field (now (firsts .entry))) count r ⌝ }
 {
-    let bound = bound_position(kinds, firsts, 0, count, 0);
-    if let Step::Fault(p) = bound {
+    let mut faults = [NODE_LIMIT; 2];
+    closed_position(kinds, firsts, 0, count, 0, &mut faults);
+    let p = faults[0];
+    if p < NODE_LIMIT {
         return Judgement::Refused(Refusal::At(UNBOUND_VARIABLE, p));
     }
-    let placed = closed_position(kinds, 0, count);
-    if let Step::Fault(p) = placed {
-        return Judgement::Refused(Refusal::At(CLOSED_VARIABLE, p));
+    let q = faults[1];
+    if q < NODE_LIMIT {
+        return Judgement::Refused(Refusal::At(CLOSED_VARIABLE, q));
     }
     Judgement::Accepted
 }
 
 // 7, then 8 and 9.
-fn check_structure(nodes: Nodes) -> Judgement
-    requires { ⌜ (nodes .count ≤ 256) × KnownKinds (field (nodes .kinds)) (nodes .count) ⌝ }
-    ensures { λ r. ⌜ r ≡ judgement (structure-refusal (field (nodes .kinds)) (field (nodes .firsts)) (field (nodes .values)) (nodes .count)) ⌝ }
+fn check_structure(kinds: &[u8; NODE_LIMIT], firsts: &[u8; NODE_LIMIT], count: usize) -> Judgement
+    requires { ⌜ (count ≤ 256) × KnownKinds (field (now kinds)) count ⌝ }
+    ensures { λ r. ⌜ StructureJudged (field (now (kinds .entry))) (field (now (firsts .entry))) count r ⌝ }
 {
-    let count = nodes.count;
-    let kinds = nodes.kinds;
-    let firsts = nodes.firsts;
-    let end = misplaced_end(&kinds, count);
+    let end = misplaced_end(kinds, count);
     if let Found::At(p) = end {
         return Judgement::Refused(Refusal::At(NODE_TREE, p));
     }
-    check_variables(&kinds, &firsts, count)
+    check_variables(kinds, firsts, count)
 }
 
-// 6, then 7 to 9.
-fn check_nodes(events: usize, limit: usize, nodes: Nodes) -> Judgement
-    requires { ⌜ nodes .count ≤ 256 ⌝ }
-    ensures { λ r. ⌜ r ≡ judgement (nodes-refusal (field (nodes .kinds)) (field (nodes .firsts)) (field (nodes .values)) (nodes .count) (λ v. ltb v limit) events) ⌝ }
+// 5 to 9 for decoded nodes, the first `count` of each array, with the set-up's counts of events and values.
+pub fn check_nodes<'a>(
+    events: usize,
+    limit: usize,
+    kinds: &'a [u8; NODE_LIMIT],
+    firsts: &'a [u8; NODE_LIMIT],
+    values: &'a [u32; NODE_LIMIT],
+    count: usize,
+) -> Judgement
+    ensures { λ r. ⌜ r ≡ judgement (fields-refusal (field (now (kinds .entry))) (field (now (firsts .entry))) (field (now (values .entry))) count (λ v. ltb v limit) events) ⌝ }
 {
-    let count = nodes.count;
-    let kinds = nodes.kinds;
-    let firsts = nodes.firsts;
-    let values = nodes.values;
-    let misfit = lowest_misfit(events, limit, &kinds, &firsts, &values, count);
+    if count == 0 {
+        return Judgement::Refused(Refusal::Plain(NODE_COUNT));
+    }
+    if NODE_LIMIT < count {
+        return Judgement::Refused(Refusal::Plain(NODE_COUNT));
+    }
+    let misfit = lowest_misfit(events, limit, kinds, firsts, values, count);
     if let Found::At(p) = misfit {
         return Judgement::Refused(Refusal::At(NODE_FIELDS, p));
     }
-    check_structure(nodes)
+    check_structure(kinds, firsts, count)
 }
 
 // 5 to 9 for a rule in bytes, with the set-up's counts of events and values.
@@ -347,5 +347,12 @@ pub fn check_rule(events: usize, values: usize, bytes: &[u8]) -> Judgement
         return Judgement::Refused(Refusal::Plain(NODE_COUNT));
     }
     let nodes = decode(bytes);
-    check_nodes(events, values, nodes)
+    check_nodes(
+        events,
+        values,
+        &nodes.kinds,
+        &nodes.firsts,
+        &nodes.values,
+        nodes.count,
+    )
 }

@@ -1,11 +1,12 @@
--- `closed_position` and `open_position` meet their contracts: one step of the walk for each kind of node. The measure is the number of nodes left.
+-- `closed_position` and `open_position` meet their contracts: one step of the walk for each kind of node. The measure is the number of
+-- nodes left.
 -- Assumes nothing.
-use mathlib.Core.Path.{refl}
-use native.Mathlib.Omega.{arith}
-use Rattle.formulas.specs.RuleConditions.{open-to-variable, closed-to-variable}
-use Rattle.formulas.specs.RuleReading.{closed-there}
-use Rattle.formulas.specs.NodeWalks.{step}
-use Rattle.formulas.proofs.Walking.{walk-none, walk-leaf, walk-variable, walk-transition, walk-greatest, walk-first, walk-second, within-part, within-second, within-next, within-here, within-fault}
+use Rattle.formulas.specs.NodeWalks.{Keeps}
+use lib.ListN.{getD}
+use mathlib.Core.Option.{none, some}
+use mathlib.Core.Bool.{cond}
+use mathlib.Core.Path.{subst}
+use Rattle.formulas.proofs.Walking.{scanned-none, scanned-leaf, scanned-closed-variable, scanned-open-variable, scanned-transition, scanned-greatest, scanned-conjunction}
 use borrow.Author.Needs.{needs}
 use Prim.Native.Nat.{ℕ, _<_}
 use borrow.Fn.Kinds.{In}
@@ -16,57 +17,62 @@ use Rattle.formulas.proofs.+closed_position+open_position.Lts-closed_po
 use Rattle.formulas.proofs.open_position.Reads as open-position
 use Rattle.formulas.proofs.open_position.Kinds as open-position-kinds
 use Rattle.formulas.proofs.+closed_position+open_position.Lts-open_position as open-position-lts
+use Rattle.formulas.proofs.noted.Reads as noted-reads
+use Rattle.formulas.proofs.unbound.Reads as unbound-reads
 use Rattle.formulas.proofs.+closed_position+open_position.{statement}
 use Rattle.formulas.proofs.+closed_position+open_position.Tie.{close}
 
-abbrev μ-closed-position : Measures 1 closed-position-kinds.ps ℕ
-μ-closed-position κs a = a .1 .1 .0
+abbrev μ-closed-position : Measures 3 closed-position-kinds.ps ℕ
+μ-closed-position κs a = a .1 .1 .1 .0
 
-abbrev μ-open-position : Measures 1 open-position-kinds.ps ℕ
-μ-open-position κs a = a .1 .1 .0
+abbrev μ-open-position : Measures 3 open-position-kinds.ps ℕ
+μ-open-position κs a = a .1 .1 .1 .0
 
-abbrev closed-position-at : ℕ → In 1 closed-position-kinds.ps
+abbrev closed-position-at : ℕ → In 3 closed-position-kinds.ps
 closed-position-at t =
     and
-    1
+    3
     closed-position-kinds.ps
-    (is 1 closed-position-kinds.ps μ-closed-position t)
+    (is 3 closed-position-kinds.ps μ-closed-position t)
     closed-position.Pre
 
-abbrev closed-position-below : ℕ → In 1 closed-position-kinds.ps
+abbrev closed-position-below : ℕ → In 3 closed-position-kinds.ps
 closed-position-below t =
     and
-    1
+    3
     closed-position-kinds.ps
-    (falls 1 closed-position-kinds.ps _<_ μ-closed-position t)
+    (falls 3 closed-position-kinds.ps _<_ μ-closed-position t)
     closed-position.Pre
 
-abbrev open-position-at : ℕ → In 1 open-position-kinds.ps
+abbrev open-position-at : ℕ → In 3 open-position-kinds.ps
 open-position-at t =
-    and 1 open-position-kinds.ps (is 1 open-position-kinds.ps μ-open-position t) open-position.Pre
+    and 3 open-position-kinds.ps (is 3 open-position-kinds.ps μ-open-position t) open-position.Pre
 
-abbrev open-position-below : ℕ → In 1 open-position-kinds.ps
+abbrev open-position-below : ℕ → In 3 open-position-kinds.ps
 open-position-below t =
     and
-    1
+    3
     open-position-kinds.ps
-    (falls 1 open-position-kinds.ps _<_ μ-open-position t)
+    (falls 3 open-position-kinds.ps _<_ μ-open-position t)
     open-position.Pre
 
 closed-position-returns : (t : ℕ) → closed-position-lts.Need-returns (
+  unbound-reads.Asked,
+  unbound-reads.Learnt,
+  noted-reads.Asked,
+  noted-reads.Learnt,
   open-position-below t,
   open-position.Post,
   closed-position-below t,
   closed-position.Post,
 ) (closed-position-at t) closed-position.Post
-closed-position-returns t c =
-    let a = c .before .args in
-    record {
-      within = within-here _ _ _ (omega arith) (omega arith);
-      right = λ first value. walk-none _ first value closed-there (λ p. open-to-variable) (λ p. closed-to-variable) _ _ closed-to-variable _ (c .if1 .taken);
-    }
+closed-position-returns t c = scanned-none _ _ _ _ _ _ _ (c .if1 .taken) (search needs)
 
 closed-position-element-copy-out-kind : (t : ℕ) → closed-position-lts.Need-element-copy-out-kind (
+  unbound-reads.Asked,
+  unbound-reads.Learnt,
+  noted-reads.Asked,
+  noted-reads.Learnt,
   open-position-below t,
   open-position.Post,
   closed-position-below t,
@@ -74,21 +80,134 @@ closed-position-element-copy-out-kind : (t : ℕ) → closed-position-lts.Need-e
 ) (closed-position-at t) closed-position.Post
 closed-position-element-copy-out-kind t c = search needs
 
-closed-position-returns-2 : (t : ℕ) → closed-position-lts.Need-returns-2 (
+closed-position-element-copy-out-noted : (t : ℕ) → closed-position-lts.Need-element-copy-out-noted (
+  unbound-reads.Asked,
+  unbound-reads.Learnt,
+  noted-reads.Asked,
+  noted-reads.Learnt,
   open-position-below t,
   open-position.Post,
   closed-position-below t,
   closed-position.Post,
 ) (closed-position-at t) closed-position.Post
-unfolding closed-there step
-closed-position-returns-2 t c =
-    let a = c .before .before .before .args in
-    record {
-      within = within-fault _ _ _;
-      right = λ first value. walk-variable _ first value closed-there (λ p. open-to-variable) (λ p. closed-to-variable) _ _ closed-to-variable _ (c .if2 .taken) refl;
-    }
+closed-position-element-copy-out-noted t c = search needs
+
+closed-position-element-copy-out-unbound :
+    (t : ℕ) → closed-position-lts.Need-element-copy-out-unbound (
+      unbound-reads.Asked,
+      unbound-reads.Learnt,
+      noted-reads.Asked,
+      noted-reads.Learnt,
+      open-position-below t,
+      open-position.Post,
+      closed-position-below t,
+      closed-position.Post,
+    ) (closed-position-at t) closed-position.Post
+closed-position-element-copy-out-unbound t c = search needs
+
+closed-position-unbound-requires : (t : ℕ) → closed-position-lts.Need-unbound-requires (
+  unbound-reads.Asked,
+  unbound-reads.Learnt,
+  noted-reads.Asked,
+  noted-reads.Learnt,
+  open-position-below t,
+  open-position.Post,
+  closed-position-below t,
+  closed-position.Post,
+) (closed-position-at t) closed-position.Post
+closed-position-unbound-requires t c κs = search needs
+
+closed-position-noted-requires : (t : ℕ) → closed-position-lts.Need-noted-requires (
+  unbound-reads.Asked,
+  unbound-reads.Learnt,
+  noted-reads.Asked,
+  noted-reads.Learnt,
+  open-position-below t,
+  open-position.Post,
+  closed-position-below t,
+  closed-position.Post,
+) (closed-position-at t) closed-position.Post
+closed-position-noted-requires t c κs = search needs
+
+closed-position-element-write-faults : (t : ℕ) → closed-position-lts.Need-element-write-faults (
+  unbound-reads.Asked,
+  unbound-reads.Learnt,
+  noted-reads.Asked,
+  noted-reads.Learnt,
+  open-position-below t,
+  open-position.Post,
+  closed-position-below t,
+  closed-position.Post,
+) (closed-position-at t) closed-position.Post
+closed-position-element-write-faults t c = search needs
+
+closed-position-element-copy-out-noted-2 :
+    (t : ℕ) → closed-position-lts.Need-element-copy-out-noted-2 (
+      unbound-reads.Asked,
+      unbound-reads.Learnt,
+      noted-reads.Asked,
+      noted-reads.Learnt,
+      open-position-below t,
+      open-position.Post,
+      closed-position-below t,
+      closed-position.Post,
+    ) (closed-position-at t) closed-position.Post
+closed-position-element-copy-out-noted-2 t c = search needs
+
+closed-position-noted-requires-2 : (t : ℕ) → closed-position-lts.Need-noted-requires-2 (
+  unbound-reads.Asked,
+  unbound-reads.Learnt,
+  noted-reads.Asked,
+  noted-reads.Learnt,
+  open-position-below t,
+  open-position.Post,
+  closed-position-below t,
+  closed-position.Post,
+) (closed-position-at t) closed-position.Post
+closed-position-noted-requires-2 t c κs = search needs
+
+closed-position-element-write-faults-2 : (t : ℕ) → closed-position-lts.Need-element-write-faults-2 (
+  unbound-reads.Asked,
+  unbound-reads.Learnt,
+  noted-reads.Asked,
+  noted-reads.Learnt,
+  open-position-below t,
+  open-position.Post,
+  closed-position-below t,
+  closed-position.Post,
+) (closed-position-at t) closed-position.Post
+closed-position-element-write-faults-2 t c = search needs
+
+closed-position-add-result : (t : ℕ) → closed-position-lts.Need-add-result (
+  unbound-reads.Asked,
+  unbound-reads.Learnt,
+  noted-reads.Asked,
+  noted-reads.Learnt,
+  open-position-below t,
+  open-position.Post,
+  closed-position-below t,
+  closed-position.Post,
+) (closed-position-at t) closed-position.Post
+closed-position-add-result t c = search needs
+
+closed-position-returns-2 : (t : ℕ) → closed-position-lts.Need-returns-2 (
+  unbound-reads.Asked,
+  unbound-reads.Learnt,
+  noted-reads.Asked,
+  noted-reads.Learnt,
+  open-position-below t,
+  open-position.Post,
+  closed-position-below t,
+  closed-position.Post,
+) (closed-position-at t) closed-position.Post
+closed-position-returns-2 t c = let a = c .before .before .before .before .before .before .before .before .before .args in
+    scanned-closed-variable _ _ _ _ _ _ (c .before .before .before .before .before .before .before .before .if1 .left) (search needs) (c .before .before .before .before .before .before .if2 .taken) _ _ (subst (λ x. Keeps (cond x (some (a .at)) none) (getD (a .faults .now) 0 0) (c .before .before .noted .result)) (c .before .before .before .unbound .ensures) (c .before .before .noted .ensures)) (c .noted2 .ensures)
 
 closed-position-add-open-position : (t : ℕ) → closed-position-lts.Need-add-open-position (
+  unbound-reads.Asked,
+  unbound-reads.Learnt,
+  noted-reads.Asked,
+  noted-reads.Learnt,
   open-position-below t,
   open-position.Post,
   closed-position-below t,
@@ -97,6 +216,10 @@ closed-position-add-open-position : (t : ℕ) → closed-position-lts.Need-add-o
 closed-position-add-open-position t c = search needs
 
 closed-position-sub-open-position : (t : ℕ) → closed-position-lts.Need-sub-open-position (
+  unbound-reads.Asked,
+  unbound-reads.Learnt,
+  noted-reads.Asked,
+  noted-reads.Learnt,
   open-position-below t,
   open-position.Post,
   closed-position-below t,
@@ -105,6 +228,10 @@ closed-position-sub-open-position : (t : ℕ) → closed-position-lts.Need-sub-o
 closed-position-sub-open-position t c = search needs
 
 closed-position-open-position-requires : (t : ℕ) → closed-position-lts.Need-open-position-requires (
+  unbound-reads.Asked,
+  unbound-reads.Learnt,
+  noted-reads.Asked,
+  noted-reads.Learnt,
   open-position-below t,
   open-position.Post,
   closed-position-below t,
@@ -113,19 +240,22 @@ closed-position-open-position-requires : (t : ℕ) → closed-position-lts.Need-
 closed-position-open-position-requires t c κs = search needs
 
 closed-position-returns-3 : (t : ℕ) → closed-position-lts.Need-returns-3 (
+  unbound-reads.Asked,
+  unbound-reads.Learnt,
+  noted-reads.Asked,
+  noted-reads.Learnt,
   open-position-below t,
   open-position.Post,
   closed-position-below t,
   closed-position.Post,
 ) (closed-position-at t) closed-position.Post
-closed-position-returns-3 t c =
-    let a = c .before .before .before .before .before .args in
-    record {
-      within = within-part _ _ _ (c .before .before .before .before .if1 .left) (c .open-position .ensures .within);
-      right = λ first value. walk-transition _ first value closed-there (λ p. open-to-variable) (λ p. closed-to-variable) _ _ closed-to-variable _ (c .before .if3 .taken) (c .open-position .ensures .right first value);
-    }
+closed-position-returns-3 t c = scanned-transition _ _ _ _ _ _ _ _ _ (c .before .before .before .before .before .if1 .left) (c .before .before .if3 .taken) (c .open-position .ensures)
 
 closed-position-add-closed-position : (t : ℕ) → closed-position-lts.Need-add-closed-position (
+  unbound-reads.Asked,
+  unbound-reads.Learnt,
+  noted-reads.Asked,
+  noted-reads.Learnt,
   open-position-below t,
   open-position.Post,
   closed-position-below t,
@@ -134,6 +264,10 @@ closed-position-add-closed-position : (t : ℕ) → closed-position-lts.Need-add
 closed-position-add-closed-position t c = search needs
 
 closed-position-sub-closed-position : (t : ℕ) → closed-position-lts.Need-sub-closed-position (
+  unbound-reads.Asked,
+  unbound-reads.Learnt,
+  noted-reads.Asked,
+  noted-reads.Learnt,
   open-position-below t,
   open-position.Post,
   closed-position-below t,
@@ -143,6 +277,10 @@ closed-position-sub-closed-position t c = search needs
 
 closed-position-closed-position-requires :
     (t : ℕ) → closed-position-lts.Need-closed-position-requires (
+      unbound-reads.Asked,
+      unbound-reads.Learnt,
+      noted-reads.Asked,
+      noted-reads.Learnt,
       open-position-below t,
       open-position.Post,
       closed-position-below t,
@@ -150,36 +288,11 @@ closed-position-closed-position-requires :
     ) (closed-position-at t) closed-position.Post
 closed-position-closed-position-requires t c κs = search needs
 
-closed-position-enum-known-one : (t : ℕ) → closed-position-lts.Need-enum-known-one (
-  open-position-below t,
-  open-position.Post,
-  closed-position-below t,
-  closed-position.Post,
-) (closed-position-at t) closed-position.Post
-closed-position-enum-known-one t c = search needs
-
-closed-position-enum-told : (t : ℕ) → closed-position-lts.Need-enum-told (
-  open-position-below t,
-  open-position.Post,
-  closed-position-below t,
-  closed-position.Post,
-) (closed-position-at t) closed-position.Post
-closed-position-enum-told t c = search needs
-
-closed-position-returns-4 : (t : ℕ) → closed-position-lts.Need-returns-4 (
-  open-position-below t,
-  open-position.Post,
-  closed-position-below t,
-  closed-position.Post,
-) (closed-position-at t) closed-position.Post
-closed-position-returns-4 t c =
-    let a = c .before .before .before .before .before .before .before .before .args in
-    record {
-      within = within-part _ _ _ (c .before .before .before .before .before .before .before .if1 .left) (c .before .before .closed-position .ensures .within);
-      right = λ first value. walk-first _ first value closed-there (λ p. open-to-variable) (λ p. closed-to-variable) _ _ closed-to-variable (c .before .before .before .if4 .taken) _ (c .before .before .closed-position .ensures .right first value) _ (c .enum-told .given .1);
-    }
-
 closed-position-add-closed-position-2 : (t : ℕ) → closed-position-lts.Need-add-closed-position-2 (
+  unbound-reads.Asked,
+  unbound-reads.Learnt,
+  noted-reads.Asked,
+  noted-reads.Learnt,
   open-position-below t,
   open-position.Post,
   closed-position-below t,
@@ -188,41 +301,47 @@ closed-position-add-closed-position-2 : (t : ℕ) → closed-position-lts.Need-a
 closed-position-add-closed-position-2 t c = search needs
 
 closed-position-sub-closed-position-2 : (t : ℕ) → closed-position-lts.Need-sub-closed-position-2 (
+  unbound-reads.Asked,
+  unbound-reads.Learnt,
+  noted-reads.Asked,
+  noted-reads.Learnt,
   open-position-below t,
   open-position.Post,
   closed-position-below t,
   closed-position.Post,
 ) (closed-position-at t) closed-position.Post
-closed-position-sub-closed-position-2 t c =
-    let w = within-next _ _ _ (c .before .before .before .closed-position .result) (c .before .one .given .1) (c .before .before .before .closed-position .ensures .within) in
-    omega (arith, w .0, w .1)
+closed-position-sub-closed-position-2 t c = search needs
 
 closed-position-closed-position-requires-2 :
     (t : ℕ) → closed-position-lts.Need-closed-position-requires-2 (
+      unbound-reads.Asked,
+      unbound-reads.Learnt,
+      noted-reads.Asked,
+      noted-reads.Learnt,
       open-position-below t,
       open-position.Post,
       closed-position-below t,
       closed-position.Post,
     ) (closed-position-at t) closed-position.Post
-closed-position-closed-position-requires-2 t c κs =
-    let w = within-next _ _ _ (c .before .before .before .closed-position .result) (c .before .one .given .1) (c .before .before .before .closed-position .ensures .within) in
-    (omega (arith, w .0, w .1), (omega (arith, w .0, w .1), search needs))
+closed-position-closed-position-requires-2 t c κs = search needs
 
-closed-position-returns-5 : (t : ℕ) → closed-position-lts.Need-returns-5 (
+closed-position-returns-4 : (t : ℕ) → closed-position-lts.Need-returns-4 (
+  unbound-reads.Asked,
+  unbound-reads.Learnt,
+  noted-reads.Asked,
+  noted-reads.Learnt,
   open-position-below t,
   open-position.Post,
   closed-position-below t,
   closed-position.Post,
 ) (closed-position-at t) closed-position.Post
-closed-position-returns-5 t c =
-    let a = c .before .before .before .before .before .before .before .before .before .before .args in
-    let w = within-next _ _ _ (c .before .before .before .before .closed-position .result) (c .before .before .one .given .1) (c .before .before .before .before .closed-position .ensures .within) in
-    record {
-      within = within-second _ _ _ _ (omega (arith, w .0)) (omega (arith, w .1)) (c .closed-position2 .ensures .within);
-      right = λ first value. walk-second _ first value closed-there (λ p. open-to-variable) (λ p. closed-to-variable) _ _ closed-to-variable (c .before .before .before .before .before .if4 .taken) (c .before .before .before .before .closed-position .result) (c .before .before .before .before .closed-position .ensures .right first value) _ _ (c .before .before .one .given .1) (c .closed-position2 .ensures .right first value);
-    }
+closed-position-returns-4 t c = scanned-conjunction _ _ _ _ _ _ _ _ _ (c .before .before .closed-position .result) _ (c .before .before .before .before .before .before .before .before .if1 .left) (c .before .before .before .before .if4 .taken) (c .before .before .closed-position .ensures) (c .closed-position2 .ensures)
 
 closed-position-add-closed-position-3 : (t : ℕ) → closed-position-lts.Need-add-closed-position-3 (
+  unbound-reads.Asked,
+  unbound-reads.Learnt,
+  noted-reads.Asked,
+  noted-reads.Learnt,
   open-position-below t,
   open-position.Post,
   closed-position-below t,
@@ -231,6 +350,10 @@ closed-position-add-closed-position-3 : (t : ℕ) → closed-position-lts.Need-a
 closed-position-add-closed-position-3 t c = search needs
 
 closed-position-sub-closed-position-3 : (t : ℕ) → closed-position-lts.Need-sub-closed-position-3 (
+  unbound-reads.Asked,
+  unbound-reads.Learnt,
+  noted-reads.Asked,
+  noted-reads.Learnt,
   open-position-below t,
   open-position.Post,
   closed-position-below t,
@@ -238,8 +361,24 @@ closed-position-sub-closed-position-3 : (t : ℕ) → closed-position-lts.Need-s
 ) (closed-position-at t) closed-position.Post
 closed-position-sub-closed-position-3 t c = search needs
 
+closed-position-add-closed-position-4 : (t : ℕ) → closed-position-lts.Need-add-closed-position-4 (
+  unbound-reads.Asked,
+  unbound-reads.Learnt,
+  noted-reads.Asked,
+  noted-reads.Learnt,
+  open-position-below t,
+  open-position.Post,
+  closed-position-below t,
+  closed-position.Post,
+) (closed-position-at t) closed-position.Post
+closed-position-add-closed-position-4 t c = search needs
+
 closed-position-closed-position-requires-3 :
     (t : ℕ) → closed-position-lts.Need-closed-position-requires-3 (
+      unbound-reads.Asked,
+      unbound-reads.Learnt,
+      noted-reads.Asked,
+      noted-reads.Learnt,
       open-position-below t,
       open-position.Post,
       closed-position-below t,
@@ -247,54 +386,59 @@ closed-position-closed-position-requires-3 :
     ) (closed-position-at t) closed-position.Post
 closed-position-closed-position-requires-3 t c κs = search needs
 
+closed-position-returns-5 : (t : ℕ) → closed-position-lts.Need-returns-5 (
+  unbound-reads.Asked,
+  unbound-reads.Learnt,
+  noted-reads.Asked,
+  noted-reads.Learnt,
+  open-position-below t,
+  open-position.Post,
+  closed-position-below t,
+  closed-position.Post,
+) (closed-position-at t) closed-position.Post
+closed-position-returns-5 t c = scanned-greatest _ _ _ _ _ _ _ _ _ (c .before .before .before .before .before .before .before .if1 .left) (c .before .before .if5 .taken) (c .closed-position3 .ensures)
+
+closed-position-add-result-2 : (t : ℕ) → closed-position-lts.Need-add-result-2 (
+  unbound-reads.Asked,
+  unbound-reads.Learnt,
+  noted-reads.Asked,
+  noted-reads.Learnt,
+  open-position-below t,
+  open-position.Post,
+  closed-position-below t,
+  closed-position.Post,
+) (closed-position-at t) closed-position.Post
+closed-position-add-result-2 t c = search needs
+
 closed-position-returns-6 : (t : ℕ) → closed-position-lts.Need-returns-6 (
+  unbound-reads.Asked,
+  unbound-reads.Learnt,
+  noted-reads.Asked,
+  noted-reads.Learnt,
   open-position-below t,
   open-position.Post,
   closed-position-below t,
   closed-position.Post,
 ) (closed-position-at t) closed-position.Post
-closed-position-returns-6 t c =
-    let a = c .before .before .before .before .before .before .before .args in
-    record {
-      within = within-part _ _ _ (c .before .before .before .before .before .before .if1 .left) (c .closed-position3 .ensures .within);
-      right = λ first value. walk-greatest _ first value closed-there (λ p. open-to-variable) (λ p. closed-to-variable) _ _ closed-to-variable _ (c .before .if5 .taken) (c .closed-position3 .ensures .right first value);
-    }
-
-closed-position-add-t17 : (t : ℕ) → closed-position-lts.Need-add-t17 (
-  open-position-below t,
-  open-position.Post,
-  closed-position-below t,
-  closed-position.Post,
-) (closed-position-at t) closed-position.Post
-closed-position-add-t17 t c = search needs
-
-closed-position-returns-7 : (t : ℕ) → closed-position-lts.Need-returns-7 (
-  open-position-below t,
-  open-position.Post,
-  closed-position-below t,
-  closed-position.Post,
-) (closed-position-at t) closed-position.Post
-closed-position-returns-7 t c =
-    let a = c .before .before .before .before .before .before .args in
-    record {
-      within = within-here _ _ _ (search needs) (search needs);
-      right = λ first value. walk-leaf _ first value closed-there (λ p. open-to-variable) (λ p. closed-to-variable) _ _ closed-to-variable (λ e. absurd (c .before .before .before .if2 .left e)) (c .before .before .if3 .left) (c .before .if4 .left) (c .if5 .left);
-    }
+closed-position-returns-6 t c = scanned-leaf _ _ _ _ _ _ _ (c .before .before .before .before .before .if1 .left) (search needs) (c .before .before .before .if2 .left) (c .before .before .if3 .left) (c .before .if4 .left) (c .if5 .left)
 
 open-position-returns : (t : ℕ) → open-position-lts.Need-returns (
+  unbound-reads.Asked,
+  unbound-reads.Learnt,
+  noted-reads.Asked,
+  noted-reads.Learnt,
   open-position-below t,
   open-position.Post,
   closed-position-below t,
   closed-position.Post,
 ) (open-position-at t) open-position.Post
-open-position-returns t c =
-    let a = c .before .args in
-    record {
-      within = within-here _ _ _ (omega arith) (omega arith);
-      right = λ first value. walk-none _ first value closed-there (λ p. open-to-variable) (λ p. closed-to-variable) _ _ open-to-variable _ (c .if1 .taken);
-    }
+open-position-returns t c = scanned-none _ _ _ _ _ _ _ (c .if1 .taken) (search needs)
 
 open-position-element-copy-out-kind : (t : ℕ) → open-position-lts.Need-element-copy-out-kind (
+  unbound-reads.Asked,
+  unbound-reads.Learnt,
+  noted-reads.Asked,
+  noted-reads.Learnt,
   open-position-below t,
   open-position.Post,
   closed-position-below t,
@@ -302,7 +446,96 @@ open-position-element-copy-out-kind : (t : ℕ) → open-position-lts.Need-eleme
 ) (open-position-at t) open-position.Post
 open-position-element-copy-out-kind t c = search needs
 
+open-position-element-copy-out-noted : (t : ℕ) → open-position-lts.Need-element-copy-out-noted (
+  unbound-reads.Asked,
+  unbound-reads.Learnt,
+  noted-reads.Asked,
+  noted-reads.Learnt,
+  open-position-below t,
+  open-position.Post,
+  closed-position-below t,
+  closed-position.Post,
+) (open-position-at t) open-position.Post
+open-position-element-copy-out-noted t c = search needs
+
+open-position-element-copy-out-unbound : (t : ℕ) → open-position-lts.Need-element-copy-out-unbound (
+  unbound-reads.Asked,
+  unbound-reads.Learnt,
+  noted-reads.Asked,
+  noted-reads.Learnt,
+  open-position-below t,
+  open-position.Post,
+  closed-position-below t,
+  closed-position.Post,
+) (open-position-at t) open-position.Post
+open-position-element-copy-out-unbound t c = search needs
+
+open-position-unbound-requires : (t : ℕ) → open-position-lts.Need-unbound-requires (
+  unbound-reads.Asked,
+  unbound-reads.Learnt,
+  noted-reads.Asked,
+  noted-reads.Learnt,
+  open-position-below t,
+  open-position.Post,
+  closed-position-below t,
+  closed-position.Post,
+) (open-position-at t) open-position.Post
+open-position-unbound-requires t c κs = search needs
+
+open-position-noted-requires : (t : ℕ) → open-position-lts.Need-noted-requires (
+  unbound-reads.Asked,
+  unbound-reads.Learnt,
+  noted-reads.Asked,
+  noted-reads.Learnt,
+  open-position-below t,
+  open-position.Post,
+  closed-position-below t,
+  closed-position.Post,
+) (open-position-at t) open-position.Post
+open-position-noted-requires t c κs = search needs
+
+open-position-element-write-faults : (t : ℕ) → open-position-lts.Need-element-write-faults (
+  unbound-reads.Asked,
+  unbound-reads.Learnt,
+  noted-reads.Asked,
+  noted-reads.Learnt,
+  open-position-below t,
+  open-position.Post,
+  closed-position-below t,
+  closed-position.Post,
+) (open-position-at t) open-position.Post
+open-position-element-write-faults t c = search needs
+
+open-position-add-result : (t : ℕ) → open-position-lts.Need-add-result (
+  unbound-reads.Asked,
+  unbound-reads.Learnt,
+  noted-reads.Asked,
+  noted-reads.Learnt,
+  open-position-below t,
+  open-position.Post,
+  closed-position-below t,
+  closed-position.Post,
+) (open-position-at t) open-position.Post
+open-position-add-result t c = search needs
+
+open-position-returns-2 : (t : ℕ) → open-position-lts.Need-returns-2 (
+  unbound-reads.Asked,
+  unbound-reads.Learnt,
+  noted-reads.Asked,
+  noted-reads.Learnt,
+  open-position-below t,
+  open-position.Post,
+  closed-position-below t,
+  closed-position.Post,
+) (open-position-at t) open-position.Post
+open-position-returns-2 t c = let a = c .before .before .before .before .before .before .before .args in
+    scanned-open-variable _ _ _ _ _ _ (c .before .before .before .before .before .before .if1 .left) (search needs) (c .before .before .before .before .if2 .taken) _ (subst (λ x. Keeps (cond x (some (a .at)) none) (getD (a .faults .now) 0 0) (c .noted .result)) (c .before .unbound .ensures) (c .noted .ensures))
+
 open-position-add-open-position : (t : ℕ) → open-position-lts.Need-add-open-position (
+  unbound-reads.Asked,
+  unbound-reads.Learnt,
+  noted-reads.Asked,
+  noted-reads.Learnt,
   open-position-below t,
   open-position.Post,
   closed-position-below t,
@@ -311,6 +544,10 @@ open-position-add-open-position : (t : ℕ) → open-position-lts.Need-add-open-
 open-position-add-open-position t c = search needs
 
 open-position-sub-open-position : (t : ℕ) → open-position-lts.Need-sub-open-position (
+  unbound-reads.Asked,
+  unbound-reads.Learnt,
+  noted-reads.Asked,
+  noted-reads.Learnt,
   open-position-below t,
   open-position.Post,
   closed-position-below t,
@@ -319,6 +556,10 @@ open-position-sub-open-position : (t : ℕ) → open-position-lts.Need-sub-open-
 open-position-sub-open-position t c = search needs
 
 open-position-open-position-requires : (t : ℕ) → open-position-lts.Need-open-position-requires (
+  unbound-reads.Asked,
+  unbound-reads.Learnt,
+  noted-reads.Asked,
+  noted-reads.Learnt,
   open-position-below t,
   open-position.Post,
   closed-position-below t,
@@ -326,20 +567,23 @@ open-position-open-position-requires : (t : ℕ) → open-position-lts.Need-open
 ) (open-position-at t) open-position.Post
 open-position-open-position-requires t c κs = search needs
 
-open-position-returns-2 : (t : ℕ) → open-position-lts.Need-returns-2 (
+open-position-returns-3 : (t : ℕ) → open-position-lts.Need-returns-3 (
+  unbound-reads.Asked,
+  unbound-reads.Learnt,
+  noted-reads.Asked,
+  noted-reads.Learnt,
   open-position-below t,
   open-position.Post,
   closed-position-below t,
   closed-position.Post,
 ) (open-position-at t) open-position.Post
-open-position-returns-2 t c =
-    let a = c .before .before .before .before .args in
-    record {
-      within = within-part _ _ _ (c .before .before .before .if1 .left) (c .open-position .ensures .within);
-      right = λ first value. walk-transition _ first value closed-there (λ p. open-to-variable) (λ p. closed-to-variable) _ _ open-to-variable _ (c .before .if2 .taken) (c .open-position .ensures .right first value);
-    }
+open-position-returns-3 t c = scanned-transition _ _ _ _ _ _ _ _ _ (c .before .before .before .before .before .if1 .left) (c .before .before .if3 .taken) (c .open-position .ensures)
 
 open-position-add-open-position-2 : (t : ℕ) → open-position-lts.Need-add-open-position-2 (
+  unbound-reads.Asked,
+  unbound-reads.Learnt,
+  noted-reads.Asked,
+  noted-reads.Learnt,
   open-position-below t,
   open-position.Post,
   closed-position-below t,
@@ -348,6 +592,10 @@ open-position-add-open-position-2 : (t : ℕ) → open-position-lts.Need-add-ope
 open-position-add-open-position-2 t c = search needs
 
 open-position-sub-open-position-2 : (t : ℕ) → open-position-lts.Need-sub-open-position-2 (
+  unbound-reads.Asked,
+  unbound-reads.Learnt,
+  noted-reads.Asked,
+  noted-reads.Learnt,
   open-position-below t,
   open-position.Post,
   closed-position-below t,
@@ -356,6 +604,10 @@ open-position-sub-open-position-2 : (t : ℕ) → open-position-lts.Need-sub-ope
 open-position-sub-open-position-2 t c = search needs
 
 open-position-open-position-requires-2 : (t : ℕ) → open-position-lts.Need-open-position-requires-2 (
+  unbound-reads.Asked,
+  unbound-reads.Learnt,
+  noted-reads.Asked,
+  noted-reads.Learnt,
   open-position-below t,
   open-position.Post,
   closed-position-below t,
@@ -363,36 +615,11 @@ open-position-open-position-requires-2 : (t : ℕ) → open-position-lts.Need-op
 ) (open-position-at t) open-position.Post
 open-position-open-position-requires-2 t c κs = search needs
 
-open-position-enum-known-one : (t : ℕ) → open-position-lts.Need-enum-known-one (
-  open-position-below t,
-  open-position.Post,
-  closed-position-below t,
-  closed-position.Post,
-) (open-position-at t) open-position.Post
-open-position-enum-known-one t c = search needs
-
-open-position-enum-told : (t : ℕ) → open-position-lts.Need-enum-told (
-  open-position-below t,
-  open-position.Post,
-  closed-position-below t,
-  closed-position.Post,
-) (open-position-at t) open-position.Post
-open-position-enum-told t c = search needs
-
-open-position-returns-3 : (t : ℕ) → open-position-lts.Need-returns-3 (
-  open-position-below t,
-  open-position.Post,
-  closed-position-below t,
-  closed-position.Post,
-) (open-position-at t) open-position.Post
-open-position-returns-3 t c =
-    let a = c .before .before .before .before .before .before .before .args in
-    record {
-      within = within-part _ _ _ (c .before .before .before .before .before .before .if1 .left) (c .before .before .open-position2 .ensures .within);
-      right = λ first value. walk-first _ first value closed-there (λ p. open-to-variable) (λ p. closed-to-variable) _ _ open-to-variable (c .before .before .before .if3 .taken) _ (c .before .before .open-position2 .ensures .right first value) _ (c .enum-told .given .1);
-    }
-
 open-position-add-open-position-3 : (t : ℕ) → open-position-lts.Need-add-open-position-3 (
+  unbound-reads.Asked,
+  unbound-reads.Learnt,
+  noted-reads.Asked,
+  noted-reads.Learnt,
   open-position-below t,
   open-position.Post,
   closed-position-below t,
@@ -401,40 +628,46 @@ open-position-add-open-position-3 : (t : ℕ) → open-position-lts.Need-add-ope
 open-position-add-open-position-3 t c = search needs
 
 open-position-sub-open-position-3 : (t : ℕ) → open-position-lts.Need-sub-open-position-3 (
+  unbound-reads.Asked,
+  unbound-reads.Learnt,
+  noted-reads.Asked,
+  noted-reads.Learnt,
   open-position-below t,
   open-position.Post,
   closed-position-below t,
   closed-position.Post,
 ) (open-position-at t) open-position.Post
-open-position-sub-open-position-3 t c =
-    let w = within-next _ _ _ (c .before .before .before .open-position2 .result) (c .before .one .given .1) (c .before .before .before .open-position2 .ensures .within) in
-    omega (arith, w .0, w .1)
+open-position-sub-open-position-3 t c = search needs
 
 open-position-open-position-requires-3 : (t : ℕ) → open-position-lts.Need-open-position-requires-3 (
+  unbound-reads.Asked,
+  unbound-reads.Learnt,
+  noted-reads.Asked,
+  noted-reads.Learnt,
   open-position-below t,
   open-position.Post,
   closed-position-below t,
   closed-position.Post,
 ) (open-position-at t) open-position.Post
-open-position-open-position-requires-3 t c κs =
-    let w = within-next _ _ _ (c .before .before .before .open-position2 .result) (c .before .one .given .1) (c .before .before .before .open-position2 .ensures .within) in
-    (omega (arith, w .0, w .1), (omega (arith, w .0, w .1), search needs))
+open-position-open-position-requires-3 t c κs = search needs
 
 open-position-returns-4 : (t : ℕ) → open-position-lts.Need-returns-4 (
+  unbound-reads.Asked,
+  unbound-reads.Learnt,
+  noted-reads.Asked,
+  noted-reads.Learnt,
   open-position-below t,
   open-position.Post,
   closed-position-below t,
   closed-position.Post,
 ) (open-position-at t) open-position.Post
-open-position-returns-4 t c =
-    let a = c .before .before .before .before .before .before .before .before .before .args in
-    let w = within-next _ _ _ (c .before .before .before .before .open-position2 .result) (c .before .before .one .given .1) (c .before .before .before .before .open-position2 .ensures .within) in
-    record {
-      within = within-second _ _ _ _ (omega (arith, w .0)) (omega (arith, w .1)) (c .open-position3 .ensures .within);
-      right = λ first value. walk-second _ first value closed-there (λ p. open-to-variable) (λ p. closed-to-variable) _ _ open-to-variable (c .before .before .before .before .before .if3 .taken) (c .before .before .before .before .open-position2 .result) (c .before .before .before .before .open-position2 .ensures .right first value) _ _ (c .before .before .one .given .1) (c .open-position3 .ensures .right first value);
-    }
+open-position-returns-4 t c = scanned-conjunction _ _ _ _ _ _ _ _ _ (c .before .before .open-position2 .result) _ (c .before .before .before .before .before .before .before .before .if1 .left) (c .before .before .before .before .if4 .taken) (c .before .before .open-position2 .ensures) (c .open-position3 .ensures)
 
 open-position-add-closed-position : (t : ℕ) → open-position-lts.Need-add-closed-position (
+  unbound-reads.Asked,
+  unbound-reads.Learnt,
+  noted-reads.Asked,
+  noted-reads.Learnt,
   open-position-below t,
   open-position.Post,
   closed-position-below t,
@@ -443,6 +676,10 @@ open-position-add-closed-position : (t : ℕ) → open-position-lts.Need-add-clo
 open-position-add-closed-position t c = search needs
 
 open-position-sub-closed-position : (t : ℕ) → open-position-lts.Need-sub-closed-position (
+  unbound-reads.Asked,
+  unbound-reads.Learnt,
+  noted-reads.Asked,
+  noted-reads.Learnt,
   open-position-below t,
   open-position.Post,
   closed-position-below t,
@@ -450,7 +687,23 @@ open-position-sub-closed-position : (t : ℕ) → open-position-lts.Need-sub-clo
 ) (open-position-at t) open-position.Post
 open-position-sub-closed-position t c = search needs
 
+open-position-add-closed-position-2 : (t : ℕ) → open-position-lts.Need-add-closed-position-2 (
+  unbound-reads.Asked,
+  unbound-reads.Learnt,
+  noted-reads.Asked,
+  noted-reads.Learnt,
+  open-position-below t,
+  open-position.Post,
+  closed-position-below t,
+  closed-position.Post,
+) (open-position-at t) open-position.Post
+open-position-add-closed-position-2 t c = search needs
+
 open-position-closed-position-requires : (t : ℕ) → open-position-lts.Need-closed-position-requires (
+  unbound-reads.Asked,
+  unbound-reads.Learnt,
+  noted-reads.Asked,
+  noted-reads.Learnt,
   open-position-below t,
   open-position.Post,
   closed-position-below t,
@@ -459,43 +712,48 @@ open-position-closed-position-requires : (t : ℕ) → open-position-lts.Need-cl
 open-position-closed-position-requires t c κs = search needs
 
 open-position-returns-5 : (t : ℕ) → open-position-lts.Need-returns-5 (
+  unbound-reads.Asked,
+  unbound-reads.Learnt,
+  noted-reads.Asked,
+  noted-reads.Learnt,
   open-position-below t,
   open-position.Post,
   closed-position-below t,
   closed-position.Post,
 ) (open-position-at t) open-position.Post
-open-position-returns-5 t c =
-    let a = c .before .before .before .before .before .before .args in
-    record {
-      within = within-part _ _ _ (c .before .before .before .before .before .if1 .left) (c .closed-position .ensures .within);
-      right = λ first value. walk-greatest _ first value closed-there (λ p. open-to-variable) (λ p. closed-to-variable) _ _ open-to-variable _ (c .before .if4 .taken) (c .closed-position .ensures .right first value);
-    }
+open-position-returns-5 t c = scanned-greatest _ _ _ _ _ _ _ _ _ (c .before .before .before .before .before .before .before .if1 .left) (c .before .before .if5 .taken) (c .closed-position .ensures)
 
-open-position-add-t17 : (t : ℕ) → open-position-lts.Need-add-t17 (
+open-position-add-result-2 : (t : ℕ) → open-position-lts.Need-add-result-2 (
+  unbound-reads.Asked,
+  unbound-reads.Learnt,
+  noted-reads.Asked,
+  noted-reads.Learnt,
   open-position-below t,
   open-position.Post,
   closed-position-below t,
   closed-position.Post,
 ) (open-position-at t) open-position.Post
-open-position-add-t17 t c = search needs
+open-position-add-result-2 t c = search needs
 
 open-position-returns-6 : (t : ℕ) → open-position-lts.Need-returns-6 (
+  unbound-reads.Asked,
+  unbound-reads.Learnt,
+  noted-reads.Asked,
+  noted-reads.Learnt,
   open-position-below t,
   open-position.Post,
   closed-position-below t,
   closed-position.Post,
 ) (open-position-at t) open-position.Post
-unfolding closed-there
-open-position-returns-6 t c =
-    let a = c .before .before .before .before .before .args in
-    record {
-      within = within-here _ _ _ (search needs) (search needs);
-      right = λ first value. walk-leaf _ first value closed-there (λ p. open-to-variable) (λ p. closed-to-variable) _ _ open-to-variable (λ e n. refl) (c .before .before .if2 .left) (c .before .if3 .left) (c .if4 .left);
-    }
+open-position-returns-6 t c = scanned-leaf _ _ _ _ _ _ _ (c .before .before .before .before .before .if1 .left) (search needs) (c .before .before .before .if2 .left) (c .before .before .if3 .left) (c .before .if4 .left) (c .if5 .left)
 
 pub +closed-position+open-position-spec : {M : Type 1} → statement M
 +closed-position+open-position-spec =
     close μ-closed-position μ-open-position (λ t. closed-position-lts.spec (
+      unbound-reads.Asked,
+      unbound-reads.Learnt,
+      noted-reads.Asked,
+      noted-reads.Learnt,
       open-position-below t,
       open-position.Post,
       closed-position-below t,
@@ -505,6 +763,15 @@ pub +closed-position+open-position-spec : {M : Type 1} → statement M
     closed-position.Post
     (closed-position-returns t)
     (closed-position-element-copy-out-kind t)
+    (closed-position-element-copy-out-noted t)
+    (closed-position-element-copy-out-unbound t)
+    (closed-position-unbound-requires t)
+    (closed-position-noted-requires t)
+    (closed-position-element-write-faults t)
+    (closed-position-element-copy-out-noted-2 t)
+    (closed-position-noted-requires-2 t)
+    (closed-position-element-write-faults-2 t)
+    (closed-position-add-result t)
     (closed-position-returns-2 t)
     (closed-position-add-open-position t)
     (closed-position-sub-open-position t)
@@ -513,42 +780,53 @@ pub +closed-position+open-position-spec : {M : Type 1} → statement M
     (closed-position-add-closed-position t)
     (closed-position-sub-closed-position t)
     (closed-position-closed-position-requires t)
-    (closed-position-enum-known-one t)
-    (closed-position-enum-told t)
-    (closed-position-returns-4 t)
     (closed-position-add-closed-position-2 t)
     (closed-position-sub-closed-position-2 t)
     (closed-position-closed-position-requires-2 t)
-    (closed-position-returns-5 t)
+    (closed-position-returns-4 t)
     (closed-position-add-closed-position-3 t)
     (closed-position-sub-closed-position-3 t)
+    (closed-position-add-closed-position-4 t)
     (closed-position-closed-position-requires-3 t)
-    (closed-position-returns-6 t)
-    (closed-position-add-t17 t)
-    (closed-position-returns-7 t))
-    λ t. open-position-lts.spec
-    (open-position-below t, open-position.Post, closed-position-below t, closed-position.Post)
+    (closed-position-returns-5 t)
+    (closed-position-add-result-2 t)
+    (closed-position-returns-6 t))
+    λ t. open-position-lts.spec (
+      unbound-reads.Asked,
+      unbound-reads.Learnt,
+      noted-reads.Asked,
+      noted-reads.Learnt,
+      open-position-below t,
+      open-position.Post,
+      closed-position-below t,
+      closed-position.Post,
+    )
     (open-position-at t)
     open-position.Post
     (open-position-returns t)
     (open-position-element-copy-out-kind t)
+    (open-position-element-copy-out-noted t)
+    (open-position-element-copy-out-unbound t)
+    (open-position-unbound-requires t)
+    (open-position-noted-requires t)
+    (open-position-element-write-faults t)
+    (open-position-add-result t)
+    (open-position-returns-2 t)
     (open-position-add-open-position t)
     (open-position-sub-open-position t)
     (open-position-open-position-requires t)
-    (open-position-returns-2 t)
+    (open-position-returns-3 t)
     (open-position-add-open-position-2 t)
     (open-position-sub-open-position-2 t)
     (open-position-open-position-requires-2 t)
-    (open-position-enum-known-one t)
-    (open-position-enum-told t)
-    (open-position-returns-3 t)
     (open-position-add-open-position-3 t)
     (open-position-sub-open-position-3 t)
     (open-position-open-position-requires-3 t)
     (open-position-returns-4 t)
     (open-position-add-closed-position t)
     (open-position-sub-closed-position t)
+    (open-position-add-closed-position-2 t)
     (open-position-closed-position-requires t)
     (open-position-returns-5 t)
-    (open-position-add-t17 t)
+    (open-position-add-result-2 t)
     (open-position-returns-6 t)

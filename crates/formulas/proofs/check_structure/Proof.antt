@@ -1,10 +1,9 @@
 -- `check_structure` meets its contract: 7 is answered first, and past it the formula reads from the first node to the last.
 -- Assumes nothing.
-use mathlib.Core.Path.{sym, _∙_, ap}
-use Rattle.refusal.specs.Refusal.{judgement}
-use Rattle.formulas.specs.RuleReading.{formula-read}
-use Rattle.formulas.specs.NodeWalks.{field, VariablesJudged}
 use Rattle.formulas.proofs.Answers.{found-at, found-nowhere, answer-end, answer-variables, formula-reads}
+use Rattle.formulas.specs.NodeWalks.{field, VariablesJudged, StructureJudged}
+use Rattle.refusal.specs.Refusal.{judgement}
+use mathlib.Core.Path.{sym, _∙_, ap}
 use borrow.Author.Needs.{needs}
 use Rattle.formulas.proofs.check_structure.Statement.{statement}
 use Rattle.formulas.proofs.check_structure.Tie as tie
@@ -16,11 +15,10 @@ enum-known-end : tie.Need-enum-known-end
 enum-known-end c = search needs
 
 returns : tie.Need-returns
-unfolding judgement
-returns c =
-    let n = c .before .before .before .before .before .before .before .args .nodes in
+unfolding StructureJudged judgement
+returns c = λ value.
     let e = sym (c .before .before .before .misplaced-end .ensures) ∙ c .before .end .given .1 in
-    sym (ap judgement (answer-end (field (n .kinds)) (field (n .firsts)) (field (n .values)) (n .count) _ (found-at _ _ e)))
+    sym (ap judgement (answer-end _ _ value _ _ (found-at _ _ e)))
 
 enum-told : tie.Need-enum-told
 enum-told c = search needs
@@ -29,16 +27,12 @@ check-variables-requires : tie.Need-check-variables-requires
 check-variables-requires c κs = search needs
 
 returns-2 : tie.Need-returns-2
-unfolding VariablesJudged
-returns-2 c =
-    let n = c .before .before .before .before .before .before .before .before .before .args .nodes in
-    let kind = field (n .kinds) in
-    let first = field (n .firsts) in
-    let value = field (n .values) in
-    let e = found-nowhere _ (sym (c .before .before .before .before .before .misplaced-end .ensures) ∙ c .before .before .before .enum-told .given .1) in
-    let w = formula-reads kind first value (n .count) (c .before .before .before .before .before .before .before .before .before .pre .1) e in
-    c .check-variables .ensures value (formula-read kind first value (n .count)) (w .0) (w .1)
-    ∙ sym (ap judgement (answer-variables kind first value (n .count) e))
+unfolding StructureJudged VariablesJudged
+returns-2 c = λ value.
+    let a = c .before .before .before .before .args in
+    let e = found-nowhere _ (sym (c .before .before .before .misplaced-end .ensures) ∙ c .before .enum-told .given .1) in
+    let w = formula-reads (field (a .kinds .now)) (field (a .firsts .now)) value (a .count) (c .before .before .before .before .pre .1) e in
+    c .check-variables .ensures value _ (w .0) (w .1) ∙ sym (ap judgement (answer-variables _ _ value _ e))
 
 pub check-structure-spec : {M : Type 1} → statement M
 check-structure-spec =
