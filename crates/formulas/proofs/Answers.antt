@@ -1,38 +1,32 @@
--- The answers of 6 to 9, one after the other, and that they depend on the nodes' fields alone.
+-- The answers of 5 to 9, one after the other, and that they depend on the nodes' fields alone.
 -- Assumes nothing.
 use mathlib.Core.Path.{_≡_, refl, sym, _∙_, ap, ap₂}
 use mathlib.Core.Bool.{Bool, true, false, not, _&&_}
-use mathlib.Core.Option.{Option, none, some}
+use mathlib.Core.Option.{Option, none, some, Option·some-ne-none}
 use mathlib.Core.List.{_∷_}
 use Prim.Native.Nat.{ℕ, zero, suc, _+_, _≤_, _<_}
 use native.Mathlib.Omega.{arith}
 use lib.Dec.{ltb, leb}
 use borrow.Author.Tests.{not-false, lt-ltb, le-ltb, le-leb, lt-leb}
 use Rattle.theory.specs.Formula.{Formula, size}
-use Rattle.refusal.specs.Refusal.{or-else, plain-unless, at-found}
+use Rattle.refusal.specs.Refusal.{or-else, plain-unless, at-found, judgement}
 use Rattle.refusal.specs.declared.Refusal.{Refusal}
 use Rattle.refusal.specs.declared.Refusal.the-variants.{Plain, At}
-use Rattle.formulas.specs.declared.Found.the-variants.{At as FoundAt, Nowhere}
+use Rattle.refusal.specs.declared.Judgement.the-variants.{Refused}
+use Rattle.refusal.proofs.Refusals.{or-else-assoc, or-else-none, judgement-refused}
 use Rattle.formulas.specs.RuleConditions.{closed-to-variable}
 use Rattle.formulas.specs.NodeReading.{Reads}
 use Rattle.formulas.specs.RuleReading.{first-of, kind-of, fields-fit, awaited, end-fault, node-of, nodes-from, formulas, first-formula, formula-read, lowest-unbound, lowest-closed}
-use Rattle.formulas.specs.RuleRefusal.{node-limit, variables-refusal, structure-refusal, misfit-place, nodes-refusal, fields-refusal}
-use Rattle.formulas.specs.NodeWalks.{found, Noted, Keeps, KnownKinds}
+use Rattle.formulas.specs.RuleRefusal.{node-limit, variables-refusal, structure-refusal, misfit-place, tree-refusal, nodes-refusal, fields-refusal}
+use Rattle.formulas.specs.NodeWalks.{Noted, Keeps}
 use Rattle.formulas.proofs.KindFacts.{fit-known}
 use Rattle.formulas.proofs.Search.{lowest-clear, lowest-same}
 use Rattle.formulas.proofs.Prefix.{no-fault}
 use Rattle.formulas.proofs.Reading.{whole-read}
 
--- An answer that was looked for, taken back to the place.
-pub found-at : (o : Option ℕ) (p : ℕ) → found o ≡ FoundAt p → o ≡ some p
-unfolding found
-found-at none p e = let z : _≡_ {A = ℕ} 0 1 = cc in absurd (omega arith)
-found-at (some i) p e = let q : i ≡ p = cc in ap some q
-
-pub found-nowhere : (o : Option ℕ) → found o ≡ Nowhere → o ≡ none
-unfolding found
-found-nowhere none e = refl
-found-nowhere (some i) e = let z : _≡_ {A = ℕ} 0 1 = cc in absurd (omega arith)
+-- Every kind is known.
+abbrev KnownKinds : (ℕ → ℕ) → ℕ → Type 0
+KnownKinds kind count = (i : ℕ) → i < count → kind i < 6
 
 -- A note that was clear before, taken back to the place.
 pub kept-place : (o : Option ℕ) (n : ℕ) → Keeps o node-limit n → n < node-limit → o ≡ some n
@@ -44,6 +38,11 @@ pub kept-clear : (o : Option ℕ) (n : ℕ) → Keeps o node-limit n → node-li
 unfolding Keeps Noted first-of
 kept-clear none n w h = refl
 kept-clear (some i) n w h = let v : (n ≡ i) × (i < 256) = w none refl in absurd (omega (arith, v .0, v .1))
+
+pub place-unmet : (o : Option ℕ) (n : ℕ) → at-found o n ≡ none → o ≡ none
+unfolding at-found
+place-unmet none n e = refl
+place-unmet (some p) n e = absurd (Option·some-ne-none (At n p) e)
 
 -- The first of two answers.
 pub first-answer : (o : Option ℕ) (n p : ℕ) (later : Option Refusal) → o ≡ some p → or-else (at-found o n) later ≡ some (At n p)
@@ -64,15 +63,6 @@ module _ (φ : Formula ℕ) where
   answer-closed e = later-answer (lowest-unbound 0 0 φ) 8 (at-found (lowest-closed closed-to-variable 0 φ) 9) e
 
 module _ (kind first value : ℕ → ℕ) (count : ℕ) where
-  pub answer-end : (p : ℕ) → end-fault kind 1 count 0 ≡ some p → structure-refusal kind first value count ≡ some (At 7 p)
-  unfolding structure-refusal
-  answer-end p e = first-answer (end-fault kind 1 count 0) 7 p (variables-refusal (formula-read kind first value count)) e
-
-  pub answer-variables :
-      end-fault kind 1 count 0 ≡ none → structure-refusal kind first value count ≡ variables-refusal (formula-read kind first value count)
-  unfolding structure-refusal
-  answer-variables e = later-answer (end-fault kind 1 count 0) 7 (variables-refusal (formula-read kind first value count)) e
-
   -- Where every kind is known and 7 is not met, the formula reads from node 0 on to the last node.
   pub formula-reads :
       KnownKinds kind count → end-fault kind 1 count 0 ≡ none
@@ -80,16 +70,49 @@ module _ (kind first value : ℕ → ℕ) (count : ℕ) where
   formula-reads known e = whole-read kind first value (formula-read kind first value count) count known (no-fault kind first value count e)
 
   module _ (fits : ℕ → Bool) (events : ℕ) where
-    pub answer-misfit :
-        (p : ℕ) → misfit-place kind first value count fits events ≡ some p → nodes-refusal kind first value count fits events ≡ some (At 6 p)
-    unfolding nodes-refusal
-    answer-misfit p e = first-answer (misfit-place kind first value count fits events) 6 p (structure-refusal kind first value count) e
+    -- 6, then 7.
+    pub tree-misfit : (p : ℕ) → misfit-place kind first value count fits events ≡ some p → tree-refusal kind first value count fits events ≡ some (At 6 p)
+    unfolding tree-refusal
+    tree-misfit p e = first-answer (misfit-place kind first value count fits events) 6 p (at-found (end-fault kind 1 count 0) 7) e
 
-    pub answer-structure :
+    pub tree-end :
         misfit-place kind first value count fits events ≡ none
-        → nodes-refusal kind first value count fits events ≡ structure-refusal kind first value count
-    unfolding nodes-refusal
-    answer-structure e = later-answer (misfit-place kind first value count fits events) 6 (structure-refusal kind first value count) e
+        → tree-refusal kind first value count fits events ≡ at-found (end-fault kind 1 count 0) 7
+    unfolding tree-refusal
+    tree-end e = later-answer (misfit-place kind first value count fits events) 6 (at-found (end-fault kind 1 count 0) 7) e
+
+    -- 8 and 9 are answered after them.
+    pub after-tree :
+        nodes-refusal kind first value count fits events
+        ≡ or-else (tree-refusal kind first value count fits events) (variables-refusal (formula-read kind first value count))
+    unfolding nodes-refusal structure-refusal tree-refusal
+    after-tree =
+        or-else-assoc (at-found (misfit-place kind first value count fits events) 6) (at-found (end-fault kind 1 count 0) 7)
+        (variables-refusal (formula-read kind first value count))
+
+    -- Past 6 and 7.
+    pub tree-clear :
+        tree-refusal kind first value count fits events ≡ none
+        → (misfit-place kind first value count fits events ≡ none) × (end-fault kind 1 count 0 ≡ none)
+    unfolding tree-refusal
+    tree-clear e =
+        let w = or-else-none (at-found (misfit-place kind first value count fits events) 6) (at-found (end-fault kind 1 count 0) 7) e in
+        (place-unmet (misfit-place kind first value count fits events) 6 (w .0), place-unmet (end-fault kind 1 count 0) 7 (w .1))
+
+    -- 6 or 7 is met, or neither is.
+    pub tree-met :
+        (q : Refusal) → judgement (tree-refusal kind first value count fits events) ≡ Refused q
+        → nodes-refusal kind first value count fits events ≡ tree-refusal kind first value count fits events
+    unfolding or-else
+    tree-met q e =
+        let w = judgement-refused (tree-refusal kind first value count fits events) q e in
+        after-tree ∙ ap (λ o. or-else o (variables-refusal (formula-read kind first value count))) w ∙ sym w
+
+    pub tree-unmet :
+        tree-refusal kind first value count fits events ≡ none
+        → nodes-refusal kind first value count fits events ≡ variables-refusal (formula-read kind first value count)
+    unfolding or-else
+    tree-unmet e = after-tree ∙ ap (λ o. or-else o (variables-refusal (formula-read kind first value count))) e
 
     -- 5 is met by the count, or is not.
     pub answer-count : (t : Bool) → (ltb 0 count && leb count node-limit) ≡ t

@@ -26,6 +26,7 @@ use Rattle.formulas.specs.RuleRefusal.{count-fits, variables-refusal}
 use Rattle.formulas.proofs.Search.{FoundFrom, lowest-clear, lowest-found}
 use Rattle.formulas.proofs.Walking.{size-positive}
 use Rattle.formulas.proofs.Prefix.{length-nodes, Outcome, whole, over, short, outcome, length-from, no-fault}
+use Rattle.formulas.proofs.Answers.{place-unmet}
 use Rattle.formulas.proofs.Decoding.{CountFits, count-facts}
 use Rattle.formulas.proofs.Encoding.{All, all-append, all-left, all-right, encode-append, formula-unique, formula-length, every-node, bytes-from}
 use Rattle.formulas.proofs.Variables.{Answered, unbound-answered, closed-answered, unbound-fault, fault-unbound, closed-fault, fault-closed, free-below, below-free, may-stand, stand-may}
@@ -40,11 +41,6 @@ place-met : (o : Option ℕ) (n : ℕ) (r : Refusal) → at-found o n ≡ some r
 unfolding at-found
 place-met none n r e = absurd (Option·some-ne-none r (sym e))
 place-met (some p) n r e = let d : At n p ≡ r = cc in (p, refl, sym d)
-
-pub place-unmet : (o : Option ℕ) (n : ℕ) → at-found o n ≡ none → o ≡ none
-unfolding at-found
-place-unmet none n e = refl
-place-unmet (some p) n e = absurd (Option·some-ne-none (At n p) e)
 
 answered-met : (P : ℕ → Type 0) (n : ℕ) (o : Option ℕ) → Answered P o → (r : Refusal) → at-found o n ≡ some r → at-lowest n P r
 unfolding at-found

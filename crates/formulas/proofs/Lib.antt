@@ -6,6 +6,7 @@ pub mod Padding
 -- 7's walk, and 6's search.
 pub mod Ends
 pub mod Search
+pub mod Trees
 -- One step of a walk for 8 or 9.
 pub mod Walking
 -- Formulas in prefix order.

@@ -25,11 +25,12 @@ use Rattle.formulas.specs.RuleReading.{kind-of, fields-fit, node-of, nod
 use Rattle.formulas.specs.RuleRefusal.{structure-refusal, misfit-place, nodes-refusal, kind-at, first-at, second-at, rule-refusal, formula-of}
 use Rattle.formulas.specs.NodeWalks.{field}
 use Rattle.formulas.specs.NodeArrays.{padded, decoded-count, decoded}
-use Rattle.formulas.specs.Claims.{FunctionalClaim, InOrderClaim, Refuses, RuleRefusalClaim, OnlyRefusalClaim, AcceptedClaim, FormulaOfClaim, AcceptedFormulaClaim, DecodedClaim, ReadsClaim, ReadsBackClaim, ReadsUniqueClaim}
+use Rattle.formulas.specs.Claims.{FunctionalClaim, InOrderClaim, Refuses, RuleRefusalClaim, OnlyRefusalClaim, AcceptedClaim, FormulaOfClaim, AcceptedFormulaClaim, DecodedClaim, DecodedRefusalClaim, ReadsClaim, ReadsBackClaim, ReadsUniqueClaim}
 use Rattle.formulas.proofs.Padding.{padded-field}
 use Rattle.formulas.proofs.Answers.{from-same}
 use Rattle.formulas.proofs.Prefix.{length-nodes, first-is}
 use Rattle.formulas.proofs.Reading.{reads-nodes, reads-unique, whole-read}
+use Rattle.formulas.proofs.Decoding.{decoded-refusal}
 use Rattle.formulas.proofs.Encoding.{formula-length, read-back, known-back, bytes-from}
 use Rattle.formulas.proofs.Conditions.{conditions-functional, none-met, first-refusal, accepted-formula}
 use Rattle.formulas.proofs.NodeFields.{fields-sound, fields-full}
@@ -197,6 +198,9 @@ decoded-reads bytes φ e h =
           ∙ read-count bytes φ e)
           .0;
     }
+
+pub decoded-judged : DecodedRefusalClaim
+decoded-judged = decoded-refusal
 
 pub reads-back : ReadsBackClaim
 unfolding nodes-from

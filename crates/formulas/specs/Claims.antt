@@ -2,9 +2,11 @@
 -- Assumes nothing.
 use mathlib.Core.Path.{_≡_}
 use mathlib.Core.Logic.{_↔_}
+use mathlib.Core.Bool.{true}
 use mathlib.Core.Option.{Option, none}
 use mathlib.Core.List.{List, [], _∷_}
 use Prim.Native.Nat.{ℕ, _*_, _≤_}
+use lib.Dec.{ltb}
 use lib.ListN.{length}
 use Rattle.theory.specs.Formula.{Formula, size, Accepted}
 use Rattle.theory.specs.PrefixCode.{Node}
@@ -17,7 +19,7 @@ use Rattle.formulas.specs.RuleConditions.{rule-conditions, NodeAtFault}
 use Rattle.formulas.specs.NodeReading.{Reads}
 use Rattle.formulas.specs.NodeWalks.{field}
 use Rattle.formulas.specs.NodeArrays.{decoded}
-use Rattle.formulas.specs.RuleRefusal.{node-width, node-limit, kind-at, first-at, second-at, rule-refusal, formula-of}
+use Rattle.formulas.specs.RuleRefusal.{node-width, node-limit, count-fits, fields-refusal, kind-at, first-at, second-at, rule-refusal, formula-of}
 
 -- Three bytes a node is a way to write nodes in bytes: equal bytes are of equal nodes.
 abbrev pub ThreeBytesClaim : Type 0
@@ -73,6 +75,13 @@ pub record DecodedReads (bytes : List ℕ) (φ : Formula ℕ) : Type 0 where
 
 abbrev pub DecodedClaim : Type 0
 DecodedClaim = (bytes : List ℕ) (φ : Formula ℕ) → bytes ≡ encode-formula three-bytes φ → size φ ≤ node-limit → DecodedReads bytes φ
+
+-- They are judged as the bytes are, where 5 lets the number of bytes through.
+abbrev pub DecodedRefusalClaim : Type 0
+DecodedRefusalClaim =
+    (events values : ℕ) (bytes : List ℕ) → count-fits node-width node-limit (length bytes) ≡ true
+    → fields-refusal (field (decoded bytes .kinds)) (field (decoded bytes .firsts)) (field (decoded bytes .values)) (decoded bytes .count) (λ v. ltb v values) events
+    ≡ rule-refusal events values bytes
 
 -- Bytes are the code of a formula exactly if it reads through the accessors, up to the last node, and no node is at fault in itself.
 abbrev pub ReadsClaim : Type 0

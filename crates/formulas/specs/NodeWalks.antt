@@ -6,19 +6,12 @@ use mathlib.Core.Option.{Option, none, some}
 use Prim.Native.Nat.{ℕ, _+_, _≤_, _<_}
 use lib.ListN.{length, getD}
 use Rattle.theory.specs.Formula.{Formula, size}
-use Rattle.formulas.specs.declared.Found.{Found}
-use Rattle.formulas.specs.declared.Found.the-variants.{At, Nowhere}
 use Rattle.refusal.specs.Refusal.{judgement}
 use Rattle.refusal.specs.declared.Judgement.{Judgement}
 use Rattle.formulas.specs.NodeReading.{Reads}
 use Rattle.formulas.specs.RuleConditions.{Position}
 use Rattle.formulas.specs.RuleReading.{first-of, lowest-unbound, lowest-closed}
-use Rattle.formulas.specs.RuleRefusal.{node-limit, variables-refusal, structure-refusal}
-
--- A place that was looked for.
-unfoldable pub found : Option ℕ → Found
-found none = Nowhere
-found (some i) = At i
+use Rattle.formulas.specs.RuleRefusal.{node-limit, variables-refusal}
 
 -- A note: the number of a node, or the limit, which is above every node's, where nothing is noted.
 unfoldable pub Noted : Option ℕ → ℕ → Type 0
@@ -47,14 +40,6 @@ pub record Scanned (kind first : ℕ → ℕ) (depth : ℕ) (p : Position) (at l
 unfoldable pub VariablesJudged : (ℕ → ℕ) → (ℕ → ℕ) → ℕ → Judgement → Type 0
 VariablesJudged kind first count r =
     (value : ℕ → ℕ) (φ : Formula ℕ) → Reads kind first value 0 φ → size φ ≡ count → r ≡ judgement (variables-refusal φ)
-
--- The answer of 7 to 9, whatever the values are.
-unfoldable pub StructureJudged : (ℕ → ℕ) → (ℕ → ℕ) → ℕ → Judgement → Type 0
-StructureJudged kind first count r = (value : ℕ → ℕ) → r ≡ judgement (structure-refusal kind first value count)
-
--- Every kind is known.
-abbrev pub KnownKinds : (ℕ → ℕ) → ℕ → Type 0
-KnownKinds kind count = (i : ℕ) → i < count → kind i < 6
 
 -- Fields of nodes in lists, the field of node i at index i.
 abbrev pub field : List ℕ → ℕ → ℕ

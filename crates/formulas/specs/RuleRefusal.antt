@@ -38,6 +38,10 @@ module _ (kind first value : ℕ → ℕ) (count : ℕ) where
     unfoldable pub misfit-place : Option ℕ
     misfit-place = lowest-from (λ i. not (fields-fit events (kind-of (kind i)) (first i) (value i) (fits (value i)))) count 0
 
+    -- 6 and 7.
+    unfoldable pub tree-refusal : Option Refusal
+    tree-refusal = or-else (at-found misfit-place 6) (at-found (end-fault kind 1 count 0) 7)
+
     -- 6 to 9.
     unfoldable pub nodes-refusal : Option Refusal
     nodes-refusal = or-else (at-found misfit-place 6) structure-refusal

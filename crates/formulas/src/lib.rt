@@ -7,9 +7,9 @@ ghost use lib.Dec.{ltb};
 ghost use lib.ListN.{length};
 ghost use Rattle.refusal.specs.Refusal.{judgement};
 ghost use Rattle.formulas.specs.RuleConditions.{open-to-variable, closed-to-variable};
-ghost use Rattle.formulas.specs.RuleReading.{kind-of, fields-fit, awaited, end-fault, unbound-below};
-ghost use Rattle.formulas.specs.RuleRefusal.{node-width, node-limit, count-fits, misfit-place, fields-refusal, rule-refusal};
-ghost use Rattle.formulas.specs.NodeWalks.{found, Keeps, Scanned, VariablesJudged, StructureJudged, KnownKinds, field};
+ghost use Rattle.formulas.specs.RuleReading.{kind-of, fields-fit, awaited, unbound-below};
+ghost use Rattle.formulas.specs.RuleRefusal.{node-width, node-limit, count-fits, tree-refusal, fields-refusal, rule-refusal};
+ghost use Rattle.formulas.specs.NodeWalks.{Keeps, Scanned, VariablesJudged, field};
 ghost use Rattle.formulas.specs.NodeArrays.{decoded};
 use refusal::CLOSED_VARIABLE;
 use refusal::Judgement;
@@ -44,12 +44,6 @@ pub struct Nodes {
     pub kinds: [u8; NODE_LIMIT],
     pub firsts: [u8; NODE_LIMIT],
     pub values: [u32; NODE_LIMIT],
-}
-
-// A place that was looked for.
-enum Found {
-    At(usize),
-    Nowhere,
 }
 
 fn wide(x: u8) -> usize
@@ -137,29 +131,6 @@ fn value_fits(value: u32, values: usize) -> bool
     (value as usize) < values
 }
 
-// 6: the lowest node whose fields do not fit.
-fn lowest_misfit(
-    events: usize,
-    limit: usize,
-    kinds: &[u8; NODE_LIMIT],
-    firsts: &[u8; NODE_LIMIT],
-    values: &[u32; NODE_LIMIT],
-    count: usize,
-) -> Found
-    requires { ⌜ count ≤ 256 ⌝ }
-    ensures { λ r. ⌜ r ≡ found (misfit-place (field (now (kinds .entry))) (field (now (firsts .entry))) (field (now (values .entry))) count (λ v. ltb v limit) events) ⌝ }
-{
-    let mut i: usize = 0;
-    while i < count {
-        let v = values[i];
-        if !fields_fit(events, kinds[i], firsts[i], v, value_fits(v, limit)) {
-            return Found::At(i);
-        }
-        i += 1;
-    }
-    Found::Nowhere
-}
-
 // How many parts are awaited after a node of this kind, where so many others were awaited beside it.
 fn awaited(kind: u8, others: usize) -> usize
     requires { ⌜ others ≤ 256 ⌝ }
@@ -177,24 +148,40 @@ fn awaited(kind: u8, others: usize) -> usize
     others
 }
 
-// 7: where the nodes run out, or the first of those left over.
-fn misplaced_end(kinds: &[u8; NODE_LIMIT], count: usize) -> Found
+// 6, then 7: the fields of every node fit, and the nodes are those of one formula. `used` counts the nodes up to its end.
+fn check_fields(
+    events: usize,
+    limit: usize,
+    kinds: &[u8; NODE_LIMIT],
+    firsts: &[u8; NODE_LIMIT],
+    values: &[u32; NODE_LIMIT],
+    count: usize,
+) -> Judgement
     requires { ⌜ count ≤ 256 ⌝ }
-    ensures { λ r. ⌜ r ≡ found (end-fault (field (now (kinds .entry))) 1 count 0) ⌝ }
+    ensures { λ r. ⌜ r ≡ judgement (tree-refusal (field (now (kinds .entry))) (field (now (firsts .entry))) (field (now (values .entry))) count (λ v. ltb v limit) events) ⌝ }
 {
     let mut parts: usize = 1;
+    let mut used: usize = 0;
     let mut i: usize = 0;
     while i < count {
-        if parts == 0 {
-            return Found::At(i);
+        let kind = kinds[i];
+        let v = values[i];
+        if !fields_fit(events, kind, firsts[i], v, value_fits(v, limit)) {
+            return Judgement::Refused(Refusal::At(NODE_FIELDS, i));
         }
-        parts = awaited(kinds[i], parts - 1);
+        if 1 <= parts {
+            parts = awaited(kind, parts - 1);
+            used += 1;
+        }
         i += 1;
     }
     if 0 < parts {
-        return Found::At(count);
+        return Judgement::Refused(Refusal::At(NODE_TREE, count));
     }
-    Found::Nowhere
+    if used < count {
+        return Judgement::Refused(Refusal::At(NODE_TREE, used));
+    }
+    Judgement::Accepted
 }
 
 // 8, for one variable: it counts as many binders as it stands below, or more.
@@ -303,18 +290,6 @@ fn check_variables(kinds: &[u8; NODE_LIMIT], firsts: &[u8; NODE_LIMIT], count: u
     Judgement::Accepted
 }
 
-// 7, then 8 and 9.
-fn check_structure(kinds: &[u8; NODE_LIMIT], firsts: &[u8; NODE_LIMIT], count: usize) -> Judgement
-    requires { ⌜ (count ≤ 256) × KnownKinds (field (now kinds)) count ⌝ }
-    ensures { λ r. ⌜ StructureJudged (field (now (kinds .entry))) (field (now (firsts .entry))) count r ⌝ }
-{
-    let end = misplaced_end(kinds, count);
-    if let Found::At(p) = end {
-        return Judgement::Refused(Refusal::At(NODE_TREE, p));
-    }
-    check_variables(kinds, firsts, count)
-}
-
 // 5 to 9 for decoded nodes, the first `count` of each array, with the set-up's counts of events and values.
 pub fn check_nodes<'a>(
     events: usize,
@@ -332,11 +307,11 @@ pub fn check_nodes<'a>(
     if NODE_LIMIT < count {
         return Judgement::Refused(Refusal::Plain(NODE_COUNT));
     }
-    let misfit = lowest_misfit(events, limit, kinds, firsts, values, count);
-    if let Found::At(p) = misfit {
-        return Judgement::Refused(Refusal::At(NODE_FIELDS, p));
+    let judged = check_fields(events, limit, kinds, firsts, values, count);
+    if let Judgement::Refused(_) = judged {
+        return judged;
     }
-    check_structure(kinds, firsts, count)
+    check_variables(kinds, firsts, count)
 }
 
 // 5 to 9 for a rule in bytes, with the set-up's counts of events and values.

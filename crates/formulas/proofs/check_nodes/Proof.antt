@@ -1,7 +1,8 @@
--- `check_nodes` meets its contract: 5 is answered by the count, then 6, and past it every kind is known.
+-- `check_nodes` meets its contract: 5 is answered by the count, then 6 and 7; past them the formula reads from the first node to the last.
 -- Assumes nothing.
-use Rattle.formulas.proofs.Answers.{found-at, found-nowhere, no-node, too-many, count-within, answer-misfit, answer-structure, all-known}
-use Rattle.formulas.specs.NodeWalks.{field, StructureJudged}
+use Rattle.formulas.proofs.Answers.{no-node, too-many, count-within, tree-met, tree-unmet, tree-clear, all-known, formula-reads}
+use Rattle.formulas.specs.NodeWalks.{field, VariablesJudged}
+use Rattle.refusal.proofs.Refusals.{judgement-accepted}
 use Rattle.refusal.specs.Refusal.{judgement}
 use mathlib.Core.Path.{sym, _∙_, ap}
 use borrow.Author.Needs.{needs}
@@ -16,33 +17,32 @@ returns-2 : tie.Need-returns-2
 unfolding judgement
 returns-2 c = sym (ap judgement (too-many _ _ _ _ _ _ (c .if2 .taken)))
 
-lowest-misfit-requires : tie.Need-lowest-misfit-requires
-lowest-misfit-requires c κs = search needs
-
-enum-known-misfit : tie.Need-enum-known-misfit
-enum-known-misfit c = search needs
-
-returns-3 : tie.Need-returns-3
-unfolding judgement
-returns-3 c =
-    let e = sym (c .before .before .before .lowest-misfit .ensures) ∙ c .before .misfit .given .1 in
-    sym (ap judgement (count-within _ _ _ _ _ _ (c .before .before .before .before .before .if1 .left) (c .before .before .before .before .if2 .left) ∙ answer-misfit _ _ _ _ _ _ _ (found-at _ _ e)))
+check-fields-requires : tie.Need-check-fields-requires
+check-fields-requires c κs = search needs
 
 enum-told : tie.Need-enum-told
 enum-told c = search needs
 
-check-structure-requires : tie.Need-check-structure-requires
-check-structure-requires c κs =
-    let e = sym (c .before .before .lowest-misfit .ensures) ∙ c .enum-told .given .1 in
-    (search needs, all-known _ _ _ _ _ _ (found-nowhere _ e))
+returns-3 : tie.Need-returns-3
+returns-3 c =
+    let e = c .before .before .check-fields .ensures in
+    e ∙ sym (ap judgement (count-within _ _ _ _ _ _ (c .before .before .before .before .if1 .left) (c .before .before .before .if2 .left) ∙ tree-met _ _ _ _ _ _ _ (sym e ∙ c .enum-told .given .1)))
+
+enum-told-2 : tie.Need-enum-told-2
+enum-told-2 c = search needs
+
+check-variables-requires : tie.Need-check-variables-requires
+check-variables-requires c κs = search needs
 
 returns-4 : tie.Need-returns-4
-unfolding StructureJudged
+unfolding VariablesJudged
 returns-4 c =
     let a = c .before .before .before .before .before .before .args in
-    let e = sym (c .before .before .before .lowest-misfit .ensures) ∙ c .before .enum-told .given .1 in
-    c .check-structure .ensures (field (a .values .now))
-    ∙ sym (ap judgement (count-within _ _ _ _ _ _ (c .before .before .before .before .before .if1 .left) (c .before .before .before .before .if2 .left) ∙ answer-structure _ _ _ _ _ _ (found-nowhere _ e)))
+    let e = judgement-accepted _ (sym (c .before .before .before .check-fields .ensures) ∙ c .before .enum-told2 .given .1) in
+    let w = tree-clear (field (a .kinds .now)) (field (a .firsts .now)) (field (a .values .now)) (a .count) _ _ e in
+    let r = formula-reads (field (a .kinds .now)) (field (a .firsts .now)) (field (a .values .now)) (a .count) (all-known _ _ _ _ _ _ (w .0)) (w .1) in
+    c .check-variables .ensures (field (a .values .now)) _ (r .0) (r .1)
+    ∙ sym (ap judgement (count-within _ _ _ _ _ _ (c .before .before .before .before .before .if1 .left) (c .before .before .before .before .if2 .left) ∙ tree-unmet _ _ _ _ _ _ e))
 
 pub check-nodes-spec : {M : Type 1} → statement M
 check-nodes-spec =
@@ -50,9 +50,9 @@ check-nodes-spec =
     (tie.spec
     returns
     returns-2
-    lowest-misfit-requires
-    enum-known-misfit
-    returns-3
+    check-fields-requires
     enum-told
-    check-structure-requires
+    returns-3
+    enum-told-2
+    check-variables-requires
     returns-4)
