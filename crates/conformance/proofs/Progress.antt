@@ -1,6 +1,6 @@
 -- The search over the queue is breadth-first exploration: it stops at the first failing word, or has looked at all pairs.
 -- Assumes nothing.
-use mathlib.Core.Path.{_≡_, refl, sym, _∙_, ap, ap₂, subst}
+use mathlib.Core.Path.{_≡_, refl, sym, _∙_, ap, ap₂, subst, subst⁻¹}
 use mathlib.Core.Bool.{Bool, true, false, not, cond}
 use mathlib.Core.List.{List, [], _∷_}
 use mathlib.Core.Option.{Option, none, some}
@@ -19,7 +19,8 @@ use Rattle.theory.proofs.Conformance.{same-pair-iff, few-pairs}
 use Rattle.values.specs.declared.ValueKind.the-variants.{Numbered}
 use Rattle.values.specs.ValueKind.{at-or-below}
 use Rattle.machines.specs.TableBytes.{machine-of}
-use Rattle.conformance.specs.PairQueue.{Queue, Holds, at-or-below-on, FirstBadEvent, successors, Expandable, Expanded, FailsAt, Searchable}
+use Rattle.conformance.specs.PairQueue.{Queue, Sized, Holds, at-or-below-on, FirstBadEvent, successors, Expandable, Expanded, FailsAt, Searchable}
+use Rattle.conformance.proofs.Places.{product-bounded}
 use Rattle.conformance.proofs.Successors.{part-grows}
 
 -- What exploration and the first bad word compute, step by step.
@@ -147,6 +148,9 @@ module _ {size events values k : ℕ} {device table : List ℕ} {a₀ : Queue} (
       pub taken-small : i < size
       taken-small = omega (arith, i-in, words-few, x .ready .few-pairs)
 
+      pub taken-few : i < 65536
+      taken-few = omega (arith, i-in, words-few, product-bounded (x .ready .few-device-states) (x .ready .few-table-states))
+
       abbrev after : List (List ℕ)
       after = successors events device table start (p .words) i
 
@@ -157,10 +161,10 @@ module _ {size events values k : ℕ} {device table : List ℕ} {a₀ : Queue} (
       after-grow : Grows after Q
       after-grow = subst (Grows after) step-way (grows (limit - suc i) (suc i) after)
 
-      pub after-fits : length after ≤ size
-      after-fits = omega (arith, after-grow .0, Q-few, x .ready .few-pairs)
+      after-fits : length after ≤ limit
+      after-fits = omega (arith, after-grow .0, Q-few)
 
-      unfoldable pub expandable : Expandable size events k device table i count a
+      unfoldable expandable : Expandable size events k device table i count a
       expandable =
           record {
             n = x .n;
@@ -172,6 +176,10 @@ module _ {size events values k : ℕ} {device table : List ℕ} {a₀ : Queue} (
             taken = h;
             room = after-fits;
           }
+
+      pub own-expandable : Sized size a → Sized (length (a .flags)) a × Expandable (length (a .flags)) events k device table i count a
+      own-expandable sized =
+          subst⁻¹ (λ c. Sized c a × Expandable c events k device table i count a) (sized .flags-size) (sized, expandable)
 
       module _ (s t : ℕ) (s-is : s ≡ getD (a .device-queue) i 0) (t-is : t ≡ getD (a .table-queue) i 0) where
         pub s-small : s < 256
@@ -201,16 +209,18 @@ module _ {size events values k : ℕ} {device table : List ℕ} {a₀ : Queue} (
 
         module _ (e : ℕ) (judged : FirstBadEvent events (at-or-below-on events values meet device table s t) e) where
           -- The pair fails.
-          pub found-at : e < events → FailsAt size events (counterexample below m q events (x .n) k (x .s) zero) i e (a .parents) (a .last-events)
-          found-at l =
+          pub found-at : e < events → Sized size a → FailsAt size events (counterexample below m q events (x .n) k (x .s) zero) i e (a .parents) (a .last-events)
+          found-at l sized =
               record {
                 reaches =
                     record {
                       words = p .words;
                       linked = p .held .linked;
-                      few = omega (arith, words-few, x .ready .few-pairs);
+                      parents-room = omega (arith, words-few, x .ready .few-pairs, sized .parents-size);
+                      last-events-room = omega (arith, words-few, x .ready .few-pairs, sized .last-events-size);
                       has = i-in;
                     };
+                few = omega (arith, words-few, x .ready .few-pairs);
                 event-in = l;
                 is-first =
                     ap in-play-order
@@ -221,10 +231,11 @@ module _ {size events values k : ℕ} {device table : List ℕ} {a₀ : Queue} (
               }
 
           -- It does not, and its successors are pushed.
-          pub progress-next : events ≤ e → (r : ℕ) (b : Queue) → Expanded size events k device table i count a r b → Progress (i + 1) r b
+          pub progress-next :
+              events ≤ e → Sized size a → (r : ℕ) (b : Queue) → Expanded (length (a .flags)) events k device table i count a r b → Progress (i + 1) r b
           unfolding expandable
-          progress-next l r b f =
-              let g = f expandable in
+          progress-next l sized r b f =
+              let g = subst (λ c. Expanded c events k device table i count a r b) (sized .flags-size) f expandable in
               subst (λ c. Progress c r b) (sym (add-one i)) (record {
                 words = after;
                 held = g .0;

@@ -1,6 +1,6 @@
 -- The queue's arrays after a pair is pushed hold the words with one more.
 -- Assumes nothing.
-use mathlib.Core.Path.{_≡_, refl, sym, _∙_, ap, ap₂, subst⁻¹}
+use mathlib.Core.Path.{_≡_, refl, sym, _∙_, ap, ap₂, subst, subst⁻¹}
 use mathlib.Core.Bool.{Bool, true, false, cond, _||_}
 use mathlib.Core.Logic.{_⊎_, inl, inr}
 use mathlib.Core.List.{List, [], _∷_, _++_}
@@ -50,6 +50,9 @@ module _ (a : Queue) (count place : ℕ) where
             last-events-size = simp length-set (z .last-events-size);
             flags-size = simp length-set (z .flags-size);
           }
+
+pub same-size : {size : ℕ} {a b : Queue} → Sized size a → Sized (length (a .flags)) b → Sized size b
+same-size {b = b} z v = subst (λ c. Sized c b) (z .flags-size) v
 
 -- A place of a list with one more at its end is an old one or the last.
 data Spot (P : List (List ℕ)) (v : List ℕ) (l : ℕ) : Type 0 where

@@ -16,39 +16,66 @@ use Rattle.refusal.specs.LentBuffers.{put}
 use Rattle.values.specs.declared.ValueKind.the-variants.{Numbered}
 use Rattle.values.specs.ValueKind.{at-or-below}
 use Rattle.machines.specs.TableBytes.{machine-of}
+use Rattle.conformance.specs.declared.Verdict.{Verdict}
 use Rattle.conformance.specs.declared.Verdict.the-variants.{Pass, Fail}
 use Rattle.conformance.specs.declared.Failure.{Failure}
 use Rattle.conformance.specs.declared.Failure.the-variants.{Nowhere, At}
 use Rattle.conformance.specs.Trial.{outcome, shown}
-use Rattle.conformance.specs.PairQueue.{Queue, queue, Sized, flag, Searchable, Searched, Located, Tried, Answers, FailsAt, Zeros}
+use Rattle.conformance.specs.PairQueue.{Queue, queue, Sized, flag, Searchable, Searched, Located, Tried, Answers, Answered, FailsAt, Empty}
 use Rattle.conformance.proofs.Queues.{same-pair-self, same-pair-true, or-false}
 use Rattle.conformance.proofs.Words.{short-word, put-last}
 
--- An array as it is made.
-pub made-zeros : (size : ℕ) → Zeros size (replicate size 0)
-made-zeros size = record { long = length-replicate size 0; zeros = λ i h. getD-replicate size i 0 0 h }
+abbrev zeros : ℕ → Queue
+zeros size = queue (replicate size 0) (replicate size 0) (replicate size 0) (replicate size 0) (replicate size 0)
 
 module _ {size events values k : ℕ} {table : List ℕ} {s : ℕ} {device buffer : List ℕ} (x : Tried size events values k table s device buffer) where
   -- The start's state and pair fit.
   pub start-place : s * k < size
   start-place = omega (arith, x .some-states, mul-le-mul-right k (x .start-in), suc-mul s k, x .ready .few-pairs)
 
-module _ {size events values k : ℕ} {table : List ℕ} {s : ℕ} {device buffer : List ℕ} (x : Tried size events values k table s device buffer)
-    (d t p l f : List ℕ) (d-is : Zeros size d) (t-is : Zeros size t) (p-is : Zeros size p) (l-is : Zeros size l) (f-is : Zeros size f) where
-  abbrev started : Queue
-  started = queue (set d 0 s) t p l (set f (s * k) 1)
-
-  pub start-sized : Sized size started
-  start-sized =
+  -- Arrays as they are made.
+  made-empty : Empty size (zeros size)
+  made-empty =
       record {
-        device-queue-size = simp length-set (d-is .long);
-        table-queue-size = t-is .long;
-        parents-size = p-is .long;
-        last-events-size = l-is .long;
-        flags-size = simp length-set (f-is .long);
+        sized = record {
+          device-queue-size = length-replicate size 0;
+          table-queue-size = length-replicate size 0;
+          parents-size = length-replicate size 0;
+          last-events-size = length-replicate size 0;
+          flags-size = length-replicate size 0;
+        };
+        first = getD-replicate size 0 0 0 (omega (arith, start-place));
+        flags = λ i h. getD-replicate size i 0 0 h;
       }
 
-  pub start-searchable : Searchable size events values k device table started
+  pub made-ready : Tried (length (zeros size .flags)) events values k table s device buffer × Empty (length (zeros size .flags)) (zeros size)
+  made-ready =
+      subst⁻¹ (λ c. Tried c events values k table s device buffer × Empty c (zeros size)) (length-replicate size 0) (x, made-empty)
+
+-- The answer with such arrays.
+pub made-answered :
+    (size events values : ℕ) (meet : List ℕ) (k : ℕ) (table : List ℕ) (s : ℕ) (device old : List ℕ) (answer : Verdict) (later : List ℕ) →
+    Answered (length (zeros size .flags)) events values meet k table s device old answer later →
+    Answered size events values meet k table s device old answer later
+made-answered size events values meet k table s device old answer later f =
+    subst (λ c. Answered c events values meet k table s device old answer later) (length-replicate size 0) f
+
+module _ {size events values k : ℕ} {table : List ℕ} {s : ℕ} {device buffer : List ℕ} (x : Tried size events values k table s device buffer)
+    (a : Queue) (empty : Empty size a) where
+  abbrev started : Queue
+  started = queue (set (a .device-queue) 0 s) (a .table-queue) (a .parents) (a .last-events) (set (a .flags) (s * k) 1)
+
+  start-sized : Sized size started
+  start-sized =
+      record {
+        device-queue-size = simp length-set (empty .sized .device-queue-size);
+        table-queue-size = empty .sized .table-queue-size;
+        parents-size = empty .sized .parents-size;
+        last-events-size = empty .sized .last-events-size;
+        flags-size = simp length-set (empty .sized .flags-size);
+      }
+
+  start-searchable : Searchable size events values k device table started
   start-searchable =
       record {
         few-values = x .few-values;
@@ -90,25 +117,25 @@ module _ {size events values k : ℕ} {table : List ℕ} {s : ℕ} {device buffe
       some-room : 0 < size
       some-room = omega (arith, start-place x)
 
-      device-at′ : (j : ℕ) → j < 1 → getD (set d 0 s) j 0 ≡ state (word j) .0
+      device-at′ : (j : ℕ) → j < 1 → getD (set (a .device-queue) 0 s) j 0 ≡ state (word j) .0
       device-at′ j h =
-          ap (λ y. getD (set d 0 s) y 0) (only j h) ∙ getD-set-same d 0 s 0 (omega (arith, d-is .long, some-room)) ∙ sym (first-state j h)
+          ap (λ y. getD (set (a .device-queue) 0 s) y 0) (only j h) ∙ getD-set-same (a .device-queue) 0 s 0 (omega (arith, empty .sized .device-queue-size, some-room)) ∙ sym (first-state j h)
 
-      table-at′ : (j : ℕ) → j < 1 → getD t j 0 ≡ state (word j) .1
-      table-at′ j h = ap (λ y. getD t y 0) (only j h) ∙ t-is .zeros 0 some-room ∙ sym (second-state j h)
+      table-at′ : (j : ℕ) → j < 1 → getD (a .table-queue) j 0 ≡ state (word j) .1
+      table-at′ j h = ap (λ y. getD (a .table-queue) y 0) (only j h) ∙ empty .first ∙ sym (second-state j h)
 
       flagged′ :
           (u v : ℕ) → u < x .n → v < k → (b : Bool) → same-pair (s, zero) (u, v) ≡ b →
-          getD (set f (s * k) 1) (u * k + v) 0
+          getD (set (a .flags) (s * k) 1) (u * k + v) 0
           ≡ flag (has-state same-pair (next-pair (machine-of events device) (machine-of events table)) (s, zero) ([] ∷ []) (u, v))
       flagged′ u v hu hv true z =
           let e : (s ≡ u) × (zero ≡ v) = same-pair-true (s, zero) (u, v) z in
           let place : u * k + v ≡ s * k = omega (arith, ap (λ y. y * k) (e .0), e .1) in
-          ap (λ y. getD (set f (s * k) 1) y 0) place ∙ getD-set-same f (s * k) 1 0 (omega (arith, f-is .long, start-place x))
+          ap (λ y. getD (set (a .flags) (s * k) 1) y 0) place ∙ getD-set-same (a .flags) (s * k) 1 0 (omega (arith, empty .sized .flags-size, start-place x))
           ∙ ap flag (sym (or-false (same-pair (s, zero) (u, v)) ∙ z))
       flagged′ u v hu hv false z =
-          getD-set-other f (s * k) (u * k + v) 1 0 (λ y. other (digits-equal k u s v zero hv (x .some-states) (omega arith)))
-          ∙ f-is .zeros (u * k + v) (omega (arith, hv, mul-le-mul-right k hu, suc-mul u k, x .ready .few-pairs))
+          getD-set-other (a .flags) (s * k) (u * k + v) 1 0 (λ y. other (digits-equal k u s v zero hv (x .some-states) (omega arith)))
+          ∙ empty .flags (u * k + v) (omega (arith, hv, mul-le-mul-right k hu, suc-mul u k, x .ready .few-pairs))
           ∙ ap flag (sym (or-false (same-pair (s, zero) (u, v)) ∙ z))
         where
           other : (u ≡ s) × (v ≡ zero) → ⊥
@@ -117,14 +144,19 @@ module _ {size events values k : ℕ} {table : List ℕ} {s : ℕ} {device buffe
               = sym (same-pair-self s zero) ∙ ap₂ (λ a b. same-pair (s, zero) (a, b)) (sym (e .0)) (sym (e .1)) ∙ z in
               let c′ : _≡_ {A = ℕ} 1 0 = ap flag c in omega arith
 
+  -- The arrays' own size is given by that of the flags.
+  pub start-ready : Sized (length (started .flags)) started × Searchable (length (started .flags)) events values k device table started
+  start-ready =
+      subst⁻¹ (λ c. Sized c started × Searchable c events values k device table started) (start-sized .flags-size) (start-sized, start-searchable)
+
   -- What the search finds from there.
-  module _ (meet : List ℕ) (r : Failure) (b : Queue) (h : Searched size events values meet k device table started r b) where
+  module _ (meet : List ℕ) (r : Failure) (b : Queue) (h : Searched (length (started .flags)) events values meet k device table started r b) where
     abbrev found : Option (List ℕ)
     found = counterexample (at-or-below (Numbered values) meet) (machine-of events device) (machine-of events table) events (x .n) k s zero
 
     located : Located size events found r b
     unfolding start-searchable
-    located = h start-searchable
+    located = subst (λ c. Searched c events values meet k device table started r b) (start-sized .flags-size) h start-searchable
 
     pub found-nowhere : r ≡ Nowhere → found ≡ none
     unfolding Located
@@ -150,7 +182,7 @@ module _ {size events : ℕ} {found : Option (List ℕ)} {i e : ℕ} {parents la
         arith,
         short-word (y .reaches .words) parents last-events (y .reaches .linked) i (y .reaches .has),
         y .reaches .has,
-        y .reaches .few,
+        y .few,
       )
 
   pub answer-some :

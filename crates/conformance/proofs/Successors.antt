@@ -14,7 +14,8 @@ use Rattle.theory.specs.Exploration.{reached, add, add-events}
 use Rattle.theory.proofs.Exploration.{add-grows, add-events-grows}
 use Rattle.theory.specs.Conformance.{same-pair, next-pair}
 use Rattle.machines.specs.TableBytes.{machine-of}
-use Rattle.conformance.specs.PairQueue.{Queue, Sized, Holds, is-new, pushed, pushed-count, Expandable, successors}
+use Rattle.conformance.specs.PairQueue.{Queue, Sized, Holds, is-new, Pushable, pushed, pushed-count, Expandable, successors}
+use Rattle.conformance.proofs.Places.{product-bounded}
 use Rattle.conformance.proofs.Queues.{push-room, push-holds}
 
 -- Adding words, to any list and over any states.
@@ -131,8 +132,18 @@ module _ {size events k : ℕ} {device table : List ℕ} {i count : ℕ} {a₀ :
   i-in : i < length (x .words)
   i-in = subst (λ c. i < c) (x .counted) (x .taken)
 
+  fits : length (successors events device table (x .start) (x .words) i) ≤ size
+  fits = omega (arith, x .room, x .ready .few-pairs)
+
+  -- The place is one of the arrays, and is small enough to be stored.
+  place-in : i < x .n * k
+  place-in = omega (arith, i-in, part-grows same-pair (next-pair m q) (x .start) (x .words) (getD (x .words) i []) events, x .room)
+
   pub place-small : i < size
-  place-small = omega (arith, i-in, part-grows same-pair (next-pair m q) (x .start) (x .words) (getD (x .words) i []) events, x .room)
+  place-small = omega (arith, place-in, x .ready .few-pairs)
+
+  place-stored : i < 65536
+  place-stored = omega (arith, place-in, product-bounded (x .ready .few-device-states) (x .ready .few-table-states))
 
   pub turned-start :
       (s t : ℕ) → s ≡ getD (a₀ .device-queue) i 0 → t ≡ getD (a₀ .table-queue) i 0 → Turned x s t zero count a₀
@@ -161,22 +172,31 @@ module _ {size events k : ℕ} {device table : List ℕ} {i count : ℕ} {a₀ :
       v-in : v < k
       v-in = subst⁻¹ (λ z. z < k) v-is (x .ready .table-nexts t e (h .t-in) e-in)
 
-      pub next-small : (u < 256) × (v < 256)
-      next-small = (omega (arith, u-in, x .ready .few-device-states), omega (arith, v-in, x .ready .few-table-states))
-
       pub next-place : u * k + v < size
       next-place = omega (arith, v-in, mul-le-mul-right k u-in, suc-mul u k, x .ready .few-pairs)
 
       module _ (sized : Sized size a) where
-        pub next-room : is-new a (u * k + v) ≡ true → r < size
+        next-room : is-new a (u * k + v) ≡ true → r < size
         next-room z =
-            turn-room (x .n) k m q (x .start) size (x .words) i i-in a sized events e e-in (h .held) (x .ready .few-pairs) (x .room) u v
+            turn-room (x .n) k m q (x .start) size (x .words) i i-in a sized events e e-in (h .held) (x .ready .few-pairs) fits u v
             (u-is ∙ ap (λ z. m .next z e) (h .s-is)) (v-is ∙ ap (λ z. q .next z e) (h .t-is)) u-in v-in r (h .counted) (eqb-true _ _ z)
+
+        pub pushable : Pushable (length (a .flags)) a r (u * k + v) u v i e
+        pushable =
+            subst⁻¹ (λ c. Pushable c a r (u * k + v) u v i e) (sized .flags-size) (record {
+              sized = sized;
+              place-in = next-place;
+              small-s = omega (arith, u-in, x .ready .few-device-states);
+              small-t = omega (arith, v-in, x .ready .few-table-states);
+              small-parent = place-stored;
+              small-e = omega (arith, e-in, x .ready .few-events);
+              room = next-room;
+            })
 
         pub turned-next :
             (b : Queue) (r′ : ℕ) → b ≡ pushed a r (u * k + v) u v i e → r′ ≡ pushed-count a r (u * k + v) → Turned x s t (e + 1) r′ b
         turned-next b r′ b-is r-is =
-            let z = turn (x .n) k m q (x .start) size (x .words) i i-in a sized events e e-in (h .held) (x .ready .few-pairs) (x .room) u v
+            let z = turn (x .n) k m q (x .start) size (x .words) i i-in a sized events e e-in (h .held) (x .ready .few-pairs) fits u v
             (u-is ∙ ap (λ z. m .next z e) (h .s-is)) (v-is ∙ ap (λ z. q .next z e) (h .t-is)) u-in v-in r (h .counted) b r′ b-is r-is in
             record { s-is = h .s-is; t-is = h .t-is; s-in = h .s-in; t-in = h .t-in; held = z .0; counted = z .1 }
 

@@ -30,7 +30,7 @@ use Rattle.values.proofs.Setups.{setup-correct}
 use Rattle.values.proofs.ValueKinds.{value-kinds}
 use Rattle.machines.proofs.TableRefusals.{table-refusal-first}
 use Rattle.conformance.specs.declared.Verdict.the-variants.{Pass, Fail, Refused}
-use Rattle.conformance.specs.Trial.{TrialInput, input, meet, below, device-machine, table-machine, Passes, FirstFailure, trial-conditions, trial-refusal, first-failure, outcome, shown, answer-unless, buffer-unless, trial-answer, trial-buffer}
+use Rattle.conformance.specs.Trial.{TrialInput, meet, below, device-machine, table-machine, Passes, FirstFailure, trial-conditions, trial-refusal, first-failure, outcome, shown, answer-unless, buffer-unless, trial-answer, trial-buffer}
 use Rattle.conformance.specs.Claims.{TrialRefusalClaim, RefusedClaim, PassClaim, FailClaim, SatisfactionClaim, LowestPassesClaim}
 use Rattle.conformance.proofs.Trials.{Sound, sound}
 

@@ -4,7 +4,6 @@ use mathlib.Core.Path.{_≡_, refl, sym, _∙_, ap}
 use mathlib.Core.List.{List}
 use mathlib.Core.Option.{Option, none, some}
 use Prim.Native.Nat.{ℕ, zero, _*_, _≤_, _<_}
-use native.Mathlib.Nat.{mul-le-mul-left, mul-le-mul-right}
 use native.Mathlib.Omega.{arith}
 use borrow.Author.Tests.{le-leb, lt-leb, leb-true}
 use lib.ListN.{length}
@@ -25,6 +24,7 @@ use Rattle.conformance.specs.declared.Verdict.{Verdict}
 use Rattle.conformance.specs.declared.Verdict.the-variants.{Refused as Rejected}
 use Rattle.conformance.specs.Trial.{TrialInput, device-machine, table-machine, trial-refusal, first-failure, answer-unless, buffer-unless, trial-answer, trial-buffer}
 use Rattle.conformance.specs.PairQueue.{Ready, Tried, Answered}
+use Rattle.conformance.proofs.Places.{product-bounded}
 
 -- A check's refusal is the answer of all that follows; where it accepts, what follows decides.
 refused-here : (a b : Option Refusal) (j : Judgement) (r : Refusal) → j ≡ judgement a → j ≡ Refused r → j ≡ judgement (or-else a b)
@@ -38,10 +38,6 @@ passed-here a b z = ap (λ o. or-else o b) z
 
 accepted-here : (a : Option Refusal) (j : Judgement) → j ≡ judgement a → j ≡ Accepted → a ≡ none
 accepted-here a j e z = judgement-accepted a (sym e ∙ z)
-
--- The largest product of two bounded numbers.
-product-bounded : {n k d t : ℕ} → n ≤ d → k ≤ t → n * k ≤ d * t
-product-bounded {n} {k} {d} {t} h l = omega (arith, mul-le-mul-right k h, mul-le-mul-left d l)
 
 module _ (d t : ℕ) (x : TrialInput) (buffer : List ℕ) where
   abbrev first : Option Refusal
@@ -98,6 +94,9 @@ module _ (d t : ℕ) (x : TrialInput) (buffer : List ℕ) where
     pub table : TableInOrder 2 t (x .set-up .events) (Below (x .set-up .values)) (x .states) zero (x .table) (table-machine x)
     pub room : d * t ≤ length buffer
 
+  pub all-pairs : Sound → x .device-states * x .states ≤ d * t
+  all-pairs h = product-bounded (h .device .few-states) (h .table .few-states)
+
   pub sound : answer ≡ none → Sound
   unfolding trial-refusal
   sound z =
@@ -111,20 +110,20 @@ module _ (d t : ℕ) (x : TrialInput) (buffer : List ℕ) where
         room = leb-true (d * t) (length buffer) (plain-none _ 13 (c .1));
       }
 
-  -- It is what the search asks for.
-  module _ (few-d : d ≤ 256) (few-t : t ≤ 256) (h : Sound) where
-    pub ready : Ready (d * t) (x .set-up .events) (x .device-states) (x .states) (x .device) (x .table)
+  -- It is what the search asks for, with arrays of as many cells as there are pairs or more, and no more than the buffer has.
+  module _ (few-d : d ≤ 256) (few-t : t ≤ 256) (h : Sound) (size : ℕ) (pairs : x .device-states * x .states ≤ size) (room : size ≤ length buffer) where
+    ready : Ready size (x .set-up .events) (x .device-states) (x .states) (x .device) (x .table)
     ready =
         record {
           few-events = h .set-up .few-events;
           few-device-states = omega (arith, h .device .few-states);
           few-table-states = omega (arith, h .table .few-states);
-          few-pairs = product-bounded (h .device .few-states) (h .table .few-states);
+          few-pairs = pairs;
           device-nexts = h .device .nexts-in;
           table-nexts = h .table .nexts-in;
         }
 
-    pub tried : Tried (d * t) (x .set-up .events) (x .set-up .values) (x .states) (x .table) (x .device-start) (x .device) buffer
+    pub tried : Tried size (x .set-up .events) (x .set-up .values) (x .states) (x .table) (x .device-start) (x .device) buffer
     tried =
         record {
           few-values = h .set-up .few-values;
@@ -132,13 +131,13 @@ module _ (d t : ℕ) (x : TrialInput) (buffer : List ℕ) where
           ready = ready;
           start-in = h .device .start-in;
           some-states = h .table .some-states;
-          room = h .room;
+          room = room;
         }
 
     -- The search's answer is the trial's.
     pub trial-searched :
         answer ≡ none → (r : Verdict) (later : List ℕ) →
-        Answered (d * t) (x .set-up .events) (x .set-up .values) (x .set-up .meet) (x .states) (x .table) (x .device-start) (x .device) buffer r later →
+        Answered size (x .set-up .events) (x .set-up .values) (x .set-up .meet) (x .states) (x .table) (x .device-start) (x .device) buffer r later →
         (r ≡ trial-answer d t x buffer) × (later ≡ trial-buffer d t x buffer)
     unfolding tried first-failure trial-answer trial-buffer answer-unless buffer-unless
     trial-searched z r later f =

@@ -20,6 +20,10 @@ use Rattle.conformance.specs.declared.Failure.{Failure}
 use Rattle.conformance.specs.declared.Failure.the-variants.{Nowhere, At}
 use Rattle.conformance.specs.Trial.{outcome, shown}
 
+-- The cells of each array where there are few pairs of states.
+abbrev pub small-queue : ℕ
+small-queue = 256
+
 -- On an event in a pair of states the device's value is at or below the table's.
 unfoldable pub at-or-below-on : ℕ → ℕ → List ℕ → List ℕ → List ℕ → ℕ → ℕ → ℕ → Bool
 at-or-below-on events values meet device table s t e =
@@ -44,6 +48,7 @@ abbrev pub queue : List ℕ → List ℕ → List ℕ → List ℕ → List ℕ 
 queue device-queue table-queue parents last-events flags =
     record { device-queue = device-queue; table-queue = table-queue; parents = parents; last-events = last-events; flags = flags }
 
+-- Each array has `size` cells.
 pub record Sized (size : ℕ) (a : Queue) : Type 0 where
   pub device-queue-size : length (a .device-queue) ≡ size
   pub table-queue-size : length (a .table-queue) ≡ size
@@ -88,6 +93,16 @@ pushed a count place s t parent e = cond (is-new a place) (push a count place s 
 unfoldable pub pushed-count : Queue → ℕ → ℕ → ℕ
 pushed-count a count place = cond (is-new a place) (count + 1) count
 
+-- A pair can be put there: what is stored is small enough, and its flag and, where it is new, the end of the queue are in the arrays.
+pub record Pushable (size : ℕ) (a : Queue) (count place s t parent e : ℕ) : Type 0 where
+  pub sized : Sized size a
+  pub place-in : place < size
+  pub small-s : s < 256
+  pub small-t : t < 256
+  pub small-parent : parent < 65536
+  pub small-e : e < 256
+  pub room : is-new a place ≡ true → count < size
+
 -- What the search is given: the device and the table run over their states, which are few enough for the arrays.
 pub record Ready (size events n k : ℕ) (device table : List ℕ) : Type 0 where
   pub few-events : events ≤ 16
@@ -111,7 +126,7 @@ pub record Expandable (size events k : ℕ) (device table : List ℕ) (i count :
   pub held : Holds n k (machine-of events device) (machine-of events table) start words a
   pub counted : count ≡ length words
   pub taken : i < count
-  pub room : length (successors events device table start words i) ≤ size
+  pub room : length (successors events device table start words i) ≤ n * k
 
 -- Whatever words they hold, they hold them afterwards with those of pair i's successors.
 abbrev pub Expanded : ℕ → ℕ → ℕ → List ℕ → List ℕ → ℕ → ℕ → Queue → ℕ → Queue → Type 0
@@ -121,30 +136,32 @@ Expanded size events k device table i count a r b =
     × (r ≡ length (successors events device table (x .start) (x .words) i))
 
 -- Some list of words is linked by the arrays and has word i.
-pub record Reaches (size i : ℕ) (parents last-events : List ℕ) : Type 0 where
+pub record Reaches (i : ℕ) (parents last-events : List ℕ) : Type 0 where
   pub words : List (List ℕ)
   pub linked : Linked words parents last-events
-  pub few : length words ≤ size
+  pub parents-room : length words ≤ length parents
+  pub last-events-room : length words ≤ length last-events
   pub has : i < length words
 
 -- n is the length of word i.
-abbrev pub Deep : ℕ → ℕ → List ℕ → List ℕ → ℕ → Type 0
-Deep size i parents last-events n = (x : Reaches size i parents last-events) → n ≡ length (getD (x .words) i [])
+abbrev pub Deep : ℕ → List ℕ → List ℕ → ℕ → Type 0
+Deep i parents last-events n = (x : Reaches i parents last-events) → n ≡ length (getD (x .words) i [])
 
 -- Word i of n events, in order of play, is put over the front of the buffer.
-pub record Writable (size i n : ℕ) (parents last-events old : List ℕ) : Type 0 where
-  pub reaches : Reaches size i parents last-events
+pub record Writable (i n : ℕ) (parents last-events old : List ℕ) : Type 0 where
+  pub reaches : Reaches i parents last-events
   pub long : n ≡ length (getD (reaches .words) i [])
   pub room : n ≤ length old
 
-abbrev pub Written : ℕ → ℕ → ℕ → List ℕ → List ℕ → List ℕ → List ℕ → Type 0
-Written size i n parents last-events old later =
-    (x : Writable size i n parents last-events old) → later ≡ put (reverse (getD (x .reaches .words) i [])) old
+abbrev pub Written : ℕ → ℕ → List ℕ → List ℕ → List ℕ → List ℕ → Type 0
+Written i n parents last-events old later =
+    (x : Writable i n parents last-events old) → later ≡ put (reverse (getD (x .reaches .words) i [])) old
 
--- An array of zeros.
-pub record Zeros (size : ℕ) (l : List ℕ) : Type 0 where
-  pub long : length l ≡ size
-  pub zeros : (i : ℕ) → i < size → getD l i 0 ≡ 0
+-- Each array has `size` cells; those that are read before they are written, the first table state and the flags, are 0.
+pub record Empty (size : ℕ) (a : Queue) : Type 0 where
+  pub sized : Sized size a
+  pub first : getD (a .table-queue) 0 0 ≡ 0
+  pub flags : (i : ℕ) → i < size → getD (a .flags) i 0 ≡ 0
 
 -- The arrays hold the pair of the device's start and the table's state 0 alone.
 pub record Searchable (size events values k : ℕ) (device table : List ℕ) (a : Queue) : Type 0 where
@@ -158,7 +175,8 @@ pub record Searchable (size events values k : ℕ) (device table : List ℕ) (a 
 
 -- A failure at place i of the queue on event e: the word of place i, then e, is the first on which the device fails.
 pub record FailsAt (size events : ℕ) (first : Option (List ℕ)) (i e : ℕ) (parents last-events : List ℕ) : Type 0 where
-  pub reaches : Reaches size i parents last-events
+  pub reaches : Reaches i parents last-events
+  pub few : length (reaches .words) ≤ size
   pub event-in : e < events
   pub is-first : first ≡ some (reverse (e ∷ getD (reaches .words) i []))
 

@@ -3,12 +3,12 @@ use refusal::Judgement;
 use refusal::Refusal;
 use values::ValueKind;
 ghost use mathlib.Core.Path.{_≡_};
-ghost use mathlib.Core.Bool.{true};
 ghost use Prim.Native.Nat.{_≤_, _<_};
+ghost use lib.ListN.{length};
 ghost use Rattle.refusal.specs.Refusal.{judgement};
 ghost use Rattle.values.specs.Setup.{setup};
 ghost use Rattle.conformance.specs.Trial.{input, device-limit, table-limit, word-limit, trial-refusal, trial-answer, trial-buffer};
-ghost use Rattle.conformance.specs.PairQueue.{at-or-below-on, FirstBadEvent, queue, Sized, is-new, pushed, pushed-count, Expandable, Expanded, Reaches, Deep, Writable, Written, Zeros, Searchable, Searched, Tried, Answered};
+ghost use Rattle.conformance.specs.PairQueue.{small-queue, at-or-below-on, FirstBadEvent, queue, Sized, Pushable, pushed, pushed-count, Expandable, Expanded, Reaches, Deep, Writable, Written, Empty, Searchable, Searched, Tried, Answered};
 
 // Document 01's limits: a device's states, a rule's table's states, and their product, the events of a word.
 pub const DEVICE_LIMIT: usize = 64;
@@ -16,6 +16,9 @@ pub const DEVICE_LIMIT: usize = 64;
 pub const TABLE_LIMIT: usize = 64;
 
 pub const WORD_LIMIT: usize = 4096;
+
+// The cells of each of the search's arrays where there are few pairs of states.
+const SMALL_QUEUE: usize = 256;
 
 // The answer of a trial; a failed one has the word's length.
 pub enum Verdict {
@@ -92,15 +95,13 @@ fn push_pair(
     parent: usize,
     e: usize,
     count: usize,
-    device_queue: &mut [u8; WORD_LIMIT],
-    table_queue: &mut [u8; WORD_LIMIT],
-    parents: &mut [u16; WORD_LIMIT],
-    last_events: &mut [u8; WORD_LIMIT],
-    flags: &mut [u8; WORD_LIMIT],
+    device_queue: &mut [u8],
+    table_queue: &mut [u8],
+    parents: &mut [u16],
+    last_events: &mut [u8],
+    flags: &mut [u8],
 ) -> usize
-    requires { ⌜ Sized word-limit (queue (now «device_queue») (now «table_queue») (now parents) (now «last_events») (now flags))
-        × (place < word-limit) × (s < 256) × (t < 256) × (parent < word-limit) × (e < 256)
-        × (is-new (queue (now «device_queue») (now «table_queue») (now parents) (now «last_events») (now flags)) place ≡ true → count < word-limit) ⌝ }
+    requires { ⌜ Pushable (length (now flags)) (queue (now «device_queue») (now «table_queue») (now parents) (now «last_events») (now flags)) count place s t parent e ⌝ }
     ensures { λ r. ⌜ (r ≡ pushed-count (queue (now («device_queue» .entry)) (now («table_queue» .entry)) (now (parents .entry)) (now («last_events» .entry)) (now (flags .entry))) count place)
         × (queue (now («device_queue» .exit)) (now («table_queue» .exit)) (now (parents .exit)) (now («last_events» .exit)) (now (flags .exit))
         ≡ pushed (queue (now («device_queue» .entry)) (now («table_queue» .entry)) (now (parents .entry)) (now («last_events» .entry)) (now (flags .entry))) count place s t parent e) ⌝ }
@@ -124,16 +125,16 @@ fn push_successors(
     table: &[u8],
     i: usize,
     count: usize,
-    device_queue: &mut [u8; WORD_LIMIT],
-    table_queue: &mut [u8; WORD_LIMIT],
-    parents: &mut [u16; WORD_LIMIT],
-    last_events: &mut [u8; WORD_LIMIT],
-    flags: &mut [u8; WORD_LIMIT],
+    device_queue: &mut [u8],
+    table_queue: &mut [u8],
+    parents: &mut [u16],
+    last_events: &mut [u8],
+    flags: &mut [u8],
 ) -> usize
-    requires { ⌜ Sized word-limit (queue (now «device_queue») (now «table_queue») (now parents) (now «last_events») (now flags))
-        × Expandable word-limit events states (now device) (now table) i count (queue (now «device_queue») (now «table_queue») (now parents) (now «last_events») (now flags)) ⌝ }
-    ensures { λ r. ⌜ Sized word-limit (queue (now («device_queue» .exit)) (now («table_queue» .exit)) (now (parents .exit)) (now («last_events» .exit)) (now (flags .exit)))
-        × Expanded word-limit events states (now (device .entry)) (now (table .entry)) i count
+    requires { ⌜ Sized (length (now flags)) (queue (now «device_queue») (now «table_queue») (now parents) (now «last_events») (now flags))
+        × Expandable (length (now flags)) events states (now device) (now table) i count (queue (now «device_queue») (now «table_queue») (now parents) (now «last_events») (now flags)) ⌝ }
+    ensures { λ r. ⌜ Sized (length (now (flags .entry))) (queue (now («device_queue» .exit)) (now («table_queue» .exit)) (now (parents .exit)) (now («last_events» .exit)) (now (flags .exit)))
+        × Expanded (length (now (flags .entry))) events states (now (device .entry)) (now (table .entry)) i count
         (queue (now («device_queue» .entry)) (now («table_queue» .entry)) (now (parents .entry)) (now («last_events» .entry)) (now (flags .entry))) r (queue (now («device_queue» .exit)) (now («table_queue» .exit)) (now (parents .exit)) (now («last_events» .exit)) (now (flags .exit))) ⌝ }
 {
     let s = wide(device_queue[i]);
@@ -169,15 +170,15 @@ fn find_failure(
     states: usize,
     table: &[u8],
     device: &[u8],
-    device_queue: &mut [u8; WORD_LIMIT],
-    table_queue: &mut [u8; WORD_LIMIT],
-    parents: &mut [u16; WORD_LIMIT],
-    last_events: &mut [u8; WORD_LIMIT],
-    flags: &mut [u8; WORD_LIMIT],
+    device_queue: &mut [u8],
+    table_queue: &mut [u8],
+    parents: &mut [u16],
+    last_events: &mut [u8],
+    flags: &mut [u8],
 ) -> Failure
-    requires { ⌜ Sized word-limit (queue (now «device_queue») (now «table_queue») (now parents) (now «last_events») (now flags))
-        × Searchable word-limit events values states (now device) (now table) (queue (now «device_queue») (now «table_queue») (now parents) (now «last_events») (now flags)) ⌝ }
-    ensures { λ r. ⌜ Searched word-limit events values (now (meet .entry)) states (now (device .entry)) (now (table .entry))
+    requires { ⌜ Sized (length (now flags)) (queue (now «device_queue») (now «table_queue») (now parents) (now «last_events») (now flags))
+        × Searchable (length (now flags)) events values states (now device) (now table) (queue (now «device_queue») (now «table_queue») (now parents) (now «last_events») (now flags)) ⌝ }
+    ensures { λ r. ⌜ Searched (length (now (flags .entry))) events values (now (meet .entry)) states (now (device .entry)) (now (table .entry))
         (queue (now («device_queue» .entry)) (now («table_queue» .entry)) (now (parents .entry)) (now («last_events» .entry)) (now (flags .entry))) r (queue (now («device_queue» .exit)) (now («table_queue» .exit)) (now (parents .exit)) (now («last_events» .exit)) (now (flags .exit))) ⌝ }
 {
     let mut count: usize = 1;
@@ -208,9 +209,9 @@ fn find_failure(
 }
 
 // How many events lead to a place of the queue.
-fn depth(parents: &[u16; WORD_LIMIT], last_events: &[u8; WORD_LIMIT], i: usize) -> usize
-    requires { ⌜ Reaches word-limit i (now parents) (now «last_events») ⌝ }
-    ensures { λ r. ⌜ Deep word-limit i (now (parents .entry)) (now («last_events» .entry)) r ⌝ }
+fn depth(parents: &[u16], last_events: &[u8], i: usize) -> usize
+    requires { ⌜ Reaches i (now parents) (now «last_events») ⌝ }
+    ensures { λ r. ⌜ Deep i (now (parents .entry)) (now («last_events» .entry)) r ⌝ }
 {
     let mut n: usize = 0;
     let mut j = i;
@@ -222,15 +223,9 @@ fn depth(parents: &[u16; WORD_LIMIT], last_events: &[u8; WORD_LIMIT], i: usize) 
 }
 
 // Writes the events that lead to a place of the queue, in order of play, to the front of the buffer.
-fn write_path(
-    parents: &[u16; WORD_LIMIT],
-    last_events: &[u8; WORD_LIMIT],
-    i: usize,
-    n: usize,
-    word: &mut [u8],
-)
-    requires { ⌜ Writable word-limit i n (now parents) (now «last_events») (now word) ⌝ }
-    ensures { λ r. ⌜ Written word-limit i n (now (parents .entry)) (now («last_events» .entry)) (now (word .entry)) (now (word .exit)) ⌝ }
+fn write_path(parents: &[u16], last_events: &[u8], i: usize, n: usize, word: &mut [u8])
+    requires { ⌜ Writable i n (now parents) (now «last_events») (now word) ⌝ }
+    ensures { λ r. ⌜ Written i n (now (parents .entry)) (now («last_events» .entry)) (now (word .entry)) (now (word .exit)) ⌝ }
 {
     let mut j = i;
     let mut at = n;
@@ -241,22 +236,89 @@ fn write_path(
     }
 }
 
-// An empty array.
-fn zeros() -> [u8; WORD_LIMIT]
-    ensures { λ r. ⌜ Zeros word-limit r ⌝ }
-{
-    [0u8; WORD_LIMIT]
-}
-
-fn zeros16() -> [u16; WORD_LIMIT]
-    ensures { λ r. ⌜ Zeros word-limit r ⌝ }
-{
-    [0u16; WORD_LIMIT]
-}
-
-// Searches the pairs of states that events reach from the device's start and the table's state 0, and writes the first word on
-// which the device fails.
+// Searches the pairs of states that events reach from the device's start and the table's state 0, in arrays that are 0, and writes
+// the first word on which the device fails.
 fn search(
+    events: usize,
+    values: usize,
+    meet: &[u8],
+    states: usize,
+    table: &[u8],
+    device_start: usize,
+    device: &[u8],
+    word: &mut [u8],
+    device_queue: &mut [u8],
+    table_queue: &mut [u8],
+    parents: &mut [u16],
+    last_events: &mut [u8],
+    flags: &mut [u8],
+) -> Verdict
+    requires { ⌜ Tried (length (now flags)) events values states (now table) «device_start» (now device) (now word)
+        × Empty (length (now flags)) (queue (now «device_queue») (now «table_queue») (now parents) (now «last_events») (now flags)) ⌝ }
+    ensures { λ r. ⌜ Answered (length (now (flags .entry))) events values (now (meet .entry)) states (now (table .entry)) «device_start» (now (device .entry)) (now (word .entry)) r (now (word .exit)) ⌝ }
+{
+    device_queue[0] = device_start as u8;
+    flags[device_start * states] = 1;
+    let failure = find_failure(
+        events,
+        values,
+        meet,
+        states,
+        table,
+        device,
+        device_queue,
+        table_queue,
+        parents,
+        last_events,
+        flags,
+    );
+    let Failure::At(i, e) = failure else {
+        return Verdict::Pass;
+    };
+    let n = depth(parents, last_events, i);
+    word[n] = e as u8;
+    write_path(parents, last_events, i, n, word);
+    Verdict::Fail(n + 1)
+}
+
+// The search over few pairs.
+fn search_few(
+    events: usize,
+    values: usize,
+    meet: &[u8],
+    states: usize,
+    table: &[u8],
+    device_start: usize,
+    device: &[u8],
+    word: &mut [u8],
+) -> Verdict
+    requires { ⌜ Tried small-queue events values states (now table) «device_start» (now device) (now word) ⌝ }
+    ensures { λ r. ⌜ Answered small-queue events values (now (meet .entry)) states (now (table .entry)) «device_start» (now (device .entry)) (now (word .entry)) r (now (word .exit)) ⌝ }
+{
+    let mut device_queue = [0u8; SMALL_QUEUE];
+    let mut table_queue = [0u8; SMALL_QUEUE];
+    let mut parents = [0u16; SMALL_QUEUE];
+    let mut last_events = [0u8; SMALL_QUEUE];
+    let mut flags = [0u8; SMALL_QUEUE];
+    search(
+        events,
+        values,
+        meet,
+        states,
+        table,
+        device_start,
+        device,
+        word,
+        &mut device_queue,
+        &mut table_queue,
+        &mut parents,
+        &mut last_events,
+        &mut flags,
+    )
+}
+
+// The search over as many pairs as there may be.
+fn search_many(
     events: usize,
     values: usize,
     meet: &[u8],
@@ -269,33 +331,26 @@ fn search(
     requires { ⌜ Tried word-limit events values states (now table) «device_start» (now device) (now word) ⌝ }
     ensures { λ r. ⌜ Answered word-limit events values (now (meet .entry)) states (now (table .entry)) «device_start» (now (device .entry)) (now (word .entry)) r (now (word .exit)) ⌝ }
 {
-    let mut device_queue = zeros();
-    let mut table_queue = zeros();
-    let mut parents = zeros16();
-    let mut last_events = zeros();
-    let mut flags = zeros();
-    device_queue[0] = device_start as u8;
-    flags[device_start * states] = 1;
-    let failure = find_failure(
+    let mut device_queue = [0u8; WORD_LIMIT];
+    let mut table_queue = [0u8; WORD_LIMIT];
+    let mut parents = [0u16; WORD_LIMIT];
+    let mut last_events = [0u8; WORD_LIMIT];
+    let mut flags = [0u8; WORD_LIMIT];
+    search(
         events,
         values,
         meet,
         states,
         table,
+        device_start,
         device,
+        word,
         &mut device_queue,
         &mut table_queue,
         &mut parents,
         &mut last_events,
         &mut flags,
-    );
-    let Failure::At(i, e) = failure else {
-        return Verdict::Pass;
-    };
-    let n = depth(&parents, &last_events, i);
-    word[n] = e as u8;
-    write_path(&parents, &last_events, i, n, word);
-    Verdict::Fail(n + 1)
+    )
 }
 
 // The check of a trial's inputs: refusals 1 to 3, 11 for the device and the table, and 13.
@@ -373,7 +428,19 @@ pub fn trial(
     if let Judgement::Refused(refusal) = judged {
         return Verdict::Refused(refusal);
     }
-    search(
+    if device_states * states <= SMALL_QUEUE {
+        return search_few(
+            events,
+            values,
+            meet,
+            states,
+            table,
+            device_start,
+            device,
+            word,
+        );
+    }
+    search_many(
         events,
         values,
         meet,

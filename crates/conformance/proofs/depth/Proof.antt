@@ -5,7 +5,6 @@ use Prim.Native.Nat.{_+_, _<_}
 use native.Mathlib.Omega.{arith}
 use lib.ListN.{length, getD}
 use mathlib.Core.List.{[]}
-use Rattle.conformance.specs.Trial.{word-limit}
 use Rattle.conformance.specs.PairQueue.{Reaches}
 use Rattle.conformance.proofs.Words.{short-word, at-root, depth-less, depth-step}
 use borrow.Author.Needs.{needs}
@@ -13,7 +12,7 @@ use Rattle.conformance.proofs.depth.Statement.{statement}
 use Rattle.conformance.proofs.depth.Tie as tie
 
 abbrev Inv-loop : tie.InvT-loop
-Inv-loop parents last-events i n₀ j₀ n j = (x : Reaches word-limit i parents last-events) → (j < length (x .words)) × (n + length (getD (x .words) j []) ≡ length (getD (x .words) i []))
+Inv-loop parents last-events i n₀ j₀ n j = (x : Reaches i parents last-events) → (j < length (x .words)) × (n + length (getD (x .words) j []) ≡ length (getD (x .words) i []))
 
 abbrev μ-loop : tie.MeasureT-loop
 μ-loop parents last-events i n₀ j₀ n j = j
@@ -22,19 +21,19 @@ loop-holds : tie.Need-loop-holds Inv-loop μ-loop
 loop-holds c = λ x. (x .has, omega arith)
 
 mul-wide16 : tie.Need-mul-wide16 Inv-loop μ-loop
-mul-wide16 c = let r = c .before .before .pre in omega (arith, c .before .loop .inv r .0, r .few)
+mul-wide16 c = let r = c .before .before .before .before .pre in omega (arith, c .before .loop .inv r .0, r .parents-room)
 
-element-copy-out-wide16 : tie.Need-element-copy-out-wide16 Inv-loop μ-loop
-element-copy-out-wide16 c = let r = c .before .before .pre in omega (arith, c .before .loop .inv r .0, r .few)
+shared-slice-read-wide16 : tie.Need-shared-slice-read-wide16 Inv-loop μ-loop
+shared-slice-read-wide16 c = let r = c .before .before .before .before .before .pre in omega (arith, c .before .before .loop .inv r .0, r .parents-room)
 
 wide16-requires : tie.Need-wide16-requires Inv-loop μ-loop
 wide16-requires c κs = search needs
 
 add-n : tie.Need-add-n Inv-loop μ-loop
-add-n c = let r = c .before .before .before .before .pre in omega (arith, c .before .before .before .loop .inv r .1, short-word _ _ _ (r .linked) _ (r .has), r .few, r .has)
+add-n c = let r = c .before .before .before .before .before .before .pre in omega (arith, c .before .before .before .loop .inv r .1, short-word _ _ _ (r .linked) _ (r .has), r .parents-room, r .has)
 
 loop-less : tie.Need-loop-less Inv-loop μ-loop
-loop-less c = let r = c .before .before .before .before .pre in depth-less _ _ _ (r .linked) _ _ (c .before .before .before .loop .inv r .0) (c .wide16 .ensures) (c .before .before .loop-test .taken)
+loop-less c = let r = c .before .before .before .before .before .before .pre in depth-less _ _ _ (r .linked) _ _ (c .before .before .before .loop .inv r .0) (c .wide16 .ensures) (c .before .before .loop-test .taken)
 
 loop-again : tie.Need-loop-again Inv-loop μ-loop
 loop-again c = λ x. depth-step _ _ _ (x .linked) _ _ (c .before .before .before .loop .inv x .0) (c .wide16 .ensures) _ _ (c .before .before .loop-test .taken) (c .before .before .before .loop .inv x .1)
@@ -50,7 +49,7 @@ depth-spec =
     μ-loop
     loop-holds
     mul-wide16
-    element-copy-out-wide16
+    shared-slice-read-wide16
     wide16-requires
     add-n
     loop-less

@@ -2,8 +2,9 @@
 -- Assumes nothing.
 use native.Mathlib.Omega.{arith}
 use Rattle.values.specs.Setup.{setup}
-use Rattle.conformance.specs.Trial.{input, device-limit, table-limit}
-use Rattle.conformance.proofs.Trials.{trial-refused, trial-accepted, sound, tried, trial-searched}
+use Rattle.conformance.specs.Trial.{input, device-limit, table-limit, word-limit}
+use Rattle.conformance.specs.PairQueue.{small-queue}
+use Rattle.conformance.proofs.Trials.{trial-refused, trial-accepted, sound, all-pairs, tried, trial-searched}
 use borrow.Author.Needs.{needs}
 use Rattle.conformance.proofs.trial.Statement.{statement}
 use Rattle.conformance.proofs.trial.Tie as tie
@@ -23,18 +24,38 @@ returns c = trial-refused _ _ _ _ _ (c .before .before .before .check-trial .ens
 enum-told : tie.Need-enum-told
 enum-told c = search needs
 
-search-requires : tie.Need-search-requires
+mul-if1 : tie.Need-mul-if1
 unfolding input setup
-search-requires c κs = let z = trial-accepted _ _ _ _ _ (c .before .before .before .check-trial .ensures) (c .before .enum-told .given .1) in
-    tried device-limit table-limit _ _ (omega arith) (omega arith) (sound _ _ _ _ z)
+mul-if1 c = let z = trial-accepted _ _ _ _ _ (c .before .before .check-trial .ensures) (c .enum-told .given .1) in
+    omega (arith, all-pairs _ _ _ _ (sound device-limit table-limit _ _ z))
+
+search-few-requires : tie.Need-search-few-requires
+unfolding input setup
+search-few-requires c κs = let h = sound _ _ _ _ (trial-accepted _ _ _ _ _ (c .before .before .before .before .check-trial .ensures) (c .before .before .enum-told .given .1)) in
+    tried device-limit table-limit _ _ (omega arith) (omega arith) h small-queue (c .before .if1 .taken) (omega (arith, h .room))
 
 same-length-2 : tie.Need-same-length-2
 same-length-2 c = search needs
 
 returns-2 : tie.Need-returns-2
 unfolding input setup
-returns-2 c = let z = trial-accepted _ _ _ _ _ (c .before .before .before .before .before .before .check-trial .ensures) (c .before .before .before .before .enum-told .given .1) in
-    trial-searched device-limit table-limit _ _ (omega arith) (omega arith) (sound _ _ _ _ z) z _ _ (c .before .before .search .ensures)
+returns-2 c = let z = trial-accepted _ _ _ _ _ (c .before .before .before .before .before .before .before .check-trial .ensures) (c .before .before .before .before .before .enum-told .given .1) in
+    let h = sound _ _ _ _ z in
+    trial-searched device-limit table-limit _ _ (omega arith) (omega arith) h small-queue (c .before .before .before .before .if1 .taken) (omega (arith, h .room)) z _ _ (c .before .before .search-few .ensures)
+
+search-many-requires : tie.Need-search-many-requires
+unfolding input setup
+search-many-requires c κs = let h = sound _ _ _ _ (trial-accepted _ _ _ _ _ (c .before .before .before .before .check-trial .ensures) (c .before .before .enum-told .given .1)) in
+    tried device-limit table-limit _ _ (omega arith) (omega arith) h word-limit (all-pairs _ _ _ _ h) (h .room)
+
+same-length-3 : tie.Need-same-length-3
+same-length-3 c = search needs
+
+returns-3 : tie.Need-returns-3
+unfolding input setup
+returns-3 c = let z = trial-accepted _ _ _ _ _ (c .before .before .before .before .before .before .before .check-trial .ensures) (c .before .before .before .before .before .enum-told .given .1) in
+    let h = sound _ _ _ _ z in
+    trial-searched device-limit table-limit _ _ (omega arith) (omega arith) h word-limit (all-pairs _ _ _ _ h) (h .room) z _ _ (c .before .before .search-many .ensures)
 
 pub trial-spec : {M : Type 1} → statement M
 trial-spec =
@@ -45,6 +66,10 @@ trial-spec =
     same-length
     returns
     enum-told
-    search-requires
+    mul-if1
+    search-few-requires
     same-length-2
-    returns-2)
+    returns-2
+    search-many-requires
+    same-length-3
+    returns-3)

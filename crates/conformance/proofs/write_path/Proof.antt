@@ -6,7 +6,6 @@ use Prim.Native.Nat.{_≤_}
 use native.Mathlib.Omega.{arith}
 use lib.ListN.{length, getD, length-set}
 use Rattle.refusal.specs.LentBuffers.{put}
-use Rattle.conformance.specs.Trial.{word-limit}
 use Rattle.conformance.specs.PairQueue.{Writable}
 use Rattle.conformance.proofs.Words.{Rest, write-start, write-step, write-end}
 use borrow.Author.Needs.{needs}
@@ -15,7 +14,7 @@ use Rattle.conformance.proofs.write_path.Tie as tie
 
 abbrev Inv-loop : tie.InvT-loop
 Inv-loop parents last-events i n word₀ j₀ at₀ word j at = (length word ≡ length word₀) × (at ≤ n)
-    × ((x : Writable word-limit i n parents last-events word₀) → Rest (x .reaches .words) j at word (put (reverse (getD (x .reaches .words) i [])) word₀))
+    × ((x : Writable i n parents last-events word₀) → Rest (x .reaches .words) j at word (put (reverse (getD (x .reaches .words) i [])) word₀))
 
 abbrev μ-loop : tie.MeasureT-loop
 μ-loop parents last-events i n word₀ j₀ at₀ word j at = at
@@ -26,18 +25,18 @@ loop-holds c = (refl, search needs, λ x. write-start _ _ _ _ (x .reaches .has) 
 sub-at : tie.Need-sub-at Inv-loop μ-loop
 sub-at c = search needs
 
-element-copy-out-word : tie.Need-element-copy-out-word Inv-loop μ-loop
-element-copy-out-word c = let x = c .before .before .before .pre in omega (arith, c .before .loop .inv .2 x .has, x .reaches .few)
+shared-slice-read-word : tie.Need-shared-slice-read-word Inv-loop μ-loop
+shared-slice-read-word c = let x = c .before .before .before .before .before .before .pre in omega (arith, c .before .before .loop .inv .2 x .has, x .reaches .last-events-room)
 
 slice-write-word : tie.Need-slice-write-word Inv-loop μ-loop
 slice-write-word c =
-    let v = c .before .before .loop .inv in omega (arith, v .0, v .1, c .before .before .before .before .pre .room)
+    let v = c .before .before .loop .inv in omega (arith, v .0, v .1, c .before .before .before .before .before .before .pre .room)
 
 mul-wide16 : tie.Need-mul-wide16 Inv-loop μ-loop
-mul-wide16 c = let x = c .before .before .before .before .pre in omega (arith, c .before .before .loop .inv .2 x .has, x .reaches .few)
+mul-wide16 c = let x = c .before .before .before .before .before .before .pre in omega (arith, c .before .before .loop .inv .2 x .has, x .reaches .parents-room)
 
-element-copy-out-wide16 : tie.Need-element-copy-out-wide16 Inv-loop μ-loop
-element-copy-out-wide16 c = let x = c .before .before .before .before .pre in omega (arith, c .before .before .loop .inv .2 x .has, x .reaches .few)
+shared-slice-read-wide16 : tie.Need-shared-slice-read-wide16 Inv-loop μ-loop
+shared-slice-read-wide16 c = let x = c .before .before .before .before .before .before .before .pre in omega (arith, c .before .before .before .loop .inv .2 x .has, x .reaches .parents-room)
 
 wide16-requires : tie.Need-wide16-requires Inv-loop μ-loop
 wide16-requires c κs = search needs
@@ -66,10 +65,10 @@ write-path-spec =
     μ-loop
     loop-holds
     sub-at
-    element-copy-out-word
+    shared-slice-read-word
     slice-write-word
     mul-wide16
-    element-copy-out-wide16
+    shared-slice-read-wide16
     wide16-requires
     loop-less
     loop-again
