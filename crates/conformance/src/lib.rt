@@ -61,7 +61,8 @@ fn at_or_below_on(
 {
     let b = machines::value_at(device, s * events + e);
     let c = machines::value_at(table, t * events + e);
-    values::at_or_below(ValueKind::Numbered(values as u32), meet, b, c)
+    let count = values as u32;
+    values::at_or_below(ValueKind::Numbered(count), meet, b, c)
 }
 
 // The first event on which the device fails in a pair of states; the event count where there is none.

@@ -28,8 +28,8 @@ add-value-at-2 c = let a = c .before .before .before .before .args in omega (ari
 value-at-requires-2 : tie.Need-value-at-requires-2
 value-at-requires-2 c κs = search needs
 
-cast-t13 : tie.Need-cast-t13
-cast-t13 c = search needs
+cast-count : tie.Need-cast-count
+cast-count c = search needs
 
 at-or-below-requires : tie.Need-at-or-below-requires
 at-or-below-requires c κs = search needs
@@ -48,6 +48,6 @@ at-or-below-on-spec =
     mul-value-at-2
     add-value-at-2
     value-at-requires-2
-    cast-t13
+    cast-count
     at-or-below-requires
     returns)
