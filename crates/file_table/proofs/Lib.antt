@@ -1,0 +1,3 @@
+-- The answers of the functions, case by case; then the claims.
+pub mod Answers
+pub mod Claims

@@ -1,0 +1,59 @@
+-- `compile_file` meets its contract: where the small buffers are too short nothing has changed, and the large ones answer.
+-- Assumes nothing.
+use Rattle.file_table.proofs.Answers.{tried-answered, tried-again}
+use borrow.Author.Needs.{needs}
+use Rattle.file_table.proofs.compile_file.Statement.{statement}
+use Rattle.file_table.proofs.compile_file.Tie as tie
+
+slice-aggregate-compile-within : tie.Need-slice-aggregate-compile-within
+slice-aggregate-compile-within c = search needs
+
+slice-aggregate-compile-within-2 : tie.Need-slice-aggregate-compile-within-2
+slice-aggregate-compile-within-2 c = search needs
+
+compile-within-requires : tie.Need-compile-within-requires
+compile-within-requires c κs = search needs
+
+enum-known-attempt : tie.Need-enum-known-attempt
+enum-known-attempt c = search needs
+
+enum-told : tie.Need-enum-told
+enum-told c = search needs
+
+compile-long-requires : tie.Need-compile-long-requires
+compile-long-requires c κs = search needs
+
+same-length : tie.Need-same-length
+same-length c = search needs
+
+same-length-2 : tie.Need-same-length-2
+same-length-2 c = search needs
+
+returns : tie.Need-returns
+returns c = tried-answered (c .before .before .before .before .before .before .before .before .before .compile-within .ensures) (c .before .attempt .given .1)
+
+same-length-3 : tie.Need-same-length-3
+same-length-3 c = search needs
+
+same-length-4 : tie.Need-same-length-4
+same-length-4 c = search needs
+
+returns-2 : tie.Need-returns-2
+returns-2 c = tried-again (c .before .before .before .before .before .before .before .before .before .before .before .before .before .before .before .compile-within .ensures) (c .before .before .before .before .before .before .before .enum-told .given .1) (c .before .before .before .before .compile-long .ensures)
+
+pub compile-file-spec : {M : Type 1} → statement M
+compile-file-spec =
+    tie.close
+    (tie.spec
+    slice-aggregate-compile-within
+    slice-aggregate-compile-within-2
+    compile-within-requires
+    enum-known-attempt
+    enum-told
+    compile-long-requires
+    same-length
+    same-length-2
+    returns
+    same-length-3
+    same-length-4
+    returns-2)
