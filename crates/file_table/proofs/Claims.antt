@@ -35,8 +35,8 @@ use Rattle.synthesis.specs.Claims.{states-condition, buffer-condition, three-by
 use Rattle.synthesis.proofs.CompileClaims.{compile-rule-claim, compile-refusal-claim, compile-claim}
 use Rattle.channel_io.specs.FileJudgement.{rule-numbers, contents-conditions, pair-refusal, contents-refusal}
 use Rattle.channel_io.proofs.RefusalClaims.{pair-first, pair-functional, pair-numbers}
-use Rattle.file_table.specs.FileCompilation.{pair-table-refusal, has-room, pair-compile-refusal, file-states, file-table, table-refusal, file-refusal, text-refusal}
-use Rattle.file_table.specs.Claims.{table-conditions, short-condition, file-conditions, FileJudged, off-form, of-contents, TableRefusalClaim, FileTableClaim, FileTableMade, FileTableMadeClaim}
+use Rattle.file_table.specs.FileCompilation.{pair-table-refusal, has-room, pair-compile-refusal, file-states, file-table, contents-table-refusal, file-refusal, text-refusal}
+use Rattle.file_table.specs.Claims.{contents-table-conditions, short-condition, file-conditions, FileJudged, off-form, of-contents, ContentsTableClaim, FileTableClaim, FileTableMade, FileTableMadeClaim}
 use Rattle.file_table.proofs.Answers.{rows-length, compile-as, contents-as}
 
 -- what follows conditions that are not met
@@ -70,7 +70,7 @@ module _ (c : Contents) where
   abbrev thirteen : List ℕ → Condition
   thirteen to = buffer-condition (meetAt (c .values) (c .meet)) (c .top) (c .events) (c .values) rule to
 
-  module _ (ok : table-refusal c ≡ none) where
+  module _ (ok : contents-table-refusal c ≡ none) where
     well-formed : WellFormed s
     unfolding pair-table-refusal
     well-formed = setup-accepted s .0 (or-else-none (setup-refusal s) _ ok .0)
@@ -168,20 +168,20 @@ module _ (c : Contents) where
       ∙ ap (λ (o : Option Refusal). or-else o (plain-unless (leb (file-states c) 64) 10)) (a .1))
       (first-later (three-byte-conditions (c .events) (c .values) rule) (ten ∷ []) _ rule-none some-rule)
 
-  table-first : First (table-conditions c) (table-refusal c)
+  table-first : First (contents-table-conditions c) (contents-table-refusal c)
   unfolding pair-refusal pair-table-refusal rule-table-refusal value-count
   table-first =
-      subst (First (table-conditions c))
+      subst (First (contents-table-conditions c))
       (sym (or-else-assoc (setup-refusal s) (rule-refusal (c .events) (c .values) rule) (plain-unless (leb (file-states c) 64) 10)))
       (first-then (contents-conditions c) (ten ∷ []) (contents-refusal c) _ (pair-first (c .events) (c .values) (c .top) (c .meet) rule) ten-first)
 
-  table-functional : AllFunctional (table-conditions c)
+  table-functional : AllFunctional (contents-table-conditions c)
   unfolding AllFunctional
   table-functional =
       functional-append (contents-conditions c) (ten ∷ []) (pair-functional (c .events) (c .values) (c .top) (c .meet) rule)
       ((λ r q x y. x .2 .1 ∙ sym (y .2 .1)), tt)
 
-  table-numbers : HasNumbers (1 ∷ 2 ∷ 3 ∷ 5 ∷ 6 ∷ 7 ∷ 8 ∷ 9 ∷ 10 ∷ []) (table-conditions c)
+  table-numbers : HasNumbers (1 ∷ 2 ∷ 3 ∷ 5 ∷ 6 ∷ 7 ∷ 8 ∷ 9 ∷ 10 ∷ []) (contents-table-conditions c)
   unfolding HasNumbers has-place
   table-numbers =
       numbers-append (1 ∷ 2 ∷ 3 ∷ 5 ∷ 6 ∷ 7 ∷ 8 ∷ 9 ∷ []) (10 ∷ []) (contents-conditions c) (ten ∷ [])
@@ -195,13 +195,13 @@ module _ (c : Contents) where
 
     file-first : First (file-conditions c meet to) (file-refusal c meet to)
     unfolding pair-compile-refusal
-    file-first = first-then (table-conditions c) (short-condition c meet to ∷ []) (table-refusal c) _ table-first (λ ok. short-first ok meet to)
+    file-first = first-then (contents-table-conditions c) (short-condition c meet to ∷ []) (contents-table-refusal c) _ table-first (λ ok. short-first ok meet to)
 
     file-only : (answer : Option Refusal) → First (file-conditions c meet to) answer → answer ≡ file-refusal c meet to
     unfolding AllFunctional
     file-only answer x =
         first-unique (file-conditions c meet to)
-        (functional-append (table-conditions c) (short-condition c meet to ∷ []) table-functional
+        (functional-append (contents-table-conditions c) (short-condition c meet to ∷ []) table-functional
         ((λ r q m n. short-is r m ∙ sym (short-is q n)), tt))
         answer (file-refusal c meet to) x file-first
 
@@ -210,16 +210,16 @@ module _ (c : Contents) where
     file-order =
         record {
           numbered =
-              numbers-append (1 ∷ 2 ∷ 3 ∷ 5 ∷ 6 ∷ 7 ∷ 8 ∷ 9 ∷ 10 ∷ []) (13 ∷ []) (table-conditions c) (short-condition c meet to ∷ []) table-numbers
+              numbers-append (1 ∷ 2 ∷ 3 ∷ 5 ∷ 6 ∷ 7 ∷ 8 ∷ 9 ∷ 10 ∷ []) (13 ∷ []) (contents-table-conditions c) (short-condition c meet to ∷ []) table-numbers
               ((λ r m. plain-number 13 Unit refl r (tt, short-is r m)), tt);
           ordered = refl;
         }
 
-pub table-refusal-claim : TableRefusalClaim
-table-refusal-claim =
+pub contents-table-claim : ContentsTableClaim
+contents-table-claim =
     record {
       first = table-first;
-      only = λ c answer x. first-unique (table-conditions c) (table-functional c) answer (table-refusal c) x (table-first c);
+      only = λ c answer x. first-unique (contents-table-conditions c) (table-functional c) answer (contents-table-refusal c) x (table-first c);
     }
 
 pub file-table-made : FileTableMadeClaim

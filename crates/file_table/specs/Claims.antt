@@ -17,11 +17,11 @@ use Rattle.machines.specs.TableBytes.{machine-of}
 use Rattle.synthesis.specs.Claims.{states-condition, buffer-condition, RuleTable}
 use Rattle.synthesis.specs.Compilation.{state-limit}
 use Rattle.channel_io.specs.FileJudgement.{rule-numbers, contents-conditions}
-use Rattle.file_table.specs.FileCompilation.{file-states, file-table, table-refusal, text-refusal}
+use Rattle.file_table.specs.FileCompilation.{file-states, file-table, contents-table-refusal, text-refusal}
 
 -- The conditions on a file's contents where its table is made: 1 to 3, 5 to 9, then 10.
-abbrev pub table-conditions : Contents → List Condition
-table-conditions c =
+abbrev pub contents-table-conditions : Contents → List Condition
+contents-table-conditions c =
     contents-conditions c
     ++ (states-condition (meetAt (c .values) (c .meet)) (c .top) (c .events) (c .values) (rule-numbers c) state-limit ∷ [])
 
@@ -33,7 +33,7 @@ short-condition c meet to refusal =
 
 -- All conditions of the call on a text with these contents, in order.
 abbrev pub file-conditions : Contents → List ℕ → List ℕ → List Condition
-file-conditions c meet to = table-conditions c ++ (short-condition c meet to ∷ [])
+file-conditions c meet to = contents-table-conditions c ++ (short-condition c meet to ∷ [])
 
 -- The answer to a text: 4 with its place, or the first of the others that its contents meet.
 pub data FileJudged (t meet to : List ℕ) : Option Refusal → Type 0 where
@@ -43,9 +43,9 @@ pub data FileJudged (t meet to : List ℕ) : Option Refusal → Type 0 where
       FileJudged t meet to answer
 
 -- The computed answers are those that document 01 asks for, and the only ones; the conditions stand in its order.
-pub record TableRefusalClaim : Type 0 where
-  pub first : (c : Contents) → First (table-conditions c) (table-refusal c)
-  pub only : (c : Contents) (answer : Option Refusal) → First (table-conditions c) answer → answer ≡ table-refusal c
+pub record ContentsTableClaim : Type 0 where
+  pub first : (c : Contents) → First (contents-table-conditions c) (contents-table-refusal c)
+  pub only : (c : Contents) (answer : Option Refusal) → First (contents-table-conditions c) answer → answer ≡ contents-table-refusal c
 
 pub record FileTableClaim : Type 0 where
   pub judged : (t meet to : List ℕ) → FileJudged t meet to (text-refusal (read-file t) meet to)
@@ -65,4 +65,4 @@ pub record FileTableMade (c : Contents) : Type 0 where
       (machine-of (c .events) (file-table c))
 
 abbrev pub FileTableMadeClaim : Type 0
-FileTableMadeClaim = (c : Contents) → table-refusal c ≡ none → FileTableMade c
+FileTableMadeClaim = (c : Contents) → contents-table-refusal c ≡ none → FileTableMade c

@@ -38,20 +38,20 @@ module _ (events values top : ℕ) (meet rule : List ℕ) where
   abbrev pub pair-table : List ℕ
   pair-table = table-bytes two-bytes events (rule-table (Numbered values) events top meet rule state-limit) pair-states
 
-  -- 1 to 3, 5 to 10: "over 64 states, where the call makes a table".
+  -- 1 to 3, 5 to 9, and 10: "over 64 states, where the call makes a table".
   unfoldable pub pair-table-refusal : Option Refusal
   pair-table-refusal =
       or-else (setup-refusal (setup events values top meet)) (rule-table-refusal (Numbered values) events top meet rule state-limit)
 
-  -- Both buffers, one for the meet entries and one for the table, have room for their outputs.
+  -- Two buffers that held these, one for the meet entries and one for the table, have room for their outputs.
   unfoldable pub has-room : List ℕ → List ℕ → Bool
-  has-room entries to = leb (length meet) (length entries) && leb (length pair-table) (length to)
+  has-room old-meet old-table = leb (length meet) (length old-meet) && leb (length pair-table) (length old-table)
 
   -- 1 to 3, 5 to 10, then 13.
   unfoldable pub pair-compile-refusal : List ℕ → List ℕ → Option Refusal
-  pair-compile-refusal entries to = or-else pair-table-refusal (plain-unless (has-room entries to) 13)
+  pair-compile-refusal old-meet old-table = or-else pair-table-refusal (plain-unless (has-room old-meet old-table) 13)
 
--- ---- a file
+-- ---- the same of a file's contents
 abbrev pub file-states : Contents → ℕ
 file-states c = pair-states (c .events) (c .values) (c .top) (c .meet) (rule-numbers c)
 
@@ -59,8 +59,8 @@ abbrev pub file-table : Contents → List ℕ
 file-table c = pair-table (c .events) (c .values) (c .top) (c .meet) (rule-numbers c)
 
 -- 1 to 3, 5 to 10: whether there is a table.
-abbrev pub table-refusal : Contents → Option Refusal
-table-refusal c = pair-table-refusal (c .events) (c .values) (c .top) (c .meet) (rule-numbers c)
+abbrev pub contents-table-refusal : Contents → Option Refusal
+contents-table-refusal c = pair-table-refusal (c .events) (c .values) (c .top) (c .meet) (rule-numbers c)
 
 -- And 13, for buffers that held `meet` and `to`.
 abbrev pub file-refusal : Contents → List ℕ → List ℕ → Option Refusal

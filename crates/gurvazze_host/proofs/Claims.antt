@@ -1,46 +1,43 @@
 -- The claims on codes, on replay and on trial.
 -- Assumes nothing.
-use mathlib.Core.Path.{_≡_, refl, sym, _∙_, ap, subst}
-use mathlib.Core.Bool.{Bool, true, false}
+use mathlib.Core.Path.{_≡_, sym, _∙_, ap, subst}
 use mathlib.Core.Option.{Option, none, some}
-use mathlib.Core.List.{List, [], _∷_, _++_, append-nil}
-use Prim.Native.Nat.{ℕ, zero, suc, _+_, _*_, _/_, _%_, _≤_, _<_}
+use mathlib.Core.List.{List, [], _∷_}
+use Prim.Native.Nat.{ℕ, zero, suc, _/_, _%_, _<_}
 use native.Mathlib.Nat.{not-suc-le-zero, le-of-suc-le-suc}
 use native.Mathlib.Omega.{arith}
-use borrow.Author.Tests.{ltb-true, ltb-false, leb-true, leb-false, le-leb}
+use borrow.Author.Tests.{ltb-true, ltb-false, leb-true, leb-false}
 use lib.Dec.{leb, ltb}
-use lib.ListN.{length, getD, take, drop, replicate, length-replicate, drop-of-length-le}
+use lib.ListN.{length, getD, take}
 use Rattle.theory.specs.MealyMachine.{Word}
 use Rattle.theory.specs.ValueSetClaims.{every}
 use Rattle.theory.specs.ValueSets.{Below, meetAt}
 use Rattle.theory.specs.Semantics.{Answers}
-use Rattle.theory.specs.ReachableStates.{IsTableOf}
-use Rattle.theory.proofs.Claims.{grammar}
+use Rattle.theory.proofs.Claims.{grammar, table-values}
 use Rattle.theory.proofs.ValueSets.{every-at, every-some}
 use Rattle.refusal.specs.declared.Refusal.{Refusal}
 use Rattle.refusal.specs.declared.Refusal.the-variants.{Plain, At}
-use Rattle.refusal.specs.Refusal.{plain, number, or-else, plain-unless, First}
-use Rattle.refusal.proofs.Refusals.{or-else-none, plain-none, plain-first, first-append}
-use Rattle.refusal.specs.LentBuffers.{put, put-unless}
-use Rattle.values.specs.declared.ValueKind.the-variants.{Numbered}
+use Rattle.refusal.specs.Refusal.{First, plain, number, or-else, plain-unless}
+use Rattle.refusal.specs.RefusalClaims.{NoneMet}
+use Rattle.refusal.proofs.Refusals.{or-else-none, plain-none, plain-first, first-then, first-append, accepted-exactly}
 use Rattle.values.specs.ValueKind.{meetOf}
-use Rattle.values.specs.Setup.{setup, setup-refusal}
-use Rattle.channel_file.specs.ChannelFile.{Contents}
+use Rattle.values.specs.Setup.{setup, WellFormed, setup-refusal}
+use Rattle.values.proofs.Setups.{setup-accepted}
 use Rattle.text_format.specs.Format.{contents}
-use Rattle.machines.specs.TableBytes.{machine-of, table-bytes, two-bytes}
-use Rattle.machines.proofs.EntryBytes.{table-length}
-use Rattle.machines.proofs.TableRoundTrip.{two-bytes-length}
-use Rattle.synthesis.specs.Compilation.{rule-table-refusal, setup-states, setup-table, compile-refusal, compile-contents}
+use Rattle.channel_file.specs.ChannelFile.{Contents}
+use Rattle.machines.specs.TableBytes.{TableInOrder}
+use Rattle.machines.specs.TableRefusal.{table-refusal}
+use Rattle.machines.proofs.TableRefusals.{table-refusal-first}
+use Rattle.channel_io.specs.FileJudgement.{setup-of, rule-numbers}
 use Rattle.conformance.specs.Trial.{input, trial-refusal, trial-answer, first-failure, answer-unless}
 use Rattle.conformance.proofs.TrialClaims.{trial-satisfies}
-use Rattle.table_report.proofs.ReportClaims.{report-first}
-use Rattle.table_report.specs.Report.{blank as report-blank}
-use Rattle.channel_io.specs.FileJudgement.{setup-of, rule-numbers}
-use Rattle.synthesis.proofs.CompileClaims.{compile-claim}
-use Rattle.synthesis.proofs.LentTable.{contents-at}
+use Rattle.file_table.specs.FileCompilation.{pair-table-refusal, file-states, file-table, contents-table-refusal}
+use Rattle.file_table.specs.Claims.{contents-table-conditions}
+use Rattle.file_table.proofs.Answers.{rows-length}
+use Rattle.file_table.proofs.Claims.{contents-table-claim, file-table-made}
 use Rattle.gurvazze_host.specs.Codes.{refusal-code, yield-code, code}
-use Rattle.gurvazze_host.specs.FileCalls.{file-refusal, file-states, file-machine, blank, outputs, word-refusal, replay-refusal, file-trial, file-trial-refusal, file-trial-answer}
-use Rattle.gurvazze_host.specs.Claims.{CodeClaim, ReplayRefusalClaim, Replayed, ReplayClaim, Tried, FileTrialClaim}
+use Rattle.gurvazze_host.specs.FileCalls.{file-machine, word-refusal, replay-refusal, file-trial, file-trial-refusal, file-trial-answer}
+use Rattle.gurvazze_host.specs.Claims.{CodeClaim, ReplayRefusalClaim, ReplayClaim, FileTrialRefusalClaim, FileTrialClaim}
 use Rattle.gurvazze_host.proofs.Runs.{length-outputs, outputs-at}
 
 low-byte : (r : Refusal) → number r < 256 → refusal-code r % 256 ≡ number r
@@ -72,12 +69,12 @@ word-of events (e ∷ w) h (suc j) = (h 0 (omega arith), word-of events w (λ i 
 pub replay-claim : ReplayClaim
 unfolding replay-refusal word-refusal setup
 replay-claim c word old e =
-    let a = or-else-none (file-refusal c blank) _ e in
+    let a = or-else-none (contents-table-refusal c) _ e in
     let b = or-else-none (plain-unless (every (length word) (λ i. ltb (getD word i 0) (c .events))) 16) _ (a .1) .0 in
     let all = plain-none (every (length word) (λ i. ltb (getD word i 0) (c .events))) 16 b in
     let below : (i : ℕ) → i < length word → getD word i 0 < c .events =
     λ i l. ltb-true (getD word i 0) (c .events) (every-at (length word) (λ j. ltb (getD word j 0) (c .events)) all i l) in
-    let made = compile-claim .accepted 64 (setup-of c) (rule-numbers c) blank (a .0) .table in
+    let made = file-table-made c (a .0) .table in
     record {
       rule = made .formula;
       rule-is = made .code;
@@ -98,10 +95,10 @@ whole-word events [] h = tt
 whole-word events (e ∷ w) h = (h 0 (omega arith), whole-word events w (λ i l. h (suc i) (omega arith)))
 
 pub replay-refusal-claim : ReplayRefusalClaim
-unfolding replay-refusal word-refusal blank report-blank
+unfolding replay-refusal word-refusal
 replay-refusal-claim c word old =
     let test = every (length word) (λ i. ltb (getD word i 0) (c .events)) in
-    first-append _ _ _ _ (report-first (c .events) (c .values) (c .top) (c .meet) (rule-numbers c))
+    first-append _ _ _ _ (contents-table-claim .first c)
     (first-append (plain 16 (¬ Word (c .events) word) ∷ []) _ _ _
     (plain-first 16 (¬ Word (c .events) word) test
     (λ e h. let s = every-some (length word) (λ i. ltb (getD word i 0) (c .events)) e in omega (arith, word-at (c .events) word h (s .0) (s .1), ltb-false (getD word (s .0) 0) (c .events) (s .2)))
@@ -112,49 +109,63 @@ replay-refusal-claim c word old =
 
 -- ---- trial
 
-with-room : (a b q r : Option Refusal) → or-else a (or-else b q) ≡ none → r ≡ none → or-else a (or-else b r) ≡ none
+-- the table of a rule is within the limits of 11
+module _ (c : Contents) (ok : contents-table-refusal c ≡ none) where
+  well-formed : WellFormed (setup-of c)
+  unfolding pair-table-refusal
+  well-formed = setup-accepted (setup-of c) .0 (or-else-none (setup-refusal (setup-of c)) _ ok .0)
+
+  table-in-order : TableInOrder 2 64 (c .events) (Below (c .values)) (file-states c) 0 (file-table c) (file-machine c)
+  unfolding setup
+  table-in-order =
+      let made = file-table-made c ok in
+      let t = made .table in
+      let rows = t .is-table .3 in
+      let first = rows .numbering .complete [] tt in
+      let some-states : 0 < file-states c = omega (arith, first .1, rows .count) in
+      let runs =
+      table-values (Below (c .values)) (meetAt (c .values) (c .meet)) (c .top) (c .events) (well-formed .laws) (t .formula)
+      (grammar ℕ 256 (c .events) (Below (c .values)) (t .formula) (t .code .accepted)) _ _ (t .is-table) .1 in
+      record {
+        some-states = some-states;
+        few-states = made .few-states;
+        entry-count = rows-length (c .events) (c .values) (c .top) (c .meet) (rule-numbers c);
+        start-in = some-states;
+        values-in = λ l e hl he. runs .value-in l hl e he;
+        nexts-in = λ l e hl he. runs .next-in l hl e he;
+      }
+
+  table-accepted : table-refusal 64 (c .events) (c .values) (file-states c) 0 (file-table c) ≡ none
+  unfolding NoneMet
+  table-accepted =
+      accepted-exactly _ _ (table-refusal-first 64 (c .events) (c .values) (file-states c) 0 (file-table c)) .1
+      ((λ r m. m .0 table-in-order), tt)
+
+trial-behind : (a b d e : Option Refusal) → a ≡ none → d ≡ none → or-else b e ≡ or-else a (or-else b (or-else d e))
 unfolding or-else
-with-room none none q r e f = f
-with-room none (some x) q r e f = e
-with-room (some x) b q r e f = e
+trial-behind a none d e p q = sym (ap (λ (o : Option Refusal). or-else o (or-else d e)) p ∙ ap (λ (o : Option Refusal). or-else o e) q)
+trial-behind a (some r) d e p q = sym (ap (λ (o : Option Refusal). or-else o (some r)) p)
 
-module _ (c : Contents) (e : file-refusal c blank ≡ none) where
-  abbrev rows : List ℕ
-  rows = table-bytes two-bytes (c .events) (setup-table 64 (setup-of c) (rule-numbers c) []) (file-states c)
-
-  abbrev size : ℕ
-  size = file-states c * c .events * 2
-
-  -- a buffer that has just room for the table
-  abbrev room : List ℕ
-  room = replicate size 0
-
-  accepted-there : file-refusal c room ≡ none
-  unfolding compile-refusal setup plain-unless
-  accepted-there =
-      with-room (setup-refusal (setup-of c)) (rule-table-refusal (Numbered (c .values)) (c .events) (c .top) (c .meet) (rule-numbers c) 64) _ _ e
-      (ap (λ (b : Bool). plain-unless b 13) (le-leb size (length room) (omega (arith, length-replicate {A = ℕ} size 0))))
-
-  rows-length : length rows ≡ size
-  rows-length = table-length ℕ two-bytes 2 two-bytes-length (c .events) (setup-table 64 (setup-of c) (rule-numbers c) []) (file-states c)
-
-  contents-there : compile-contents 64 (setup-of c) (rule-numbers c) room ≡ rows
-  unfolding put-unless put setup
-  contents-there =
-      contents-at 64 (setup-of c) (rule-numbers c) room _ accepted-there
-      ∙ ap (λ (l : List ℕ). rows ++ l) (drop-of-length-le room {i = length rows} (omega (arith, rows-length, length-replicate {A = ℕ} size 0)))
-      ∙ append-nil rows
+pub file-trial-refusal-claim : FileTrialRefusalClaim
+unfolding file-trial-refusal trial-refusal input setup pair-table-refusal
+file-trial-refusal-claim c states start device old =
+    first-then (contents-table-conditions c) _ (contents-table-refusal c) _ (contents-table-claim .first c)
+    (λ ok.
+    subst (First _)
+    (trial-behind (setup-refusal (setup-of c)) (table-refusal 64 (c .events) (c .values) states start device)
+    (table-refusal 64 (c .events) (c .values) (file-states c) 0 (file-table c)) (plain-unless (leb 4096 (length old)) 13)
+    (or-else-none (setup-refusal (setup-of c)) _ ok .0) (table-accepted c ok))
+    (first-append _ _ _ _ (table-refusal-first 64 (c .events) (c .values) states start device)
+    (plain-first 13 (length old < 4096) (leb 4096 (length old)) (λ e. leb-false 4096 (length old) e)
+    (λ e h. let l = leb-true 4096 (length old) e in omega arith))))
 
 pub file-trial-claim : FileTrialClaim
 unfolding file-trial-refusal file-trial-answer trial-answer input setup meetOf
 file-trial-claim c states start device old e =
     let x = file-trial c states start device in
-    let a = or-else-none (file-refusal c blank) (trial-refusal 64 64 x old) e in
-    let made = compile-claim .accepted 64 (setup-of c) (rule-numbers c) (room c (a .0)) (accepted-there c (a .0)) .table in
-    let is-table =
-    subst (λ (l : List ℕ). IsTableOf (meetAt (c .values) (c .meet)) (c .top) (c .events) (made .formula) (file-states c) (machine-of (c .events) l))
-    (contents-there c (a .0)) (made .is-table) in
-    let t = trial-satisfies 64 64 x old (a .1) (made .formula) (grammar ℕ 256 (c .events) (Below (c .values)) (made .formula) (made .code .accepted)) is-table in
+    let a = or-else-none (contents-table-refusal c) (trial-refusal 64 64 x old) e in
+    let made = file-table-made c (a .0) .table in
+    let t = trial-satisfies 64 64 x old (a .1) (made .formula) (grammar ℕ 256 (c .events) (Below (c .values)) (made .formula) (made .code .accepted)) (made .is-table) in
     let q : file-trial-answer (contents c) states start device old ≡ trial-answer 64 64 x old =
     ap (λ (o : Option Refusal). answer-unless o (first-failure x)) (e ∙ sym (a .1)) in
     record {

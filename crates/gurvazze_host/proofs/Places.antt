@@ -1,7 +1,7 @@
 -- Every refusal of a file and of a compiled rule has a place that has room in a code, if it has one.
 -- Assumes nothing.
-use Prim.Native.Nat.{ℕ, zero, suc, _+_, _*_, _/_, _≤_, _<_}
-use mathlib.Core.Path.{_≡_, refl, sym, ap, _∙_, subst}
+use Prim.Native.Nat.{ℕ, zero, suc, _+_, _/_, _≤_, _<_}
+use mathlib.Core.Path.{_≡_, refl, subst}
 use mathlib.Core.List.{List}
 use mathlib.Core.Bool.{Bool, true, false, cond}
 use mathlib.Core.Option.{Option, none, some}
@@ -10,22 +10,22 @@ use lib.Dec.{ltb, leb}
 use lib.ListN.{length}
 use Rattle.theory.specs.Formula.{Formula, truth, variable, transition, output, conjunction, greatest, size}
 use Rattle.refusal.specs.declared.Refusal.{Refusal}
-use Rattle.refusal.specs.declared.Refusal.the-variants.{Plain, At}
 use Rattle.refusal.specs.Refusal.{or-else, plain-unless, at-found}
 use Rattle.values.specs.Setup.{Setup, events-test, values-test, meet-test, setup-refusal}
 use Rattle.formulas.specs.RuleConditions.{closed-to-variable}
 use Rattle.formulas.specs.RuleReading.{kind-of, awaited, end-fault, first-of, formula-read, lowest-variable, lowest-unbound, lowest-closed}
 use Rattle.formulas.specs.RuleRefusal.{count-fits, variables-refusal, structure-refusal, misfit-place, nodes-refusal, kind-at, first-at, second-at, rule-refusal}
-use Rattle.formulas.proofs.Search.{FoundFrom, lowest-found}
+use Rattle.formulas.proofs.Search.{lowest-found}
 use Rattle.formulas.proofs.Decoding.{CountFits, count-facts}
-use Rattle.text_format.specs.Format.{Outcome, contents, refused}
+use Rattle.text_format.specs.Format.{refused}
 use Rattle.text_format.specs.Place.{Refused, at, early}
-use Rattle.channel_file.specs.ChannelFile.{Form}
+use Rattle.channel_file.specs.ChannelFile.{Contents, Form}
 use Rattle.channel_file.specs.Reading.{file-limit, Refused4, over-long, off-form, AnswersFile, read-file}
 use Rattle.channel_file.proofs.Claims.{answer-claim}
-use Rattle.synthesis.specs.Compilation.{rule-states, rule-table-refusal, setup-states, compile-refusal}
-use Rattle.values.specs.declared.ValueKind.the-variants.{Numbered}
+use Rattle.synthesis.specs.Compilation.{rule-table-refusal}
+use Rattle.channel_io.specs.FileJudgement.{setup-of, rule-numbers}
 use Rattle.channel_io.proofs.Clamping.{read-size}
+use Rattle.file_table.specs.FileCompilation.{pair-table-refusal, has-room, pair-compile-refusal, file-states, contents-table-refusal, file-refusal}
 use Rattle.gurvazze_host.specs.Codes.{SmallPlace}
 
 abbrev pub SmallAnswer : Option Refusal → Type 0
@@ -109,13 +109,13 @@ setup-small s =
     or-small (plain-unless (events-test (s .events)) 1) _ (plain-small (events-test (s .events)) 1)
     (or-small (plain-unless (values-test (s .values) (s .top)) 2) _ (plain-small (values-test (s .values) (s .top)) 2) (plain-small (meet-test (s .values) (s .top) (s .meet)) 3))
 
-pub compile-small : (limit : ℕ) (s : Setup) (rule old : List ℕ) → SmallAnswer (compile-refusal limit s rule old)
-unfolding compile-refusal rule-table-refusal
-compile-small limit s rule old =
-    or-small (setup-refusal s) _ (setup-small s)
-    (or-small _ _
-    (or-small _ _ (rule-small _ _ rule) (plain-small (leb (rule-states (Numbered (s .values)) (s .events) (s .top) (s .meet) rule limit) limit) 10))
-    (plain-small (leb (setup-states limit s rule old * s .events * 2) (length old)) 13))
+pub file-small : (c : Contents) (meet to : List ℕ) → SmallAnswer (file-refusal c meet to)
+unfolding pair-compile-refusal pair-table-refusal rule-table-refusal
+file-small c meet to =
+    or-small (contents-table-refusal c) _
+    (or-small (setup-refusal (setup-of c)) _ (setup-small (setup-of c))
+    (or-small _ _ (rule-small _ _ (rule-numbers c)) (plain-small (leb (file-states c) 64) 10)))
+    (plain-small (has-room (c .events) (c .values) (c .top) (c .meet) (rule-numbers c) meet to) 13)
 
 -- 4
 form-small : (t : List ℕ) (p : ℕ) → length t ≤ file-limit → Refused Form t p → p ≤ file-limit

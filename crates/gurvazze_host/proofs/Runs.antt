@@ -2,7 +2,7 @@
 -- Assumes nothing.
 use mathlib.Core.Path.{_≡_, refl, sym, _∙_, ap, ap₂}
 use mathlib.Core.Bool.{Bool, _&&_}
-use mathlib.Core.List.{List, [], _∷_, _++_}
+use mathlib.Core.List.{List, [], _∷_}
 use Prim.Native.Nat.{ℕ, zero, suc, _+_, _*_, _≤_, _<_}
 use native.Mathlib.Nat.{not-suc-le-zero, le-of-suc-le-suc, mul-le-mul-right}
 use native.Mathlib.Numerals.{add-one}
@@ -82,6 +82,9 @@ module _ (events n : ℕ) (table w out : List ℕ) (g : Runnable events n table 
 
     pub place : q * events + e < 1024
     place = omega (arith, entry, few)
+
+    pub inside : (q * events + e) * 2 + 1 < length table
+    inside = omega (arith, entry, g .playable .whole)
 
     pub slot : i < length b
     slot = omega (arith, g .fits, l, same-size q b i h)

@@ -1,18 +1,15 @@
 -- Every answer has room in a code.
 -- Assumes nothing.
-use mathlib.Core.Path.{_≡_, refl, sym, _∙_, ap, subst}
-use mathlib.Core.Bool.{Bool, true, false}
+use mathlib.Core.Path.{_≡_, refl, _∙_, ap}
 use mathlib.Core.Option.{Option, none, some}
 use mathlib.Core.List.{List}
-use Prim.Native.Nat.{ℕ, _≤_, _<_}
+use Prim.Native.Nat.{ℕ, _≤_}
 use native.Mathlib.Omega.{arith}
 use borrow.Author.Tests.{leb-true}
 use lib.Dec.{leb}
 use lib.ListN.{length}
 use Rattle.theory.specs.Formula.{size}
 use Rattle.refusal.specs.declared.Refusal.{Refusal}
-use Rattle.refusal.specs.declared.Counted.{Counted}
-use Rattle.refusal.specs.declared.Counted.the-variants.{Count, Refused as Uncounted}
 use Rattle.refusal.specs.Refusal.{plain-unless, counted}
 use Rattle.refusal.proofs.Refusals.{or-else-none, plain-none}
 use Rattle.values.specs.Setup.{Setup, setup-refusal}

@@ -3,10 +3,10 @@
 use mathlib.Core.Path.{_≡_}
 use mathlib.Core.Logic.{_↔_}
 use mathlib.Core.List.{List, [], _∷_, _++_}
-use mathlib.Core.Option.{Option, none, some}
-use Prim.Native.Nat.{ℕ, zero, _/_, _%_, _≤_, _<_}
+use mathlib.Core.Option.{none, some}
+use Prim.Native.Nat.{ℕ, _/_, _%_, _<_}
 use lib.ListN.{length, getD, take}
-use Rattle.theory.specs.ValueSets.{meetAt}
+use Rattle.theory.specs.ValueSets.{Below, meetAt}
 use Rattle.theory.specs.Formula.{Formula}
 use Rattle.theory.specs.Semantics.{Answers}
 use Rattle.theory.specs.MealyMachine.{Word}
@@ -17,11 +17,12 @@ use Rattle.refusal.specs.Refusal.{Condition, number, plain, First}
 use Rattle.formulas.specs.Claims.{AcceptedFormula}
 use Rattle.text_format.specs.Format.{contents}
 use Rattle.channel_file.specs.ChannelFile.{Contents}
-use Rattle.machines.specs.TableBytes.{machine-of}
+use Rattle.machines.specs.TableBytes.{machine-of, table-condition}
 use Rattle.conformance.specs.declared.Verdict.the-variants.{Pass}
-use Rattle.table_report.specs.Claims.{report-conditions}
+use Rattle.conformance.specs.Trial.{device-limit, word-limit}
+use Rattle.file_table.specs.Claims.{contents-table-conditions}
 use Rattle.channel_io.specs.FileJudgement.{rule-numbers}
-use Rattle.gurvazze_host.specs.Codes.{refusal-code, code, table-numbers}
+use Rattle.gurvazze_host.specs.Codes.{code}
 use Rattle.gurvazze_host.specs.FileCalls.{file-machine, outputs, replay-refusal, file-trial-refusal, file-trial-answer}
 
 -- A code says all of an answer: the refusal's number, its place, and what the call yields.
@@ -35,7 +36,7 @@ pub record CodeClaim : Type 0 where
 -- then 13.
 abbrev pub replay-conditions : Contents → List ℕ → List ℕ → List Condition
 replay-conditions c word old =
-    report-conditions c ++ (plain 16 (¬ Word (c .events) word) ∷ plain 13 (length old < length word) ∷ [])
+    contents-table-conditions c ++ (plain 16 (¬ Word (c .events) word) ∷ plain 13 (length old < length word) ∷ [])
 
 abbrev pub ReplayRefusalClaim : Type 0
 ReplayRefusalClaim = (c : Contents) (word old : List ℕ) → First (replay-conditions c word old) (replay-refusal c word old)
@@ -51,6 +52,20 @@ pub record Replayed (c : Contents) (word : List ℕ) : Type 0 where
 
 abbrev pub ReplayClaim : Type 0
 ReplayClaim = (c : Contents) (word old : List ℕ) → replay-refusal c word old ≡ none → Replayed c word
+
+-- The conditions of a trial against a file's rule: those of the rule's table, 1 to 3 and 5 to 10; then 11 for the device; then 13.
+-- The rule's own table never meets 11.
+abbrev pub file-trial-conditions : Contents → ℕ → ℕ → List ℕ → List ℕ → List Condition
+file-trial-conditions c states start device old =
+    contents-table-conditions c
+    ++ (table-condition 2 device-limit (c .events) (Below (c .values)) states start device (machine-of (c .events) device)
+    ∷ plain 13 (length old < word-limit)
+    ∷ [])
+
+abbrev pub FileTrialRefusalClaim : Type 0
+FileTrialRefusalClaim =
+    (c : Contents) (states start : ℕ) (device old : List ℕ) →
+    First (file-trial-conditions c states start device old) (file-trial-refusal c states start device old)
 
 -- A trial against a file's rule passes exactly if the device's start satisfies the rule by the set definition.
 pub record Tried (c : Contents) (states start : ℕ) (device old : List ℕ) : Type 0 where

@@ -3,10 +3,10 @@
 -- Assumes nothing.
 use mathlib.Core.Path.{_≡_}
 use mathlib.Core.List.{List, [], _∷_}
-use mathlib.Core.Option.{Option, none, some}
-use Prim.Native.Nat.{ℕ, _+_, _*_, _≤_, _<_}
+use mathlib.Core.Option.{Option}
+use Prim.Native.Nat.{ℕ, _*_, _≤_, _<_}
 use lib.Dec.{ltb, leb}
-use lib.ListN.{length, getD, take, replicate}
+use lib.ListN.{length, getD}
 use Rattle.theory.specs.MealyMachine.{Machine}
 use Rattle.theory.specs.ValueSetClaims.{every}
 use Rattle.refusal.specs.declared.Refusal.{Refusal}
@@ -15,48 +15,34 @@ use Rattle.refusal.specs.Refusal.{or-else, plain-unless}
 use Rattle.refusal.specs.LentBuffers.{put-unless}
 use Rattle.text_format.specs.Format.{Outcome, contents, refused}
 use Rattle.channel_file.specs.ChannelFile.{Contents}
-use Rattle.channel_file.specs.Reading.{read-file}
-use Rattle.machines.specs.TableBytes.{machine-of, table-bytes, two-bytes}
-use Rattle.synthesis.specs.Compilation.{setup-states, setup-table, compile-refusal, compile-contents}
+use Rattle.machines.specs.TableBytes.{machine-of}
 use Rattle.conformance.specs.declared.Verdict.{Verdict}
 use Rattle.conformance.specs.declared.Verdict.the-variants.{Refused}
 use Rattle.conformance.specs.Trial.{TrialInput, input, device-limit, table-limit, trial-refusal, first-failure, answer-unless, buffer-unless}
-use Rattle.channel_io.specs.FileJudgement.{setup-of, rule-numbers}
-use Rattle.channel_io.specs.FileReading.{file-numbers}
-use Rattle.gurvazze_host.specs.declared.FileTable.{FileTable}
-use Rattle.gurvazze_host.specs.declared.FileTable.the-variants.{Made, Refused as Unmade}
+use Rattle.channel_io.specs.FileJudgement.{setup-of}
+use Rattle.file_table.specs.FileCompilation.{file-states, file-table, contents-table-refusal}
 use Rattle.gurvazze_host.specs.Codes.{refusal-code, code, table-numbers}
 
 -- ---- the table of a file's rule
 
--- 1 to 3, 5 to 10, 13, for a buffer that held `old`; the states; and the buffer afterwards.
-abbrev pub file-refusal : Contents → List ℕ → Option Refusal
-file-refusal c old = compile-refusal 64 (setup-of c) (rule-numbers c) old
-
-abbrev pub file-states : Contents → ℕ
-file-states c = setup-states 64 (setup-of c) (rule-numbers c) []
-
-abbrev pub file-contents : Contents → List ℕ → List ℕ
-file-contents c old = compile-contents 64 (setup-of c) (rule-numbers c) old
+-- 1 to 3, 5 to 10, then 13, for a buffer that held `old`.
+unfoldable pub table-call-refusal : Contents → List ℕ → Option Refusal
+table-call-refusal c old = or-else (contents-table-refusal c) (plain-unless (leb (length (file-table c)) (length old)) 13)
 
 -- Answer and buffer of the call for a text, by what the file reader says of it: 4, or as above.
 unfoldable pub table-code : Outcome Contents → List ℕ → ℕ
 table-code (refused p) old = refusal-code (At 4 p)
-table-code (contents c) old = code (file-refusal c old) (table-numbers (file-states c) (c .events) (c .values) (c .top))
+table-code (contents c) old = code (table-call-refusal c old) (table-numbers (file-states c) (c .events) (c .values) (c .top))
 
 unfoldable pub table-after : Outcome Contents → List ℕ → List ℕ
 table-after (refused p) old = old
-table-after (contents c) old = file-contents c old
+table-after (contents c) old = put-unless (table-call-refusal c old) (file-table c) old
 
 -- ---- events replayed by a file's rule
 
--- A buffer that has room for every table: 64 states, 16 events, two bytes an entry.
-unfoldable pub blank : List ℕ
-blank = replicate 2048 0
-
--- The table of the rule, in bytes.
+-- The table of the rule, as a machine.
 abbrev pub file-machine : Contents → Machine ℕ ℕ
-file-machine c = machine-of (c .events) (file-contents c blank)
+file-machine c = machine-of (c .events) (file-table c)
 
 -- The values of a sequence of events from a state: "An event returns the value and moves to the next state".
 abbrev pub outputs : Machine ℕ ℕ → ℕ → List ℕ → List ℕ
@@ -70,7 +56,7 @@ word-refusal events word old =
 
 -- The file's refusals 1 to 3 and 5 to 10, which say whether there is a rule to play events by; then 16 and 13.
 unfoldable pub replay-refusal : Contents → List ℕ → List ℕ → Option Refusal
-replay-refusal c word old = or-else (file-refusal c blank) (word-refusal (c .events) word old)
+replay-refusal c word old = or-else (contents-table-refusal c) (word-refusal (c .events) word old)
 
 -- Answer and buffer of the call: 4, or as above; a value for each event.
 unfoldable pub replay-code : Outcome Contents → List ℕ → List ℕ → ℕ
@@ -85,14 +71,12 @@ replay-after (contents c) word old = put-unless (replay-refusal c word old) (out
 
 -- The rule's table and the device, as a trial takes them.
 abbrev pub file-trial : Contents → ℕ → ℕ → List ℕ → TrialInput
-file-trial c states start device =
-    input (setup-of c) (file-states c) (table-bytes two-bytes (c .events) (setup-table 64 (setup-of c) (rule-numbers c) []) (file-states c))
-    states start device
+file-trial c states start device = input (setup-of c) (file-states c) (file-table c) states start device
 
 -- 1 to 3, 5 to 10, then 11 and 13.
 unfoldable pub file-trial-refusal : Contents → ℕ → ℕ → List ℕ → List ℕ → Option Refusal
 file-trial-refusal c states start device old =
-    or-else (file-refusal c blank) (trial-refusal device-limit table-limit (file-trial c states start device) old)
+    or-else (contents-table-refusal c) (trial-refusal device-limit table-limit (file-trial c states start device) old)
 
 -- Answer and word buffer of the call: 4, or as above.
 unfoldable pub file-trial-answer : Outcome Contents → ℕ → ℕ → List ℕ → List ℕ → Verdict
@@ -107,23 +91,12 @@ file-trial-buffer (contents c) states start device old =
 
 -- ---- what the private functions of src/ ask and say
 
--- The table of a text's rule was made in a buffer, with the meet entries in another, or not.
-pub data MakesTable (t old meet new : List ℕ) : FileTable → Type 0 where
-  off-form : (p : ℕ) → read-file t ≡ refused p → new ≡ old → MakesTable t old meet new (Unmade (At 4 p))
-  turned-away :
-      (c : Contents) (r : Refusal) → read-file t ≡ contents c → file-refusal c old ≡ some r → new ≡ old →
-      MakesTable t old meet new (Unmade r)
-  made :
-      (c : Contents) → read-file t ≡ contents c → file-refusal c old ≡ none → new ≡ file-contents c old →
-      length (c .meet) ≤ length meet → take (length (c .meet)) meet ≡ c .meet →
-      MakesTable t old meet new (Made (file-numbers c) (file-states c))
-
 -- A table in bytes of n states that events can be played by.
 pub record Playable (events n : ℕ) (table : List ℕ) : Type 0 where
   pub few-events : events ≤ 16
   pub few-states : n ≤ 64
   pub some-states : 0 < n
-  pub whole : length table ≡ 2048
+  pub whole : n * events * 2 ≤ length table
   pub nexts : (q e : ℕ) → q < n → e < events → machine-of events table .next q e < n
 
 -- And a sequence of its events, with room for its values.

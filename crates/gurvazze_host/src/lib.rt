@@ -1,16 +1,13 @@
 // The static library for programs in C and Rust. Each exported function is an entry of the crates below with its answer in one number
 // of 64 bits: the refusal's number in the low byte, 0 where there is none, and above it the refusal's place or what the call yields.
-use channel_io::FileNumbers;
-use channel_io::FileRead;
-use channel_io::read_file;
 use characteristic::write_rule;
 use conformance::Verdict;
 use conformance::trial;
+use file_table::FileTable;
+use file_table::compile_file;
 use refusal::Counted;
 use refusal::Refusal;
-use synthesis::compile;
 ghost use mathlib.Core.Path.{_≡_};
-ghost use Prim.Native.Nat.{_≤_};
 ghost use lib.Dec.{ltb};
 ghost use lib.ListN.{length, getD};
 ghost use Rattle.theory.specs.ValueSetClaims.{every};
@@ -21,13 +18,7 @@ ghost use Rattle.characteristic.specs.RuleOfTable.{write-answer, write-contents
 ghost use Rattle.conformance.specs.Trial.{input, device-limit, table-limit, trial-answer, trial-buffer};
 ghost use Rattle.channel_file.specs.Reading.{read-file};
 ghost use Rattle.gurvazze_host.specs.Codes.{refusal-code, yield-code, counted-code, verdict-code, table-numbers, SmallPlace, SmallCount, SmallVerdict, SmallNumbers};
-ghost use Rattle.gurvazze_host.specs.FileCalls.{table-code, table-after, outputs, replay-code, replay-after, file-trial-answer, file-trial-buffer, MakesTable, Playable, Runnable, Replays};
-
-// A file's numbers and the states of its rule's table, or the refusal.
-enum FileTable {
-    Made(FileNumbers, usize),
-    Refused(Refusal),
-}
+ghost use Rattle.gurvazze_host.specs.FileCalls.{table-code, table-after, outputs, replay-code, replay-after, file-trial-answer, file-trial-buffer, Playable, Runnable, Replays};
 
 fn wide(x: u8) -> usize
     ensures { λ r. ⌜ r ≡ x ⌝ }
@@ -73,34 +64,6 @@ fn table_code(states: usize, events: usize, values: usize, top: usize) -> u64
     ensures { λ r. ⌜ r ≡ yield-code (table-numbers states events values top) ⌝ }
 {
     (states + (events + (values + top * 256) * 256) * 65536) as u64 * 256
-}
-
-// Reads a channel file, its meet entries into one buffer, and makes its rule's table in the other.
-fn file_table(text: &[u8], meet: &mut [u8], to: &mut [u8]) -> FileTable
-    requires { ⌜ length (now meet) ≡ 256 ⌝ }
-    ensures { λ r. ⌜ MakesTable (now (text .entry)) (now (to .entry)) (now (meet .exit)) (now (to .exit)) r ⌝ }
-{
-    let mut rule = [0u8; 768];
-    let answer = read_file(text, meet, &mut rule);
-    match answer {
-        FileRead::Refused(refusal) => FileTable::Refused(refusal),
-        FileRead::Accepted(numbers) => {
-            let entries = numbers.entries;
-            let size = 3 * numbers.nodes;
-            let compiled = compile(
-                numbers.events,
-                numbers.values,
-                numbers.top,
-                &meet[..entries],
-                &rule[..size],
-                to,
-            );
-            match compiled {
-                Counted::Refused(refusal) => FileTable::Refused(refusal),
-                Counted::Count(states) => FileTable::Made(numbers, states),
-            }
-        }
-    }
 }
 
 // Whether all events of a sequence are below the event count. Bytes are compared, and no event ends the loop, so that many are
@@ -154,7 +117,7 @@ pub extern "C" fn gurvazze_table(text: &[u8], to: &mut [u8]) -> u64
     ensures contents { λ _. ⌜ now (to .exit) ≡ table-after (read-file (now (text .entry))) (now (to .entry)) ⌝ }
 {
     let mut meet = [0u8; 256];
-    let made = file_table(text, &mut meet, to);
+    let made = compile_file(text, &mut meet, to);
     match made {
         FileTable::Refused(refusal) => refusal_code(refusal),
         FileTable::Made(numbers, states) => {
@@ -171,12 +134,13 @@ pub extern "C" fn gurvazze_replay(text: &[u8], word: &[u8], to: &mut [u8]) -> u6
 {
     let mut meet = [0u8; 256];
     let mut table = [0u8; 2048];
-    let made = file_table(text, &mut meet, &mut table);
+    let made = compile_file(text, &mut meet, &mut table);
     match made {
         FileTable::Refused(refusal) => refusal_code(refusal),
         FileTable::Made(numbers, states) => {
             let events = numbers.events;
-            replay_word(&table, events, states, word, to)
+            let size = states * events * 2;
+            replay_word(&table[..size], events, states, word, to)
         }
     }
 }
@@ -195,7 +159,7 @@ pub extern "C" fn gurvazze_trial(
 {
     let mut meet = [0u8; 256];
     let mut table = [0u8; 2048];
-    let made = file_table(text, &mut meet, &mut table);
+    let made = compile_file(text, &mut meet, &mut table);
     match made {
         FileTable::Refused(refusal) => refusal_code(refusal),
         FileTable::Made(numbers, states) => {

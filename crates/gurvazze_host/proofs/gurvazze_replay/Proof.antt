@@ -1,58 +1,73 @@
 -- `gurvazze_replay` meets its contract: a refused file, or a replay by its rule's table.
 -- Assumes nothing.
-use mathlib.Core.Path.{refl, _∙_}
-use Rattle.gurvazze_host.specs.FileCalls.{blank}
-use Rattle.gurvazze_host.proofs.Calls.{stopped, replay-stopped, file-made, playable, replay-made}
+use Rattle.gurvazze_host.proofs.Calls.{unmade-small, replay-stopped, size-small, playable, replay-made}
+use Rattle.file_table.proofs.Callers.{unmade, made-of}
+use lib.Seq.{length-take-le}
+use lib.ListN.{length-replicate}
+use native.Mathlib.Omega.{arith}
+use Prim.Native.Nat.{ℕ}
+use mathlib.Core.Path.{sym, _∙_}
 use borrow.Author.Needs.{needs}
 use Rattle.gurvazze_host.proofs.gurvazze_replay.Statement.{statement}
 use Rattle.gurvazze_host.proofs.gurvazze_replay.Tie as tie
 
-slice-aggregate-file-table : tie.Need-slice-aggregate-file-table
-slice-aggregate-file-table c = search needs
+slice-aggregate-compile-file : tie.Need-slice-aggregate-compile-file
+slice-aggregate-compile-file c = search needs
 
-slice-aggregate-file-table-2 : tie.Need-slice-aggregate-file-table-2
-slice-aggregate-file-table-2 c = search needs
+slice-aggregate-compile-file-2 : tie.Need-slice-aggregate-compile-file-2
+slice-aggregate-compile-file-2 c = search needs
 
-file-table-requires : tie.Need-file-table-requires
-file-table-requires c κs = search needs
+compile-file-requires : tie.Need-compile-file-requires
+compile-file-requires c κs = search needs
 
 enum-known-made : tie.Need-enum-known-made
 enum-known-made c = search needs
 
 refusal-code-requires : tie.Need-refusal-code-requires
-refusal-code-requires c κs = stopped (c .before .before .before .before .before .before .before .before .before .before .before .args .text .now) _ _ _ _ _ (c .before .made .given .1) (c .before .before .before .before .before .file-table .ensures) .small
+refusal-code-requires c κs = unmade-small (unmade (c .before .before .before .before .before .compile-file .ensures) (c .before .made .given .1) .0)
 
 enum-known-made-2 : tie.Need-enum-known-made-2
 enum-known-made-2 c = search needs
 
+mul-size : tie.Need-mul-size
+mul-size c = omega (arith, size-small (made-of (c .before .before .before .before .before .compile-file .ensures) (c .before .made2 .given .1)))
+
+mul-size-2 : tie.Need-mul-size-2
+mul-size-2 c = omega (arith, size-small (made-of (c .before .before .before .before .before .compile-file .ensures) (c .before .made2 .given .1)))
+
+array-share-prefix-table : tie.Need-array-share-prefix-table
+array-share-prefix-table c = made-of (c .before .before .before .before .before .compile-file .ensures) (c .before .made2 .given .1) .table-in
+
 slice-aggregate-replay-word : tie.Need-slice-aggregate-replay-word
-slice-aggregate-replay-word c = search needs
+slice-aggregate-replay-word c = sym (length-take-le _ _ (made-of (c .before .before .before .before .before .before .compile-file .ensures) (c .before .before .made2 .given .1) .table-in))
 
 replay-word-requires : tie.Need-replay-word-requires
-unfolding blank
-replay-word-requires c κs = playable _ _ _ _ _ _ (file-made (c .before .before .before .before .before .before .before .before .before .before .before .before .before .args .text .now) _ _ _ _ _ _ (c .before .before .before .made2 .given .1) (c .before .before .before .before .before .before .before .file-table .ensures)) refl
+replay-word-requires c κs = playable (made-of (c .before .before .before .before .before .before .before .compile-file .ensures) (c .before .before .before .made2 .given .1))
 
 returns : tie.Need-returns
-unfolding blank
-returns c = let r = replay-stopped _ _ _ _ _ (stopped (c .before .before .before .before .before .before .before .before .before .before .before .before .args .text .now) _ _ _ _ _ (c .before .before .made .given .1) (c .before .before .before .before .before .before .file-table .ensures)) refl _ _ in (c .refusal-code .ensures ∙ r .0, r .1)
+returns c = let u = unmade (c .before .before .before .before .before .before .compile-file .ensures) (c .before .before .made .given .1) in
+    let r = replay-stopped (omega (arith, length-replicate {A = ℕ} 256 0)) (omega (arith, length-replicate {A = ℕ} 2048 0)) (u .0) _ _ in
+    (c .refusal-code .ensures ∙ r .0, r .1)
 
 same-length : tie.Need-same-length
 same-length c = search needs
 
 returns-2 : tie.Need-returns-2
-unfolding blank
-returns-2 c = replay-made _ _ _ _ _ _ (file-made (c .before .before .before .before .before .before .before .before .before .before .before .before .before .before .before .before .args .text .now) _ _ _ _ _ _ (c .before .before .before .before .before .before .made2 .given .1) (c .before .before .before .before .before .before .before .before .before .before .file-table .ensures)) refl _ _ _ _ (c .before .before .replay-word .ensures)
+returns-2 c = replay-made (made-of (c .before .before .before .before .before .before .before .before .before .before .compile-file .ensures) (c .before .before .before .before .before .before .made2 .given .1)) _ _ _ _ (c .before .before .replay-word .ensures)
 
 pub gurvazze-replay-spec : {M : Type 1} → statement M
 gurvazze-replay-spec =
     tie.close
     (tie.spec
-    slice-aggregate-file-table
-    slice-aggregate-file-table-2
-    file-table-requires
+    slice-aggregate-compile-file
+    slice-aggregate-compile-file-2
+    compile-file-requires
     enum-known-made
     refusal-code-requires
     enum-known-made-2
+    mul-size
+    mul-size-2
+    array-share-prefix-table
     slice-aggregate-replay-word
     replay-word-requires
     returns

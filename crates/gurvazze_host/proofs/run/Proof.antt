@@ -3,7 +3,7 @@
 use lib.ListN.{length}
 use Prim.Native.Nat.{_-_}
 use native.Mathlib.Omega.{arith}
-use Rattle.gurvazze_host.proofs.Runs.{Ran, begins, same-size, ends, place, slot, again}
+use Rattle.gurvazze_host.proofs.Runs.{Ran, begins, same-size, ends, place, inside, slot, again}
 use borrow.Author.Needs.{needs}
 use Rattle.gurvazze_host.proofs.run.Statement.{statement}
 use Rattle.gurvazze_host.proofs.run.Tie as tie
@@ -33,7 +33,7 @@ mul-at-2 : tie.Need-mul-at-2 Inv-loop μ-loop
 mul-at-2 c = rw (c .wide .ensures) (omega (arith, place (c .before .before .before .before .before .before .before .args .events) (c .before .before .before .before .before .before .before .args .states) (c .before .before .before .before .before .before .before .args .table .now) (c .before .before .before .before .before .before .before .args .word .now) (c .before .before .before .before .before .before .before .args .to .now) (c .before .before .before .before .before .before .before .pre) (c .before .before .before .loop .state) (c .before .before .before .loop .to) (c .before .before .before .loop .i) (c .before .before .before .loop .inv) (c .before .before .loop-test .taken)))
 
 shared-slice-read-to : tie.Need-shared-slice-read-to Inv-loop μ-loop
-shared-slice-read-to c = rw (c .before .wide .ensures) (omega (arith, place (c .before .before .before .before .before .before .before .before .args .events) (c .before .before .before .before .before .before .before .before .args .states) (c .before .before .before .before .before .before .before .before .args .table .now) (c .before .before .before .before .before .before .before .before .args .word .now) (c .before .before .before .before .before .before .before .before .args .to .now) (c .before .before .before .before .before .before .before .before .pre) (c .before .before .before .before .loop .state) (c .before .before .before .before .loop .to) (c .before .before .before .before .loop .i) (c .before .before .before .before .loop .inv) (c .before .before .before .loop-test .taken), c .before .before .before .before .before .before .before .before .pre .playable .whole))
+shared-slice-read-to c = rw (c .before .wide .ensures) (omega (arith, inside (c .before .before .before .before .before .before .before .before .args .events) (c .before .before .before .before .before .before .before .before .args .states) (c .before .before .before .before .before .before .before .before .args .table .now) (c .before .before .before .before .before .before .before .before .args .word .now) (c .before .before .before .before .before .before .before .before .args .to .now) (c .before .before .before .before .before .before .before .before .pre) (c .before .before .before .before .loop .state) (c .before .before .before .before .loop .to) (c .before .before .before .before .loop .i) (c .before .before .before .before .loop .inv) (c .before .before .before .loop-test .taken)))
 
 slice-write-to : tie.Need-slice-write-to Inv-loop μ-loop
 slice-write-to c = slot (c .before .before .before .before .before .before .before .before .args .events) (c .before .before .before .before .before .before .before .before .args .states) (c .before .before .before .before .before .before .before .before .args .table .now) (c .before .before .before .before .before .before .before .before .args .word .now) (c .before .before .before .before .before .before .before .before .args .to .now) (c .before .before .before .before .before .before .before .before .pre) (c .before .before .before .before .loop .state) (c .before .before .before .before .loop .to) (c .before .before .before .before .loop .i) (c .before .before .before .before .loop .inv) (c .before .before .before .loop-test .taken)
@@ -42,7 +42,7 @@ add-wide : tie.Need-add-wide Inv-loop μ-loop
 add-wide c = rw (c .before .wide .ensures) (omega (arith, place (c .before .before .before .before .before .before .before .before .args .events) (c .before .before .before .before .before .before .before .before .args .states) (c .before .before .before .before .before .before .before .before .args .table .now) (c .before .before .before .before .before .before .before .before .args .word .now) (c .before .before .before .before .before .before .before .before .args .to .now) (c .before .before .before .before .before .before .before .before .pre) (c .before .before .before .before .loop .state) (c .before .before .before .before .loop .to) (c .before .before .before .before .loop .i) (c .before .before .before .before .loop .inv) (c .before .before .before .loop-test .taken)))
 
 shared-slice-read-wide-2 : tie.Need-shared-slice-read-wide-2 Inv-loop μ-loop
-shared-slice-read-wide-2 c = rw (c .before .before .wide .ensures) (omega (arith, place (c .before .before .before .before .before .before .before .before .before .args .events) (c .before .before .before .before .before .before .before .before .before .args .states) (c .before .before .before .before .before .before .before .before .before .args .table .now) (c .before .before .before .before .before .before .before .before .before .args .word .now) (c .before .before .before .before .before .before .before .before .before .args .to .now) (c .before .before .before .before .before .before .before .before .before .pre) (c .before .before .before .before .before .loop .state) (c .before .before .before .before .before .loop .to) (c .before .before .before .before .before .loop .i) (c .before .before .before .before .before .loop .inv) (c .before .before .before .before .loop-test .taken), c .before .before .before .before .before .before .before .before .before .pre .playable .whole))
+shared-slice-read-wide-2 c = rw (c .before .before .wide .ensures) (omega (arith, inside (c .before .before .before .before .before .before .before .before .before .args .events) (c .before .before .before .before .before .before .before .before .before .args .states) (c .before .before .before .before .before .before .before .before .before .args .table .now) (c .before .before .before .before .before .before .before .before .before .args .word .now) (c .before .before .before .before .before .before .before .before .before .args .to .now) (c .before .before .before .before .before .before .before .before .before .pre) (c .before .before .before .before .before .loop .state) (c .before .before .before .before .before .loop .to) (c .before .before .before .before .before .loop .i) (c .before .before .before .before .before .loop .inv) (c .before .before .before .before .loop-test .taken)))
 
 wide-requires-2 : tie.Need-wide-requires-2 Inv-loop μ-loop
 wide-requires-2 c κs = search needs

@@ -3,7 +3,6 @@
 use native.Mathlib.Omega.{arith}
 use mathlib.Core.Path.{refl}
 use Rattle.gurvazze_host.specs.Codes.{yield-code, table-numbers}
-use borrow.Author.Needs.{needs}
 use Rattle.gurvazze_host.proofs.table_code.Statement.{statement}
 use Rattle.gurvazze_host.proofs.table_code.Tie as tie
 

@@ -1,0 +1,137 @@
+-- What a caller of `compile_file` knows whose meet buffer has room for the entries of every set-up.
+-- Assumes nothing.
+use Prim.Native.Nat.{ℕ, _*_, _≤_}
+use mathlib.Core.Path.{_≡_, refl, sym, ap, ap₂, _∙_, subst}
+use mathlib.Core.List.{List}
+use mathlib.Core.Bool.{Bool, true, _&&_}
+use mathlib.Core.Option.{Option, none, some}
+use native.Mathlib.Omega.{arith}
+use lib.Dec.{leb}
+use lib.ListN.{length, take, drop, length-append}
+use lib.Seq.{take-at}
+use borrow.Author.Tests.{le-leb}
+use Rattle.refusal.specs.declared.Refusal.{Refusal}
+use Rattle.refusal.specs.declared.Refusal.the-variants.{At}
+use Rattle.refusal.specs.Refusal.{or-else, plain-unless}
+use Rattle.refusal.specs.LentBuffers.{put, put-unless}
+use Rattle.refusal.proofs.Refusals.{or-else-none}
+use Rattle.text_format.specs.Format.{Outcome, contents, refused}
+use Rattle.channel_file.specs.ChannelFile.{Contents}
+use Rattle.channel_file.specs.Reading.{read-file}
+use Rattle.channel_io.specs.declared.FileNumbers.{FileNumbers}
+use Rattle.channel_io.specs.FileJudgement.{rule-numbers}
+use Rattle.channel_io.specs.FileReading.{numbers, file-numbers}
+use Rattle.file_table.specs.declared.FileTable.{FileTable}
+use Rattle.file_table.specs.declared.FileTable.the-variants.{Made, Refused}
+use Rattle.file_table.specs.FileCompilation.{has-room, pair-compile-refusal, file-states, file-table, contents-table-refusal, file-refusal, made-or, compile-answer, meet-after, table-after, CompilesFile}
+use Rattle.file_table.proofs.Answers.{rows-length}
+use Rattle.file_table.proofs.Claims.{file-table-made}
+
+module _ (c : Contents) (meet to : List ℕ) (wide : 256 ≤ length meet) where
+  abbrev later : Bool → Option Refusal
+  later b = plain-unless (b && leb (length (file-table c)) (length to)) 13
+
+  -- 13 is decided by the table's buffer
+  pub meet-fits : file-refusal c meet to ≡ or-else (contents-table-refusal c) (plain-unless (leb (length (file-table c)) (length to)) 13)
+  unfolding pair-compile-refusal has-room or-else
+  meet-fits = go (contents-table-refusal c) refl
+    where
+      go : (o : Option Refusal) → contents-table-refusal c ≡ o
+          → or-else (contents-table-refusal c) (later (leb (length (c .meet)) (length meet))) ≡ or-else (contents-table-refusal c) (later true)
+      go none e =
+          ap (λ (b : Bool). or-else (contents-table-refusal c) (later b))
+          (le-leb (length (c .meet)) (length meet) (let k = file-table-made c e .few-entries in omega arith))
+      go (some r) e =
+          ap (λ (o : Option Refusal). or-else o (later (leb (length (c .meet)) (length meet)))) e
+          ∙ sym (ap (λ (o : Option Refusal). or-else o (later true)) e)
+
+  -- and is never met where that has room for every table
+  pub table-fits : 2048 ≤ length to → file-refusal c meet to ≡ contents-table-refusal c
+  unfolding or-else plain-unless
+  table-fits h = meet-fits ∙ go (contents-table-refusal c) refl
+    where
+      go : (o : Option Refusal) → contents-table-refusal c ≡ o
+          → or-else (contents-table-refusal c) (plain-unless (leb (length (file-table c)) (length to)) 13) ≡ contents-table-refusal c
+      go none e =
+          ap (λ (o : Option Refusal). or-else o (plain-unless (leb (length (file-table c)) (length to)) 13)) e
+          ∙ ap (λ (b : Bool). plain-unless b 13)
+          (le-leb (length (file-table c)) (length to) (let k = file-table-made c e .few-bytes in omega arith))
+          ∙ sym e
+      go (some r) e = ap (λ (o : Option Refusal). or-else o (plain-unless (leb (length (file-table c)) (length to)) 13)) e ∙ sym e
+
+made-none : (o : Option Refusal) (n m : FileNumbers) (j k : ℕ) → Made n j ≡ made-or o m k → (o ≡ none) × (n ≡ m) × (j ≡ k)
+unfolding made-or
+made-none none n m j k e = (refl, cc, cc)
+made-none (some q) n m j k e = let z : _≡_ {A = ℕ} 0 1 = cc in absurd (omega arith)
+
+made-some : (o : Option Refusal) (r : Refusal) (m : FileNumbers) (k : ℕ) → Refused r ≡ made-or o m k → o ≡ some r
+unfolding made-or
+made-some none r m k e = let z : _≡_ {A = ℕ} 0 1 = cc in absurd (omega arith)
+made-some (some q) r m k e = let z : q ≡ r = cc in ap some z
+
+-- The table was not made: 4, or what the file's contents meet.
+pub data Unmade (t meet to : List ℕ) : Refusal → Type 0 where
+  off-form : (p : ℕ) → read-file t ≡ refused p → Unmade t meet to (At 4 p)
+  turned-away : (c : Contents) (r : Refusal) → read-file t ≡ contents c → file-refusal c meet to ≡ some r → Unmade t meet to r
+
+-- It was made: what stands in the buffers.
+pub record MadeOf (t meet to meet′ to′ : List ℕ) (n : FileNumbers) (k : ℕ) : Type 0 where
+  pub inside : Contents
+  pub reads : read-file t ≡ contents inside
+  pub accepted : file-refusal inside meet to ≡ none
+  pub passed : contents-table-refusal inside ≡ none
+  pub numbers-are : n ≡ file-numbers inside
+  pub states-are : k ≡ file-states inside
+  pub table-put : to′ ≡ put (file-table inside) to
+  pub entries-in : n .entries ≤ length meet′
+  pub entries-taken : take (n .entries) meet′ ≡ inside .meet
+  pub table-in : k * n .events * 2 ≤ length to′
+  pub table-taken : take (k * n .events * 2) to′ ≡ file-table inside
+
+-- an output at the front of a buffer
+front-in : (output old new : List ℕ) (n : ℕ) → n ≡ length output → new ≡ put output old → n ≤ length new
+unfolding put
+front-in output old new n e h = omega (arith, ap length h, length-append output (drop (length output) old))
+
+front-taken : (output old new : List ℕ) (n : ℕ) → n ≡ length output → new ≡ put output old → take n new ≡ output
+unfolding put
+front-taken output old new n e h = ap (take n) h ∙ take-at output (drop (length output) old) n (sym e)
+
+module _ {t meet to meet′ to′ : List ℕ} {x : FileTable} (k : CompilesFile t meet to meet′ to′ x) where
+  pub unmade : {r : Refusal} → x ≡ Refused r → Unmade t meet to r × (to′ ≡ to)
+  unfolding compile-answer table-after put-unless
+  unmade {r} is = go (read-file t) refl (sym is ∙ k .answer) (k .table-is)
+    where
+      go : (x : Outcome Contents) → read-file t ≡ x → Refused r ≡ compile-answer x meet to → to′ ≡ table-after x meet to → Unmade t meet to r × (to′ ≡ to)
+      go (refused p) e f g = let z : At 4 p ≡ r = cc in (subst (Unmade t meet to) z (off-form p e), g)
+      go (contents c) e f g =
+          let a = made-some (file-refusal c meet to) r (file-numbers c) (file-states c) f in
+          (turned-away c r e a, g ∙ ap (λ (o : Option Refusal). put-unless o (file-table c) to) a)
+
+  pub made-of : {n : FileNumbers} {j : ℕ} → x ≡ Made n j → MadeOf t meet to meet′ to′ n j
+  unfolding compile-answer meet-after table-after put-unless pair-compile-refusal numbers
+  made-of {n} {j} is = go (read-file t) refl (sym is ∙ k .answer) (k .meet-is) (k .table-is)
+    where
+      go : (x : Outcome Contents) → read-file t ≡ x → Made n j ≡ compile-answer x meet to → meet′ ≡ meet-after x meet to → to′ ≡ table-after x meet to
+          → MadeOf t meet to meet′ to′ n j
+      go (refused p) e f g h = let z : _≡_ {A = ℕ} 0 1 = cc in absurd (omega arith)
+      go (contents c) e f g h =
+          let a = made-none (file-refusal c meet to) n (file-numbers c) j (file-states c) f in
+          let m : meet′ ≡ put (c .meet) meet = g ∙ ap (λ (o : Option Refusal). put-unless o (c .meet) meet) (a .0) in
+          let b : to′ ≡ put (file-table c) to = h ∙ ap (λ (o : Option Refusal). put-unless o (file-table c) to) (a .0) in
+          let en : n .entries ≡ length (c .meet) = ap (λ (z : FileNumbers). z .entries) (a .1) in
+          let size : j * n .events * 2 ≡ length (file-table c) =
+          ap₂ (λ (i : ℕ) (z : FileNumbers). i * z .events * 2) (a .2) (a .1) ∙ sym (rows-length (c .events) (c .values) (c .top) (c .meet) (rule-numbers c)) in
+          record {
+            inside = c;
+            reads = e;
+            accepted = a .0;
+            passed = or-else-none (contents-table-refusal c) _ (a .0) .0;
+            numbers-are = a .1;
+            states-are = a .2;
+            table-put = b;
+            entries-in = front-in (c .meet) meet meet′ (n .entries) en m;
+            entries-taken = front-taken (c .meet) meet meet′ (n .entries) en m;
+            table-in = front-in (file-table c) to to′ (j * n .events * 2) size b;
+            table-taken = front-taken (file-table c) to to′ (j * n .events * 2) size b;
+          }
