@@ -1,4 +1,4 @@
--- Single bits of numbers: of a union, of a power of two, and that they determine the number.
+-- Single bits of numbers: of a union, of a power of two, that they determine the number, and the first that is set.
 -- Assumes nothing.
 use mathlib.Core.Path.{_≡_, refl, sym, ap, ap₂, _∙_, subst}
 use mathlib.Core.Bool.{false, _||_}
@@ -9,10 +9,11 @@ use native.Mathlib.Decide.{decLt}
 use native.Mathlib.Omega.{arith}
 use borrow.Author.Tests.{eq-eqb, ne-eqb, eqb-true}
 use lib.Bits.{bitOr, or-step, or-shr, shifted-even}
-use lib.Pow.{pow-add, shl-shr, shr-shr, pow-pos, pow-lt}
+use lib.Pow.{pow-add, shl-shr, shr-shr, shr-le, pow-pos, pow-lt}
+use lib.Count.{trailingZeros, under}
 use lib.Dec.{eqb, lit<}
 use lib.Arith.{digits-mod}
-use Rattle.synthesis.specs.NodeWords.{bit-at}
+use Rattle.synthesis.specs.NodeWords.{bit-at, FirstBit}
 
 pub bit-small : (a k : ℕ) → bit-at a k < 2
 unfolding bit-at
@@ -76,14 +77,17 @@ pub zero-bit : (k : ℕ) → eqb (bit-at 0 k) 1 ≡ false
 unfolding bit-at
 zero-bit k = ap (λ x. eqb (x % 2) 1) (zero-div (2 ^ k))
 
+-- The bits of a number that is shifted down.
+pub shifted-bit : (a k j : ℕ) → bit-at (a / 2 ^ k) j ≡ bit-at a (k + j)
+unfolding bit-at
+shifted-bit a k j = ap (λ x. x % 2) (shr-shr a k j)
+
 -- No bits from k on.
-pub no-rest : (a k j : ℕ) → a / 2 ^ k ≡ 0 → k ≤ j → eqb (bit-at a j) 1 ≡ false
+pub no-rest : (a k j : ℕ) → a / 2 ^ k ≡ 0 → k ≤ j → bit-at a j ≡ 0
 unfolding bit-at
 no-rest a k j e h =
     let z : j ≡ k + (j - k) = omega arith in
-    ap (λ x. eqb (a / 2 ^ x % 2) 1) z
-    ∙ ap (λ x. eqb (x % 2) 1) (sym (shr-shr a k (j - k)) ∙ ap (λ x. x / 2 ^ (j - k)) e)
-    ∙ zero-bit (j - k)
+    ap (bit-at a) z ∙ sym (shifted-bit a k (j - k)) ∙ ap (λ x. x / 2 ^ (j - k) % 2) e ∙ ap (λ x. x % 2) (zero-div (2 ^ (j - k)))
 
 same-bit : (x y : ℕ) → x < 2 → y < 2 → eqb x 1 ≡ eqb y 1 → x ≡ y
 same-bit x y h k e = go (zero-or-one x h) (zero-or-one y k)
@@ -104,17 +108,68 @@ low-bit : (x : ℕ) → bit-at x 0 ≡ x % 2
 unfolding bit-at
 low-bit x = ap (λ y. y % 2) (div-one x)
 
+half-lt : (z n : ℕ) → z < 2 ^ suc n → z / 2 < 2 ^ n
+half-lt z n u = div-lt-iff-lt-mul (zero-lt-suc 1) .1 (subst (λ y. z < y) (pow-suc 2 n) u)
+
 -- Numbers below 2 ^ n with the same n bits are equal.
 pub same-number :
     (n x y : ℕ) → x < 2 ^ n → y < 2 ^ n → ((k : ℕ) → k < n → eqb (bit-at x k) 1 ≡ eqb (bit-at y k) 1) → x ≡ y
 same-number zero x y h l f = omega (arith, h, l)
 same-number (suc n) x y h l f =
     let ih : x / 2 ≡ y / 2
-    = same-number n (x / 2) (y / 2) (half x h) (half y l)
+    = same-number n (x / 2) (y / 2) (half-lt x n h) (half-lt y n l)
     (λ k u. ap (λ b. eqb b 1) (half-bit x k) ∙ f (suc k) (omega arith) ∙ ap (λ b. eqb b 1) (sym (half-bit y k))) in
     let d : x % 2 ≡ y % 2
     = sym (low-bit x) ∙ same-bit (bit-at x 0) (bit-at y 0) (bit-small x 0) (bit-small y 0) (f 0 (omega arith)) ∙ low-bit y in
     sym (div-add-mod' x 2) ∙ ap₂ (λ a b. a * 2 + b) ih d ∙ div-add-mod' y 2
+
+-- The bits below the lowest that is set, and that bit.
+trailing-below : (k n j : ℕ) → j < trailingZeros k n → bit-at n j ≡ 0
+unfolding trailingZeros
+trailing-below zero n j h = absurd (omega arith)
+trailing-below (suc k) n j h = go (trailing-below k (n / 2)) (n % 2) refl j h
   where
-    half : (z : ℕ) → z < 2 ^ suc n → z / 2 < 2 ^ n
-    half z u = div-lt-iff-lt-mul (zero-lt-suc 1) .1 (subst (λ y. z < y) (pow-suc 2 n) u)
+    go :
+        ((j : ℕ) → j < trailingZeros k (n / 2) → bit-at (n / 2) j ≡ 0) →
+        (d : ℕ) → n % 2 ≡ d → (j : ℕ) → j < under d (trailingZeros k (n / 2)) → bit-at n j ≡ 0
+    go ih zero e zero u = low-bit n ∙ e
+    go ih zero e (suc j) u = sym (half-bit n j) ∙ ih j (omega arith)
+    go ih (suc d) e j u = absurd (omega arith)
+
+trailing-here : (k n : ℕ) → n < 2 ^ k → ¬ (n ≡ 0) → bit-at n (trailingZeros k n) ≡ 1
+unfolding trailingZeros
+trailing-here zero n h s = absurd (s (omega arith))
+trailing-here (suc k) n h s = go (trailing-here k (n / 2)) (n % 2) refl
+  where
+    go :
+        (n / 2 < 2 ^ k → ¬ (n / 2 ≡ 0) → bit-at (n / 2) (trailingZeros k (n / 2)) ≡ 1) →
+        (d : ℕ) → n % 2 ≡ d → bit-at n (under d (trailingZeros k (n / 2))) ≡ 1
+    go ih zero e = sym (half-bit n (trailingZeros k (n / 2))) ∙ ih (half-lt n k h) (λ q. s (omega (arith, e, q)))
+    go ih (suc zero) e = low-bit n ∙ e
+    go ih (suc (suc d)) e = absurd (omega (arith, e, mod-lt n (zero-lt-suc 1)))
+
+-- The first set bit of a word from k on.
+pub first-none : (w k : ℕ) → k < 64 → w / 2 ^ k ≡ 0 → FirstBit w k 64
+first-none w k h e =
+    record { low = omega arith; high = omega arith; before = λ j u v. no-rest w k j e u; here = λ u. absurd (omega arith) }
+
+pub first-some : (w k : ℕ) → w < 2 ^ 64 → ¬ (w / 2 ^ k ≡ 0) → FirstBit w k (k + trailingZeros 64 (w / 2 ^ k))
+first-some w k h s =
+    record {
+      low = omega arith;
+      high = inside (decLt 64 (k + t));
+      before = λ j u v.
+          let z : j ≡ k + (j - k) = omega arith in
+          ap (bit-at w) z ∙ sym (shifted-bit w k (j - k)) ∙ trailing-below 64 (w / 2 ^ k) (j - k) (omega arith);
+      here = λ u. set-there;
+    }
+  where
+    t : ℕ
+    t = trailingZeros 64 (w / 2 ^ k)
+
+    set-there : bit-at w (k + t) ≡ 1
+    set-there = sym (shifted-bit w k t) ∙ trailing-here 64 (w / 2 ^ k) (lt-of-le-of-lt (shr-le w k) h) s
+
+    inside : Dec (64 < k + t) → k + t ≤ 64
+    inside (yes u) = absurd (omega (arith, set-there, no-rest w 64 (k + t) (div-eq-of-lt h) (omega arith)))
+    inside (no u) = omega arith

@@ -1,7 +1,7 @@
 -- Sets of nodes in words: what a store, an inserted node and a union make of them, and that equal sets have equal words.
 -- Assumes nothing.
-use mathlib.Core.Path.{_≡_, sym, _∙_, ap, ap₂, fun-ext}
-use mathlib.Core.Bool.{false, _||_, _&&_, or-false}
+use mathlib.Core.Path.{_≡_, refl, sym, _∙_, ap, ap₂, fun-ext}
+use mathlib.Core.Bool.{true, false, _||_, _&&_, or-false}
 use mathlib.Core.List.{List}
 use Prim.Native.Nat.{ℕ, _+_, _*_, _-_, _/_, _%_, _^_, _≤_, _<_}
 use native.Mathlib.Nat.{div-add-mod'}
@@ -16,8 +16,8 @@ use lib.Seq.{getD-set-same, getD-set-other}
 use Rattle.theory.specs.DemandSets.{empty, union, only}
 use Rattle.theory.specs.Exploration.{member, bits}
 use Rattle.theory.proofs.BitSets.{member-bits}
-use Rattle.synthesis.specs.NodeWords.{bit-at, set-at, row, bits-at, Stored}
-use Rattle.synthesis.proofs.Bits.{or-bit, power-bit, zero-bit, no-rest, same-number}
+use Rattle.synthesis.specs.NodeWords.{bit-at, set-at, row, bits-at, Stored, FirstBit}
+use Rattle.synthesis.proofs.Bits.{or-bit, power-bit, zero-bit, same-number}
 
 pub in-words : (l : List ℕ) (b j : ℕ) → j < 256 → set-at l b j ≡ eqb (bit-at (getD l (b + j / 64) 0) (j % 64)) 1
 unfolding set-at
@@ -111,20 +111,36 @@ none-at n base h = fun-ext λ j. go j (decLt j 256)
 pub no-members : set-at (replicate 4 0) 0 ≡ empty
 no-members = none-at 4 0 (omega arith)
 
--- A word without nodes from k on is passed.
-pub no-more :
-    (l : List ℕ) (b from end k : ℕ) → end ≤ 256 → getD l (b + k / 64) 0 / 2 ^ (k % 64) ≡ 0 →
-    ((j : ℕ) → j < k → from ≤ j → j < end → set-at l b j ≡ false) →
-    (j : ℕ) → j < k / 64 * 64 + 64 → from ≤ j → j < end → set-at l b j ≡ false
-no-more l b from end k n e f j u h v = go (decLt j k)
-  where
-    go : Dec (j < k) → set-at l b j ≡ false
-    go (yes w) = f j w h v
-    go (no w) =
-        let q : j / 64 ≡ k / 64 = omega arith in
-        in-words l b j (omega arith)
-        ∙ ap (λ x. eqb (bit-at (getD l (b + x) 0) (j % 64)) 1) q
-        ∙ no-rest (getD l (b + k / 64) 0) (k % 64) (j % 64) e (omega arith)
+-- A node of the word that node k is in: k stands at k % 64 in it, and j at i.
+in-word :
+    (l : List ℕ) (b k j i v : ℕ) → k < 256 → j ≡ k / 64 * 64 + i → i < 64 → bit-at (getD l (b + k / 64) 0) i ≡ v →
+    set-at l b j ≡ eqb v 1
+in-word l b k j i v h e u q =
+    let d : j / 64 ≡ k / 64 = omega arith in
+    let m : j % 64 ≡ i = omega arith in
+    in-words l b j (omega arith)
+    ∙ ap₂ (λ x y. eqb (bit-at (getD l (b + x) 0) y) 1) d m
+    ∙ ap (λ x. eqb x 1) q
+
+-- From node k on: the first set bit of its word.
+module _ (l : List ℕ) (b k bit : ℕ) (small : k < 256) (found : FirstBit (getD l (b + k / 64) 0) (k % 64) bit) where
+  word-before : (j : ℕ) → k ≤ j → j < k / 64 * 64 + bit → set-at l b j ≡ false
+  word-before j h u =
+      in-word l b k j (j % 64) 0 small (omega (arith, found .high)) (omega arith)
+      (found .before (j % 64) (omega (arith, found .high)) (omega (arith, found .high)))
+
+  -- The nodes in front of it are not in the set, where those in front of k are not.
+  pub word-passed :
+      (from end : ℕ) → ((j : ℕ) → j < k → from ≤ j → j < end → set-at l b j ≡ false) →
+      (j : ℕ) → j < k / 64 * 64 + bit → from ≤ j → j < end → set-at l b j ≡ false
+  word-passed from end f j u h v = go (decLt j k)
+    where
+      go : Dec (j < k) → set-at l b j ≡ false
+      go (yes w) = f j w h v
+      go (no w) = word-before j (omega arith) u
+
+  pub word-here : bit < 64 → set-at l b (k / 64 * 64 + bit) ≡ true
+  word-here h = in-word l b k (k / 64 * 64 + bit) bit 1 small refl h (found .here h)
 
 -- What is stored is read there, and elsewhere what was.
 pub stored-there : (before after from : List ℕ) (base : ℕ) → Stored before after base from → set-at after base ≡ set-at from 0

@@ -39,6 +39,13 @@ pub record United (before after : List ℕ) (i : ℕ) (D : NodeSet) : Type 0 whe
   pub there : row after i ≡ union (row before i) D
   pub others : (j : ℕ) → ¬ (j ≡ i) → row after j ≡ row before j
 
+-- r is the first set bit of a word of 64 bits from k on, or 64.
+pub record FirstBit (word k r : ℕ) : Type 0 where
+  pub low : k ≤ r
+  pub high : r ≤ 64
+  pub before : (j : ℕ) → k ≤ j → j < r → bit-at word j ≡ 0
+  pub here : r < 64 → bit-at word r ≡ 1
+
 -- r is the first node of D from `from` on and below `end`, or `end`.
 pub record FirstMember (D : NodeSet) (from end r : ℕ) : Type 0 where
   pub low : from ≤ r

@@ -6,7 +6,7 @@ ghost use mathlib.Core.Bool.{true, false, _&&_};
 ghost use Prim.Native.Nat.{ℕ, _+_, _*_, _<_, _≤_, _^_};
 ghost use lib.ListN.{length};
 ghost use Rattle.theory.specs.DemandSets.{union, only};
-ghost use Rattle.synthesis.specs.NodeWords.{set-at, row, bits-at, Stored, United, FirstMember};
+ghost use Rattle.synthesis.specs.NodeWords.{set-at, row, bits-at, Stored, United, FirstBit, FirstMember};
 ghost use Rattle.synthesis.specs.Exploring.{for-event};
 
 // 2 to the k-th.
@@ -85,24 +85,31 @@ pub fn contains(rows: &[u64; 1028], base: usize, node: usize) -> bool
     (w >> ((node % 64) as u64)) % 2 == 1
 }
 
-// The first node from `from` on and below `end` that is in the set from base on, or `end`. The rest of a word is passed at once
-// where it has no node.
+// The first set bit of a word from k on, or 64.
+fn first_bit(word: u64, k: usize) -> usize
+    requires { ⌜ k < 64 ⌝ }
+    ensures { λ r. ⌜ FirstBit word k r ⌝ }
+{
+    let rest = word >> (k as u64);
+    if rest == 0 {
+        return 64;
+    }
+    k + u64::trailing_zeros(rest) as usize
+}
+
+// The first node from `from` on and below `end` that is in the set from base on, or `end`. A word is looked at once.
 pub fn next_member(rows: &[u64; 1028], base: usize, from: usize, end: usize) -> usize
     requires { ⌜ (base + 4 ≤ 1028) × (from ≤ end) × (end ≤ 256) × (length (now rows) ≡ 1028) ⌝ }
     ensures { λ r. ⌜ FirstMember (set-at (now (rows .entry)) base) from end r ⌝ }
 {
     let mut node = from;
     while node < end {
-        let w = rows[base + node / 64];
-        let rest = w >> ((node % 64) as u64);
-        if rest % 2 == 1 {
-            return node;
+        let bit = first_bit(rows[base + node / 64], node % 64);
+        let first = node / 64 * 64 + bit;
+        if bit < 64 {
+            return if first < end { first } else { end };
         }
-        if rest == 0 {
-            node = node / 64 * 64 + 64;
-        } else {
-            node += 1;
-        }
+        node = first;
     }
     end
 }

@@ -1,14 +1,11 @@
 -- `next_member` meets its contract. The loop's invariant: the nodes passed are not in the set.
 -- Assumes nothing.
-use Prim.Native.Nat.{ℕ, _≤_, _<_, _-_, _+_, _/_, _%_}
-use mathlib.Core.Path.{_≡_, _∙_}
+use Prim.Native.Nat.{ℕ, _≤_, _<_, _-_}
+use mathlib.Core.Path.{_≡_}
 use mathlib.Core.Bool.{false}
 use native.Mathlib.Omega.{arith}
-use borrow.Author.Count.{below-more}
-use lib.ListN.{getD}
-use borrow.Author.Tests.{eq-eqb, ne-eqb}
-use Rattle.synthesis.specs.NodeWords.{bit-at, set-at}
-use Rattle.synthesis.proofs.NodeWords.{in-words, no-more}
+use Rattle.synthesis.specs.NodeWords.{set-at}
+use Rattle.synthesis.proofs.NodeWords.{word-passed, word-here}
 use borrow.Author.Needs.{needs}
 use Rattle.synthesis.proofs.node_sets.next_member.Statement.{statement}
 use Rattle.synthesis.proofs.node_sets.next_member.Tie as tie
@@ -23,62 +20,60 @@ abbrev μ-loop : tie.MeasureT-loop
 loop-holds : tie.Need-loop-holds Inv-loop μ-loop
 loop-holds c = (search needs, λ j u h v. absurd (omega arith))
 
-add-w : tie.Need-add-w Inv-loop μ-loop
-add-w c = search needs
+add-first-bit : tie.Need-add-first-bit Inv-loop μ-loop
+add-first-bit c = search needs
 
-mul-w : tie.Need-mul-w Inv-loop μ-loop
-mul-w c = search needs
+mul-first-bit : tie.Need-mul-first-bit Inv-loop μ-loop
+mul-first-bit c = search needs
 
-element-copy-out-w : tie.Need-element-copy-out-w Inv-loop μ-loop
-element-copy-out-w c = search needs
+element-copy-out-first-bit : tie.Need-element-copy-out-first-bit Inv-loop μ-loop
+element-copy-out-first-bit c = search needs
 
-shr-rest : tie.Need-shr-rest Inv-loop μ-loop
-shr-rest c = search needs
+first-bit-requires : tie.Need-first-bit-requires Inv-loop μ-loop
+first-bit-requires c κs = search needs
+
+mul-first : tie.Need-mul-first Inv-loop μ-loop
+mul-first c = search needs
+
+add-first : tie.Need-add-first Inv-loop μ-loop
+add-first c = omega (arith, c .first-bit .ensures .high)
 
 returns : tie.Need-returns Inv-loop μ-loop
-unfolding bit-at
 returns c =
-    let a = c .before .before .before .before .args in
-    let n = c .before .before .before .loop .node in
-    let v = c .before .before .before .loop .inv in
+    let a = c .before .before .before .before .before .before .args in
+    let l = c .before .before .before .before .before .loop in
+    let f = c .before .before .first-bit in
+    record {
+      low = omega (arith, f .ensures .low, l .inv .0);
+      high = search needs;
+      before = λ j h u. word-passed (a .rows .now) (a .base) (l .node) (f .result) (omega arith) (f .ensures) (a .from) (a .end) (l .inv .1) j u h (omega arith);
+      here = λ h. word-here (a .rows .now) (a .base) (l .node) (f .result) (omega arith) (f .ensures) (c .before .if1 .taken);
+    }
+
+returns-2 : tie.Need-returns-2 Inv-loop μ-loop
+returns-2 c =
+    let a = c .before .before .before .before .before .before .args in
+    let l = c .before .before .before .before .before .loop in
+    let f = c .before .before .first-bit in
     record {
       low = search needs;
       high = search needs;
-      before = λ j h u. v .1 j u h (omega arith);
-      here = λ h. in-words (a .rows .now) (a .base) n (omega arith) ∙ eq-eqb (bit-at (getD (a .rows .now) (a .base + n / 64) 0) (n % 64)) 1 (c .if1 .taken);
+      before = λ j h u. word-passed (a .rows .now) (a .base) (l .node) (f .result) (omega arith) (f .ensures) (a .from) (a .end) (l .inv .1) j (omega (arith, c .if2 .left)) h u;
+      here = λ h. absurd (omega arith);
     }
 
-mul-node : tie.Need-mul-node Inv-loop μ-loop
-mul-node c = search needs
-
-add-node : tie.Need-add-node Inv-loop μ-loop
-add-node c = search needs
-
 loop-less : tie.Need-loop-less Inv-loop μ-loop
-loop-less c = search needs
+loop-less c = omega (arith, c .if1 .left, c .before .before .before .loop-test .taken)
 
 loop-again : tie.Need-loop-again Inv-loop μ-loop
 loop-again c =
     let a = c .before .before .before .before .before .args in
     let l = c .before .before .before .before .loop in
-    (search needs, no-more (a .rows .now) (a .base) (a .from) (a .end) (l .node) (search needs) (c .if2 .taken) (l .inv .1))
+    let f = c .before .first-bit in
+    (omega (arith, c .if1 .left, l .inv .0), word-passed (a .rows .now) (a .base) (l .node) (f .result) (omega arith) (f .ensures) (a .from) (a .end) (l .inv .1))
 
-add-node-2 : tie.Need-add-node-2 Inv-loop μ-loop
-add-node-2 c = search needs
-
-loop-less-2 : tie.Need-loop-less-2 Inv-loop μ-loop
-loop-less-2 c = search needs
-
-loop-again-2 : tie.Need-loop-again-2 Inv-loop μ-loop
-unfolding bit-at
-loop-again-2 c =
-    let a = c .before .before .before .before .before .args in
-    let n = c .before .before .before .before .loop .node in
-    let v = c .before .before .before .before .loop .inv in
-    (search needs, below-more _ _ (v .1) (λ h u. in-words (a .rows .now) (a .base) n (omega arith) ∙ ne-eqb (bit-at (getD (a .rows .now) (a .base + n / 64) 0) (n % 64)) 1 (c .before .if1 .left)))
-
-returns-2 : tie.Need-returns-2 Inv-loop μ-loop
-returns-2 c =
+returns-3 : tie.Need-returns-3 Inv-loop μ-loop
+returns-3 c =
     let v = c .before .loop .inv in
     record {
       low = search needs;
@@ -94,16 +89,14 @@ next-member-spec =
     Inv-loop
     μ-loop
     loop-holds
-    add-w
-    mul-w
-    element-copy-out-w
-    shr-rest
+    add-first-bit
+    mul-first-bit
+    element-copy-out-first-bit
+    first-bit-requires
+    mul-first
+    add-first
     returns
-    mul-node
-    add-node
+    returns-2
     loop-less
     loop-again
-    add-node-2
-    loop-less-2
-    loop-again-2
-    returns-2)
+    returns-3)
