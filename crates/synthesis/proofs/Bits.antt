@@ -1,19 +1,19 @@
--- Single bits of numbers: of a union, of a power of two, that they determine the number, and the first that is set.
+-- Single bits of numbers: of a union, of a power of two, that they determine the number, and the first and the last that are set.
 -- Assumes nothing.
 use mathlib.Core.Path.{_≡_, refl, sym, ap, ap₂, _∙_, subst}
 use mathlib.Core.Bool.{false, _||_}
 use mathlib.Core.Logic.{_⊎_, inl, inr}
 use Prim.Native.Nat.{ℕ, zero, suc, _+_, _-_, _*_, _/_, _%_, _^_, _≤_, _<_, max}
-use native.Mathlib.Nat.{mod-lt, zero-lt-suc, lt-of-le-of-lt, le-of-suc-le-suc, max-le, div-self, div-eq-of-lt, div-one, one-mul, add-comm, div-add-mod', zero-div, div-lt-iff-lt-mul, pow-suc}
+use native.Mathlib.Nat.{mod-lt, zero-lt-suc, lt-of-le-of-lt, lt-trans, le-of-suc-le-suc, max-le, div-self, div-eq-of-lt, div-one, one-mul, add-comm, div-add-mod', zero-div, div-lt-iff-lt-mul, pow-suc}
 use native.Mathlib.Decide.{decLt}
 use native.Mathlib.Omega.{arith}
 use borrow.Author.Tests.{eq-eqb, ne-eqb, eqb-true}
 use lib.Bits.{bitOr, or-step, or-shr, shifted-even}
-use lib.Pow.{pow-add, shl-shr, shr-shr, shr-le, pow-pos, pow-lt}
-use lib.Count.{trailingZeros, under}
+use lib.Pow.{pow-add, shl-shr, shr-shr, shr-le, pow-pos, pow-lt, field, mod-mod-pow}
+use lib.Count.{trailingZeros, under, leadingZeros, leading-length}
 use lib.Dec.{eqb, lit<}
-use lib.Arith.{digits-mod}
-use Rattle.synthesis.specs.NodeWords.{bit-at, FirstBit}
+use lib.Arith.{digits-div, digits-mod}
+use Rattle.synthesis.specs.NodeWords.{bit-at, FirstBit, LastBit}
 
 pub bit-small : (a k : ℕ) → bit-at a k < 2
 unfolding bit-at
@@ -173,3 +173,70 @@ first-some w k h s =
     inside : Dec (64 < k + t) → k + t ≤ 64
     inside (yes u) = absurd (omega (arith, set-there, no-rest w 64 (k + t) (div-eq-of-lt h) (omega arith)))
     inside (no u) = omega arith
+
+-- The k lowest bits, and the bits of a number of m binary digits.
+low-bits : (a k j : ℕ) → j < k → bit-at (a % 2 ^ k) j ≡ bit-at a j
+unfolding bit-at
+low-bits a k j h =
+    let z : k ≡ (k - j - 1 + 1) + j = omega arith in
+    ap (λ x. a % 2 ^ x / 2 ^ j % 2) z ∙ ap (λ x. x % 2) (field a (k - j - 1 + 1) j) ∙ mod-mod-pow (a / 2 ^ j) (k - j - 1) 1
+
+highest-bit : (a m : ℕ) → a < 2 ^ suc m → 2 ^ suc m ≤ 2 * a + 1 → bit-at a m ≡ 1
+unfolding bit-at
+highest-bit a m h l =
+    let p : ℕ = 2 ^ m in
+    let d : 2 ^ suc m ≡ p * 2 = pow-suc 2 m in
+    let z : a ≡ 1 * p + (a - p) = omega (arith, d, l) in
+    ap (λ x. x % 2) (ap (λ x. x / p) z ∙ digits-div 1 {m = p} (omega (arith, d, h, l)))
+
+-- The last set bit of a word at or below k: bit k, or the highest of the k lowest bits.
+pub last-here : (w k : ℕ) → bit-at w k ≡ 1 → LastBit w k (k + 1)
+last-here w k e =
+    let z : k + 1 - 1 ≡ k = omega arith in
+    record { high = omega arith; after = λ j u v. absurd (omega arith); here = λ u. ap (bit-at w) z ∙ e }
+
+pub last-below : (w k : ℕ) → k < 64 → ¬ (bit-at w k ≡ 1) → LastBit w k (64 - leadingZeros 64 (w % 2 ^ k))
+last-below w k h e = subst (LastBit w k) (omega (arith, sized .1)) (last (sized .0) (sized .2) (sized .3))
+  where
+    a : ℕ
+    a = w % 2 ^ k
+
+    small : a < 2 ^ k
+    small = mod-lt w (pow-pos k)
+
+    sized : (m : ℕ) × (leadingZeros 64 a + m ≡ 64) × (a < 2 ^ m) × (2 ^ m ≤ 2 * a + 1)
+    sized = leading-length 64 a (lt-trans small (pow-lt h))
+
+    last : (m : ℕ) → a < 2 ^ m → 2 ^ m ≤ 2 * a + 1 → LastBit w k m
+    last m u v =
+        record {
+          high = omega (arith, m≤k);
+          after = λ j x y. there j x (decLt j k) y;
+          here = λ x.
+              let z : m ≡ suc (m - 1) = omega arith in
+              sym (low-bits w k (m - 1) (omega (arith, m≤k))) ∙ top (m - 1) z;
+        }
+      where
+        top : (n : ℕ) → m ≡ suc n → bit-at a n ≡ 1
+        top n z = highest-bit a n (subst (λ x. a < 2 ^ x) z u) (subst (λ x. 2 ^ x ≤ 2 * a + 1) z v)
+
+        inside : (n : ℕ) → m ≡ suc n → Dec (n < k) → n < k
+        inside n z (yes x) = x
+        inside n z (no x) = absurd (omega (arith, top n z, no-rest a k n (div-eq-of-lt small) (omega arith)))
+
+        within : Dec (0 < m) → m ≤ k
+        within (yes x) = let z : m ≡ suc (m - 1) = omega arith in omega (arith, inside (m - 1) z (decLt (m - 1) k))
+        within (no x) = omega arith
+
+        m≤k : m ≤ k
+        m≤k = within (decLt 0 m)
+
+        there : (j : ℕ) → m ≤ j → Dec (j < k) → j ≤ k → bit-at w j ≡ 0
+        there j x (yes q) y = sym (low-bits w k j q) ∙ no-rest a m j (div-eq-of-lt u) x
+        there j x (no q) y =
+            let z : j ≡ k = omega arith in
+            ap (bit-at w) z ∙ other (zero-or-one (bit-at w k) (bit-small w k))
+          where
+            other : (bit-at w k ≡ 0) ⊎ (bit-at w k ≡ 1) → bit-at w k ≡ 0
+            other (inl p) = p
+            other (inr p) = absurd (e p)

@@ -16,7 +16,7 @@ use lib.Seq.{getD-set-same, getD-set-other}
 use Rattle.theory.specs.DemandSets.{empty, union, only}
 use Rattle.theory.specs.Exploration.{member, bits}
 use Rattle.theory.proofs.BitSets.{member-bits}
-use Rattle.synthesis.specs.NodeWords.{bit-at, set-at, row, bits-at, Stored, FirstBit}
+use Rattle.synthesis.specs.NodeWords.{bit-at, set-at, row, bits-at, Stored, FirstBit, LastBit}
 use Rattle.synthesis.proofs.Bits.{or-bit, power-bit, zero-bit, same-number}
 
 pub in-words : (l : List ℕ) (b j : ℕ) → j < 256 → set-at l b j ≡ eqb (bit-at (getD l (b + j / 64) 0) (j % 64)) 1
@@ -141,6 +141,27 @@ module _ (l : List ℕ) (b k bit : ℕ) (small : k < 256) (found : FirstBit (get
 
   pub word-here : bit < 64 → set-at l b (k / 64 * 64 + bit) ≡ true
   word-here h = in-word l b k (k / 64 * 64 + bit) bit 1 small refl h (found .here h)
+
+-- Down from node k: the last set bit of its word.
+module _ (l : List ℕ) (b k bit : ℕ) (small : k < 256) (found : LastBit (getD l (b + k / 64) 0) (k % 64) bit) where
+  word-after : (j : ℕ) → k / 64 * 64 + bit ≤ j → j ≤ k → set-at l b j ≡ false
+  word-after j h u =
+      in-word l b k j (j % 64) 0 small (omega arith) (omega arith) (found .after (j % 64) (omega arith) (omega arith))
+
+  pub word-last : 0 < bit → set-at l b (k / 64 * 64 + bit - 1) ≡ true
+  word-last h =
+      in-word l b k (k / 64 * 64 + bit - 1) (bit - 1) 1 small (omega arith) (omega (arith, found .high)) (found .here h)
+
+-- The nodes from it on are not in the set, where those from `node` on are not.
+pub word-left :
+    (l : List ℕ) (b node bit end : ℕ) → 0 < node → node ≤ 256 → LastBit (getD l (b + (node - 1) / 64) 0) ((node - 1) % 64) bit →
+    ((j : ℕ) → node ≤ j → j < end → set-at l b j ≡ false) →
+    (j : ℕ) → (node - 1) / 64 * 64 + bit ≤ j → j < end → set-at l b j ≡ false
+word-left l b node bit end some small found f j h u = go (decLt j node)
+  where
+    go : Dec (j < node) → set-at l b j ≡ false
+    go (yes w) = word-after l b (node - 1) bit (omega arith) found j h (omega arith)
+    go (no w) = f j (omega arith) u
 
 -- What is stored is read there, and elsewhere what was.
 pub stored-there : (before after from : List ℕ) (base : ℕ) → Stored before after base from → set-at after base ≡ set-at from 0

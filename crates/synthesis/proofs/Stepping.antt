@@ -1,7 +1,7 @@
 -- The next set, node by node from the rows, is the next set of the formula's machine.
 -- Assumes nothing.
 use mathlib.Core.Path.{_≡_, refl, sym, _∙_, ap, ap₂, subst, fun-ext}
-use mathlib.Core.Bool.{Bool, true, false, _||_, _&&_, cond, or-false, or-assoc, and-true, and-false}
+use mathlib.Core.Bool.{Bool, true, false, _||_, _&&_, cond, or-false, or-assoc, and-false}
 use mathlib.Core.List.{List, [], _∷_, map}
 use Prim.Native.Nat.{ℕ, zero, suc, _+_, _-_, _≤_, _<_}
 use native.Mathlib.Numerals.{add-one}
@@ -96,25 +96,6 @@ module _ (kinds firsts rows : List ℕ) (D : NodeSet) (e : ℕ) where
           ∙ ap (λ t. cond t (union (row before e) (row rows (n + 1))) (row before e)) h
           ∙ p
           ∙ sym (stepped-no kinds firsts rows n D e (ap₂ (λ a b. a && b) d h))
-
--- A node of one kind for one event, as the code tests it.
-module _ (kinds firsts : List ℕ) (k e i : ℕ) (x : Bool) where
-  pub test-kind : ¬ (field kinds i ≡ k) → false ≡ x && for-event kinds firsts k e i
-  unfolding for-event
-  test-kind h = sym (ap (λ t. x && (t && eqb (field firsts i) e)) (ne-eqb (field kinds i) k h) ∙ and-false x)
-
-  pub test-event : ¬ (field firsts i ≡ e) → false ≡ x && for-event kinds firsts k e i
-  unfolding for-event
-  test-event h =
-      sym
-      (ap (λ t. x && (eqb (field kinds i) k && t)) (ne-eqb (field firsts i) e h)
-      ∙ ap (λ t. x && t) (and-false (eqb (field kinds i) k))
-      ∙ and-false x)
-
-  pub test-both : field kinds i ≡ k → field firsts i ≡ e → x ≡ x && for-event kinds firsts k e i
-  unfolding for-event
-  test-both h q =
-      sym (ap (λ t. x && t) (ap₂ (λ a b. a && b) (eq-eqb (field kinds i) k h) (eq-eqb (field firsts i) e q)) ∙ and-true x)
 
 -- A node of another kind, and a node of the kind.
 module _ (kinds firsts : List ℕ) (k e i : ℕ) where

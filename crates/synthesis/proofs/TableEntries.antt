@@ -3,13 +3,13 @@
 use mathlib.Core.Path.{_≡_, refl, sym, _∙_, ap, ap₂, subst}
 use mathlib.Core.Bool.{Bool, true, false, _&&_, cond, and-false}
 use mathlib.Core.List.{List, [], _∷_, _++_}
-use Prim.Native.Nat.{ℕ, suc, _+_, _*_, _-_, _/_, _%_, _≤_, _<_}
+use Prim.Native.Nat.{ℕ, zero, suc, _+_, _*_, _-_, _/_, _%_, _≤_, _<_}
 use native.Mathlib.Decide.{ℕ-discrete}
 use native.Mathlib.Nat.{not-suc-le-zero}
 use native.Mathlib.Numerals.{add-one}
 use native.Mathlib.Omega.{arith}
 use lib.Arith.{digits-div, digits-mod}
-use borrow.Author.Tests.{ne-eqb, ltb-true, ltb-false}
+use borrow.Author.Tests.{eq-eqb, ne-eqb, ltb-true, ltb-false}
 use lib.Dec.{eqb, ltb}
 use lib.ListN.{length, getD, set, length-set}
 use lib.Seq.{getD-set-same, getD-set-other}
@@ -19,44 +19,47 @@ use Rattle.theory.specs.Demands.{NodeSet, outputs, meet-all, value-of-set}
 use Rattle.formulas.specs.NodeReading.{Reads}
 use Rattle.formulas.specs.NodeWalks.{field}
 use Rattle.synthesis.specs.Exploring.{for-event}
-use Rattle.synthesis.specs.TableEntries.{meet-from, EntriesTo, RowTo, OpenRow}
+use Rattle.synthesis.specs.TableEntries.{meet-from, EntriesTo, RowTo, OpenRow, Met}
 use Rattle.synthesis.proofs.Stepping.{other-kind, same-kind}
 
 module _ (meet : ℕ → ℕ → ℕ) (top : ℕ) (kinds firsts values : List ℕ) (D : NodeSet) (e : ℕ) where
   abbrev from : ℕ → ℕ → ℕ
   from i c = meet-from meet top kinds firsts values D e i c
 
-  -- One more node, from the last to the first.
-  from-yes : (i c : ℕ) → D i && for-event kinds firsts 3 e i ≡ true → from i (suc c) ≡ meet (field values i) (from (suc i) c)
-  from-yes i c h = ap (λ t. cond t (meet (field values i) (from (suc i) c)) (from (suc i) c)) h
-
   from-no : (i c : ℕ) → D i && for-event kinds firsts 3 e i ≡ false → from i (suc c) ≡ from (suc i) c
   from-no i c h = ap (λ t. cond t (meet (field values i) (from (suc i) c)) (from (suc i) c)) h
 
-  -- The same, where the nodes from `node` on were taken.
-  module _ (count node value : ℕ) (some : 0 < node) (small : node ≤ count) (so-far : value ≡ from node (count - node)) where
-    less : suc (count - node) ≡ count - (node - 1)
-    less = omega arith
+  -- Nodes that are not in the set, and one that is.
+  skip-by : (d i c : ℕ) → ((j : ℕ) → i ≤ j → j < i + d → D j ≡ false) → from i (d + c) ≡ from (i + d) c
+  skip-by zero i c f =
+      let z : zero + c ≡ c = omega arith in
+      let y : i ≡ i + zero = omega arith in
+      ap (from i) z ∙ ap (λ x. from x c) y
+  skip-by (suc d) i c f =
+      let z : suc d + c ≡ suc (d + c) = omega arith in
+      let y : suc i + d ≡ i + suc d = omega arith in
+      ap (from i) z
+      ∙ from-no i (d + c) (ap (λ t. t && for-event kinds firsts 3 e i) (f i (omega arith) (omega arith)))
+      ∙ skip-by d (suc i) c (λ j h u. f j (omega arith) (omega arith))
+      ∙ ap (λ x. from x c) y
 
-    again : suc (node - 1) ≡ node
-    again = omega arith
+  skip-nodes :
+      (count r node : ℕ) → r ≤ node → node ≤ count → ((j : ℕ) → r ≤ j → j < node → D j ≡ false) →
+      from node (count - node) ≡ from r (count - r)
+  skip-nodes count r node h u f =
+      let z : count - r ≡ (node - r) + (count - node) = omega arith in
+      let y : r + (node - r) ≡ node = omega arith in
+      sym
+      (ap (from r) z
+      ∙ skip-by (node - r) r (count - node) (λ j v w. f j v (omega arith))
+      ∙ ap (λ x. from x (count - node)) y)
 
-    pub take-node :
-        (result : ℕ) → D (node - 1) && for-event kinds firsts 3 e (node - 1) ≡ true →
-        result ≡ meet (field values (node - 1)) value → result ≡ from (node - 1) (count - (node - 1))
-    take-node result h q =
-        q
-        ∙ ap (meet (field values (node - 1))) (so-far ∙ ap (λ x. from x (count - node)) (sym again))
-        ∙ sym (from-yes (node - 1) (count - node) h)
-        ∙ ap (from (node - 1)) less
-
-    pub pass-node :
-        D (node - 1) && for-event kinds firsts 3 e (node - 1) ≡ false → value ≡ from (node - 1) (count - (node - 1))
-    pass-node h =
-        so-far
-        ∙ ap (λ x. from x (count - node)) (sym again)
-        ∙ sym (from-no (node - 1) (count - node) h)
-        ∙ ap (from (node - 1)) less
+  meet-member :
+      (i c x : ℕ) → D i ≡ true → x ≡ from (suc i) c →
+      cond (for-event kinds firsts 3 e i) (meet (field values i) x) x ≡ from i (suc c)
+  meet-member i c x d q =
+      ap (λ y. cond (for-event kinds firsts 3 e i) (meet (field values i) y) y) q
+      ∙ ap (λ t. cond (t && for-event kinds firsts 3 e i) (meet (field values i) (from (suc i) c)) (from (suc i) c)) (sym d)
 
   silent : (i c : ℕ) → ¬ (field kinds i ≡ 3) → from i (suc c) ≡ from (suc i) c
   silent i c h = from-no i c (ap (λ t. D i && t) (other-kind kinds firsts 3 e i h) ∙ and-false (D i))
@@ -144,7 +147,7 @@ row-more f events l m at v before to h a fits q old =
     go e u (no p) = getD-set-other to at (l * events + e) v 0 (λ w. p (omega (arith, w, a))) ∙ old .entries e (omega (arith, p))
 
 -- One entry of the whole row anew.
-pub row-set :
+row-set :
     (f g : ℕ → ℕ) (events l m at v : ℕ) (before to : List ℕ) → m < events → at ≡ l * events + m → at < length to → v ≡ g m →
     ((e : ℕ) → e < events → ¬ (e ≡ m) → f e ≡ g e) →
     RowTo f events l events before to → RowTo g events l events before (set to at v)
@@ -196,7 +199,34 @@ row-again f g events l before between to one two =
       above = λ x u. two .above x u ∙ one .above x u;
     }
 
--- A node comes to the row of a state, from the last to the first.
+-- What a node does to the row of a state: no O, an O for no event of the table, an O for an event.
+module _ (meet : ℕ → ℕ → ℕ) (kinds firsts values : List ℕ) (events l i : ℕ) (before : List ℕ) where
+  abbrev came : ℕ → Bool → ℕ
+  came e t = cond t (meet (field values i) (getD before (l * events + e) 0)) (getD before (l * events + e) 0)
+
+  same-row : RowTo (λ e. getD before (l * events + e) 0) events l events before before
+  same-row = record { sized = refl; entries = λ e u. refl; below = λ x u. refl; above = λ x u. refl }
+
+  pub met-other : ¬ (field kinds i ≡ 3) → Met meet kinds firsts values events l i before before
+  met-other h = row-same _ _ events l before before (λ e u. sym (ap (came e) (other-kind kinds firsts 3 e i h))) same-row
+
+  pub met-far : field kinds i ≡ 3 → events ≤ field firsts i → Met meet kinds firsts values events l i before before
+  met-far k h =
+      row-same _ _ events l before before
+      (λ e u. sym (ap (came e) (same-kind kinds firsts 3 e i k ∙ ne-eqb (field firsts i) e (λ q. omega (arith, q))))) same-row
+
+  pub met-here :
+      (event at v : ℕ) → field kinds i ≡ 3 → event ≡ field firsts i → event < events → at ≡ l * events + event →
+      at < length before → v ≡ meet (field values i) (getD before at 0) →
+      Met meet kinds firsts values events l i before (set before at v)
+  met-here event at v k q u a fits m =
+      row-set _ _ events l event at v before before u a fits
+      (m
+      ∙ ap (λ x. meet (field values i) (getD before x 0)) a
+      ∙ sym (ap (came event) (same-kind kinds firsts 3 event i k ∙ eq-eqb (field firsts i) event (sym q))))
+      (λ e w d. sym (ap (came e) (same-kind kinds firsts 3 e i k ∙ ne-eqb (field firsts i) e (λ z. d (sym z ∙ sym q))))) same-row
+
+-- The nodes of a set come to the row of a state, from the last to the first.
 module _ (meet : ℕ → ℕ → ℕ) (top : ℕ) (kinds firsts values : List ℕ) (D : NodeSet) (count events l : ℕ) (before : List ℕ) where
   -- The row with the nodes from `node` on.
   abbrev pub RowFrom : ℕ → List ℕ → Type 0
@@ -212,35 +242,25 @@ module _ (meet : ℕ → ℕ → ℕ) (top : ℕ) (kinds firsts values : List �
         above = λ x u. refl;
       }
 
-  not-here : (node e : ℕ) → ¬ (field firsts node ≡ e) → D node && for-event kinds firsts 3 e node ≡ false
-  unfolding for-event
-  not-here node e h =
-      ap (λ t. D node && (eqb (field kinds node) 3 && t)) (ne-eqb (field firsts node) e h)
-      ∙ ap (λ t. D node && t) (and-false (eqb (field kinds node) 3)) ∙ and-false (D node)
+  pub row-skip :
+      (r node : ℕ) (to : List ℕ) → r ≤ node → node ≤ count → ((j : ℕ) → r ≤ j → j < node → D j ≡ false) →
+      RowFrom node to → RowFrom r to
+  row-skip r node to h u f old =
+      row-same _ _ events l before to (λ e v. skip-nodes meet top kinds firsts values D e count r node h u f) old
 
-  module _ (node : ℕ) (to : List ℕ) (some : 0 < node) (small : node ≤ count) (old : RowFrom node to) where
-    pass : (e : ℕ) → D (node - 1) && for-event kinds firsts 3 e (node - 1) ≡ false
-        → meet-from meet top kinds firsts values D e node (count - node) ≡ meet-from meet top kinds firsts values D e (node - 1) (count - (node - 1))
-    pass e h = pass-node meet top kinds firsts values D e count node _ some small refl h
-
-    -- its event is none of the table's
-    pub row-past : events ≤ field firsts (node - 1) → RowFrom (node - 1) to
-    row-past h = row-same _ _ events l before to (λ e u. pass e (not-here (node - 1) e (λ p. omega (arith, p)))) old
-
-    -- it is not in the set, or no O
-    pub row-unmoved : (e : ℕ) → e ≡ field firsts (node - 1) → D (node - 1) && for-event kinds firsts 3 e (node - 1) ≡ false → RowFrom (node - 1) to
-    row-unmoved e i h = row-same _ _ events l before to (λ y u. pass y (go y (ℕ-discrete y e))) old
-      where
-        go : (y : ℕ) → Dec (y ≡ e) → D (node - 1) && for-event kinds firsts 3 y (node - 1) ≡ false
-        go y (yes p) = subst (λ z. D (node - 1) && for-event kinds firsts 3 z (node - 1) ≡ false) (sym p) h
-        go y (no p) = not-here (node - 1) y (λ q. p (sym q ∙ sym i))
-
-    -- its value is met
-    pub row-met :
-        (e at v : ℕ) → e ≡ field firsts (node - 1) → e < events → at ≡ l * events + e → at < length to →
-        D (node - 1) && for-event kinds firsts 3 e (node - 1) ≡ true → v ≡ meet (field values (node - 1)) (getD to at 0) →
-        RowFrom (node - 1) (set to at v)
-    row-met e at v i u a fits h q =
-        row-set _ _ events l e at v before to u a fits
-        (take-node meet top kinds firsts values D e count node (getD to at 0) some small (ap (λ y. getD to y 0) a ∙ old .entries e u) v h q)
-        (λ y w p. pass y (not-here (node - 1) y (λ r. p (sym r ∙ sym i)))) old
+  pub row-member :
+      (node : ℕ) (to after : List ℕ) → 0 < node → node ≤ count → D (node - 1) ≡ true → RowFrom node to →
+      Met meet kinds firsts values events l (node - 1) to after → RowFrom (node - 1) after
+  row-member node to after some small d old new =
+      let z : node ≡ suc (node - 1) = omega arith in
+      let y : suc (count - node) ≡ count - (node - 1) = omega arith in
+      record {
+        sized = new .sized ∙ old .sized;
+        entries = λ e u.
+            new .entries e u
+            ∙ meet-member meet top kinds firsts values D e (node - 1) (count - node) (getD to (l * events + e) 0) d
+            (old .entries e u ∙ ap (λ x. meet-from meet top kinds firsts values D e x (count - node)) z)
+            ∙ ap (meet-from meet top kinds firsts values D e (node - 1)) y;
+        below = λ x u. new .below x u ∙ old .below x u;
+        above = λ x u. new .above x u ∙ old .above x u;
+      }

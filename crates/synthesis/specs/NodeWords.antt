@@ -3,7 +3,7 @@
 use mathlib.Core.Path.{_≡_}
 use mathlib.Core.Bool.{Bool, true, false, _&&_}
 use mathlib.Core.List.{List}
-use Prim.Native.Nat.{ℕ, _+_, _*_, _/_, _%_, _^_, _≤_, _<_}
+use Prim.Native.Nat.{ℕ, _+_, _-_, _*_, _/_, _%_, _^_, _≤_, _<_}
 use lib.Dec.{ltb, eqb}
 use lib.ListN.{length, getD}
 use Rattle.theory.specs.Demands.{NodeSet}
@@ -46,9 +46,21 @@ pub record FirstBit (word k r : ℕ) : Type 0 where
   pub before : (j : ℕ) → k ≤ j → j < r → bit-at word j ≡ 0
   pub here : r < 64 → bit-at word r ≡ 1
 
+-- r is one above the last set bit of a word at or below bit k, or 0.
+pub record LastBit (word k r : ℕ) : Type 0 where
+  pub high : r ≤ k + 1
+  pub after : (j : ℕ) → r ≤ j → j ≤ k → bit-at word j ≡ 0
+  pub here : 0 < r → bit-at word (r - 1) ≡ 1
+
 -- r is the first node of D from `from` on and below `end`, or `end`.
 pub record FirstMember (D : NodeSet) (from end r : ℕ) : Type 0 where
   pub low : from ≤ r
   pub high : r ≤ end
   pub before : (j : ℕ) → from ≤ j → j < r → D j ≡ false
   pub here : r < end → D r ≡ true
+
+-- r is the node after the last node of D below `end`, or 0.
+pub record LastMember (D : NodeSet) (end r : ℕ) : Type 0 where
+  pub high : r ≤ end
+  pub after : (j : ℕ) → r ≤ j → j < end → D j ≡ false
+  pub here : 0 < r → D (r - 1) ≡ true

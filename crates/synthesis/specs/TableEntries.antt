@@ -37,3 +37,10 @@ pub record RowTo (f : ℕ → ℕ) (events l m : ℕ) (before after : List ℕ) 
 -- Every entry of state l is top.
 abbrev pub OpenRow : ℕ → ℕ → ℕ → List ℕ → Type 0
 OpenRow top events l to = (e : ℕ) → e < events → getD to (l * events + e) 0 ≡ top
+
+-- Node i came to the row of state l: where it is an O, its value was met with the entry of its event.
+abbrev pub Met : (ℕ → ℕ → ℕ) → List ℕ → List ℕ → List ℕ → ℕ → ℕ → ℕ → List ℕ → List ℕ → Type 0
+Met meet kinds firsts values events l i before after =
+    RowTo
+    (λ e. cond (for-event kinds firsts 3 e i) (meet (field values i) (getD before (l * events + e) 0)) (getD before (l * events + e) 0))
+    events l events before after

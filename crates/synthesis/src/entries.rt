@@ -1,5 +1,5 @@
 // The values of a table, by state and then event (document 01, "Table of a rule").
-use crate::node_sets::active;
+use crate::node_sets::after_last_member;
 use crate::numbers::entry_at;
 use crate::numbers::wide;
 use formulas::OUTPUT;
@@ -10,7 +10,7 @@ ghost use Prim.Native.Nat.{ℕ, _+_, _*_, _<_, _≤_};
 ghost use lib.ListN.{length};
 ghost use Rattle.values.specs.ValueKind.{meetOf};
 ghost use Rattle.synthesis.specs.Exploring.{Unchanged};
-ghost use Rattle.synthesis.specs.TableEntries.{state-value, EntriesTo, RowTo, OpenRow};
+ghost use Rattle.synthesis.specs.TableEntries.{state-value, EntriesTo, RowTo, OpenRow, Met};
 
 // Every event of a state gets top.
 fn open_row(top: u32, state: usize, events: usize, to: &mut [u32; 1024])
@@ -25,7 +25,35 @@ fn open_row(top: u32, state: usize, events: usize, to: &mut [u32; 1024])
     }
 }
 
-// Each O node of a state's set brings its value to the entry of its event, the last node first.
+// A node comes to the row of a state: where it is an O, its value is met with the entry of its event.
+fn meet_node(
+    kind: ValueKind,
+    meet: &[u8],
+    kinds: &[u8; 256],
+    firsts: &[u8; 256],
+    values: &[u32; 256],
+    node: usize,
+    state: usize,
+    events: usize,
+    to: &mut [u32; 1024],
+)
+    requires { ⌜ (node < 256) × (state < 64) × (events ≤ 16) × (length (now kinds) ≡ 256) × (length (now firsts) ≡ 256)
+        × (length (now values) ≡ 256) × (length (now to) ≡ 1024) ⌝ }
+    ensures { λ _. ⌜ Met (meetOf kind (now (meet .entry))) (now (kinds .entry)) (now (firsts .entry)) (now (values .entry)) events state node
+        (now (to .entry)) (now (to .exit)) ⌝ }
+{
+    if kinds[node] != OUTPUT {
+        return;
+    }
+    let event = wide(firsts[node]);
+    if event < events {
+        let at = entry_at(state, events, event);
+        let value = meet_of(kind, meet, values[node], to[at]);
+        to[at] = value;
+    }
+}
+
+// Each node of a state's set comes to the state's row, the last node first.
 fn meet_row(
     kind: ValueKind,
     meet: &[u8],
@@ -44,17 +72,11 @@ fn meet_row(
     ensures { λ _. ⌜ RowTo (state-value (meetOf kind (now (meet .entry))) top (now (kinds .entry)) (now (firsts .entry)) (now (values .entry)) count (now (states .entry)) state)
         events state events (now (to .entry)) (now (to .exit)) ⌝ }
 {
-    let mut node = count;
+    let mut node = after_last_member(states, state * 4, count);
     while 0 < node {
-        node -= 1;
-        let event = wide(firsts[node]);
-        if event < events {
-            if active(kinds, firsts, OUTPUT, node, event, states, state * 4) {
-                let at = entry_at(state, events, event);
-                let value = meet_of(kind, meet, values[node], to[at]);
-                to[at] = value;
-            }
-        }
+        let last = node - 1;
+        meet_node(kind, meet, kinds, firsts, values, last, state, events, to);
+        node = after_last_member(states, state * 4, last);
     }
 }
 

@@ -1,13 +1,11 @@
 // Sets of node numbers, four words of 64 bits a set.
-use crate::numbers::wide;
 use crate::numbers::word;
 ghost use mathlib.Core.Path.{_≡_};
-ghost use mathlib.Core.Bool.{true, false, _&&_};
+ghost use mathlib.Core.Bool.{true, false};
 ghost use Prim.Native.Nat.{ℕ, _+_, _*_, _<_, _≤_, _^_};
 ghost use lib.ListN.{length};
 ghost use Rattle.theory.specs.DemandSets.{union, only};
-ghost use Rattle.synthesis.specs.NodeWords.{set-at, row, bits-at, Stored, United, FirstBit, FirstMember};
-ghost use Rattle.synthesis.specs.Exploring.{for-event};
+ghost use Rattle.synthesis.specs.NodeWords.{set-at, row, bits-at, Stored, United, FirstBit, LastBit, FirstMember, LastMember};
 
 // 2 to the k-th.
 fn power(k: usize) -> u64
@@ -76,15 +74,6 @@ pub fn store(rows: &mut [u64; 1028], base: usize, set: &[u64; 4])
     }
 }
 
-// Whether a node is in the set from base on.
-pub fn contains(rows: &[u64; 1028], base: usize, node: usize) -> bool
-    requires { ⌜ (base + 4 ≤ 1028) × (node < 256) × (length (now rows) ≡ 1028) ⌝ }
-    ensures { λ r. ⌜ r ≡ set-at (now (rows .entry)) base node ⌝ }
-{
-    let w = rows[base + node / 64];
-    (w >> ((node % 64) as u64)) % 2 == 1
-}
-
 // The first set bit of a word from k on, or 64.
 fn first_bit(word: u64, k: usize) -> usize
     requires { ⌜ k < 64 ⌝ }
@@ -114,6 +103,35 @@ pub fn next_member(rows: &[u64; 1028], base: usize, from: usize, end: usize) -> 
     end
 }
 
+// One above the last set bit of a word at or below bit k, or 0.
+fn last_bit(word: u64, k: usize) -> usize
+    requires { ⌜ k < 64 ⌝ }
+    ensures { λ r. ⌜ LastBit word k r ⌝ }
+{
+    if (word >> (k as u64)) % 2 == 1 {
+        return k + 1;
+    }
+    let low = word % power(k);
+    64 - u64::leading_zeros(low) as usize
+}
+
+// The node after the last node below `end` that is in the set from base on, or 0. A word is looked at once.
+pub fn after_last_member(rows: &[u64; 1028], base: usize, end: usize) -> usize
+    requires { ⌜ (base + 4 ≤ 1028) × (end ≤ 256) × (length (now rows) ≡ 1028) ⌝ }
+    ensures { λ r. ⌜ LastMember (set-at (now (rows .entry)) base) end r ⌝ }
+{
+    let mut node = end;
+    while 0 < node {
+        let last = node - 1;
+        let bit = last_bit(rows[base + last / 64], last % 64);
+        node = last / 64 * 64;
+        if 0 < bit {
+            return node + bit;
+        }
+    }
+    0
+}
+
 // Whether the set from base on is the given one.
 pub fn same(rows: &[u64; 1028], base: usize, set: &[u64; 4]) -> bool
     requires { ⌜ (base + 4 ≤ 1028) × (length (now rows) ≡ 1028) × (length (now set) ≡ 4) ⌝ }
@@ -130,26 +148,4 @@ pub fn same(rows: &[u64; 1028], base: usize, set: &[u64; 4]) -> bool
         i += 1;
     }
     true
-}
-
-// Whether a node is of the kind, for the event, and in the set from base on.
-pub fn active(
-    kinds: &[u8; 256],
-    firsts: &[u8; 256],
-    kind: u8,
-    node: usize,
-    event: usize,
-    rows: &[u64; 1028],
-    base: usize,
-) -> bool
-    requires { ⌜ (node < 256) × (base + 4 ≤ 1028) × (length (now kinds) ≡ 256) × (length (now firsts) ≡ 256) × (length (now rows) ≡ 1028) ⌝ }
-    ensures { λ r. ⌜ r ≡ set-at (now (rows .entry)) base node && for-event (now (kinds .entry)) (now (firsts .entry)) kind event node ⌝ }
-{
-    if kinds[node] != kind {
-        return false;
-    }
-    if wide(firsts[node]) != event {
-        return false;
-    }
-    contains(rows, base, node)
 }
