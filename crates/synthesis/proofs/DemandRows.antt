@@ -2,33 +2,52 @@
 -- Assumes nothing.
 use mathlib.Core.Path.{_≡_, refl, sym, _∙_, ap, ap₂, subst}
 use mathlib.Core.List.{List, [], _∷_, map}
-use Prim.Native.Nat.{ℕ, suc, _+_, _*_, _-_, _≤_, _<_}
+use Prim.Native.Nat.{ℕ, suc, _+_, _*_, _-_, _/_, _%_, _^_, _≤_, _<_}
 use native.Mathlib.Decide.{decLt, ℕ-discrete}
 use native.Mathlib.Numerals.{add-one}
 use native.Mathlib.Omega.{arith}
-use lib.ListN.{length}
+use lib.Bits.{bitOr}
+use lib.ListN.{length, getD, set, length-set}
+use lib.Seq.{getD-set-other}
 use Rattle.theory.specs.Formula.{Formula, truth, variable, transition, output, conjunction, greatest, size, GuardedIn}
 use Rattle.theory.specs.Demands.{NodeSet}
 use Rattle.theory.specs.DemandSets.{empty, union, only, demands}
-use Rattle.theory.proofs.NodeSets.{swap-at, demands-swap}
+use Rattle.theory.proofs.NodeSets.{empty-union, swap-at, demands-swap}
 use Rattle.formulas.specs.NodeReading.{Reads}
 use Rattle.formulas.specs.NodeWalks.{field}
 use Rattle.formulas.proofs.Walking.{size-positive}
-use Rattle.synthesis.specs.NodeWords.{set-at, row, Stored}
+use Rattle.synthesis.specs.NodeWords.{row}
 use Rattle.synthesis.specs.NodeWalks.{Ends}
 use Rattle.synthesis.specs.DemandRows.{RowStored, AllBelow, UnguardedRows, Gathers, Gathered, RowsAt, RowsTo}
-use Rattle.synthesis.proofs.NodeWords.{stored-there, stored-else}
+use Rattle.synthesis.proofs.NodeWords.{set-insert, set-else, WordsTo}
 use Rattle.synthesis.proofs.NodeSetLaws.{binder-map}
 use Rattle.synthesis.proofs.NodeWalks.{reads-at, binds-at, end-none, end-greatest, end-conjunction}
 
+-- Four words stored for a node.
 pub row-stored :
-    (before after from : List ℕ) (i : ℕ) (D : NodeSet) → length before ≡ 1028 → Stored before after (i * 4) from →
-    set-at from 0 ≡ D → RowStored before after i D
-row-stored before after from i D n s e =
+    (f : ℕ → ℕ) (i : ℕ) (before after : List ℕ) (D : NodeSet) → length before ≡ 1028 → WordsTo f (i * 4) 4 before after →
+    row after i ≡ D → RowStored before after i D
+row-stored f i before after D n s e =
+    record { sized = s .sized ∙ n; here = e; others = λ j d. set-else before after i j (s .below) (s .above) d }
+
+-- A node inserted into its own row.
+pub row-inserted :
+    (i v : ℕ) (before l : List ℕ) → i < 256 → v ≡ 2 ^ (i % 64) → RowStored before l i empty →
+    RowStored before (set l (i * 4 + i / 64) (bitOr (getD l (i * 4 + i / 64) 0) v)) i (only i)
+row-inserted i v before l h e old =
+    let at : ℕ = i * 4 + i / 64 in
+    let x : ℕ = bitOr (getD l at 0) v in
     record {
-      sized = s .sized ∙ n;
-      here = stored-there before after from (i * 4) s ∙ e;
-      others = λ j d. stored-else before after from i j s d;
+      sized = length-set l at x ∙ old .sized;
+      here =
+          ap (λ y. row (set l at (bitOr (getD l at 0) y)) i) e
+          ∙ set-insert l (i * 4) i h (omega (arith, old .sized))
+          ∙ ap (λ C. union C (only i)) (old .here)
+          ∙ empty-union (only i);
+      others = λ j d.
+          set-else l (set l at x) i j (λ y u. getD-set-other l at y x 0 (λ q. omega (arith, q)))
+          (λ y u. getD-set-other l at y x 0 (λ q. omega (arith, q))) d
+          ∙ old .others j d;
     }
 
 pub below-later : (i j : ℕ) (σ : List ℕ) → i ≤ j → AllBelow i σ → AllBelow j σ

@@ -7,11 +7,12 @@ use Prim.Native.Nat.{ℕ, _+_, _*_, _-_, _/_, _%_, _^_, _≤_, _<_}
 use native.Mathlib.Nat.{div-add-mod'}
 use native.Mathlib.Decide.{decLt, ℕ-discrete}
 use native.Mathlib.Omega.{arith}
+use borrow.Author.Count.{below-more}
 use borrow.Author.Tests.{lt-ltb, le-ltb, eq-eqb, ne-eqb}
 use lib.Arith.{digits-div, digits-mod}
 use lib.Bits.{bitOr}
 use lib.Dec.{eqb}
-use lib.ListN.{length, getD, set, replicate, getD-replicate}
+use lib.ListN.{length, getD, set, length-set, replicate, getD-replicate}
 use lib.Seq.{getD-set-same, getD-set-other}
 use Rattle.theory.specs.DemandSets.{empty, union, only}
 use Rattle.theory.specs.Exploration.{member, bits}
@@ -29,23 +30,23 @@ past-words l b j h = ap (λ t. t && eqb (bit-at (getD l (b + j / 64) 0) (j % 64)
 
 -- A node's bit is set in its word.
 pub set-insert :
-    (l : List ℕ) (k : ℕ) → k < 256 → length l ≡ 4 →
-    set-at (set l (k / 64) (bitOr (getD l (k / 64) 0) (2 ^ (k % 64)))) 0 ≡ union (set-at l 0) (only k)
+    (l : List ℕ) (b k : ℕ) → k < 256 → b + 4 ≤ length l →
+    set-at (set l (b + k / 64) (bitOr (getD l (b + k / 64) 0) (2 ^ (k % 64)))) b ≡ union (set-at l b) (only k)
 unfolding union only
-set-insert l k h n = fun-ext λ j. go j (decLt j 256)
+set-insert l b k h n = fun-ext λ j. go j (decLt j 256)
   where
     l′ : List ℕ
-    l′ = set l (k / 64) (bitOr (getD l (k / 64) 0) (2 ^ (k % 64)))
+    l′ = set l (b + k / 64) (bitOr (getD l (b + k / 64) 0) (2 ^ (k % 64)))
 
-    inside : (j : ℕ) → j < 256 → Dec (j / 64 ≡ k / 64) → set-at l′ 0 j ≡ set-at l 0 j || eqb k j
+    inside : (j : ℕ) → j < 256 → Dec (j / 64 ≡ k / 64) → set-at l′ b j ≡ set-at l b j || eqb k j
     inside j u (yes e) =
-        let z : 0 + j / 64 ≡ k / 64 = omega (arith, e) in
-        in-words l′ 0 j u
+        let z : b + j / 64 ≡ b + k / 64 = omega (arith, e) in
+        in-words l′ b j u
         ∙ ap (λ x. eqb (bit-at x (j % 64)) 1)
-        (ap (λ x. getD l′ x 0) z ∙ getD-set-same l (k / 64) (bitOr (getD l (k / 64) 0) (2 ^ (k % 64))) 0 (omega arith))
-        ∙ or-bit (getD l (k / 64) 0) (2 ^ (k % 64)) (j % 64)
+        (ap (λ x. getD l′ x 0) z ∙ getD-set-same l (b + k / 64) (bitOr (getD l (b + k / 64) 0) (2 ^ (k % 64))) 0 (omega arith))
+        ∙ or-bit (getD l (b + k / 64) 0) (2 ^ (k % 64)) (j % 64)
         ∙ ap₂ (λ a b. a || b)
-        (ap (λ x. eqb (bit-at (getD l x 0) (j % 64)) 1) (sym z) ∙ sym (in-words l 0 j u))
+        (ap (λ x. eqb (bit-at (getD l x 0) (j % 64)) 1) (sym z) ∙ sym (in-words l b j u))
         (power-bit (k % 64) (j % 64) ∙ digit (ℕ-discrete k j))
       where
         digit : Dec (k ≡ j) → eqb (k % 64) (j % 64) ≡ eqb k j
@@ -55,36 +56,36 @@ set-insert l k h n = fun-ext λ j. go j (decLt j 256)
             (λ t. q (sym (div-add-mod' k 64) ∙ ap₂ (λ a b. a * 64 + b) (sym e) t ∙ div-add-mod' j 64))
             ∙ sym (ne-eqb k j q)
     inside j u (no e) =
-        in-words l′ 0 j u
+        in-words l′ b j u
         ∙ ap (λ x. eqb (bit-at x (j % 64)) 1)
-        (getD-set-other l (k / 64) (0 + j / 64) (bitOr (getD l (k / 64) 0) (2 ^ (k % 64))) 0 (λ q. e (omega (arith, q))))
-        ∙ sym (in-words l 0 j u)
-        ∙ sym (or-false (set-at l 0 j))
-        ∙ ap (λ b. set-at l 0 j || b) (sym (ne-eqb k j (λ q. e (ap (λ x. x / 64) (sym q)))))
+        (getD-set-other l (b + k / 64) (b + j / 64) (bitOr (getD l (b + k / 64) 0) (2 ^ (k % 64))) 0 (λ q. e (omega (arith, q))))
+        ∙ sym (in-words l b j u)
+        ∙ sym (or-false (set-at l b j))
+        ∙ ap (λ t. set-at l b j || t) (sym (ne-eqb k j (λ q. e (ap (λ x. x / 64) (sym q)))))
 
-    go : (j : ℕ) → Dec (j < 256) → set-at l′ 0 j ≡ set-at l 0 j || eqb k j
+    go : (j : ℕ) → Dec (j < 256) → set-at l′ b j ≡ set-at l b j || eqb k j
     go j (yes u) = inside j u (ℕ-discrete (j / 64) (k / 64))
     go j (no u) =
-        past-words l′ 0 j (omega arith)
-        ∙ sym (ap₂ (λ a b. a || b) (past-words l 0 j (omega arith)) (ne-eqb k j (λ e. omega (arith, e))))
+        past-words l′ b j (omega arith)
+        ∙ sym (ap₂ (λ a b. a || b) (past-words l b j (omega arith)) (ne-eqb k j (λ e. omega (arith, e))))
 
 -- The bitwise or of the words is the union.
 pub set-unite :
-    (after before rows : List ℕ) (to base : ℕ) →
-    ((w : ℕ) → w < 4 → getD after (to + w) 0 ≡ bitOr (getD before (to + w) 0) (getD rows (base + w) 0)) →
-    set-at after to ≡ union (set-at before to) (set-at rows base)
+    (after before rows : List ℕ) (to from base : ℕ) →
+    ((w : ℕ) → w < 4 → getD after (to + w) 0 ≡ bitOr (getD before (from + w) 0) (getD rows (base + w) 0)) →
+    set-at after to ≡ union (set-at before from) (set-at rows base)
 unfolding union
-set-unite after before rows to base f = fun-ext λ j. go j (decLt j 256)
+set-unite after before rows to from base f = fun-ext λ j. go j (decLt j 256)
   where
-    go : (j : ℕ) → Dec (j < 256) → set-at after to j ≡ set-at before to j || set-at rows base j
+    go : (j : ℕ) → Dec (j < 256) → set-at after to j ≡ set-at before from j || set-at rows base j
     go j (yes u) =
         in-words after to j u
         ∙ ap (λ x. eqb (bit-at x (j % 64)) 1) (f (j / 64) (omega arith))
-        ∙ or-bit (getD before (to + j / 64) 0) (getD rows (base + j / 64) 0) (j % 64)
-        ∙ sym (ap₂ (λ a b. a || b) (in-words before to j u) (in-words rows base j u))
+        ∙ or-bit (getD before (from + j / 64) 0) (getD rows (base + j / 64) 0) (j % 64)
+        ∙ sym (ap₂ (λ a b. a || b) (in-words before from j u) (in-words rows base j u))
     go j (no u) =
         past-words after to j (omega arith)
-        ∙ sym (ap₂ (λ a b. a || b) (past-words before to j (omega arith)) (past-words rows base j (omega arith)))
+        ∙ sym (ap₂ (λ a b. a || b) (past-words before from j (omega arith)) (past-words rows base j (omega arith)))
 
 -- Equal words, equal sets.
 pub set-same :
@@ -97,19 +98,17 @@ set-same l m b c f = fun-ext λ j. go j (decLt j 256)
     go j (no u) = past-words l b j (omega arith) ∙ sym (past-words m c j (omega arith))
 
 -- Words of zeros are the empty set.
-pub none-at : (n base : ℕ) → base + 4 ≤ n → set-at (replicate n 0) base ≡ empty
+pub no-words : (l : List ℕ) (base : ℕ) → ((w : ℕ) → w < 4 → getD l (base + w) 0 ≡ 0) → set-at l base ≡ empty
 unfolding empty
-none-at n base h = fun-ext λ j. go j (decLt j 256)
+no-words l base f = fun-ext λ j. go j (decLt j 256)
   where
-    go : (j : ℕ) → Dec (j < 256) → set-at (replicate n 0) base j ≡ false
+    go : (j : ℕ) → Dec (j < 256) → set-at l base j ≡ false
     go j (yes u) =
-        in-words (replicate n 0) base j u
-        ∙ ap (λ x. eqb (bit-at x (j % 64)) 1) (getD-replicate n (base + j / 64) 0 0 (omega arith))
-        ∙ zero-bit (j % 64)
-    go j (no u) = past-words (replicate n 0) base j (omega arith)
+        in-words l base j u ∙ ap (λ x. eqb (bit-at x (j % 64)) 1) (f (j / 64) (omega arith)) ∙ zero-bit (j % 64)
+    go j (no u) = past-words l base j (omega arith)
 
-pub no-members : set-at (replicate 4 0) 0 ≡ empty
-no-members = none-at 4 0 (omega arith)
+pub none-at : (n base : ℕ) → base + 4 ≤ n → set-at (replicate n 0) base ≡ empty
+none-at n base h = no-words (replicate n 0) base (λ w u. getD-replicate n (base + w) 0 0 (omega arith))
 
 -- A node of the word that node k is in: k stands at k % 64 in it, and j at i.
 in-word :
@@ -162,6 +161,40 @@ word-left l b node bit end some small found f j h u = go (decLt j node)
     go : Dec (j < node) → set-at l b j ≡ false
     go (yes w) = word-after l b (node - 1) bit (omega arith) found j h (omega arith)
     go (no w) = f j (omega arith) u
+
+-- The first m words from base on are those of f, and all others are as before.
+pub record WordsTo (f : ℕ → ℕ) (base m : ℕ) (before after : List ℕ) : Type 0 where
+  pub sized : length after ≡ length before
+  pub there : (w : ℕ) → w < m → getD after (base + w) 0 ≡ f w
+  pub below : (x : ℕ) → x < base → getD after x 0 ≡ getD before x 0
+  pub above : (x : ℕ) → base + m ≤ x → getD after x 0 ≡ getD before x 0
+
+pub words-none : (f : ℕ → ℕ) (base : ℕ) (l : List ℕ) → WordsTo f base 0 l l
+words-none f base l =
+    record { sized = refl; there = λ w h. absurd (omega arith); below = λ x h. refl; above = λ x h. refl }
+
+pub words-more :
+    (f : ℕ → ℕ) (base m v : ℕ) (before l : List ℕ) → base + m < length l → v ≡ f m → WordsTo f base m before l →
+    WordsTo f base (m + 1) before (set l (base + m) v)
+words-more f base m v before l fits e old =
+    record {
+      sized = length-set l (base + m) v ∙ old .sized;
+      there = below-more _ _
+          (λ w h. getD-set-other l (base + m) (base + w) v 0 (λ q. omega (arith, q)) ∙ old .there w h)
+          (getD-set-same l (base + m) v 0 fits ∙ e);
+      below = λ x h. getD-set-other l (base + m) x v 0 (λ q. omega (arith, q)) ∙ old .below x h;
+      above = λ x h. getD-set-other l (base + m) x v 0 (λ q. omega (arith, q)) ∙ old .above x (omega arith);
+    }
+
+-- Word m of any set is as before, where the first m words of set i are stored.
+pub words-unread :
+    (f : ℕ → ℕ) (i m j : ℕ) (before l : List ℕ) → m < 4 → WordsTo f (i * 4) m before l →
+    getD l (j * 4 + m) 0 ≡ getD before (j * 4 + m) 0
+words-unread f i m j before l h old = go (decLt j i)
+  where
+    go : Dec (j < i) → getD l (j * 4 + m) 0 ≡ getD before (j * 4 + m) 0
+    go (yes u) = old .below (j * 4 + m) (omega arith)
+    go (no u) = old .above (j * 4 + m) (omega arith)
 
 -- What is stored is read there, and elsewhere what was.
 pub stored-there : (before after from : List ℕ) (base : ℕ) → Stored before after base from → set-at after base ≡ set-at from 0

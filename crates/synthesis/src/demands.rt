@@ -1,8 +1,6 @@
 // The demands of every node, worked out before the walk over states (document 01, "Table of a rule").
 // Nodes stand in prefix order: a node, then its parts; the nodes remaining are the falling number of each walk.
-use crate::node_sets::insert;
-use crate::node_sets::store;
-use crate::node_sets::unite;
+use crate::node_sets::power;
 use crate::numbers::narrow;
 use crate::numbers::wide;
 use formulas::CONJUNCTION;
@@ -105,8 +103,11 @@ fn store_none(rows: &mut [u64; 1028], at: usize)
     requires { ⌜ (at < 256) × (length (now rows) ≡ 1028) ⌝ }
     ensures { λ _. ⌜ RowStored (now (rows .entry)) (now (rows .exit)) at empty ⌝ }
 {
-    let set = [0u64; 4];
-    store(rows, at * 4, &set);
+    let mut w: usize = 0;
+    while w < 4 {
+        rows[at * 4 + w] = 0;
+        w += 1;
+    }
 }
 
 // A node that demands itself.
@@ -114,19 +115,10 @@ fn store_self(rows: &mut [u64; 1028], at: usize)
     requires { ⌜ (at < 256) × (length (now rows) ≡ 1028) ⌝ }
     ensures { λ _. ⌜ RowStored (now (rows .entry)) (now (rows .exit)) at (only at) ⌝ }
 {
-    let mut set = [0u64; 4];
-    insert(&mut set, at);
-    store(rows, at * 4, &set);
-}
-
-// A node that demands what another does.
-fn store_copy(rows: &mut [u64; 1028], at: usize, from: usize)
-    requires { ⌜ (at < 256) × (from ≤ 256) × (length (now rows) ≡ 1028) ⌝ }
-    ensures { λ _. ⌜ RowStored (now (rows .entry)) (now (rows .exit)) at (row (now (rows .entry)) from) ⌝ }
-{
-    let mut set = [0u64; 4];
-    unite(&mut set, &*rows, from * 4);
-    store(rows, at * 4, &set);
+    store_none(rows, at);
+    let word = at * 4 + at / 64;
+    let bit = power(at % 64);
+    rows[word] = rows[word] | bit;
 }
 
 // A node that demands what two others do.
@@ -135,10 +127,19 @@ fn store_union(rows: &mut [u64; 1028], at: usize, first: usize, second: usize)
     ensures { λ _. ⌜ RowStored (now (rows .entry)) (now (rows .exit)) at
         (union (row (now (rows .entry)) first) (row (now (rows .entry)) second)) ⌝ }
 {
-    let mut set = [0u64; 4];
-    unite(&mut set, &*rows, first * 4);
-    unite(&mut set, &*rows, second * 4);
-    store(rows, at * 4, &set);
+    let mut w: usize = 0;
+    while w < 4 {
+        rows[at * 4 + w] = rows[first * 4 + w] | rows[second * 4 + w];
+        w += 1;
+    }
+}
+
+// A node that demands what another does.
+fn store_copy(rows: &mut [u64; 1028], at: usize, from: usize)
+    requires { ⌜ (at < 256) × (from ≤ 256) × (length (now rows) ≡ 1028) ⌝ }
+    ensures { λ _. ⌜ RowStored (now (rows .entry)) (now (rows .exit)) at (row (now (rows .entry)) from) ⌝ }
+{
+    store_union(rows, at, from, from);
 }
 
 // Gives each node of the formula at a node its demands, except below its G nodes; the answer is the node after that formula.

@@ -6,7 +6,7 @@ use formulas::OUTPUT;
 use values::ValueKind;
 use values::meet_of;
 ghost use mathlib.Core.Path.{_≡_};
-ghost use Prim.Native.Nat.{ℕ, _+_, _*_, _<_, _≤_};
+ghost use Prim.Native.Nat.{_+_, _*_, _<_, _≤_};
 ghost use lib.ListN.{length};
 ghost use Rattle.values.specs.ValueKind.{meetOf};
 ghost use Rattle.synthesis.specs.Exploring.{Unchanged};

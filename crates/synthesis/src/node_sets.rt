@@ -2,40 +2,16 @@
 use crate::numbers::word;
 ghost use mathlib.Core.Path.{_≡_};
 ghost use mathlib.Core.Bool.{true, false};
-ghost use Prim.Native.Nat.{ℕ, _+_, _*_, _<_, _≤_, _^_};
+ghost use Prim.Native.Nat.{_+_, _*_, _<_, _≤_, _^_};
 ghost use lib.ListN.{length};
-ghost use Rattle.theory.specs.DemandSets.{union, only};
 ghost use Rattle.synthesis.specs.NodeWords.{set-at, row, bits-at, Stored, United, FirstBit, LastBit, FirstMember, LastMember};
 
 // 2 to the k-th.
-fn power(k: usize) -> u64
+pub fn power(k: usize) -> u64
     requires { ⌜ k < 64 ⌝ }
     ensures { λ r. ⌜ r ≡ 2 ^ k ⌝ }
 {
     1u64 << (k as u64)
-}
-
-// A node comes into a set.
-pub fn insert(set: &mut [u64; 4], node: usize)
-    requires { ⌜ (node < 256) × (length (now set) ≡ 4) ⌝ }
-    ensures { λ _. ⌜ (length (now (set .exit)) ≡ 4) × (set-at (now (set .exit)) 0 ≡ union (set-at (now (set .entry)) 0) (only node)) ⌝ }
-{
-    let at = node / 64;
-    let bit = power(node % 64);
-    set[at] = set[at] | bit;
-}
-
-// The set from base on comes into a set.
-pub fn unite(set: &mut [u64; 4], rows: &[u64; 1028], base: usize)
-    requires { ⌜ (base + 4 ≤ 1028) × (length (now set) ≡ 4) × (length (now rows) ≡ 1028) ⌝ }
-    ensures { λ _. ⌜ (length (now (set .exit)) ≡ 4)
-        × (set-at (now (set .exit)) 0 ≡ union (set-at (now (set .entry)) 0) (set-at (now (rows .entry)) base)) ⌝ }
-{
-    let mut i: usize = 0;
-    while i < 4 {
-        set[i] = set[i] | rows[base + i];
-        i += 1;
-    }
 }
 
 // The set from base on comes into set i of the sets.

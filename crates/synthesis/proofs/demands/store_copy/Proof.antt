@@ -1,33 +1,20 @@
--- `store_copy` meets its contract.
+-- `store_copy` meets its contract: a set united with itself is the set.
 -- Assumes nothing.
-use mathlib.Core.Path.{_∙_, ap}
-use Rattle.theory.specs.DemandSets.{union}
-use Rattle.theory.proofs.NodeSets.{empty-union}
+use mathlib.Core.Path.{_∙_}
+use Rattle.theory.proofs.NodeSets.{union-same}
 use Rattle.synthesis.specs.NodeWords.{row}
-use Rattle.synthesis.proofs.NodeWords.{no-members}
-use Rattle.synthesis.proofs.DemandRows.{row-stored}
 use borrow.Author.Needs.{needs}
 use Rattle.synthesis.proofs.demands.store_copy.Statement.{statement}
 use Rattle.synthesis.proofs.demands.store_copy.Tie as tie
 
-mul-unite : tie.Need-mul-unite
-mul-unite c = search needs
-
-unite-requires : tie.Need-unite-requires
-unite-requires c κs = search needs
-
-mul-store : tie.Need-mul-store
-mul-store c = search needs
-
-store-requires : tie.Need-store-requires
-store-requires c κs = search needs
+store-union-requires : tie.Need-store-union-requires
+store-union-requires c κs = search needs
 
 returns : tie.Need-returns
 returns c =
-    let a = c .before .before .before .before .before .before .args in
-    let D = row (a .rows .now) (a .from) in
-    row-stored (a .rows .now) _ _ (a .at) _ (search needs) (c .store .ensures)
-    (c .before .before .before .unite .ensures .1 ∙ ap (λ C. union C D) no-members ∙ empty-union D)
+    let a = c .before .before .args in
+    let x = c .store-union .ensures in
+    record { sized = x .sized; here = x .here ∙ union-same (row (a .rows .now) (a .from)); others = x .others }
 
 pub store-copy-spec : {M : Type 1} → statement M
-store-copy-spec = tie.close (tie.spec mul-unite unite-requires mul-store store-requires returns)
+store-copy-spec = tie.close (tie.spec store-union-requires returns)

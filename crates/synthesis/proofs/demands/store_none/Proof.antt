@@ -1,20 +1,68 @@
--- `store_none` meets its contract.
+-- `store_none` meets its contract. The loop's invariant: the words passed are 0, all others as before.
 -- Assumes nothing.
-use Rattle.synthesis.proofs.NodeWords.{no-members}
+use mathlib.Core.Path.{_≡_, refl, subst}
+use Prim.Native.Nat.{_≤_, _-_, _*_}
+use native.Mathlib.Omega.{arith}
+use lib.ListN.{length}
+use Rattle.synthesis.proofs.NodeWords.{WordsTo, words-none, words-more, no-words}
 use Rattle.synthesis.proofs.DemandRows.{row-stored}
 use borrow.Author.Needs.{needs}
 use Rattle.synthesis.proofs.demands.store_none.Statement.{statement}
 use Rattle.synthesis.proofs.demands.store_none.Tie as tie
 
-mul-store : tie.Need-mul-store
-mul-store c = search needs
+abbrev Inv-loop : tie.InvT-loop
+Inv-loop rows₀ at w₀ rows w = (w ≤ 4) × (length rows ≡ 1028) × WordsTo (λ v. 0) (at * 4) w rows₀ rows
 
-store-requires : tie.Need-store-requires
-store-requires c κs = search needs
+abbrev μ-loop : tie.MeasureT-loop
+μ-loop rows₀ at w₀ rows w = 4 - w
 
-returns : tie.Need-returns
+loop-holds : tie.Need-loop-holds Inv-loop μ-loop
+loop-holds c = (search needs, search needs, words-none (λ v. 0) (c .args .at * 4) (c .args .rows .now))
+
+mul-rows : tie.Need-mul-rows Inv-loop μ-loop
+mul-rows c = search needs
+
+add-rows : tie.Need-add-rows Inv-loop μ-loop
+add-rows c = search needs
+
+mul-rows-2 : tie.Need-mul-rows-2 Inv-loop μ-loop
+mul-rows-2 c = search needs
+
+element-write-rows : tie.Need-element-write-rows Inv-loop μ-loop
+element-write-rows c = search needs
+
+add-w : tie.Need-add-w Inv-loop μ-loop
+add-w c = search needs
+
+loop-less : tie.Need-loop-less Inv-loop μ-loop
+loop-less c = search needs
+
+loop-again : tie.Need-loop-again Inv-loop μ-loop
+loop-again c =
+    let a = c .before .before .args in
+    let l = c .before .loop in
+    (search needs, search needs, words-more (λ v. 0) (a .at * 4) (l .w) 0 (a .rows .now) (l .rows) (search needs) refl (l .inv .2))
+
+returns : tie.Need-returns Inv-loop μ-loop
 returns c =
-    row-stored (c .before .before .before .args .rows .now) _ _ (c .before .before .before .args .at) _ (search needs) (c .store .ensures) no-members
+    let a = c .before .before .args in
+    let l = c .before .loop in
+    let q : l .w ≡ 4 = omega arith in
+    let v = subst (λ x. WordsTo (λ v. 0) (a .at * 4) x (a .rows .now) (l .rows)) q (l .inv .2) in
+    row-stored (λ v. 0) (a .at) (a .rows .now) (l .rows) _ (search needs) v (no-words (l .rows) (a .at * 4) (v .there))
 
 pub store-none-spec : {M : Type 1} → statement M
-store-none-spec = tie.close (tie.spec mul-store store-requires returns)
+store-none-spec =
+    tie.close
+    (tie.spec
+    Inv-loop
+    μ-loop
+    loop-holds
+    mul-rows
+    add-rows
+    mul-rows-2
+    element-write-rows
+    add-w
+    loop-less
+    loop-again
+    returns)

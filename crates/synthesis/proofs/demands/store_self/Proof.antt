@@ -1,28 +1,49 @@
 -- `store_self` meets its contract.
 -- Assumes nothing.
-use mathlib.Core.Path.{_∙_, ap}
-use Rattle.theory.specs.DemandSets.{union, only}
-use Rattle.theory.proofs.NodeSets.{empty-union}
-use Rattle.synthesis.proofs.NodeWords.{no-members}
-use Rattle.synthesis.proofs.DemandRows.{row-stored}
+use Rattle.synthesis.proofs.DemandRows.{row-inserted}
 use borrow.Author.Needs.{needs}
 use Rattle.synthesis.proofs.demands.store_self.Statement.{statement}
 use Rattle.synthesis.proofs.demands.store_self.Tie as tie
 
-insert-requires : tie.Need-insert-requires
-insert-requires c κs = search needs
+store-none-requires : tie.Need-store-none-requires
+store-none-requires c κs = search needs
 
-mul-store : tie.Need-mul-store
-mul-store c = search needs
+mul-word : tie.Need-mul-word
+mul-word c = search needs
 
-store-requires : tie.Need-store-requires
-store-requires c κs = search needs
+add-word : tie.Need-add-word
+add-word c = search needs
+
+power-requires : tie.Need-power-requires
+power-requires c κs = search needs
+
+mul-rows : tie.Need-mul-rows
+mul-rows c = search needs
+
+element-copy-out-rows : tie.Need-element-copy-out-rows
+element-copy-out-rows c = search needs
+
+mul-rows-2 : tie.Need-mul-rows-2
+mul-rows-2 c = search needs
+
+element-write-rows : tie.Need-element-write-rows
+element-write-rows c = search needs
 
 returns : tie.Need-returns
 returns c =
-    let a = c .before .before .before .before .before .args in
-    row-stored (a .rows .now) _ _ (a .at) _ (search needs) (c .store .ensures)
-    (c .before .before .before .insert .ensures .1 ∙ ap (λ C. union C (only (a .at))) no-members ∙ empty-union (only (a .at)))
+    let a = c .before .before .before .before .args in
+    row-inserted (a .at) (c .before .power .result) (a .rows .now) _ (search needs) (c .before .power .ensures) (c .before .before .store-none .ensures)
 
 pub store-self-spec : {M : Type 1} → statement M
-store-self-spec = tie.close (tie.spec insert-requires mul-store store-requires returns)
+store-self-spec =
+    tie.close
+    (tie.spec
+    store-none-requires
+    mul-word
+    add-word
+    power-requires
+    mul-rows
+    element-copy-out-rows
+    mul-rows-2
+    element-write-rows
+    returns)

@@ -88,7 +88,7 @@ returns c =
     let e : c .before .loop .w ≡ 4 = omega arith in
     record {
       sized = search needs;
-      there = set-unite (c .before .loop .sets) (a .sets .now) (a .rows .now) (a .i * 4) (a .base) (λ w h. v .2 w (omega arith));
+      there = set-unite (c .before .loop .sets) (a .sets .now) (a .rows .now) (a .i * 4) (a .i * 4) (a .base) (λ w h. v .2 w (omega arith));
       others = λ j d. set-else (a .sets .now) (c .before .loop .sets) (a .i) j (v .3) (λ x h. v .4 x (omega arith)) d;
     }
 
