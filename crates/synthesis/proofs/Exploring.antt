@@ -423,18 +423,19 @@ module _ (kinds firsts rows : List ℕ) (count events i n k e : ℕ) (before₀ 
           )
 
 -- The loop over states.
-module _ (next : List Bool → ℕ → List Bool) (states : List ℕ) (events : ℕ) where
+module _ (next : List Bool → ℕ → List Bool) (rows : List ℕ) (events : ℕ) where
   abbrev from-here : List Bool
-  from-here = bits-at states 0
+  from-here = bits-at rows 0
 
   abbrev pub all-to : ℕ → List (List ℕ)
   all-to k = from-start next from-here events k
 
-  pub kept-start : (nexts : List ℕ) → Kept next from-here events (all-to 0) 1 (0 * events) states nexts
-  kept-start nexts = record { count = refl; state = one; entry = λ x h. absurd (omega (arith, zero-mul events)) }
+  pub kept-start :
+      (states nexts : List ℕ) → bits-at states 0 ≡ from-here → Kept next from-here events (all-to 0) 1 (0 * events) states nexts
+  kept-start states nexts e = record { count = refl; state = one; entry = λ x h. absurd (omega (arith, zero-mul events)) }
     where
       one : (j : ℕ) → j < 1 → bits-at states (j * 4) ≡ state-of next from-here (getD ([] ∷ []) j [])
-      one zero h = refl
+      one zero h = e
       one (suc j) h = absurd (omega arith)
 
   module _ (limit i n m : ℕ) (now nexts after nexts′ : List ℕ) (h : i < n)

@@ -62,13 +62,13 @@ fn meet_row(
     firsts: &[u8; 256],
     values: &[u32; 256],
     count: usize,
-    states: &[u64; 1028],
+    states: &[u64; 256],
     state: usize,
     events: usize,
     to: &mut [u32; 1024],
 )
     requires { ⌜ (count ≤ 256) × (state < 64) × (events ≤ 16) × (length (now kinds) ≡ 256) × (length (now firsts) ≡ 256)
-        × (length (now values) ≡ 256) × (length (now states) ≡ 1028) × (length (now to) ≡ 1024) × OpenRow top events state (now to) ⌝ }
+        × (length (now values) ≡ 256) × (length (now states) ≡ 256) × (length (now to) ≡ 1024) × OpenRow top events state (now to) ⌝ }
     ensures { λ _. ⌜ RowTo (state-value (meetOf kind (now (meet .entry))) top (now (kinds .entry)) (now (firsts .entry)) (now (values .entry)) count (now (states .entry)) state)
         events state events (now (to .entry)) (now (to .exit)) ⌝ }
 {
@@ -89,13 +89,13 @@ fn fill_row(
     firsts: &[u8; 256],
     values: &[u32; 256],
     count: usize,
-    states: &[u64; 1028],
+    states: &[u64; 256],
     state: usize,
     events: usize,
     to: &mut [u32; 1024],
 )
     requires { ⌜ (count ≤ 256) × (state < 64) × (events ≤ 16) × (length (now kinds) ≡ 256) × (length (now firsts) ≡ 256)
-        × (length (now values) ≡ 256) × (length (now states) ≡ 1028) × (length (now to) ≡ 1024) ⌝ }
+        × (length (now values) ≡ 256) × (length (now states) ≡ 256) × (length (now to) ≡ 1024) ⌝ }
     ensures { λ _. ⌜ RowTo (state-value (meetOf kind (now (meet .entry))) top (now (kinds .entry)) (now (firsts .entry)) (now (values .entry)) count (now (states .entry)) state)
         events state events (now (to .entry)) (now (to .exit)) ⌝ }
 {
@@ -124,13 +124,13 @@ pub fn fill_values(
     firsts: &[u8; 256],
     values: &[u32; 256],
     count: usize,
-    states: &[u64; 1028],
+    states: &[u64; 256],
     n: usize,
     events: usize,
     to: &mut [u32; 1024],
 )
     requires { ⌜ (count ≤ 256) × (n ≤ 64) × (events ≤ 16) × (length (now kinds) ≡ 256) × (length (now firsts) ≡ 256)
-        × (length (now values) ≡ 256) × (length (now states) ≡ 1028) × (length (now to) ≡ 1024) ⌝ }
+        × (length (now values) ≡ 256) × (length (now states) ≡ 256) × (length (now to) ≡ 1024) ⌝ }
     ensures { λ _. ⌜ (length (now (to .exit)) ≡ 1024) × Unchanged (n * events) (now (to .entry)) (now (to .exit))
         × EntriesTo (state-value (meetOf kind (now (meet .entry))) top (now (kinds .entry)) (now (firsts .entry)) (now (values .entry)) count (now (states .entry)))
         events (n * events) (now (to .exit)) ⌝ }

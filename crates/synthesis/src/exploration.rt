@@ -47,13 +47,13 @@ fn advance(
     firsts: &[u8; 256],
     count: usize,
     rows: &[u64; 1028],
-    states: &[u64; 1028],
+    states: &[u64; 256],
     base: usize,
     events: usize,
     sets: &mut [u64; 64],
 )
-    requires { ⌜ (count ≤ 256) × (base + 4 ≤ 1028) × (events ≤ 16) × (length (now kinds) ≡ 256) × (length (now firsts) ≡ 256)
-        × (length (now rows) ≡ 1028) × (length (now states) ≡ 1028) × (length (now sets) ≡ 64)
+    requires { ⌜ (count ≤ 256) × (base + 4 ≤ 256) × (events ≤ 16) × (length (now kinds) ≡ 256) × (length (now firsts) ≡ 256)
+        × (length (now rows) ≡ 1028) × (length (now states) ≡ 256) × (length (now sets) ≡ 64)
         × ((e : ℕ) → e < events → row (now sets) e ≡ empty) ⌝ }
     ensures { λ _. ⌜ (length (now (sets .exit)) ≡ 64)
         × NextSets (now (kinds .entry)) (now (firsts .entry)) (now (rows .entry)) count (set-at (now (states .entry)) base) events (now (sets .exit)) ⌝ }
@@ -66,8 +66,8 @@ fn advance(
 }
 
 // The first of n states that is the set, or n.
-fn find(states: &[u64; 1028], n: usize, set: &[u64; 4]) -> usize
-    requires { ⌜ (n ≤ 256) × (length (now states) ≡ 1028) × (length (now set) ≡ 4) ⌝ }
+fn find(states: &[u64; 256], n: usize, set: &[u64; 4]) -> usize
+    requires { ⌜ (n ≤ 64) × (length (now states) ≡ 256) × (length (now set) ≡ 4) ⌝ }
     ensures { λ r. ⌜ Found (now (states .entry)) n (now (set .entry)) r ⌝ }
 {
     let mut j: usize = 0;
@@ -90,12 +90,12 @@ fn expand(
     events: usize,
     i: usize,
     n: usize,
-    states: &mut [u64; 1028],
+    states: &mut [u64; 256],
     nexts: &mut [u8; 1024],
 ) -> usize
     requires { ⌜ (count ≤ 256) × (i < n) × (n ≤ 64) × (events ≤ 16) × (length (now kinds) ≡ 256) × (length (now firsts) ≡ 256)
-        × (length (now rows) ≡ 1028) × (length (now states) ≡ 1028) × (length (now nexts) ≡ 1024) ⌝ }
-    ensures { λ r. ⌜ (length (now (states .exit)) ≡ 1028) × (length (now (nexts .exit)) ≡ 1024) × (n ≤ r)
+        × (length (now rows) ≡ 1028) × (length (now states) ≡ 256) × (length (now nexts) ≡ 1024) ⌝ }
+    ensures { λ r. ⌜ (length (now (states .exit)) ≡ 256) × (length (now (nexts .exit)) ≡ 1024) × (n ≤ r)
         × Unchanged (i * events + events) (now (nexts .entry)) (now (nexts .exit))
         × Expanded (next-bits (now (kinds .entry)) (now (firsts .entry)) (now (rows .entry)) count) events 64 i n
         (now (states .entry)) (now (nexts .entry)) r (now (states .exit)) (now (nexts .exit)) ⌝ }
@@ -131,7 +131,19 @@ fn expand(
     k
 }
 
-// The states that event sequences reach, in order, from the first, and the numbers of the next states, by state and then event;
+// The first state: the demands of node 0.
+fn copy_first(states: &mut [u64; 256], rows: &[u64; 1028])
+    requires { ⌜ (length (now states) ≡ 256) × (length (now rows) ≡ 1028) ⌝ }
+    ensures { λ _. ⌜ (length (now (states .exit)) ≡ 256) × (bits-at (now (states .exit)) 0 ≡ bits-at (now (rows .entry)) 0) ⌝ }
+{
+    let mut w: usize = 0;
+    while w < 4 {
+        states[w] = rows[w];
+        w += 1;
+    }
+}
+
+// The states that event sequences reach, in order, from the demands of node 0, and the numbers of the next states, by state and then event;
 // the limit and one where there are more.
 pub fn explore(
     kinds: &[u8; 256],
@@ -139,17 +151,18 @@ pub fn explore(
     count: usize,
     rows: &[u64; 1028],
     events: usize,
-    states: &mut [u64; 1028],
+    states: &mut [u64; 256],
     nexts: &mut [u8; 1024],
 ) -> usize
     requires { ⌜ (count ≤ 256) × (events ≤ 16) × (length (now kinds) ≡ 256) × (length (now firsts) ≡ 256) × (length (now rows) ≡ 1028)
-        × (length (now states) ≡ 1028) × (length (now nexts) ≡ 1024) ⌝ }
-    ensures { λ r. ⌜ (length (now (states .exit)) ≡ 1028) × (length (now (nexts .exit)) ≡ 1024)
+        × (length (now states) ≡ 256) × (length (now nexts) ≡ 1024) ⌝ }
+    ensures { λ r. ⌜ (length (now (states .exit)) ≡ 256) × (length (now (nexts .exit)) ≡ 1024)
         × (r ≤ 64 → Unchanged (r * events) (now (nexts .entry)) (now (nexts .exit)))
-        × Counted (next-bits (now (kinds .entry)) (now (firsts .entry)) (now (rows .entry)) count) (bits-at (now (states .entry)) 0) events 64
-        (sequences (next-bits (now (kinds .entry)) (now (firsts .entry)) (now (rows .entry)) count) (bits-at (now (states .entry)) 0) events 64)
+        × Counted (next-bits (now (kinds .entry)) (now (firsts .entry)) (now (rows .entry)) count) (bits-at (now (rows .entry)) 0) events 64
+        (sequences (next-bits (now (kinds .entry)) (now (firsts .entry)) (now (rows .entry)) count) (bits-at (now (rows .entry)) 0) events 64)
         r (r * events) (now (states .exit)) (now (nexts .exit)) ⌝ }
 {
+    copy_first(states, rows);
     let mut n: usize = 1;
     let mut i: usize = 0;
     while i < n {

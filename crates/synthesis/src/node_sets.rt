@@ -39,13 +39,13 @@ pub fn copy_row(set: &mut [u64; 4], sets: &[u64; 64], i: usize)
 }
 
 // A set is stored from base on.
-pub fn store(rows: &mut [u64; 1028], base: usize, set: &[u64; 4])
-    requires { ⌜ (base + 4 ≤ 1028) × (length (now rows) ≡ 1028) × (length (now set) ≡ 4) ⌝ }
-    ensures { λ _. ⌜ Stored (now (rows .entry)) (now (rows .exit)) base (now (set .entry)) ⌝ }
+pub fn store(states: &mut [u64; 256], base: usize, set: &[u64; 4])
+    requires { ⌜ (base + 4 ≤ 256) × (length (now states) ≡ 256) × (length (now set) ≡ 4) ⌝ }
+    ensures { λ _. ⌜ Stored (now (states .entry)) (now (states .exit)) base (now (set .entry)) ⌝ }
 {
     let mut i: usize = 0;
     while i < 4 {
-        rows[base + i] = set[i];
+        states[base + i] = set[i];
         i += 1;
     }
 }
@@ -63,13 +63,13 @@ fn first_bit(word: u64, k: usize) -> usize
 }
 
 // The first node from `from` on and below `end` that is in the set from base on, or `end`. A word is looked at once.
-pub fn next_member(rows: &[u64; 1028], base: usize, from: usize, end: usize) -> usize
-    requires { ⌜ (base + 4 ≤ 1028) × (from ≤ end) × (end ≤ 256) × (length (now rows) ≡ 1028) ⌝ }
-    ensures { λ r. ⌜ FirstMember (set-at (now (rows .entry)) base) from end r ⌝ }
+pub fn next_member(states: &[u64; 256], base: usize, from: usize, end: usize) -> usize
+    requires { ⌜ (base + 4 ≤ 256) × (from ≤ end) × (end ≤ 256) × (length (now states) ≡ 256) ⌝ }
+    ensures { λ r. ⌜ FirstMember (set-at (now (states .entry)) base) from end r ⌝ }
 {
     let mut node = from;
     while node < end {
-        let bit = first_bit(rows[base + node / 64], node % 64);
+        let bit = first_bit(states[base + node / 64], node % 64);
         let first = node / 64 * 64 + bit;
         if bit < 64 {
             return if first < end { first } else { end };
@@ -92,14 +92,14 @@ fn last_bit(word: u64, k: usize) -> usize
 }
 
 // The node after the last node below `end` that is in the set from base on, or 0. A word is looked at once.
-pub fn after_last_member(rows: &[u64; 1028], base: usize, end: usize) -> usize
-    requires { ⌜ (base + 4 ≤ 1028) × (end ≤ 256) × (length (now rows) ≡ 1028) ⌝ }
-    ensures { λ r. ⌜ LastMember (set-at (now (rows .entry)) base) end r ⌝ }
+pub fn after_last_member(states: &[u64; 256], base: usize, end: usize) -> usize
+    requires { ⌜ (base + 4 ≤ 256) × (end ≤ 256) × (length (now states) ≡ 256) ⌝ }
+    ensures { λ r. ⌜ LastMember (set-at (now (states .entry)) base) end r ⌝ }
 {
     let mut node = end;
     while 0 < node {
         let last = node - 1;
-        let bit = last_bit(rows[base + last / 64], last % 64);
+        let bit = last_bit(states[base + last / 64], last % 64);
         node = last / 64 * 64;
         if 0 < bit {
             return node + bit;
@@ -109,14 +109,14 @@ pub fn after_last_member(rows: &[u64; 1028], base: usize, end: usize) -> usize
 }
 
 // Whether the set from base on is the given one.
-pub fn same(rows: &[u64; 1028], base: usize, set: &[u64; 4]) -> bool
-    requires { ⌜ (base + 4 ≤ 1028) × (length (now rows) ≡ 1028) × (length (now set) ≡ 4) ⌝ }
-    ensures { λ r. ⌜ (r ≡ true → bits-at (now (rows .entry)) base ≡ bits-at (now (set .entry)) 0)
-        × (r ≡ false → bits-at (now (rows .entry)) base ≡ bits-at (now (set .entry)) 0 → ⊥) ⌝ }
+pub fn same(states: &[u64; 256], base: usize, set: &[u64; 4]) -> bool
+    requires { ⌜ (base + 4 ≤ 256) × (length (now states) ≡ 256) × (length (now set) ≡ 4) ⌝ }
+    ensures { λ r. ⌜ (r ≡ true → bits-at (now (states .entry)) base ≡ bits-at (now (set .entry)) 0)
+        × (r ≡ false → bits-at (now (states .entry)) base ≡ bits-at (now (set .entry)) 0 → ⊥) ⌝ }
 {
     let mut i: usize = 0;
     while i < 4 {
-        let a = word(rows[base + i]);
+        let a = word(states[base + i]);
         let b = word(set[i]);
         if a != b {
             return false;

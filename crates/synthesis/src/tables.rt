@@ -38,7 +38,7 @@ pub fn table_of(
     fill_ends(kinds, count, &mut ends);
     let mut rows = [0u64; 1028];
     fill_rows(kinds, &binders, &ends, count, &mut rows);
-    let mut states = rows;
+    let mut states = [0u64; 256];
     let n = explore(kinds, firsts, count, &rows, events, &mut states, nexts);
     if STATE_LIMIT < n {
         return n;

@@ -19,7 +19,7 @@ use Rattle.synthesis.proofs.exploration.expand.Tie as tie
 
 abbrev Inv-loop : tie.InvT-loop
 Inv-loop kinds firsts count rows events i n states₀ nexts₀ sets k₀ event₀ states nexts k event =
-    (event ≤ events) × (n ≤ k) × (k ≤ 64) × (length states ≡ 1028) × (length nexts ≡ 1024)
+    (event ≤ events) × (n ≤ k) × (k ≤ 64) × (length states ≡ 256) × (length nexts ≡ 1024)
     × Unchanged (i * events + events) nexts₀ nexts × (row states i ≡ row states₀ i)
     × ((start : List Bool) (P : List (List ℕ)) → Kept (next-bits kinds firsts rows count) start events P n (i * events) states₀ nexts₀ →
     Kept (next-bits kinds firsts rows count) start events (events-to (next-bits kinds firsts rows count) start event P (getD P i []))

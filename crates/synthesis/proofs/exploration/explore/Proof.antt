@@ -14,22 +14,25 @@ use Rattle.synthesis.proofs.exploration.explore.Tie as tie
 
 abbrev Inv-loop : tie.InvT-loop
 Inv-loop kinds firsts count rows events states₀ nexts₀ n₀ i₀ states nexts n i =
-    (i ≤ n) × (n ≤ 64) × (length states ≡ 1028) × (length nexts ≡ 1024) × Unchanged (i * events) nexts₀ nexts
-    × Kept (next-bits kinds firsts rows count) (bits-at states₀ 0) events (all-to (next-bits kinds firsts rows count) states₀ events i)
+    (i ≤ n) × (n ≤ 64) × (length states ≡ 256) × (length nexts ≡ 1024) × Unchanged (i * events) nexts₀ nexts
+    × Kept (next-bits kinds firsts rows count) (bits-at rows 0) events (all-to (next-bits kinds firsts rows count) rows events i)
     n (i * events) states nexts
 
 abbrev μ-loop : tie.MeasureT-loop
 μ-loop kinds firsts count rows events states₀ nexts₀ n₀ i₀ states nexts n i = 64 - i
 
+copy-first-requires : tie.Need-copy-first-requires Inv-loop μ-loop
+copy-first-requires c κs = search needs
+
 loop-holds : tie.Need-loop-holds Inv-loop μ-loop
 loop-holds c =
-    let a = c .args in (
+    let a = c .before .before .args in (
       search needs,
       search needs,
       search needs,
       search needs,
       (λ x h. refl),
-      kept-start (next-bits (a .kinds .now) (a .firsts .now) (a .rows .now) (a .count)) (a .states .now) (a .events) (a .nexts .now),
+      kept-start (next-bits (a .kinds .now) (a .firsts .now) (a .rows .now) (a .count)) (a .rows .now) (a .events) _ (a .nexts .now) (c .copy-first .ensures .1),
     )
 
 expand-requires : tie.Need-expand-requires Inv-loop μ-loop
@@ -40,7 +43,7 @@ add-result c = search needs
 
 returns : tie.Need-returns Inv-loop μ-loop
 returns c =
-    let a = c .before .before .before .before .before .before .args in
+    let a = c .before .before .before .before .before .before .before .before .args in
     let l = c .before .before .before .before .before .loop in
     let v = l .inv in
     let x = c .before .expand .ensures in
@@ -51,7 +54,7 @@ returns c =
       record {
         at-most = search needs;
         all = λ h. absurd (omega (arith, h));
-        more = λ h. row-over nb (a .states .now) (a .events) 64 (l .i) (l .n) (c .before .expand .result) (l .states) (l .nexts) _ _ (search needs) (v .5) (x .4) (omega (arith, c .if1 .taken, x .4 (bits-at (a .states .now) 0) (all-to nb (a .states .now) (a .events) (l .i)) (v .5) .at-most)) (search needs);
+        more = λ h. row-over nb (a .rows .now) (a .events) 64 (l .i) (l .n) (c .before .expand .result) (l .states) (l .nexts) _ _ (search needs) (v .5) (x .4) (omega (arith, c .if1 .taken, x .4 (bits-at (a .rows .now) 0) (all-to nb (a .rows .now) (a .events) (l .i)) (v .5) .at-most)) (search needs);
       },
     )
 
@@ -63,7 +66,7 @@ loop-less c = search needs
 
 loop-again : tie.Need-loop-again Inv-loop μ-loop
 loop-again c =
-    let a = c .before .before .before .before .before .before .args in
+    let a = c .before .before .before .before .before .before .before .before .args in
     let l = c .before .before .before .before .before .loop in
     let v = l .inv in
     let x = c .before .expand .ensures in
@@ -73,12 +76,12 @@ loop-again c =
       x .0,
       x .1,
       (λ y h. x .3 y (omega (arith, h, add-mul (l .i) 1 (a .events))) ∙ v .4 y (omega (arith, h, add-mul (l .i) 1 (a .events)))),
-      row-kept nb (a .states .now) (a .events) 64 (l .i) (l .n) (c .before .expand .result) (l .states) (l .nexts) _ _ (search needs) (v .5) (x .4) (search needs),
+      row-kept nb (a .rows .now) (a .events) 64 (l .i) (l .n) (c .before .expand .result) (l .states) (l .nexts) _ _ (search needs) (v .5) (x .4) (search needs),
     )
 
 returns-2 : tie.Need-returns-2 Inv-loop μ-loop
 returns-2 c =
-    let a = c .before .before .args in
+    let a = c .before .before .before .before .args in
     let l = c .before .loop in
     let v = l .inv in
     let q : l .n ≡ l .i = omega arith in
@@ -88,7 +91,7 @@ returns-2 c =
       (λ h y u. v .4 y (subst (λ z. z * a .events ≤ y) q u)),
       record {
         at-most = search needs;
-        all = λ h. all-kept nb (a .states .now) (a .events) 64 (l .i) (l .n) (l .states) (l .nexts) q (search needs) (v .5);
+        all = λ h. all-kept nb (a .rows .now) (a .events) 64 (l .i) (l .n) (l .states) (l .nexts) q (search needs) (v .5);
         more = λ h. absurd (omega (arith, h));
       },
     )
@@ -99,6 +102,7 @@ explore-spec =
     (tie.spec
     Inv-loop
     μ-loop
+    copy-first-requires
     loop-holds
     expand-requires
     add-result

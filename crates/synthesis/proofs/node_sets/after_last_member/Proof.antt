@@ -11,10 +11,10 @@ use Rattle.synthesis.proofs.node_sets.after_last_member.Statement.{stat
 use Rattle.synthesis.proofs.node_sets.after_last_member.Tie as tie
 
 abbrev Inv-loop : tie.InvT-loop
-Inv-loop rows base end node₀ node = (node ≤ end) × ((j : ℕ) → node ≤ j → j < end → set-at rows base j ≡ false)
+Inv-loop states base end node₀ node = (node ≤ end) × ((j : ℕ) → node ≤ j → j < end → set-at states base j ≡ false)
 
 abbrev μ-loop : tie.MeasureT-loop
-μ-loop rows base end node₀ node = node
+μ-loop states base end node₀ node = node
 
 loop-holds : tie.Need-loop-holds Inv-loop μ-loop
 loop-holds c = (search needs, λ j u v. absurd (omega arith))
@@ -47,8 +47,8 @@ returns c =
     let f = c .before .last-bit in
     record {
       high = omega (arith, f .ensures .high, l .inv .0);
-      after = word-left (a .rows .now) (a .base) (l .node) (f .result) (a .end) (omega arith) (omega arith) (f .ensures) (l .inv .1);
-      here = λ h. word-last (a .rows .now) (a .base) (l .node - 1) (f .result) (omega arith) (f .ensures) (c .if1 .taken);
+      after = word-left (a .states .now) (a .base) (l .node) (f .result) (a .end) (omega arith) (omega arith) (f .ensures) (l .inv .1);
+      here = λ h. word-last (a .states .now) (a .base) (l .node - 1) (f .result) (omega arith) (f .ensures) (c .if1 .taken);
     }
 
 loop-less : tie.Need-loop-less Inv-loop μ-loop
@@ -60,7 +60,7 @@ loop-again c =
     let l = c .before .before .before .before .loop in
     let f = c .before .last-bit in (
       omega (arith, l .inv .0),
-      λ j u v. word-left (a .rows .now) (a .base) (l .node) (f .result) (a .end) (omega arith) (omega arith) (f .ensures) (l .inv .1) j (omega (arith, u, c .if1 .left)) v,
+      λ j u v. word-left (a .states .now) (a .base) (l .node) (f .result) (a .end) (omega arith) (omega arith) (f .ensures) (l .inv .1) j (omega (arith, u, c .if1 .left)) v,
     )
 
 returns-2 : tie.Need-returns-2 Inv-loop μ-loop

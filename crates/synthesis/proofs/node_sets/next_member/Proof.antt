@@ -11,11 +11,11 @@ use Rattle.synthesis.proofs.node_sets.next_member.Statement.{statement}
 use Rattle.synthesis.proofs.node_sets.next_member.Tie as tie
 
 abbrev Inv-loop : tie.InvT-loop
-Inv-loop rows base from end node₀ node =
-    (from ≤ node) × ((j : ℕ) → j < node → from ≤ j → j < end → set-at rows base j ≡ false)
+Inv-loop states base from end node₀ node =
+    (from ≤ node) × ((j : ℕ) → j < node → from ≤ j → j < end → set-at states base j ≡ false)
 
 abbrev μ-loop : tie.MeasureT-loop
-μ-loop rows base from end node₀ node = end - node
+μ-loop states base from end node₀ node = end - node
 
 loop-holds : tie.Need-loop-holds Inv-loop μ-loop
 loop-holds c = (search needs, λ j u h v. absurd (omega arith))
@@ -46,8 +46,8 @@ returns c =
     record {
       low = omega (arith, f .ensures .low, l .inv .0);
       high = search needs;
-      before = λ j h u. word-passed (a .rows .now) (a .base) (l .node) (f .result) (omega arith) (f .ensures) (a .from) (a .end) (l .inv .1) j u h (omega arith);
-      here = λ h. word-here (a .rows .now) (a .base) (l .node) (f .result) (omega arith) (f .ensures) (c .before .if1 .taken);
+      before = λ j h u. word-passed (a .states .now) (a .base) (l .node) (f .result) (omega arith) (f .ensures) (a .from) (a .end) (l .inv .1) j u h (omega arith);
+      here = λ h. word-here (a .states .now) (a .base) (l .node) (f .result) (omega arith) (f .ensures) (c .before .if1 .taken);
     }
 
 returns-2 : tie.Need-returns-2 Inv-loop μ-loop
@@ -58,7 +58,7 @@ returns-2 c =
     record {
       low = search needs;
       high = search needs;
-      before = λ j h u. word-passed (a .rows .now) (a .base) (l .node) (f .result) (omega arith) (f .ensures) (a .from) (a .end) (l .inv .1) j (omega (arith, c .if2 .left)) h u;
+      before = λ j h u. word-passed (a .states .now) (a .base) (l .node) (f .result) (omega arith) (f .ensures) (a .from) (a .end) (l .inv .1) j (omega (arith, c .if2 .left)) h u;
       here = λ h. absurd (omega arith);
     }
 
@@ -70,7 +70,7 @@ loop-again c =
     let a = c .before .before .before .before .before .args in
     let l = c .before .before .before .before .loop in
     let f = c .before .first-bit in
-    (omega (arith, c .if1 .left, l .inv .0), word-passed (a .rows .now) (a .base) (l .node) (f .result) (omega arith) (f .ensures) (a .from) (a .end) (l .inv .1))
+    (omega (arith, c .if1 .left, l .inv .0), word-passed (a .states .now) (a .base) (l .node) (f .result) (omega arith) (f .ensures) (a .from) (a .end) (l .inv .1))
 
 returns-3 : tie.Need-returns-3 Inv-loop μ-loop
 returns-3 c =

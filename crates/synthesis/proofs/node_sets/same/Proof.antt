@@ -12,10 +12,10 @@ use Rattle.synthesis.proofs.node_sets.same.Statement.{statement}
 use Rattle.synthesis.proofs.node_sets.same.Tie as tie
 
 abbrev Inv-loop : tie.InvT-loop
-Inv-loop rows base set i₀ i = (i ≤ 4) × ((w : ℕ) → w < i → getD rows (base + w) 0 ≡ getD set w 0)
+Inv-loop states base set i₀ i = (i ≤ 4) × ((w : ℕ) → w < i → getD states (base + w) 0 ≡ getD set w 0)
 
 abbrev μ-loop : tie.MeasureT-loop
-μ-loop rows base set i₀ i = 4 - i
+μ-loop states base set i₀ i = 4 - i
 
 loop-holds : tie.Need-loop-holds Inv-loop μ-loop
 loop-holds c = search needs
@@ -48,11 +48,11 @@ returns c =
     let z : 0 + i ≡ i = omega arith in
     let p = c .before .before .before .word .ensures in
     let q = c .before .word2 .ensures in
-    let u : getD (a .rows .now) (a .base + i) 0 < 18446744073709551616 = subst (λ x. x < 18446744073709551616) (p .0) (p .1) in
+    let u : getD (a .states .now) (a .base + i) 0 < 18446744073709551616 = subst (λ x. x < 18446744073709551616) (p .0) (p .1) in
     let v : getD (a .set .now) i 0 < 18446744073709551616 = subst (λ x. x < 18446744073709551616) (q .0) (q .1) in (
       (λ e. absurd (true≢false (sym e))),
       λ e h. c .if1 .taken
-          (p .0 ∙ bits-words (a .rows .now) (a .set .now) (a .base) 0 h i (search needs) u (subst (λ x. getD (a .set .now) x 0 < 18446744073709551616) (sym z) v)
+          (p .0 ∙ bits-words (a .states .now) (a .set .now) (a .base) 0 h i (search needs) u (subst (λ x. getD (a .set .now) x 0 < 18446744073709551616) (sym z) v)
           ∙ ap (λ x. getD (a .set .now) x 0) z ∙ sym (q .0)),
     )
 
@@ -69,7 +69,7 @@ loop-again c =
 returns-2 : tie.Need-returns-2 Inv-loop μ-loop
 returns-2 c =
     let a = c .before .before .args in (
-      (λ e. bits-of (a .rows .now) (a .set .now) (a .base) 0 (set-same (a .rows .now) (a .set .now) (a .base) 0 (λ w h. let z : w ≡ 0 + w = omega arith in c .before .loop .inv .1 w (omega arith) ∙ ap (λ x. getD (a .set .now) x 0) z))),
+      (λ e. bits-of (a .states .now) (a .set .now) (a .base) 0 (set-same (a .states .now) (a .set .now) (a .base) 0 (λ w h. let z : w ≡ 0 + w = omega arith in c .before .loop .inv .1 w (omega arith) ∙ ap (λ x. getD (a .set .now) x 0) z))),
       λ e. absurd (true≢false e),
     )
 

@@ -11,32 +11,32 @@ use Rattle.synthesis.proofs.node_sets.store.Statement.{statement}
 use Rattle.synthesis.proofs.node_sets.store.Tie as tie
 
 abbrev Inv-loop : tie.InvT-loop
-Inv-loop rows₀ base set i₀ rows i =
-    (i ≤ 4) × (length rows ≡ 1028)
-    × ((w : ℕ) → w < i → getD rows (base + w) 0 ≡ getD set w 0)
-    × ((x : ℕ) → x < base → getD rows x 0 ≡ getD rows₀ x 0)
-    × ((x : ℕ) → base + i ≤ x → getD rows x 0 ≡ getD rows₀ x 0)
+Inv-loop states₀ base set i₀ states i =
+    (i ≤ 4) × (length states ≡ 256)
+    × ((w : ℕ) → w < i → getD states (base + w) 0 ≡ getD set w 0)
+    × ((x : ℕ) → x < base → getD states x 0 ≡ getD states₀ x 0)
+    × ((x : ℕ) → base + i ≤ x → getD states x 0 ≡ getD states₀ x 0)
 
 abbrev μ-loop : tie.MeasureT-loop
-μ-loop rows₀ base set i₀ rows i = 4 - i
+μ-loop states₀ base set i₀ states i = 4 - i
 
 loop-holds : tie.Need-loop-holds Inv-loop μ-loop
 loop-holds c = search needs
 
-mul-rows : tie.Need-mul-rows Inv-loop μ-loop
-mul-rows c = search needs
+mul-states : tie.Need-mul-states Inv-loop μ-loop
+mul-states c = search needs
 
-element-copy-out-rows : tie.Need-element-copy-out-rows Inv-loop μ-loop
-element-copy-out-rows c = search needs
+element-copy-out-states : tie.Need-element-copy-out-states Inv-loop μ-loop
+element-copy-out-states c = search needs
 
-add-rows : tie.Need-add-rows Inv-loop μ-loop
-add-rows c = search needs
+add-states : tie.Need-add-states Inv-loop μ-loop
+add-states c = search needs
 
-mul-rows-2 : tie.Need-mul-rows-2 Inv-loop μ-loop
-mul-rows-2 c = search needs
+mul-states-2 : tie.Need-mul-states-2 Inv-loop μ-loop
+mul-states-2 c = search needs
 
-element-write-rows : tie.Need-element-write-rows Inv-loop μ-loop
-element-write-rows c = search needs
+element-write-states : tie.Need-element-write-states Inv-loop μ-loop
+element-write-states c = search needs
 
 add-i : tie.Need-add-i Inv-loop μ-loop
 add-i c = search needs
@@ -46,7 +46,7 @@ loop-less c = search needs
 
 loop-again : tie.Need-loop-again Inv-loop μ-loop
 loop-again c =
-    let l = c .before .before .loop .rows in
+    let l = c .before .before .loop .states in
     let i = c .before .before .loop .i in
     let f = c .before .before .before .args .set .now in
     let at = c .before .before .before .args .base + i in
@@ -78,11 +78,11 @@ store-spec =
     Inv-loop
     μ-loop
     loop-holds
-    mul-rows
-    element-copy-out-rows
-    add-rows
-    mul-rows-2
-    element-write-rows
+    mul-states
+    element-copy-out-states
+    add-states
+    mul-states-2
+    element-write-states
     add-i
     loop-less
     loop-again
