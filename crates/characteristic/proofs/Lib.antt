@@ -1,6 +1,6 @@
 -- Nodes appended one after the other.
 pub mod Appended
--- The path of open states in a stack.
+-- The path of open states in an array from states to depths.
 pub mod OpenPath
 -- The rule of a state and its rows, from the nodes that are appended for them.
 pub mod Walks

@@ -1,110 +1,79 @@
--- The path of open states: the first entries of a stack, the last one first.
+-- The path of open states in an array from states to depths.
 -- Assumes nothing.
-use mathlib.Core.Path.{_≡_, refl, sym, _∙_, ap, ap₂, subst}
+use mathlib.Core.Path.{_≡_, refl, sym, _∙_, ap, subst, subst⁻¹}
+use mathlib.Core.Bool.{Bool, true, false}
 use mathlib.Core.List.{List, [], _∷_}
 use Prim.Native.Nat.{ℕ, zero, suc, _+_, _-_, _≤_, _<_}
 use native.Mathlib.Omega.{arith}
-use lib.ListN.{length, getD, set}
+use borrow.Author.Tests.{eqb-true, eqb-false}
+use lib.Dec.{eqb}
+use lib.ListN.{length, getD, set, replicate}
 use lib.Seq.{getD-set-same, getD-set-other}
 use Rattle.theory.specs.CharacteristicFormula.{OpenAt, here, above}
-use Rattle.characteristic.specs.NodeOutput.{open-path, Looked}
+use Rattle.characteristic.specs.NodeOutput.{OpenPath}
 
--- What is stored at or above the depth leaves the path.
-pub path-kept : (stack : List ℕ) (i s d : ℕ) → d ≤ i → open-path (set stack i s) d ≡ open-path stack d
-unfolding open-path
-path-kept stack i s zero h = refl
-path-kept stack i s (suc d) h =
-    ap₂ _∷_ (getD-set-other stack i d s 0 (λ e. omega arith)) (path-kept stack i s d (omega arith))
-
--- A state stored at the depth is open innermost.
-pub path-opened :
-    (stack : List ℕ) (s d : ℕ) → d < length stack → open-path (set stack d s) (d + 1) ≡ s ∷ open-path stack d
-unfolding open-path
-path-opened stack s d h =
-    let e : d + 1 ≡ suc d = omega arith in
-    ap (open-path (set stack d s)) e ∙ ap₂ _∷_ (getD-set-same stack d s 0 h) (path-kept stack d s d (omega arith))
-
--- Stacks with equal paths have equal paths below.
-pub path-below : (stack other : List ℕ) (d : ℕ) → open-path stack (d + 1) ≡ open-path other (d + 1) → open-path stack d ≡ open-path other d
-unfolding open-path
-path-below stack other d same =
-    let e : d + 1 ≡ suc d = omega arith in
-    step (ap (open-path stack) (sym e) ∙ same ∙ ap (open-path other) e)
+-- In an array of zeros no state is open.
+pub path-empty : (n : ℕ) → OpenPath zero (replicate n 0) []
+path-empty n =
+    record {
+      at-most = λ s. omega (arith, all-zero n s);
+      open-there = λ s h. absurd (omega (arith, all-zero n s));
+      not-open = λ s h i o. elim o [ ];
+    }
   where
-    step : open-path stack (suc d) ≡ open-path other (suc d) → open-path stack d ≡ open-path other d
-    step p = cc
-
--- The search from the innermost state on: what holds of the states that are left holds of all.
-pub record Searched (state depth d : ℕ) (stack : List ℕ) : Type 0 where
-  pub shallower : d ≤ depth
-  pub found-in-rest : (i : ℕ) → OpenAt state (open-path stack d) i → OpenAt state (open-path stack depth) (depth - d + i)
-  pub absent-in-rest : ((i : ℕ) → ¬ OpenAt state (open-path stack d) i) → (i : ℕ) → ¬ OpenAt state (open-path stack depth) i
+    all-zero : (n s : ℕ) → _≡_ {A = ℕ} (getD (replicate n 0) s 0) 0
+    all-zero zero s = refl
+    all-zero (suc n) zero = refl
+    all-zero (suc n) (suc s) = all-zero n s
 
 not-in-front : {s t : ℕ} {path : List ℕ} → ¬ (s ≡ t) → ((i : ℕ) → ¬ OpenAt s path i) → (i : ℕ) → ¬ OpenAt s (t ∷ path) i
 not-in-front different none zero here = different refl
 not-in-front different none (suc i) (above other o) = none i o
 
-module _ (state : ℕ) (stack : List ℕ) where
-  not-first :
-      (d : ℕ) → ¬ (getD stack d 0 ≡ state) → ((i : ℕ) → ¬ OpenAt state (open-path stack d) i)
-      → (i : ℕ) → ¬ OpenAt state (open-path stack (suc d)) i
-  unfolding open-path
-  not-first d other none = not-in-front (λ e. other (sym e)) none
+-- A state that is not open is opened.
+module _ {depth : ℕ} {depths path : List ℕ} (s : ℕ) (room : s < length depths) (held : OpenPath depth depths path) where
+  abbrev later : List ℕ
+  later = set depths s (depth + 1)
 
-  one-more :
-      (d i : ℕ) → ¬ (getD stack d 0 ≡ state) → OpenAt state (open-path stack d) i → OpenAt state (open-path stack (suc d)) (suc i)
-  unfolding open-path
-  one-more d i other o = above (λ e. other (sym e)) o
+  -- A state is the one that is opened, or its depth is kept.
+  data Mark (t : ℕ) : Type 0 where
+    own : t ≡ s → getD later t 0 ≡ depth + 1 → Mark t
+    kept : ¬ (t ≡ s) → getD later t 0 ≡ getD depths t 0 → Mark t
 
-module _ (state depth : ℕ) (stack : List ℕ) where
-  pub search-starts : Searched state depth depth stack
-  search-starts =
+  mark : (t : ℕ) → Mark t
+  mark t = go (eqb t s) refl
+    where
+      go : (b : Bool) → eqb t s ≡ b → Mark t
+      go true z =
+          let e : t ≡ s = eqb-true t s z in own e (ap (λ x. getD later x 0) e ∙ getD-set-same depths s (depth + 1) 0 room)
+      go false z = let e : ¬ (t ≡ s) = eqb-false t s z in kept e (getD-set-other depths s t (depth + 1) 0 e)
+
+  pub path-opened : OpenPath (depth + 1) later (s ∷ path)
+  path-opened =
       record {
-        shallower = omega arith;
-        found-in-rest = λ i o. let e : i ≡ depth - depth + i = omega arith in subst (OpenAt state (open-path stack depth)) e o;
-        absent-in-rest = λ none. none;
-      }
-
-  search-goes-on : (d : ℕ) → Searched state depth (suc d) stack → ¬ (getD stack d 0 ≡ state) → Searched state depth d stack
-  search-goes-on d s other =
-      record {
-        shallower = omega (arith, s .shallower);
-        found-in-rest = λ i o.
-            let e : depth - suc d + suc i ≡ depth - d + i = omega (arith, s .shallower) in
-            subst (OpenAt state (open-path stack depth)) e (s .found-in-rest (suc i) (one-more state stack d i other o));
-        absent-in-rest = λ none. s .absent-in-rest (not-first state stack d other none);
-      }
-
-  found-here : (d : ℕ) → Searched state depth (suc d) stack → getD stack d 0 ≡ state → Looked state depth (open-path stack depth) (depth - suc d)
-  unfolding open-path
-  found-here d s same =
-      let e : depth - suc d + zero ≡ depth - suc d = omega arith in
-      record {
-        open-there = λ h. subst (OpenAt state (open-path stack depth)) e (s .found-in-rest zero (first d same));
-        not-open = λ h. absurd (omega (arith, s .shallower));
+        at-most = λ t. at-most′ t (mark t);
+        open-there = λ t h. open-there′ t h (mark t);
+        not-open = λ t h. not-open′ t h (mark t);
       }
     where
-      first : (d : ℕ) → getD stack d 0 ≡ state → OpenAt state (open-path stack (suc d)) zero
-      first d e = subst (λ x. OpenAt x (getD stack d 0 ∷ open-path stack d) zero) e here
+      at-most′ : (t : ℕ) → Mark t → getD later t 0 ≤ depth + 1
+      at-most′ t (own e z) = omega arith
+      at-most′ t (kept e z) = omega (arith, held .at-most t)
 
-  found-nowhere : Searched state depth zero stack → Looked state depth (open-path stack depth) depth
-  unfolding open-path
-  found-nowhere s = record { open-there = λ h. absurd (omega arith); not-open = λ h. s .absent-in-rest empty }
-    where
-      empty : (i : ℕ) → ¬ OpenAt state (open-path stack zero) i
-      empty i o = elim o [ ]
+      open-there′ : (t : ℕ) → 0 < getD later t 0 → Mark t → OpenAt t (s ∷ path) (depth + 1 - getD later t 0)
+      open-there′ t h (own e z) =
+          let i : zero ≡ depth + 1 - getD later t 0 = omega arith in
+          subst (OpenAt t (s ∷ path)) i (subst⁻¹ (λ x. OpenAt x (s ∷ path) zero) e here)
+      open-there′ t h (kept e z) =
+          let i : suc (depth - getD depths t 0) ≡ depth + 1 - getD later t 0 = omega (arith, held .at-most t) in
+          subst (OpenAt t (s ∷ path)) i (above e (held .open-there t (omega arith)))
 
-  -- The same steps for a count d of states left.
-  pub search-steps : (d : ℕ) → 0 < d → Searched state depth d stack → ¬ (getD stack (d - 1) 0 ≡ state) → Searched state depth (d - 1) stack
-  search-steps d some-left s other =
-      let e : d ≡ suc (d - 1) = omega arith in
-      search-goes-on (d - 1) (subst (λ x. Searched state depth x stack) e s) other
+      not-open′ : (t : ℕ) → getD later t 0 ≡ 0 → Mark t → (i : ℕ) → ¬ OpenAt t (s ∷ path) i
+      not-open′ t h (own e z) = absurd (omega arith)
+      not-open′ t h (kept e z) = not-in-front e (held .not-open t (sym z ∙ h))
 
-  pub search-finds : (d : ℕ) → 0 < d → Searched state depth d stack → getD stack (d - 1) 0 ≡ state → Looked state depth (open-path stack depth) (depth - d)
-  search-finds d some-left s same =
-      let e : d ≡ suc (d - 1) = omega arith in
-      subst (λ x. Looked state depth (open-path stack depth) (depth - x)) (sym e)
-      (found-here (d - 1) (subst (λ x. Searched state depth x stack) e s) same)
-
-  pub search-ends : (d : ℕ) → d ≤ 0 → Searched state depth d stack → Looked state depth (open-path stack depth) depth
-  search-ends d over s = let e : d ≡ zero = omega arith in found-nowhere (subst (λ x. Searched state depth x stack) e s)
+-- It is closed again.
+pub depth-closed : (depths : List ℕ) (s v : ℕ) → getD depths s 0 ≡ 0 → set (set depths s v) s 0 ≡ depths
+depth-closed [] s v e = refl
+depth-closed (x ∷ depths) zero v e = ap (λ y. y ∷ depths) (sym e)
+depth-closed (x ∷ depths) (suc s) v e = ap (λ l. x ∷ l) (depth-closed depths s v e)

@@ -1,20 +1,18 @@
 -- The nodes listed in a buffer of the walk's own, judged by refusals 12 and 13, and copied to the front of the lent buffer.
 -- Assumes nothing.
-use mathlib.Core.Path.{_≡_, refl, sym, _∙_, ap, ap₂}
-use mathlib.Core.Bool.{true, false}
+use mathlib.Core.Path.{_≡_, refl, sym, _∙_, ap}
 use mathlib.Core.Option.{Option, none, some}
-use mathlib.Core.List.{List, [], _∷_, _++_}
-use Prim.Native.Nat.{ℕ, suc, _+_, _*_, _≤_, _<_, min}
+use mathlib.Core.List.{List, []}
+use Prim.Native.Nat.{ℕ, _+_, _*_, _≤_, _<_}
 use native.Mathlib.Numerals.{add-one}
 use native.Mathlib.Omega.{arith}
-use lib.ListN.{length, getD, take, set, length-take}
+use lib.ListN.{length, getD, take, set, replicate, length-take, length-replicate}
 use lib.Seq.{take-suc}
 use borrow.Author.Tests.{le-leb, lt-leb}
 use Rattle.theory.specs.Formula.{Formula, size}
 use Rattle.theory.specs.CharacteristicFormula.{Writes}
 use Rattle.refusal.specs.declared.Refusal.{Refusal}
 use Rattle.refusal.specs.declared.Refusal.the-variants.{Plain}
-use Rattle.refusal.specs.declared.Counted.{Counted}
 use Rattle.refusal.specs.declared.Counted.the-variants.{Count, Refused}
 use Rattle.refusal.specs.Refusal.{or-else, plain-unless, counted}
 use Rattle.refusal.specs.LentBuffers.{put, put-unless}
@@ -22,7 +20,8 @@ use Rattle.formulas.specs.NodeBytes.{encode-formula, three-bytes}
 use Rattle.machines.specs.TableBytes.{machine-of}
 use Rattle.machines.proofs.Stores.{put-snoc}
 use Rattle.characteristic.specs.RuleOfTable.{IsRuleOf, output-refusal}
-use Rattle.characteristic.specs.NodeOutput.{Appends, open-path, Walked, Listed, Answered}
+use Rattle.characteristic.specs.NodeOutput.{HasRoom, Ready, Walked, Listed, Answered}
+use Rattle.characteristic.proofs.OpenPath.{path-empty}
 
 -- ---- a copy, byte by byte
 pub copy-none : (from old : List ℕ) → old ≡ put (take 0 from) old
@@ -39,12 +38,26 @@ copy-more from old i inside room =
     cc (long, stored, take-suc from i 0 inside, add-one i)
 
 -- ---- the walk from the start, with no state open
+pub start-ready :
+    {limit events start : ℕ} {to : List ℕ} (n : ℕ) → 256 ≤ n → HasRoom limit 0 to → events ≤ 256 → start < 256
+    → Ready limit events 0 start 0 (replicate n 0) to
+start-ready n long h few small =
+    record {
+      has-room = h;
+      depths-room = omega (arith, length-replicate {A = ℕ} n 0);
+      path = [];
+      held = path-empty n;
+      shallow = omega arith;
+      few-events = few;
+      small-state = small;
+    }
+
 pub walk-listed :
-    {limit start r : ℕ} {table stack stack-after before after : List ℕ} (events : ℕ)
-    → Walked (λ ps. Writes (machine-of events table) events ps start) limit 0 0 stack stack-after before after r
+    {limit start r : ℕ} {table depths-after before after : List ℕ} (events n : ℕ)
+    → Walked (λ ps. Writes (machine-of events table) events ps start) limit 0 0 (replicate n 0) depths-after before after r
     → Listed limit events start table before after r
-unfolding open-path
-walk-listed events w = record { same-length = w .same-length; cut-off = w .within; listed = w .written }
+walk-listed events n w =
+    record { same-length = w .same-length; cut-off = w .within; listed = w .written [] (path-empty n) }
 
 -- ---- 12 and 13
 module _ (limit : ℕ) (φ : Formula ℕ) (room : ℕ) where

@@ -1,22 +1,22 @@
 -- The rule of a state and the rows of a state, from the nodes that are appended for them; and what the walk yields, step by step.
 -- Assumes nothing.
 use mathlib.Core.Path.{_≡_, refl, sym, _∙_, ap, subst}
-use mathlib.Core.List.{List, [], _∷_, _++_}
-use Prim.Native.Nat.{ℕ, zero, suc, _+_, _-_, _*_, _≤_, _<_}
+use mathlib.Core.List.{List, [], _∷_}
+use Prim.Native.Nat.{ℕ, zero, suc, _+_, _-_, _≤_, _<_}
 use native.Mathlib.Omega.{arith}
-use lib.ListN.{length, set, length-set}
-use Rattle.theory.specs.Formula.{Formula, variable, transition, output, conjunction, greatest, size}
+use lib.ListN.{length, getD, set, length-set}
+use Rattle.theory.specs.Formula.{Formula, size}
 use Rattle.theory.specs.MealyMachine.{Machine}
 use Rattle.theory.specs.PrefixCode.{nodes, output-node, conjunction-node}
 use Rattle.theory.specs.CharacteristicFormula.{OpenAt, Writes, already-open, opened, Rows, last-row, row}
 use Rattle.theory.proofs.CharacteristicFormula.{open-one}
 use Rattle.theory.proofs.PrefixCode.{size-positive}
-use Rattle.formulas.specs.NodeBytes.{encode-formula, encode-all, three-bytes}
+use Rattle.formulas.specs.NodeBytes.{encode-formula, three-bytes}
 use Rattle.formulas.proofs.Encoding.{encode-append}
 use Rattle.formulas.proofs.ThreeBytes.{three-bytes-code}
-use Rattle.characteristic.specs.NodeOutput.{Appends, HasRoom, Looked, open-path, Ready, Walked}
+use Rattle.characteristic.specs.NodeOutput.{Appends, HasRoom, OpenPath, Ready, Walked}
 use Rattle.characteristic.proofs.Appended.{nothing-fits, both, recounted}
-use Rattle.characteristic.proofs.OpenPath.{path-kept, path-opened, path-below}
+use Rattle.characteristic.proofs.OpenPath.{path-opened, depth-closed}
 
 module _ (m : Machine ℕ ℕ) (events limit : ℕ) where
   -- The nodes of every formula that is written are appended.
@@ -69,97 +69,90 @@ module _ (m : Machine ℕ ℕ) (events limit : ℕ) {at : ℕ} {path before : Li
 -- ---- what the walk yields
 -- No room for a node.
 pub walk-full :
-    (Of : List ℕ → Formula ℕ → Type 0) {limit at : ℕ} (depth : ℕ) (stack to : List ℕ) → limit ≤ at → at ≤ limit + 1
-    → Walked Of limit depth at stack stack to to (limit + 1)
-walk-full Of depth stack to full within =
+    (Of : List ℕ → Formula ℕ → Type 0) {limit at : ℕ} (depth : ℕ) (depths to : List ℕ) → limit ≤ at → at ≤ limit + 1
+    → Walked Of limit depth at depths depths to to (limit + 1)
+walk-full Of depth depths to full within =
     record {
       rises = within;
       within = omega arith;
       same-length = refl;
-      same-stack = refl;
-      same-path = refl;
-      written = λ φ w. nothing-fits (size φ) _ to full within (size-positive φ);
+      same-depths = refl;
+      written = λ path o φ w. nothing-fits (size φ) _ to full within (size-positive φ);
     }
 
-module _ (m : Machine ℕ ℕ) (events : ℕ) {limit at depth state : ℕ} {before : List ℕ} (stack : List ℕ) where
+module _ (m : Machine ℕ ℕ) (events : ℕ) {limit at depth state : ℕ} {before : List ℕ} (depths : List ℕ) where
   -- A state that is open on the path.
   pub walk-open :
-      {after : List ℕ} {place r : ℕ} → at ≤ limit + 1 → Looked state depth (open-path stack depth) place → place < depth
-      → Appends limit at 1 (1 ∷ place ∷ 0 ∷ []) before after r
-      → Walked (λ ps. Writes m events ps state) limit depth at stack stack before after r
-  walk-open within looked inside x =
+      {after : List ℕ} {r : ℕ} → at ≤ limit + 1 → depth - getD depths state 0 < depth
+      → Appends limit at 1 (1 ∷ (depth - getD depths state 0) ∷ 0 ∷ []) before after r
+      → Walked (λ ps. Writes m events ps state) limit depth at depths depths before after r
+  walk-open within inside x =
       record {
         rises = omega (arith, x .position);
         within = omega (arith, x .position);
         same-length = x .same-length;
-        same-stack = refl;
-        same-path = refl;
-        written = open-state m events limit (looked .open-there inside) x;
+        same-depths = refl;
+        written = λ path o. open-state m events limit (o .open-there state (omega arith)) x;
       }
 
   -- A state that is not.
   pub walk-new :
-      {stack-after between after : List ℕ} {place part r : ℕ} → at ≤ limit + 1 → depth < length stack
-      → Looked state depth (open-path stack depth) place → depth ≤ place
+      {depths-rows between after : List ℕ} {part r : ℕ} → Ready limit events depth state at depths before
+      → depth ≤ depth - getD depths state 0
       → Appends limit at 1 (5 ∷ 0 ∷ 0 ∷ []) before between part
-      → Walked (λ ps. Rows m events ps state 0) limit (depth + 1) part (set stack depth state) stack-after between after r
-      → Walked (λ ps. Writes m events ps state) limit depth at stack stack-after before after r
-  walk-new {stack-after} {part = part} within room looked outside x y =
-      let opened-path = path-opened stack state depth room in
+      → Walked (λ ps. Rows m events ps state 0) limit (depth + 1) part (set depths state (depth + 1)) depths-rows between after r
+      → Walked (λ ps. Writes m events ps state) limit depth at depths (set depths-rows state 0) before after r
+  walk-new h outside x y =
+      let new : getD depths state 0 ≡ 0 = omega (arith, h .held .at-most state) in
       record {
-        rises = omega (arith, x .position, y .rises);
+        rises = omega (arith, h .has-room .at-within, x .position, y .rises);
         within = y .within;
         same-length = y .same-length ∙ x .same-length;
-        same-stack = y .same-stack ∙ length-set stack depth state;
-        same-path =
-            path-below stack-after (set stack depth state) depth (y .same-path) ∙ path-kept stack depth state depth (omega arith);
-        written =
-            new-state m events limit (looked .not-open outside) x
-            (λ φ rows. y .written φ (subst (λ ps. Rows m events ps state 0 φ) (sym opened-path) rows));
+        same-depths = ap (λ l. set l state 0) (y .same-depths) ∙ depth-closed depths state (depth + 1) new;
+        written = λ path o.
+            new-state m events limit (o .not-open state new) x
+            (y .written (state ∷ path) (path-opened state (omega (arith, h .small-state, h .depths-room)) o));
       }
 
-module _ (m : Machine ℕ ℕ) (events : ℕ) {limit at depth state event next value part end : ℕ} {stack stack-one before one two : List ℕ}
+module _ (m : Machine ℕ ℕ) (events : ℕ) {limit at depth state event next value part end : ℕ} {depths depths-one before one two : List ℕ}
     (within : at ≤ limit + 1) (x : Appends limit at 2 (4 ∷ 0 ∷ 0 ∷ 2 ∷ event ∷ 0 ∷ []) before one part)
-    (next-is : next ≡ m .next state event) (y : Walked (λ ps. Writes m events ps next) limit depth part stack stack-one one two end)
+    (next-is : next ≡ m .next state event) (y : Walked (λ ps. Writes m events ps next) limit depth part depths depths-one one two end)
     (value-is : value ≡ m .value state event) where
-  part-written : State m events limit part (open-path stack depth) (m .next state event) one two end
-  part-written φ w = y .written φ (subst (λ n. Writes m events (open-path stack depth) n φ) (sym next-is) w)
+  part-written : (path : List ℕ) → OpenPath depth depths path → State m events limit part path (m .next state event) one two end
+  part-written path o φ w = y .written path o φ (subst (λ n. Writes m events path n φ) (sym next-is) w)
 
   -- The row of the last event.
   pub walk-last :
       {after : List ℕ} {r : ℕ} → event + 1 ≡ events → Appends limit end 1 (3 ∷ event ∷ value ∷ []) two after r
-      → Walked (λ ps. Rows m events ps state event) limit depth at stack stack-one before after r
+      → Walked (λ ps. Rows m events ps state event) limit depth at depths depths-one before after r
   walk-last l z =
       record {
         rises = omega (arith, x .position, y .rises, z .position);
         within = omega (arith, z .position);
         same-length = z .same-length ∙ y .same-length ∙ x .same-length;
-        same-stack = y .same-stack;
-        same-path = y .same-path;
-        written =
-            last-event m events limit x part-written l (recounted refl (ap (λ v. 3 ∷ event ∷ v ∷ []) value-is) z);
+        same-depths = y .same-depths;
+        written = λ path o.
+            last-event m events limit x (part-written path o) l (recounted refl (ap (λ v. 3 ∷ event ∷ v ∷ []) value-is) z);
       }
 
   -- The row of another event, and those after it.
   pub walk-more :
-      {stack-after three after : List ℕ} {rest r : ℕ} → ¬ (event + 1 ≡ events)
+      {depths-after three after : List ℕ} {rest r : ℕ} → ¬ (event + 1 ≡ events)
       → Appends limit end 2 (4 ∷ 0 ∷ 0 ∷ 3 ∷ event ∷ value ∷ []) two three rest
-      → Walked (λ ps. Rows m events ps state (event + 1)) limit depth rest stack-one stack-after three after r
-      → Walked (λ ps. Rows m events ps state event) limit depth at stack stack-after before after r
+      → Walked (λ ps. Rows m events ps state (event + 1)) limit depth rest depths-one depths-after three after r
+      → Walked (λ ps. Rows m events ps state event) limit depth at depths depths-after before after r
   walk-more l z more =
       let e : suc event ≡ event + 1 = omega arith in
       record {
         rises = omega (arith, x .position, y .rises, z .position, more .rises);
         within = more .within;
         same-length = more .same-length ∙ z .same-length ∙ y .same-length ∙ x .same-length;
-        same-stack = more .same-stack ∙ y .same-stack;
-        same-path = more .same-path ∙ y .same-path;
-        written =
-            another-event m events limit x part-written l
+        same-depths = more .same-depths ∙ y .same-depths;
+        written = λ path o.
+            another-event m events limit x (part-written path o) l
             (recounted refl (ap (λ v. 4 ∷ 0 ∷ 0 ∷ 3 ∷ event ∷ v ∷ []) value-is) z)
-            (λ χ rows. more .written χ
-            (subst (λ ps. Rows m events ps state (event + 1) χ) (sym (y .same-path))
-            (subst (λ k. Rows m events (open-path stack depth) state k χ) e rows)));
+            (λ χ rows. more .written path (subst (λ l. OpenPath depth l path) (sym (y .same-depths)) o) χ
+            (subst (λ k. Rows m events path state k χ) e rows));
       }
 
 -- ---- what the next call asks, and that fewer nodes are left for it
@@ -171,13 +164,15 @@ room-after h x =
 
 -- With one state more open.
 pub ready-rows :
-    {limit events depth state at part : ℕ} {stack before after bytes : List ℕ} → Ready limit events depth state at stack before
+    {limit events depth state at part : ℕ} {depths before after bytes : List ℕ} → Ready limit events depth state at depths before
     → at < limit → Appends limit at 1 bytes before after part
-    → Ready limit events (depth + 1) state part (set stack depth state) after
-ready-rows {depth = depth} {state = state} {stack = stack} h below x =
+    → Ready limit events (depth + 1) state part (set depths state (depth + 1)) after
+ready-rows {depth = depth} {state = state} {depths = depths} h below x =
     record {
       has-room = room-after (h .has-room) x;
-      stack-room = omega (arith, h .stack-room, length-set stack depth state);
+      depths-room = omega (arith, h .depths-room, length-set depths state (depth + 1));
+      path = state ∷ h .path;
+      held = path-opened state (omega (arith, h .small-state, h .depths-room)) (h .held);
       shallow = omega (arith, h .shallow, x .position);
       few-events = h .few-events;
       small-state = h .small-state;
@@ -185,12 +180,14 @@ ready-rows {depth = depth} {state = state} {stack = stack} h below x =
 
 -- For the part of a G, with the same states open.
 pub ready-part :
-    {limit events depth state next at part : ℕ} {stack before after bytes : List ℕ} → Ready limit events depth state at stack before
-    → next < 256 → Appends limit at 2 bytes before after part → Ready limit events depth next part stack after
+    {limit events depth state next at part : ℕ} {depths before after bytes : List ℕ} → Ready limit events depth state at depths before
+    → next < 256 → Appends limit at 2 bytes before after part → Ready limit events depth next part depths after
 ready-part h small x =
     record {
       has-room = room-after (h .has-room) x;
-      stack-room = h .stack-room;
+      depths-room = h .depths-room;
+      path = h .path;
+      held = h .held;
       shallow = omega (arith, h .shallow, h .has-room .at-within, x .position);
       few-events = h .few-events;
       small-state = small;
@@ -198,16 +195,16 @@ ready-part h small x =
 
 -- After that part.
 pub room-walked :
-    {Of : List ℕ → Formula ℕ → Type 0} {limit depth at r : ℕ} {stack stack-after before after : List ℕ} → HasRoom limit at before
-    → Walked Of limit depth at stack stack-after before after r → HasRoom limit r after
+    {Of : List ℕ → Formula ℕ → Type 0} {limit depth at r : ℕ} {depths depths-after before after : List ℕ} → HasRoom limit at before
+    → Walked Of limit depth at depths depths-after before after r → HasRoom limit r after
 room-walked h y = record { room = omega (arith, h .room, y .same-length); small-limit = h .small-limit; at-within = y .within }
 
 module _ {Of : List ℕ → Formula ℕ → Type 0} {limit events depth state at part end rest : ℕ}
-    {stack stack-one before one two three bytes others : List ℕ} (h : Ready limit events depth state at stack before)
-    (below : at < limit) (x : Appends limit at 2 bytes before one part) (y : Walked Of limit depth part stack stack-one one two end)
+    {depths depths-one before one two three bytes others : List ℕ} (h : Ready limit events depth state at depths before)
+    (below : at < limit) (x : Appends limit at 2 bytes before one part) (y : Walked Of limit depth part depths depths-one one two end)
     (z : Appends limit end 2 others two three rest) where
   -- After a row.
-  pub ready-more : Ready limit events depth state rest stack-one three
+  pub ready-more : Ready limit events depth state rest depths-one three
   ready-more =
       record {
         has-room =
@@ -216,7 +213,9 @@ module _ {Of : List ℕ → Formula ℕ → Type 0} {limit events depth state at
               small-limit = h .has-room .small-limit;
               at-within = omega (arith, z .position);
             };
-        stack-room = omega (arith, h .stack-room, y .same-stack);
+        depths-room = omega (arith, h .depths-room, ap length (y .same-depths));
+        path = h .path;
+        held = subst (λ l. OpenPath depth l (h .path)) (sym (y .same-depths)) (h .held);
         shallow = omega (arith, h .shallow, x .position, y .rises, z .position);
         few-events = h .few-events;
         small-state = h .small-state;

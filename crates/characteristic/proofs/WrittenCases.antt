@@ -1,8 +1,8 @@
 -- The cases of document 01 on the rule of a table, computed from the definitions.
 -- Assumes nothing.
 use mathlib.Core.Path.{_≡_, refl, sym, _∙_, ap, subst}
-use mathlib.Core.Option.{none, some}
-use mathlib.Core.List.{List, []}
+use mathlib.Core.Option.{none}
+use mathlib.Core.List.{List}
 use Prim.Native.Nat.{ℕ, _*_, _≤_, _<_}
 use native.Mathlib.Omega.{arith}
 use lib.Dec.{lit≤, lit<}
@@ -10,8 +10,7 @@ use lib.ListN.{length}
 use Rattle.theory.specs.Formula.{Formula, size, WellFormed}
 use Rattle.theory.specs.MealyMachine.{Machine}
 use Rattle.theory.specs.ValueSets.{Below, meetAt, four-value-meet}
-use Rattle.theory.specs.ReachableStates.{state-at, IsTable, IsTableOf}
-use Rattle.theory.specs.CharacteristicFormula.{written}
+use Rattle.theory.specs.ReachableStates.{state-at, IsTable}
 use Rattle.theory.specs.DemandSets.{empty, only, union}
 use Rattle.theory.specs.Exploration.{state-count, table-of}
 use Rattle.theory.proofs.ValueSets.{four-value-semilattice}
@@ -19,15 +18,15 @@ use Rattle.theory.proofs.Claims.{table}
 use Rattle.theory.proofs.CharacteristicFormula.{writes-well-formed}
 use Rattle.refusal.specs.declared.Refusal.the-variants.{Plain}
 use Rattle.refusal.specs.declared.Counted.the-variants.{Count, Refused}
-use Rattle.refusal.specs.Refusal.{counted, or-else, plain-unless}
+use Rattle.refusal.specs.Refusal.{counted, plain-unless}
 use Rattle.values.specs.Setup.{Setup, setup, setup-refusal}
-use Rattle.values.proofs.Setups.{setup-accepted, four-value-setup}
+use Rattle.values.proofs.Setups.{four-value-setup}
 use Rattle.formulas.specs.NodeBytes.{encode-formula, three-bytes}
 use Rattle.machines.specs.TableBytes.{machine-of, table-bytes, two-bytes}
 use Rattle.machines.specs.TableRefusal.{all-below, table-test, entry-test, table-refusal}
 use Rattle.machines.specs.Claims.{Agree}
 use Rattle.machines.proofs.TableRoundTrip.{read-back}
-use Rattle.characteristic.specs.RuleOfTable.{rule-of, write-refusal, write-answer}
+use Rattle.characteristic.specs.RuleOfTable.{rule-of, write-answer}
 use Rattle.characteristic.specs.WrittenCases.{four-values, case-11-rows, case-11-rule, Case11Claim, chain-rows, ChainClaim}
 use Rattle.characteristic.proofs.Outputs.{over-limit, fits-room}
 use Rattle.characteristic.proofs.Answers.{output-last, is-rule, runs, start-within}

@@ -1,8 +1,8 @@
 -- What the parts of the walk over a table promise: nodes appended to a buffer up to a limit, and the path of open states.
 -- Assumes nothing.
 use mathlib.Core.Path.{_≡_}
-use mathlib.Core.List.{List, [], _∷_, _++_}
-use Prim.Native.Nat.{ℕ, zero, suc, _+_, _*_, _≤_, _<_, min}
+use mathlib.Core.List.{List, _++_}
+use Prim.Native.Nat.{ℕ, _+_, _*_, _-_, _≤_, _<_, min}
 use lib.ListN.{length, getD, take}
 use Rattle.theory.specs.Formula.{Formula, size}
 use Rattle.theory.specs.CharacteristicFormula.{OpenAt}
@@ -26,33 +26,33 @@ pub record HasRoom (limit at : ℕ) (to : List ℕ) : Type 0 where
   pub small-limit : limit ≤ 256
   pub at-within : at ≤ limit + 1
 
--- The first `depth` states of a stack, the last one first: the open path.
-unfoldable pub open-path : List ℕ → ℕ → List ℕ
-open-path stack zero = []
-open-path stack (suc d) = getD stack d 0 ∷ open-path stack d
+-- The array holds the path of `depth` open states, the innermost first: of each open state its depth on the path, from 1 on; of
+-- each other state 0.
+pub record OpenPath (depth : ℕ) (depths path : List ℕ) : Type 0 where
+  pub at-most : (s : ℕ) → getD depths s 0 ≤ depth
+  pub open-there : (s : ℕ) → 0 < getD depths s 0 → OpenAt s path (depth - getD depths s 0)
+  pub not-open : (s : ℕ) → getD depths s 0 ≡ 0 → (i : ℕ) → ¬ OpenAt s path i
 
--- Where a state is open on a path of `depth` states; `depth` where it is not.
-pub record Looked (state depth : ℕ) (path : List ℕ) (r : ℕ) : Type 0 where
-  pub open-there : r < depth → OpenAt state path r
-  pub not-open : depth ≤ r → (i : ℕ) → ¬ OpenAt state path i
-
--- What the walk asks: room for the nodes, for the open path, and states and events that index the table.
-pub record Ready (limit events depth state at : ℕ) (stack to : List ℕ) : Type 0 where
+-- What the walk asks: room for the nodes and for each state's depth, an open path, and states and events that index the table.
+pub record Ready (limit events depth state at : ℕ) (depths to : List ℕ) : Type 0 where
   pub has-room : HasRoom limit at to
-  pub stack-room : limit ≤ length stack
+  pub depths-room : 256 ≤ length depths
+  pub path : List ℕ
+  pub held : OpenPath depth depths path
   pub shallow : depth ≤ at
   pub few-events : events ≤ 256
   pub small-state : state < 256
 
--- What the walk yields: the nodes of each formula that is the one to be written below the open path are appended, and the path is
--- as it was.
-pub record Walked (Of : List ℕ → Formula ℕ → Type 0) (limit depth at : ℕ) (stack stack-after before after : List ℕ) (r : ℕ) : Type 0 where
+-- What the walk yields: the nodes of each formula that is the one to be written below the open path are appended, and the depths are
+-- as they were.
+pub record Walked (Of : List ℕ → Formula ℕ → Type 0) (limit depth at : ℕ) (depths depths-after before after : List ℕ) (r : ℕ) : Type 0 where
   pub rises : at ≤ r
   pub within : r ≤ limit + 1
   pub same-length : length after ≡ length before
-  pub same-stack : length stack-after ≡ length stack
-  pub same-path : open-path stack-after depth ≡ open-path stack depth
-  pub written : (φ : Formula ℕ) → Of (open-path stack depth) φ → Appends limit at (size φ) (encode-formula three-bytes φ) before after r
+  pub same-depths : depths-after ≡ depths
+  pub written :
+      (path : List ℕ) → OpenPath depth depths path → (φ : Formula ℕ) → Of path φ
+      → Appends limit at (size φ) (encode-formula three-bytes φ) before after r
 
 -- The nodes of the rule of a table in a buffer, from its front; their count is cut off at one more than the limit.
 pub record Listed (limit events start : ℕ) (table before after : List ℕ) (r : ℕ) : Type 0 where

@@ -1,14 +1,12 @@
 -- The rule of a table (document 01, "Rule of a table", refusals 12 and 13): the conditions that a call meets, its answer, and what
 -- the lent buffer holds afterwards. The limits of states and of nodes are parameters.
 -- Assumes nothing.
-use mathlib.Core.Path.{_≡_}
-use mathlib.Core.Option.{Option, none, some}
+use mathlib.Core.Option.{Option}
 use mathlib.Core.List.{List, [], _∷_, _++_}
 use Prim.Native.Nat.{ℕ, _-_, _*_, _<_}
 use lib.ListN.{length}
 use lib.Dec.{leb}
 use Rattle.theory.specs.Formula.{Formula, size}
-use Rattle.theory.specs.MealyMachine.{Machine}
 use Rattle.theory.specs.ValueSets.{Below}
 use Rattle.theory.specs.CharacteristicFormula.{Writes, written}
 use Rattle.refusal.specs.declared.Refusal.{Refusal}

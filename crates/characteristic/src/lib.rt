@@ -18,7 +18,7 @@ ghost use Rattle.refusal.specs.LentBuffers.{put};
 ghost use Rattle.values.specs.Setup.{setup};
 ghost use Rattle.machines.specs.TableBytes.{machine-of};
 ghost use Rattle.characteristic.specs.RuleOfTable.{write-answer, write-contents};
-ghost use Rattle.characteristic.specs.NodeOutput.{Appends, HasRoom, Looked, open-path, Ready, Walked, Listed, Answered};
+ghost use Rattle.characteristic.specs.NodeOutput.{Appends, HasRoom, Ready, Walked, Listed, Answered};
 
 // A table handed in has at most so many states.
 pub const STATE_LIMIT: usize = 64;
@@ -71,45 +71,33 @@ fn value_of(table: &[u8], events: usize, state: usize, event: usize) -> u32
     machines::value_at(table, state * events + event)
 }
 
-// How many states were opened after this one, the innermost being looked at first; the depth where it is not open.
-fn open_place(path: &[usize], depth: usize, state: usize) -> usize
-    requires { ⌜ depth ≤ length (now path) ⌝ }
-    ensures { λ r. ⌜ Looked state depth (open-path (now (path .entry)) depth) r ⌝ }
-{
-    let mut d = depth;
-    while 0 < d {
-        if path[d - 1] == state {
-            return depth - d;
-        }
-        d -= 1;
-    }
-    depth
-}
-
-// Writes the rule of a state: X where it is open on the path; otherwise V and its rows, with the state open.
+// Writes the rule of a state: X where it is open on the path; otherwise V and its rows, with the state open. Of each open state the
+// array has its depth on the path, from 1 on, and of each other state 0.
 fn write_state(
     table: &[u8],
     events: usize,
     limit: usize,
-    path: &mut [usize],
+    depths: &mut [usize],
     depth: usize,
     state: usize,
     to: &mut [u8],
     at: usize,
 ) -> usize
-    requires { ⌜ Ready limit events depth state at (now path) (now to) × (0 < events) ⌝ }
-    ensures { λ r. ⌜ Walked (λ ps. Writes (machine-of events (now (table .entry))) events ps state) limit depth at (now (path .entry)) (now (path .exit)) (now (to .entry)) (now (to .exit)) r ⌝ }
+    requires { ⌜ Ready limit events depth state at (now depths) (now to) × (0 < events) ⌝ }
+    ensures { λ r. ⌜ Walked (λ ps. Writes (machine-of events (now (table .entry))) events ps state) limit depth at (now (depths .entry)) (now (depths .exit)) (now (to .entry)) (now (to .exit)) r ⌝ }
 {
     if limit <= at {
         return limit + 1;
     }
-    let place = open_place(path, depth, state);
+    let place = depth - depths[state];
     if place < depth {
         return put_node(to, limit, at, VARIABLE, place, 0);
     }
     let part = put_node(to, limit, at, GREATEST, 0, 0);
-    path[depth] = state;
-    write_rows(table, events, limit, path, depth + 1, state, 0, to, part)
+    depths[state] = depth + 1;
+    let end = write_rows(table, events, limit, depths, depth + 1, state, 0, to, part);
+    depths[state] = 0;
+    end
 }
 
 // Writes the rows of a state from an event on: A, G event, the rule of the next state, O event.value, nested to the right.
@@ -117,22 +105,22 @@ fn write_rows(
     table: &[u8],
     events: usize,
     limit: usize,
-    path: &mut [usize],
+    depths: &mut [usize],
     depth: usize,
     state: usize,
     event: usize,
     to: &mut [u8],
     at: usize,
 ) -> usize
-    requires { ⌜ Ready limit events depth state at (now path) (now to) × (event < events) ⌝ }
-    ensures { λ r. ⌜ Walked (λ ps. Rows (machine-of events (now (table .entry))) events ps state event) limit depth at (now (path .entry)) (now (path .exit)) (now (to .entry)) (now (to .exit)) r ⌝ }
+    requires { ⌜ Ready limit events depth state at (now depths) (now to) × (event < events) ⌝ }
+    ensures { λ r. ⌜ Walked (λ ps. Rows (machine-of events (now (table .entry))) events ps state event) limit depth at (now (depths .entry)) (now (depths .exit)) (now (to .entry)) (now (to .exit)) r ⌝ }
 {
     if limit <= at {
         return limit + 1;
     }
     let part = put_transition(to, limit, at, event);
     let next = next_state(table, events, state, event);
-    let end = write_state(table, events, limit, path, depth, next, to, part);
+    let end = write_state(table, events, limit, depths, depth, next, to, part);
     let value = value_of(table, events, state, event);
     if event + 1 == events {
         return put_node(to, limit, end, OUTPUT, event, value);
@@ -142,7 +130,7 @@ fn write_rows(
         table,
         events,
         limit,
-        path,
+        depths,
         depth,
         state,
         event + 1,
@@ -156,8 +144,8 @@ fn list_nodes(table: &[u8], events: usize, start: usize, limit: usize, to: &mut 
     requires { ⌜ HasRoom limit 0 (now to) × (0 < events) × (events ≤ 256) × (start < 256) ⌝ }
     ensures { λ r. ⌜ Listed limit events start (now (table .entry)) (now (to .entry)) (now (to .exit)) r ⌝ }
 {
-    let mut path = [0usize; 256];
-    write_state(table, events, limit, &mut path, 0, start, to, 0)
+    let mut depths = [0usize; 256];
+    write_state(table, events, limit, &mut depths, 0, start, to, 0)
 }
 
 // Copies the first bytes of a buffer to the front of another.

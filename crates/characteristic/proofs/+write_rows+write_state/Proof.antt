@@ -1,12 +1,11 @@
 -- The proof of the cycle of calls {write_rows, write_state}. The measure is how many nodes are left up to one more than the limit.
 -- Each return is one step of the walk (`Walks`); each call of the other has fewer nodes left.
 -- Assumes nothing.
-use mathlib.Core.Path.{_∙_}
+use mathlib.Core.Path.{_∙_, ap}
 use Prim.Native.Nat.{ℕ, _+_, _-_, _<_}
 use native.Mathlib.Omega.{arith}
 use lib.Dec.{lit<}
-use lib.ListN.{length-set}
-use borrow.Author.Needs.{needs}
+use lib.ListN.{length, length-set}
 use borrow.Fn.Kinds.{In}
 use borrow.Fn.PlainCycle.{Measures, is, falls, and}
 use Rattle.machines.specs.TableBytes.{machine-of}
@@ -18,7 +17,6 @@ use Rattle.characteristic.proofs.write_state.Reads as write-state
 use Rattle.characteristic.proofs.write_state.Kinds as write-state-kinds
 use Rattle.characteristic.proofs.+write_rows+write_state.Lts-write_state as write-state-lts
 use Rattle.characteristic.proofs.next_state.Reads as next-state-reads
-use Rattle.characteristic.proofs.open_place.Reads as open-place-reads
 use Rattle.characteristic.proofs.put_node.Reads as put-node-reads
 use Rattle.characteristic.proofs.put_output.Reads as put-output-reads
 use Rattle.characteristic.proofs.put_transition.Reads as put-transition-reads
@@ -69,8 +67,6 @@ rows-claims t = (
 
 abbrev state-claims : ℕ → write-state-lts.Claims
 state-claims t = (
-  open-place-reads.Asked,
-  open-place-reads.Learnt,
   put-node-reads.Asked,
   put-node-reads.Learnt,
   write-rows-below t,
@@ -118,7 +114,7 @@ write-rows-put-node-requires t c κs =
     )
 
 write-rows-same-length : (t : ℕ) → write-rows-lts.Need-same-length (rows-claims t) (write-rows-at t) write-rows.Post
-write-rows-same-length t c = c .before .before .before .before .before .before .before .before .before .before .write-state .ensures .same-stack
+write-rows-same-length t c = ap length (c .before .before .before .before .before .before .before .before .before .before .write-state .ensures .same-depths)
 
 write-rows-same-length-2 : (t : ℕ) → write-rows-lts.Need-same-length-2 (rows-claims t) (write-rows-at t) write-rows.Post
 write-rows-same-length-2 t c =
@@ -159,7 +155,7 @@ write-rows-write-rows-requires t c κs =
     )
 
 write-rows-same-length-3 : (t : ℕ) → write-rows-lts.Need-same-length-3 (rows-claims t) (write-rows-at t) write-rows.Post
-write-rows-same-length-3 t c = c .before .before .before .before .write-rows .ensures .same-stack ∙ c .before .before .before .before .before .before .before .before .before .before .before .before .before .before .before .before .before .write-state .ensures .same-stack
+write-rows-same-length-3 t c = ap length (c .before .before .before .before .write-rows .ensures .same-depths ∙ c .before .before .before .before .before .before .before .before .before .before .before .before .before .before .before .before .before .write-state .ensures .same-depths)
 
 write-rows-same-length-4 : (t : ℕ) → write-rows-lts.Need-same-length-4 (rows-claims t) (write-rows-at t) write-rows.Post
 write-rows-same-length-4 t c =
@@ -182,67 +178,71 @@ write-state-add-result t c = omega (arith, c .before .before .before .before .pr
 write-state-returns : (t : ℕ) → write-state-lts.Need-returns (state-claims t) (write-state-at t) write-state.Post
 write-state-returns t c = walk-full _ _ _ _ (c .if1 .taken) (c .before .before .before .before .pre .1 .0 .has-room .at-within)
 
-write-state-open-place-requires : (t : ℕ) → write-state-lts.Need-open-place-requires (state-claims t) (write-state-at t) write-state.Post
-write-state-open-place-requires t c κs =
-    let h = c .before .before .before .before .before .pre .1 .0 in
-    omega (arith, h .stack-room, h .shallow, c .before .if1 .left)
+write-state-mul-place : (t : ℕ) → write-state-lts.Need-mul-place (state-claims t) (write-state-at t) write-state.Post
+write-state-mul-place t c = omega (arith, c .before .before .before .before .pre .1 .0 .small-state)
+
+write-state-slice-read-place : (t : ℕ) → write-state-lts.Need-slice-read-place (state-claims t) (write-state-at t) write-state.Post
+write-state-slice-read-place t c = let h = c .before .before .before .before .before .pre .1 .0 in omega (arith, h .small-state, h .depths-room)
+
+write-state-sub-place : (t : ℕ) → write-state-lts.Need-sub-place (state-claims t) (write-state-at t) write-state.Post
+write-state-sub-place t c = let e = c .before .before .before .before .before in omega (arith, e .pre .1 .0 .held .at-most (e .args .state))
 
 write-state-put-node-requires : (t : ℕ) → write-state-lts.Need-put-node-requires (state-claims t) (write-state-at t) write-state.Post
 write-state-put-node-requires t c κs =
-    let h = c .before .before .before .before .before .before .before .before .pre .1 .0 in
-    (h .has-room, omega (arith, h .shallow, h .has-room .small-limit, c .before .before .before .before .if1 .left, c .before .if2 .taken), lit< tt)
+    let h = c .before .before .before .before .before .before .before .pre .1 .0 in
+    (h .has-room, omega (arith, h .shallow, h .has-room .small-limit, c .before .before .before .if1 .left, c .before .if2 .taken), lit< tt)
 
 write-state-same-length : (t : ℕ) → write-state-lts.Need-same-length (state-claims t) (write-state-at t) write-state.Post
-write-state-same-length t c = search needs
-
-write-state-same-length-2 : (t : ℕ) → write-state-lts.Need-same-length-2 (state-claims t) (write-state-at t) write-state.Post
-write-state-same-length-2 t c = c .before .before .put-node .ensures .same-length
+write-state-same-length t c = c .before .before .put-node .ensures .same-length
 
 write-state-returns-2 : (t : ℕ) → write-state-lts.Need-returns-2 (state-claims t) (write-state-at t) write-state.Post
 write-state-returns-2 t c =
-    let looked = c .before .before .before .before .before in
-    let entry = looked .before .before .before .before .before .before in
-    let a = entry .args in
-    walk-open (machine-of (a .events) (a .table .now)) (a .events) (a .path .now) (entry .pre .1 .0 .has-room .at-within)
-    (looked .open-place .ensures) (c .before .before .before .before .if2 .taken) (c .before .before .put-node .ensures)
+    let a = c .before .before .before .before .before .before .before .before .before .before .args in
+    walk-open (machine-of (a .events) (a .table .now)) (a .events) (a .depths .now) (c .before .before .before .before .before .before .before .before .before .before .pre .1 .0 .has-room .at-within) (c .before .before .before .before .if2 .taken)
+    (c .before .before .put-node .ensures)
 
 write-state-put-node-requires-2 : (t : ℕ) → write-state-lts.Need-put-node-requires-2 (state-claims t) (write-state-at t) write-state.Post
-write-state-put-node-requires-2 t c κs = (c .before .before .before .before .before .before .before .before .pre .1 .0 .has-room, lit< tt, lit< tt)
+write-state-put-node-requires-2 t c κs = (c .before .before .before .before .before .before .before .pre .1 .0 .has-room, lit< tt, lit< tt)
 
-write-state-mul-path : (t : ℕ) → write-state-lts.Need-mul-path (state-claims t) (write-state-at t) write-state.Post
-write-state-mul-path t c = search needs
+write-state-add-depths : (t : ℕ) → write-state-lts.Need-add-depths (state-claims t) (write-state-at t) write-state.Post
+write-state-add-depths t c = let h = c .before .before .before .before .before .before .before .before .before .before .pre .1 .0 in omega (arith, h .shallow, h .has-room .small-limit, c .before .before .before .before .before .before .if1 .left)
 
-write-state-slice-write-path : (t : ℕ) → write-state-lts.Need-slice-write-path (state-claims t) (write-state-at t) write-state.Post
-write-state-slice-write-path t c =
-    let h = c .before .before .before .before .before .before .before .before .before .before .before .pre .1 .0 in
-    omega (arith, h .stack-room, h .shallow, c .before .before .before .before .before .before .before .if1 .left)
+write-state-mul-depths : (t : ℕ) → write-state-lts.Need-mul-depths (state-claims t) (write-state-at t) write-state.Post
+write-state-mul-depths t c = omega (arith, c .before .before .before .before .before .before .before .before .before .before .pre .1 .0 .small-state)
+
+write-state-slice-write-depths : (t : ℕ) → write-state-lts.Need-slice-write-depths (state-claims t) (write-state-at t) write-state.Post
+write-state-slice-write-depths t c = let h = c .before .before .before .before .before .before .before .before .before .before .pre .1 .0 in omega (arith, h .small-state, h .depths-room)
 
 write-state-add-write-rows : (t : ℕ) → write-state-lts.Need-add-write-rows (state-claims t) (write-state-at t) write-state.Post
-write-state-add-write-rows t c =
-    let h = c .before .before .before .before .before .before .before .before .before .before .before .before .pre .1 .0 in
-    omega (arith, h .shallow, h .has-room .small-limit, c .before .before .before .before .before .before .before .before .if1 .left)
+write-state-add-write-rows t c = let h = c .before .before .before .before .before .before .before .before .before .before .before .pre .1 .0 in omega (arith, h .shallow, h .has-room .small-limit, c .before .before .before .before .before .before .before .if1 .left)
 
 write-state-write-rows-requires : (t : ℕ) → write-state-lts.Need-write-rows-requires (state-claims t) (write-state-at t) write-state.Post
 write-state-write-rows-requires t c κs =
     let x = c .before .before .before .before .put-node2 .ensures in
-    let entry = c .before .before .before .before .before .before .before .before .before .before .before .before .before in
-    let below = c .before .before .before .before .before .before .before .before .before .if1 .left in
+    let entry = c .before .before .before .before .before .before .before .before .before .before .before .before in
+    let below = c .before .before .before .before .before .before .before .before .if1 .left in
     (omega (arith, entry .pre .0, below, x .position), (ready-rows (entry .pre .1 .0) below x, entry .pre .1 .1))
 
-write-state-same-length-3 : (t : ℕ) → write-state-lts.Need-same-length-3 (state-claims t) (write-state-at t) write-state.Post
-write-state-same-length-3 t c = c .before .before .before .before .write-rows .kept .1 .1 .1 .0 ∙ simp length-set
+write-state-mul-depths-2 : (t : ℕ) → write-state-lts.Need-mul-depths-2 (state-claims t) (write-state-at t) write-state.Post
+write-state-mul-depths-2 t c = omega (arith, c .before .before .before .before .before .before .before .before .before .before .before .before .before .before .before .before .before .pre .1 .0 .small-state)
 
-write-state-same-length-4 : (t : ℕ) → write-state-lts.Need-same-length-4 (state-claims t) (write-state-at t) write-state.Post
-write-state-same-length-4 t c = c .before .before .before .before .write-rows .ensures .same-length ∙ c .before .before .before .before .before .before .before .before .before .put-node2 .ensures .same-length
+write-state-slice-write-depths-2 : (t : ℕ) → write-state-lts.Need-slice-write-depths-2 (state-claims t) (write-state-at t) write-state.Post
+write-state-slice-write-depths-2 t c =
+    let h = c .before .before .before .before .before .before .before .before .before .before .before .before .before .before .before .before .before .pre .1 .0 in
+    let l = c .before .before .before .before .write-rows .kept .1 .1 .1 .0 in
+    omega (arith, h .small-state, h .depths-room, simp length-set at l)
+
+write-state-same-length-2 : (t : ℕ) → write-state-lts.Need-same-length-2 (state-claims t) (write-state-at t) write-state.Post
+write-state-same-length-2 t c = simp length-set (c .before .before .before .before .write-rows .kept .1 .1 .1 .0 ∙ simp length-set)
+
+write-state-same-length-3 : (t : ℕ) → write-state-lts.Need-same-length-3 (state-claims t) (write-state-at t) write-state.Post
+write-state-same-length-3 t c = c .before .before .before .before .write-rows .ensures .same-length ∙ c .before .before .before .before .before .before .before .before .before .put-node2 .ensures .same-length
 
 write-state-returns-3 : (t : ℕ) → write-state-lts.Need-returns-3 (state-claims t) (write-state-at t) write-state.Post
 write-state-returns-3 t c =
-    let looked = c .before .before .before .before .before .before .before .before .before .before .before .before in
-    let entry = looked .before .before .before .before .before .before in
+    let entry = c .before .before .before .before .before .before .before .before .before .before .before .before .before .before .before .before .before in
     let a = entry .args in
-    let h = entry .pre .1 .0 in
-    walk-new (machine-of (a .events) (a .table .now)) (a .events) (a .path .now) (h .has-room .at-within)
-    (omega (arith, h, looked .before .before .if1 .left)) (looked .open-place .ensures) (c .before .before .before .before .before .before .before .before .before .before .before .if2 .left) (c .before .before .before .before .before .before .before .before .before .put-node2 .ensures)
+    walk-new (machine-of (a .events) (a .table .now)) (a .events) (a .depths .now) (entry .pre .1 .0) (c .before .before .before .before .before .before .before .before .before .before .before .if2 .left) (c .before .before .before .before .before .before .before .before .before .put-node2 .ensures)
     (c .before .before .before .before .write-rows .ensures)
 
 pub +write-rows+write-state-spec : {M : Type 1} → statement M
@@ -271,16 +271,20 @@ pub +write-rows+write-state-spec : {M : Type 1} → statement M
     write-state.Post
     (write-state-add-result t)
     (write-state-returns t)
-    (write-state-open-place-requires t)
+    (write-state-mul-place t)
+    (write-state-slice-read-place t)
+    (write-state-sub-place t)
     (write-state-put-node-requires t)
     (write-state-same-length t)
-    (write-state-same-length-2 t)
     (write-state-returns-2 t)
     (write-state-put-node-requires-2 t)
-    (write-state-mul-path t)
-    (write-state-slice-write-path t)
+    (write-state-add-depths t)
+    (write-state-mul-depths t)
+    (write-state-slice-write-depths t)
     (write-state-add-write-rows t)
     (write-state-write-rows-requires t)
+    (write-state-mul-depths-2 t)
+    (write-state-slice-write-depths-2 t)
+    (write-state-same-length-2 t)
     (write-state-same-length-3 t)
-    (write-state-same-length-4 t)
     (write-state-returns-3 t)
