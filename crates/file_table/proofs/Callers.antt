@@ -1,6 +1,6 @@
 -- What a caller of `compile_file` knows whose meet buffer has room for the entries of every set-up.
 -- Assumes nothing.
-use Prim.Native.Nat.{ℕ, _*_, _≤_}
+use Prim.Native.Nat.{ℕ, _*_, _≤_, _<_}
 use mathlib.Core.Path.{_≡_, refl, sym, ap, ap₂, _∙_, subst}
 use mathlib.Core.List.{List}
 use mathlib.Core.Bool.{Bool, true, _&&_}
@@ -8,13 +8,14 @@ use mathlib.Core.Option.{Option, none, some}
 use native.Mathlib.Omega.{arith}
 use lib.Dec.{leb}
 use lib.ListN.{length, take, drop, length-append}
-use lib.Seq.{take-at}
+use lib.Seq.{take-at, length-take-le}
 use borrow.Author.Tests.{le-leb}
 use Rattle.refusal.specs.declared.Refusal.{Refusal}
 use Rattle.refusal.specs.declared.Refusal.the-variants.{At}
 use Rattle.refusal.specs.Refusal.{or-else, plain-unless}
 use Rattle.refusal.specs.LentBuffers.{put, put-unless}
 use Rattle.refusal.proofs.Refusals.{or-else-none}
+use Rattle.values.specs.Setup.{setup}
 use Rattle.text_format.specs.Format.{Outcome, contents, refused}
 use Rattle.channel_file.specs.ChannelFile.{Contents}
 use Rattle.channel_file.specs.Reading.{read-file}
@@ -25,7 +26,7 @@ use Rattle.file_table.specs.declared.FileTable.{FileTable}
 use Rattle.file_table.specs.declared.FileTable.the-variants.{Made, Refused}
 use Rattle.file_table.specs.FileCompilation.{has-room, pair-compile-refusal, file-states, file-table, contents-table-refusal, file-refusal, made-or, compile-answer, meet-after, table-after, CompilesFile}
 use Rattle.file_table.proofs.Answers.{rows-length}
-use Rattle.file_table.proofs.Claims.{file-table-made}
+use Rattle.file_table.proofs.Claims.{setup-passed, file-table-made}
 
 module _ (c : Contents) (meet to : List ℕ) (wide : 256 ≤ length meet) where
   abbrev later : Bool → Option Refusal
@@ -135,3 +136,33 @@ module _ {t meet to meet′ to′ : List ℕ} {x : FileTable} (k : CompilesFile 
             table-in = front-in (file-table c) to to′ (j * n .events * 2) size b;
             table-taken = front-taken (file-table c) to to′ (j * n .events * 2) size b;
           }
+
+-- its numbers are within the limits
+module _ {t meet to meet′ to′ : List ℕ} {n : FileNumbers} {k : ℕ} (w : MadeOf t meet to meet′ to′ n k) where
+  pub record Limits : Type 0 where
+    pub some-events : 1 ≤ n .events
+    pub few-events : n .events ≤ 16
+    pub few-values : n .values ≤ 16
+    pub top-in : n .top < n .values
+    pub few-states : k ≤ 64
+    pub few-bytes : k * n .events * 2 ≤ 2048
+
+  pub events-are : n .events ≡ w .inside .events
+  unfolding numbers
+  events-are = ap (λ (z : FileNumbers). z .events) (w .numbers-are)
+
+  pub limits : Limits
+  unfolding numbers setup
+  limits =
+      let s = setup-passed (w .inside) (w .passed) in
+      let made = file-table-made (w .inside) (w .passed) in
+      let values-are : n .values ≡ w .inside .values = ap (λ (z : FileNumbers). z .values) (w .numbers-are) in
+      let top-is : n .top ≡ w .inside .top = ap (λ (z : FileNumbers). z .top) (w .numbers-are) in
+      record {
+        some-events = omega (arith, s .some-events, events-are);
+        few-events = omega (arith, s .few-events, events-are);
+        few-values = omega (arith, s .few-values);
+        top-in = omega (arith, s .laws .top-in);
+        few-states = omega (arith, made .few-states, w .states-are);
+        few-bytes = omega (arith, made .few-bytes, ap length (w .table-taken), length-take-le (k * n .events * 2) to′ (w .table-in));
+      }

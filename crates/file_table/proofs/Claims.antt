@@ -33,7 +33,7 @@ use Rattle.machines.specs.TableBytes.{machine-of}
 use Rattle.synthesis.specs.Compilation.{value-count, rule-table-refusal, compile-rule-refusal, compile-refusal, compile-contents}
 use Rattle.synthesis.specs.Claims.{states-condition, buffer-condition, three-byte-conditions, RuleTable}
 use Rattle.synthesis.proofs.CompileClaims.{compile-rule-claim, compile-refusal-claim, compile-claim}
-use Rattle.channel_io.specs.FileJudgement.{rule-numbers, contents-conditions, pair-refusal, contents-refusal}
+use Rattle.channel_io.specs.FileJudgement.{setup-of, rule-numbers, contents-conditions, pair-refusal, contents-refusal}
 use Rattle.channel_io.proofs.RefusalClaims.{pair-first, pair-functional, pair-numbers}
 use Rattle.file_table.specs.FileCompilation.{pair-table-refusal, has-room, pair-compile-refusal, file-states, file-table, contents-table-refusal, file-refusal, text-refusal}
 use Rattle.file_table.specs.Claims.{contents-table-conditions, short-condition, file-conditions, FileJudged, off-form, of-contents, ContentsTableClaim, FileTableClaim, FileTableMade, FileTableMadeClaim}
@@ -53,9 +53,14 @@ first-later (C ∷ cs) ds a (inr (u, x)) (inl (r, m, e)) = absurd (u r m)
 first-later (C ∷ cs) ds a (inr (u, x)) (inr (v, y)) = first-later cs ds a x y
 
 -- ---- where 1 to 3 and 5 to 10 are not met
+
+pub setup-passed : (c : Contents) → contents-table-refusal c ≡ none → WellFormed (setup-of c)
+unfolding pair-table-refusal
+setup-passed c e = setup-accepted (setup-of c) .0 (or-else-none (setup-refusal (setup-of c)) _ e .0)
+
 module _ (c : Contents) where
   abbrev s : Setup
-  s = setup (c .events) (c .values) (c .top) (c .meet)
+  s = setup-of c
 
   abbrev rule : List ℕ
   rule = rule-numbers c
@@ -71,9 +76,8 @@ module _ (c : Contents) where
   thirteen to = buffer-condition (meetAt (c .values) (c .meet)) (c .top) (c .events) (c .values) rule to
 
   module _ (ok : contents-table-refusal c ≡ none) where
-    well-formed : WellFormed s
-    unfolding pair-table-refusal
-    well-formed = setup-accepted s .0 (or-else-none (setup-refusal s) _ ok .0)
+    abbrev formed : WellFormed s
+    formed = setup-passed c ok
 
     -- a buffer that has just room for the table
     abbrev room : List ℕ
@@ -102,8 +106,8 @@ module _ (c : Contents) where
         let k = compile-claim .accepted 64 s rule room room-passed in
         record {
           few-states = k .few;
-          few-bytes = omega (arith, rows-length (c .events) (c .values) (c .top) (c .meet) rule, mul-le-mul (k .few) (well-formed .few-events));
-          few-entries = omega (arith, well-formed .whole, square-small (well-formed .few-values));
+          few-bytes = omega (arith, rows-length (c .events) (c .values) (c .top) (c .meet) rule, mul-le-mul (k .few) (formed .few-events));
+          few-entries = omega (arith, formed .whole, square-small (formed .few-values));
           table =
               subst (λ (l : List ℕ). RuleTable (meetAt (c .values) (c .meet)) (c .top) (c .events) (c .values) rule (file-states c) (machine-of (c .events) l))
               room-contents (k .table);

@@ -6,7 +6,6 @@ use mathlib.Core.Option.{Option, none, some}
 use mathlib.Core.List.{List, []}
 use Prim.Native.Nat.{ℕ, _*_, _≤_, _<_}
 use native.Mathlib.Omega.{arith}
-use native.Mathlib.Nat.{mul-le-mul-right}
 use borrow.Author.Tests.{le-leb, lt-leb, ltb-true}
 use lib.Dec.{leb, ltb}
 use lib.ListN.{length, getD, take}
@@ -17,10 +16,8 @@ use Rattle.theory.proofs.ValueSets.{every-at}
 use Rattle.refusal.specs.declared.Refusal.{Refusal}
 use Rattle.refusal.specs.declared.Refusal.the-variants.{Plain}
 use Rattle.refusal.specs.Refusal.{or-else, plain-unless}
-use Rattle.refusal.proofs.Refusals.{or-else-none}
 use Rattle.refusal.specs.LentBuffers.{put, put-unless}
-use Rattle.values.specs.Setup.{Setup, setup, WellFormed, setup-refusal}
-use Rattle.values.proofs.Setups.{setup-accepted}
+use Rattle.values.specs.Setup.{Setup, setup}
 use Rattle.text_format.specs.Format.{Outcome, contents, refused}
 use Rattle.channel_file.specs.ChannelFile.{Contents}
 use Rattle.channel_file.specs.Reading.{read-file}
@@ -30,10 +27,10 @@ use Rattle.conformance.specs.Trial.{TrialInput, input, trial-refusal, trial-ans
 use Rattle.channel_io.specs.declared.FileNumbers.{FileNumbers}
 use Rattle.channel_io.specs.FileJudgement.{setup-of}
 use Rattle.channel_io.specs.FileReading.{numbers}
-use Rattle.file_table.specs.FileCompilation.{pair-table-refusal, file-states, file-table, contents-table-refusal}
+use Rattle.file_table.specs.FileCompilation.{file-states, file-table, contents-table-refusal}
 use Rattle.file_table.specs.Claims.{FileTableMade}
 use Rattle.file_table.proofs.Claims.{file-table-made}
-use Rattle.file_table.proofs.Callers.{meet-fits, table-fits, Unmade, off-form, turned-away, MadeOf}
+use Rattle.file_table.proofs.Callers.{meet-fits, table-fits, Unmade, off-form, turned-away, MadeOf, limits, events-are}
 use Rattle.gurvazze_host.specs.Codes.{refusal-code, yield-code, code, verdict-code, table-numbers, SmallPlace, SmallNumbers}
 use Rattle.gurvazze_host.specs.FileCalls.{table-call-refusal, table-code, table-after, file-machine, outputs, word-refusal, replay-refusal, replay-code, replay-after, file-trial, file-trial-refusal, file-trial-answer, file-trial-buffer, Playable, Runnable, Replays}
 use Rattle.gurvazze_host.proofs.Places.{SmallAnswer, file-small, text-small}
@@ -101,10 +98,6 @@ module _ {t meet old : List ℕ} (wide : 256 ≤ length meet) where
 
 -- ---- a file whose table was made
 
-setup-passed : (c : Contents) → contents-table-refusal c ≡ none → WellFormed (setup-of c)
-unfolding pair-table-refusal
-setup-passed c e = setup-accepted (setup-of c) .0 (or-else-none (setup-refusal (setup-of c)) _ e .0)
-
 module _ {t meet old meet′ new : List ℕ} {n : FileNumbers} {k : ℕ} (w : MadeOf t meet old meet′ new n k) where
   abbrev c : Contents
   c = w .inside
@@ -112,33 +105,9 @@ module _ {t meet old meet′ new : List ℕ} {n : FileNumbers} {k : ℕ} (w : Ma
   abbrev made : FileTableMade c
   made = file-table-made c (w .passed)
 
-  formed : WellFormed (setup-of c)
-  formed = setup-passed c (w .passed)
-
-  few : k ≤ 64
-  few = omega (arith, made .few-states, w .states-are)
-
-  events-are : n .events ≡ c .events
-  unfolding numbers
-  events-are = ap (λ (z : FileNumbers). z .events) (w .numbers-are)
-
-  values-are : n .values ≡ c .values
-  unfolding numbers
-  values-are = ap (λ (z : FileNumbers). z .values) (w .numbers-are)
-
-  top-is : n .top ≡ c .top
-  unfolding numbers
-  top-is = ap (λ (z : FileNumbers). z .top) (w .numbers-are)
-
   pub numbers-small : SmallNumbers k (n .events) (n .values) (n .top)
-  unfolding setup
   numbers-small =
-      record {
-        few-states = few;
-        few-events = omega (arith, formed .few-events, events-are);
-        few-values = omega (arith, formed .few-values, values-are);
-        top-in = omega (arith, formed .laws .top-in, values-are, top-is);
-      }
+      let l = limits w in record { few-states = l .few-states; few-events = l .few-events; few-values = l .few-values; top-in = l .top-in }
 
   pub table-made :
       256 ≤ length meet
@@ -153,24 +122,20 @@ module _ {t meet old meet′ new : List ℕ} {n : FileNumbers} {k : ℕ} (w : Ma
             ∙ sym (ap (λ (o : Outcome Contents). table-after o old) (w .reads) ∙ ap (λ (o : Option Refusal). put-unless o (file-table c) old) a),
       )
 
-  pub size-small : k * n .events * 2 ≤ 2048
-  size-small = let a = numbers-small in omega (arith, mul-le-mul-right (n .events) (a .few-states), a .few-events)
-
   same-machine : machine-of (n .events) (take (k * n .events * 2) new) ≡ file-machine c
-  same-machine = ap₂ machine-of events-are (w .table-taken)
+  same-machine = ap₂ machine-of (events-are w) (w .table-taken)
 
   pub playable : Playable (n .events) k (take (k * n .events * 2) new)
-  unfolding setup
   playable =
       let rows = made .table .is-table .3 in
       let first = rows .numbering .complete [] tt in
       record {
-        few-events = omega (arith, formed .few-events, events-are);
-        few-states = few;
+        few-events = limits w .few-events;
+        few-states = limits w .few-states;
         some-states = omega (arith, first .1, rows .count, w .states-are);
         whole = omega (arith, length-take-le (k * n .events * 2) new (w .table-in));
         nexts = λ q e hq he.
-            let r = rows .nexts q e (omega (arith, w .states-are)) (omega (arith, events-are)) .0 in
+            let r = rows .nexts q e (omega (arith, w .states-are)) (omega (arith, events-are w)) .0 in
             let z : machine-of (n .events) (take (k * n .events * 2) new) .next q e ≡ file-machine c .next q e =
             ap (λ (m : Machine ℕ ℕ). m .next q e) same-machine in
             omega (arith, w .states-are, r, z);
@@ -182,7 +147,7 @@ module _ {t meet old meet′ new : List ℕ} {n : FileNumbers} {k : ℕ} (w : Ma
   unfolding replay-code replay-after replay-refusal
   replay-made word to to′ r h =
       let a : replay-refusal c word to ≡ word-refusal (n .events) word to =
-      or-none (word-refusal (c .events) word to) (contents-table-refusal c) (w .passed) ∙ ap (λ (x : ℕ). word-refusal x word to) (sym events-are) in (
+      or-none (word-refusal (c .events) word to) (contents-table-refusal c) (w .passed) ∙ ap (λ (x : ℕ). word-refusal x word to) (sym (events-are w)) in (
         h .answer ∙ sym (ap (λ (o : Outcome Contents). replay-code o word to) (w .reads) ∙ ap (λ (o : Option Refusal). code o 0) a),
         h .buffer ∙ ap (λ (x : Machine ℕ ℕ). put-unless (word-refusal (n .events) word to) (outputs x 0 word) to) same-machine
             ∙ sym (ap (λ (o : Outcome Contents). replay-after o word to) (w .reads)

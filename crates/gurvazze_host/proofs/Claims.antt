@@ -21,8 +21,7 @@ use Rattle.refusal.specs.Refusal.{First, plain, number, or-else, plain-unless}
 use Rattle.refusal.specs.RefusalClaims.{NoneMet}
 use Rattle.refusal.proofs.Refusals.{or-else-none, plain-none, plain-first, first-then, first-append, accepted-exactly}
 use Rattle.values.specs.ValueKind.{meetOf}
-use Rattle.values.specs.Setup.{setup, WellFormed, setup-refusal}
-use Rattle.values.proofs.Setups.{setup-accepted}
+use Rattle.values.specs.Setup.{setup, setup-refusal}
 use Rattle.text_format.specs.Format.{contents}
 use Rattle.channel_file.specs.ChannelFile.{Contents}
 use Rattle.machines.specs.TableBytes.{TableInOrder}
@@ -34,7 +33,7 @@ use Rattle.conformance.proofs.TrialClaims.{trial-satisfies}
 use Rattle.file_table.specs.FileCompilation.{pair-table-refusal, file-states, file-table, contents-table-refusal}
 use Rattle.file_table.specs.Claims.{contents-table-conditions}
 use Rattle.file_table.proofs.Answers.{rows-length}
-use Rattle.file_table.proofs.Claims.{contents-table-claim, file-table-made}
+use Rattle.file_table.proofs.Claims.{setup-passed, contents-table-claim, file-table-made}
 use Rattle.gurvazze_host.specs.Codes.{refusal-code, yield-code, code}
 use Rattle.gurvazze_host.specs.FileCalls.{file-machine, word-refusal, replay-refusal, file-trial, file-trial-refusal, file-trial-answer}
 use Rattle.gurvazze_host.specs.Claims.{CodeClaim, ReplayRefusalClaim, ReplayClaim, FileTrialRefusalClaim, FileTrialClaim}
@@ -111,10 +110,6 @@ replay-refusal-claim c word old =
 
 -- the table of a rule is within the limits of 11
 module _ (c : Contents) (ok : contents-table-refusal c ≡ none) where
-  well-formed : WellFormed (setup-of c)
-  unfolding pair-table-refusal
-  well-formed = setup-accepted (setup-of c) .0 (or-else-none (setup-refusal (setup-of c)) _ ok .0)
-
   table-in-order : TableInOrder 2 64 (c .events) (Below (c .values)) (file-states c) 0 (file-table c) (file-machine c)
   unfolding setup
   table-in-order =
@@ -124,7 +119,7 @@ module _ (c : Contents) (ok : contents-table-refusal c ≡ none) where
       let first = rows .numbering .complete [] tt in
       let some-states : 0 < file-states c = omega (arith, first .1, rows .count) in
       let runs =
-      table-values (Below (c .values)) (meetAt (c .values) (c .meet)) (c .top) (c .events) (well-formed .laws) (t .formula)
+      table-values (Below (c .values)) (meetAt (c .values) (c .meet)) (c .top) (c .events) (setup-passed c ok .laws) (t .formula)
       (grammar ℕ 256 (c .events) (Below (c .values)) (t .formula) (t .code .accepted)) _ _ (t .is-table) .1 in
       record {
         some-states = some-states;

@@ -12,21 +12,17 @@ use Rattle.theory.specs.MealyMachine.{Machine, Runs, States}
 use Rattle.theory.proofs.Claims.{grammar, table-values}
 use Rattle.refusal.specs.declared.Refusal.{Refusal}
 use Rattle.refusal.specs.declared.Refusal.the-variants.{Plain, At}
-use Rattle.refusal.proofs.Refusals.{or-else-none}
-use Rattle.values.specs.Setup.{Setup, setup, WellFormed, setup-refusal}
-use Rattle.values.proofs.Setups.{setup-accepted}
+use Rattle.values.specs.Setup.{setup}
 use Rattle.text_format.specs.Format.{Outcome, contents, refused, ascii}
 use Rattle.text_output.specs.Output.{numeral, each}
 use Rattle.text_output.proofs.Outputs.{numeral-length, numeral-short, each-length}
 use Rattle.channel_file.specs.ChannelFile.{Contents, line}
 use Rattle.channel_file.specs.Reading.{read-file}
 use Rattle.machines.specs.TableBytes.{machine-of}
-use Rattle.synthesis.specs.Compilation.{setup-states, compile-refusal, compile-contents}
-use Rattle.synthesis.specs.Claims.{CompiledBytes}
-use Rattle.synthesis.proofs.CompileClaims.{compile-claim}
-use Rattle.channel_io.specs.FileJudgement.{rule-numbers}
+use Rattle.file_table.specs.FileCompilation.{file-states, file-table, contents-table-refusal}
+use Rattle.file_table.proofs.Claims.{setup-passed, file-table-made}
 use Rattle.table_report.specs.TableText.{row-line, entry-line, table-text, refusal-text}
-use Rattle.table_report.specs.Report.{blank, answer-text, pair-text, outcome-text, report-limit}
+use Rattle.table_report.specs.Report.{answer-text, outcome-text, report-limit}
 use Rattle.table_report.specs.Claims.{ReportLengthClaim}
 use Rattle.table_report.proofs.Texts.{row-parts}
 
@@ -87,41 +83,24 @@ table-length events n values m at-least few-events few-states few-values runs =
         row-length (i / events) (i % events) (m .value (i / events) (i % events)) (m .next (i / events) (i % events))
         (omega arith) (omega arith) (omega arith) (omega arith)
 
-module _ (events values top : ℕ) (meet rule : List ℕ) where
-  abbrev s : Setup
-  s = setup events values top meet
-
-  pub setup-passed : compile-refusal 64 s rule blank ≡ none → setup-refusal s ≡ none
-  unfolding compile-refusal
-  setup-passed e = or-else-none (setup-refusal s) _ e .0
-
-  compiled-length :
-      compile-refusal 64 s rule blank ≡ none
-      → length (table-text events (setup-states 64 s rule blank) (machine-of events (compile-contents 64 s rule blank))) ≤ report-limit
-  unfolding setup
-  compiled-length e =
-      let made : CompiledBytes 64 s rule blank (setup-states 64 s rule blank) (compile-contents 64 s rule blank) =
-      compile-claim .accepted 64 s rule blank e in
-      let w : WellFormed s = setup-accepted s .0 (setup-passed e) in
-      let t = made .table in
-      table-length events (setup-states 64 s rule blank) values (machine-of events (compile-contents 64 s rule blank)) (w .some-events) (w .few-events)
-      (made .few) (w .few-values)
-      (table-values (Below values) (meetAt values meet) top events (w .laws) (t .formula)
-      (grammar ℕ 256 events (Below values) (t .formula) (t .code .accepted)) _ _ (t .is-table) .1)
-
-  pair-length : length (pair-text events values top meet rule) ≤ report-limit
-  unfolding pair-text answer-text
-  pair-length = go (compile-refusal 64 s rule blank) refl
-    where
-      go : (o : Option Refusal) → compile-refusal 64 s rule blank ≡ o
-          → length (answer-text o events (setup-states 64 s rule blank) (compile-contents 64 s rule blank)) ≤ report-limit
-      go none e = compiled-length e
-      go (some r) e = refusal-length r
+made-length : (c : Contents) → contents-table-refusal c ≡ none → length (table-text (c .events) (file-states c) (machine-of (c .events) (file-table c))) ≤ report-limit
+unfolding setup
+made-length c e =
+    let made = file-table-made c e in
+    let w = setup-passed c e in
+    let t = made .table in
+    table-length (c .events) (file-states c) (c .values) (machine-of (c .events) (file-table c)) (w .some-events) (w .few-events) (made .few-states) (w .few-values)
+    (table-values (Below (c .values)) (meetAt (c .values) (c .meet)) (c .top) (c .events) (w .laws) (t .formula)
+    (grammar ℕ 256 (c .events) (Below (c .values)) (t .formula) (t .code .accepted)) _ _ (t .is-table) .1)
 
 outcome-length : (x : Outcome Contents) → length (outcome-text x) ≤ report-limit
-unfolding outcome-text
+unfolding outcome-text answer-text
 outcome-length (refused p) = refusal-length (At 4 p)
-outcome-length (contents c) = pair-length (c .events) (c .values) (c .top) (c .meet) (rule-numbers c)
+outcome-length (contents c) = go (contents-table-refusal c) refl
+  where
+    go : (o : Option Refusal) → contents-table-refusal c ≡ o → length (answer-text o (c .events) (file-states c) (file-table c)) ≤ report-limit
+    go none e = made-length c e
+    go (some r) e = refusal-length r
 
 pub report-length : ReportLengthClaim
 report-length t = outcome-length (read-file t)

@@ -2,39 +2,29 @@
 -- Assumes nothing.
 use Prim.Native.Nat.{ℕ, _≤_}
 use mathlib.Core.Path.{_≡_}
-use mathlib.Core.List.{List, [], _∷_, _++_}
+use mathlib.Core.List.{List}
 use mathlib.Core.Option.{none, some}
 use lib.ListN.{length}
-use Rattle.theory.specs.ValueSets.{Below, meetAt}
+use Rattle.theory.specs.ValueSets.{meetAt}
 use Rattle.theory.specs.MealyMachine.{Machine}
 use Rattle.refusal.specs.declared.Refusal.{Refusal}
 use Rattle.refusal.specs.declared.Refusal.the-variants.{At}
-use Rattle.refusal.specs.Refusal.{Condition, First}
-use Rattle.values.specs.Setup.{setup-conditions}
-use Rattle.formulas.specs.NodeBytes.{three-bytes}
-use Rattle.formulas.specs.RuleConditions.{rule-conditions}
-use Rattle.formulas.specs.RuleRefusal.{node-width, node-limit}
+use Rattle.refusal.specs.Refusal.{First}
 use Rattle.text_format.specs.Format.{contents}
 use Rattle.channel_file.specs.ChannelFile.{Contents}
 use Rattle.channel_file.specs.Reading.{Refused4, AnswersFile}
-use Rattle.synthesis.specs.Claims.{states-condition, RuleTable}
-use Rattle.channel_io.specs.FileJudgement.{setup-of, rule-numbers}
+use Rattle.synthesis.specs.Claims.{RuleTable}
+use Rattle.channel_io.specs.FileJudgement.{rule-numbers}
+use Rattle.file_table.specs.Claims.{contents-table-conditions}
 use Rattle.table_report.specs.TableText.{table-text, refusal-text}
 use Rattle.table_report.specs.Report.{report-text, report-limit}
-
--- The conditions on a file's contents where its table is made: 1 to 3, 5 to 9, then 10.
-abbrev pub report-conditions : Contents → List Condition
-report-conditions c =
-    setup-conditions (setup-of c)
-    ++ (rule-conditions node-width three-bytes node-limit (c .events) (Below (c .values)) (rule-numbers c)
-    ++ (states-condition (meetAt (c .values) (c .meet)) (c .top) (c .events) (c .values) (rule-numbers c) 64 ∷ []))
 
 -- What is printed for a text: the refusal, or the table of its rule, which has the rule's values on every event sequence.
 pub data Prints (t : List ℕ) : List ℕ → Type 0 where
   off-form : (p : ℕ) → Refused4 t p → Prints t (refusal-text (At 4 p))
-  refused : (c : Contents) (r : Refusal) → AnswersFile t (contents c) → First (report-conditions c) (some r) → Prints t (refusal-text r)
+  refused : (c : Contents) (r : Refusal) → AnswersFile t (contents c) → First (contents-table-conditions c) (some r) → Prints t (refusal-text r)
   table :
-      (c : Contents) (n : ℕ) (m : Machine ℕ ℕ) → AnswersFile t (contents c) → First (report-conditions c) none
+      (c : Contents) (n : ℕ) (m : Machine ℕ ℕ) → AnswersFile t (contents c) → First (contents-table-conditions c) none
       → RuleTable (meetAt (c .values) (c .meet)) (c .top) (c .events) (c .values) (rule-numbers c) n m → Prints t (table-text (c .events) n m)
 
 abbrev pub ReportClaim : Type 0

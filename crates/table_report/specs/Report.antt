@@ -6,40 +6,28 @@ use mathlib.Core.Path.{_≡_}
 use mathlib.Core.List.{List}
 use mathlib.Core.Option.{Option, none, some}
 use lib.Dec.{leb}
-use lib.ListN.{length, replicate}
+use lib.ListN.{length}
 use Rattle.refusal.specs.declared.Refusal.{Refusal}
 use Rattle.refusal.specs.declared.Refusal.the-variants.{At}
 use Rattle.refusal.specs.declared.Counted.{Counted}
 use Rattle.refusal.specs.Refusal.{plain-unless, counted}
 use Rattle.refusal.specs.LentBuffers.{put-unless}
-use Rattle.values.specs.Setup.{setup}
 use Rattle.text_format.specs.Format.{Outcome, contents, refused}
 use Rattle.channel_file.specs.ChannelFile.{Contents}
 use Rattle.channel_file.specs.Reading.{read-file}
 use Rattle.machines.specs.TableBytes.{machine-of}
-use Rattle.synthesis.specs.Compilation.{compile-refusal, setup-states, compile-contents}
-use Rattle.channel_io.specs.FileJudgement.{rule-numbers}
+use Rattle.file_table.specs.FileCompilation.{file-states, file-table, contents-table-refusal}
 use Rattle.table_report.specs.TableText.{table-text, refusal-text}
-
--- A buffer that has room for every table: 64 states, 16 events, two bytes an entry.
-unfoldable pub blank : List ℕ
-blank = replicate 2048 0
 
 -- The lines for an answer: those of a table in bytes, or of a refusal.
 unfoldable pub answer-text : Option Refusal → ℕ → ℕ → List ℕ → List ℕ
 answer-text none events n bytes = table-text events n (machine-of events bytes)
 answer-text (some refusal) events n bytes = refusal-text refusal
 
--- For a set-up and a rule.
-unfoldable pub pair-text : ℕ → ℕ → ℕ → List ℕ → List ℕ → List ℕ
-pair-text events values top meet rule =
-    answer-text (compile-refusal 64 (setup events values top meet) rule blank) events (setup-states 64 (setup events values top meet) rule blank)
-    (compile-contents 64 (setup events values top meet) rule blank)
-
 -- For a text, by what the file reader says of it.
 unfoldable pub outcome-text : Outcome Contents → List ℕ
 outcome-text (refused p) = refusal-text (At 4 p)
-outcome-text (contents c) = pair-text (c .events) (c .values) (c .top) (c .meet) (rule-numbers c)
+outcome-text (contents c) = answer-text (contents-table-refusal c) (c .events) (file-states c) (file-table c)
 
 abbrev pub report-text : List ℕ → List ℕ
 report-text t = outcome-text (read-file t)

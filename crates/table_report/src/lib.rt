@@ -1,20 +1,19 @@
 // The whole output of the program for a channel file, rendered into a lent buffer.
 ghost use mathlib.Core.Path.{_≡_};
-ghost use Prim.Native.Nat.{_≤_, _<_};
+ghost use Prim.Native.Nat.{_<_};
 ghost use Rattle.text_output.specs.Output.{Puts};
 ghost use Rattle.channel_file.specs.ChannelFile.{line};
 ghost use Rattle.machines.specs.TableBytes.{machine-of};
 ghost use Rattle.text_output.specs.Output.{numeral};
 ghost use Rattle.table_report.specs.TableText.{row-line, table-text, refusal-text};
-ghost use Rattle.table_report.specs.Report.{pair-text, report-text, FewEntries, Reports};
-use channel_io::FileRead;
-use channel_io::read_file;
+ghost use Rattle.table_report.specs.Report.{report-text, FewEntries, Reports};
+use file_table::FileTable;
+use file_table::compile_file;
 use machines::next_at;
 use machines::value_at;
 use refusal::BUFFER_LENGTH;
 use refusal::Counted;
 use refusal::Refusal;
-use synthesis::compile;
 use text_output::put;
 use text_output::put_field;
 use text_output::put_word;
@@ -81,45 +80,19 @@ fn put_refusal(out: &mut [u8], refusal: Refusal) -> usize
     }
 }
 
-// The table of a set-up and a rule, or its refusal.
-fn put_compiled(
-    out: &mut [u8],
-    events: usize,
-    values: usize,
-    top: usize,
-    meet: &[u8],
-    rule: &[u8],
-) -> usize
-    ensures { λ r. ⌜ Puts (now (out .entry)) (pair-text events values top (now (meet .entry)) (now (rule .entry))) (now (out .exit)) 0 r ⌝ }
-{
-    let mut table = [0u8; 2048];
-    let compiled = compile(events, values, top, meet, rule, &mut table);
-    match compiled {
-        Counted::Refused(refusal) => put_refusal(out, refusal),
-        Counted::Count(states) => put_table(out, events, states, &table),
-    }
-}
-
 // The output for a text.
 fn put_report(text: &[u8], out: &mut [u8]) -> usize
     ensures { λ r. ⌜ Puts (now (out .entry)) (report-text (now (text .entry))) (now (out .exit)) 0 r ⌝ }
 {
     let mut meet = [0u8; 256];
-    let mut rule = [0u8; 768];
-    let answer = read_file(text, &mut meet, &mut rule);
-    match answer {
-        FileRead::Refused(refusal) => put_refusal(out, refusal),
-        FileRead::Accepted(numbers) => {
-            let entries = numbers.entries;
-            let size = 3 * numbers.nodes;
-            put_compiled(
-                out,
-                numbers.events,
-                numbers.values,
-                numbers.top,
-                &meet[..entries],
-                &rule[..size],
-            )
+    let mut table = [0u8; 2048];
+    let made = compile_file(text, &mut meet, &mut table);
+    match made {
+        FileTable::Refused(refusal) => put_refusal(out, refusal),
+        FileTable::Made(numbers, states) => {
+            let events = numbers.events;
+            let size = states * events * 2;
+            put_table(out, events, states, &table[..size])
         }
     }
 }

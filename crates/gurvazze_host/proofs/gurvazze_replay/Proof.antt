@@ -1,7 +1,7 @@
 -- `gurvazze_replay` meets its contract: a refused file, or a replay by its rule's table.
 -- Assumes nothing.
-use Rattle.gurvazze_host.proofs.Calls.{unmade-small, replay-stopped, size-small, playable, replay-made}
-use Rattle.file_table.proofs.Callers.{unmade, made-of}
+use Rattle.gurvazze_host.proofs.Calls.{unmade-small, replay-stopped, playable, replay-made}
+use Rattle.file_table.proofs.Callers.{unmade, made-of, limits}
 use lib.Seq.{length-take-le}
 use lib.ListN.{length-replicate}
 use native.Mathlib.Omega.{arith}
@@ -30,10 +30,10 @@ enum-known-made-2 : tie.Need-enum-known-made-2
 enum-known-made-2 c = search needs
 
 mul-size : tie.Need-mul-size
-mul-size c = omega (arith, size-small (made-of (c .before .before .before .before .before .compile-file .ensures) (c .before .made2 .given .1)))
+mul-size c = omega (arith, limits (made-of (c .before .before .before .before .before .compile-file .ensures) (c .before .made2 .given .1)) .few-bytes)
 
 mul-size-2 : tie.Need-mul-size-2
-mul-size-2 c = omega (arith, size-small (made-of (c .before .before .before .before .before .compile-file .ensures) (c .before .made2 .given .1)))
+mul-size-2 c = omega (arith, limits (made-of (c .before .before .before .before .before .compile-file .ensures) (c .before .made2 .given .1)) .few-bytes)
 
 array-share-prefix-table : tie.Need-array-share-prefix-table
 array-share-prefix-table c = made-of (c .before .before .before .before .before .compile-file .ensures) (c .before .made2 .given .1) .table-in

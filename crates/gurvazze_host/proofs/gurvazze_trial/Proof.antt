@@ -1,9 +1,9 @@
 -- `gurvazze_trial` meets its contract: a refused file, or a trial against its rule's table.
 -- Assumes nothing.
-use Rattle.gurvazze_host.proofs.Calls.{unmade-small, trial-stopped, size-small, trial-made}
+use Rattle.gurvazze_host.proofs.Calls.{unmade-small, trial-stopped, trial-made}
 use Rattle.gurvazze_host.proofs.Small.{verdict-small}
 use Rattle.gurvazze_host.specs.Codes.{verdict-code, SmallVerdict}
-use Rattle.file_table.proofs.Callers.{unmade, made-of}
+use Rattle.file_table.proofs.Callers.{unmade, made-of, limits}
 use lib.Seq.{length-take-le}
 use lib.ListN.{length-replicate}
 use native.Mathlib.Omega.{arith}
@@ -32,10 +32,10 @@ enum-known-made-2 : tie.Need-enum-known-made-2
 enum-known-made-2 c = search needs
 
 mul-size : tie.Need-mul-size
-mul-size c = omega (arith, size-small (made-of (c .before .before .before .before .before .compile-file .ensures) (c .before .made2 .given .1)))
+mul-size c = omega (arith, limits (made-of (c .before .before .before .before .before .compile-file .ensures) (c .before .made2 .given .1)) .few-bytes)
 
 mul-size-2 : tie.Need-mul-size-2
-mul-size-2 c = omega (arith, size-small (made-of (c .before .before .before .before .before .compile-file .ensures) (c .before .made2 .given .1)))
+mul-size-2 c = omega (arith, limits (made-of (c .before .before .before .before .before .compile-file .ensures) (c .before .made2 .given .1)) .few-bytes)
 
 array-share-prefix-meet : tie.Need-array-share-prefix-meet
 array-share-prefix-meet c = made-of (c .before .before .before .before .before .compile-file .ensures) (c .before .made2 .given .1) .entries-in

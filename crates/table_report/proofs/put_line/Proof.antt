@@ -6,10 +6,6 @@ use Rattle.text_output.proofs.Outputs.{puts-as, puts-then}
 use borrow.Author.Needs.{needs}
 use Rattle.table_report.proofs.put_line.Statement.{statement}
 use Rattle.table_report.proofs.put_line.Tie as tie
-use Rattle.table_report.proofs.put_line.Reads as reads
-use Rattle.table_report.proofs.put_line.Lts as lts
-use Rattle.text_output.proofs.put.Reads as put-reads
-use Rattle.text_output.proofs.put_field.Reads as put-field-reads
 
 put-field-requires : tie.Need-put-field-requires
 put-field-requires c κs = search needs

@@ -5,11 +5,6 @@ use Rattle.table_report.proofs.Texts.{refusal-plain, refusal-at}
 use borrow.Author.Needs.{needs}
 use Rattle.table_report.proofs.put_refusal.Statement.{statement}
 use Rattle.table_report.proofs.put_refusal.Tie as tie
-use Rattle.table_report.proofs.put_refusal.Reads as reads
-use Rattle.table_report.proofs.put_refusal.Lts as lts
-use Rattle.table_report.proofs.put_line.Reads as put-line-reads
-use Rattle.table_report.proofs.wide.Reads as wide-reads
-use Rattle.text_output.proofs.put_field.Reads as put-field-reads
 
 enum-known-refusal : tie.Need-enum-known-refusal
 enum-known-refusal c = search needs

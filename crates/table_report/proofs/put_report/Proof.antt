@@ -1,91 +1,78 @@
--- `put_report` meets its contract: what the file reader refuses the compiler refuses alike, and what it accepts is compiled.
+-- `put_report` meets its contract: the refusal, or the table that was made.
 -- Assumes nothing.
+use Rattle.table_report.proofs.Answers.{refused-text, few-entries, made-text}
+use Rattle.file_table.proofs.Callers.{unmade, made-of, limits}
+use Rattle.text_output.proofs.Outputs.{puts-as}
+use lib.Seq.{length-take-le}
+use lib.ListN.{length-replicate}
+use native.Mathlib.Omega.{arith}
 use Prim.Native.Nat.{ℕ}
 use mathlib.Core.Path.{sym}
-use native.Mathlib.Omega.{arith}
-use lib.ListN.{length-replicate}
-use lib.Seq.{length-take-le}
-use Rattle.text_output.proofs.Outputs.{puts-as}
-use Rattle.table_report.proofs.Answers.{read-refused, read-accepted}
 use borrow.Author.Needs.{needs}
 use Rattle.table_report.proofs.put_report.Statement.{statement}
 use Rattle.table_report.proofs.put_report.Tie as tie
-use Rattle.table_report.proofs.put_report.Reads as reads
-use Rattle.table_report.proofs.put_report.Lts as lts
-use Rattle.channel_io.proofs.read_file.Reads as read-file-reads
-use Rattle.table_report.proofs.put_compiled.Reads as put-compiled-reads
-use Rattle.table_report.proofs.put_refusal.Reads as put-refusal-reads
 
-slice-aggregate-read-file : tie.Need-slice-aggregate-read-file
-slice-aggregate-read-file c = search needs
+slice-aggregate-compile-file : tie.Need-slice-aggregate-compile-file
+slice-aggregate-compile-file c = search needs
 
-slice-aggregate-read-file-2 : tie.Need-slice-aggregate-read-file-2
-slice-aggregate-read-file-2 c = search needs
+slice-aggregate-compile-file-2 : tie.Need-slice-aggregate-compile-file-2
+slice-aggregate-compile-file-2 c = search needs
 
-read-file-requires : tie.Need-read-file-requires
-read-file-requires c κs = search needs
+compile-file-requires : tie.Need-compile-file-requires
+compile-file-requires c κs = search needs
 
-enum-known-answer : tie.Need-enum-known-answer
-enum-known-answer c = search needs
+enum-known-made : tie.Need-enum-known-made
+enum-known-made c = search needs
 
 put-refusal-requires : tie.Need-put-refusal-requires
 put-refusal-requires c κs = search needs
 
-enum-known-answer-2 : tie.Need-enum-known-answer-2
-enum-known-answer-2 c = search needs
+enum-known-made-2 : tie.Need-enum-known-made-2
+enum-known-made-2 c = search needs
 
 mul-size : tie.Need-mul-size
-mul-size c =
-    let w = read-accepted (c .before .before .before .before .before .before .before .before .before .before .before .args .text .now) _ _ _ _ _ _ (c .before .before .answer2 .given .1) (c .before .before .before .before .before .before .read-file .ensures) in
-    omega (arith, w .few-nodes, length-replicate {A = ℕ} 768 0)
+mul-size c = omega (arith, limits (made-of (c .before .before .before .before .before .compile-file .ensures) (c .before .made2 .given .1)) .few-bytes)
 
-array-share-prefix-meet : tie.Need-array-share-prefix-meet
-array-share-prefix-meet c = read-accepted (c .before .before .before .before .before .before .before .before .before .before .before .before .args .text .now) _ _ _ _ _ _ (c .before .before .before .answer2 .given .1) (c .before .before .before .before .before .before .before .read-file .ensures) .entries-in
+mul-size-2 : tie.Need-mul-size-2
+mul-size-2 c = omega (arith, limits (made-of (c .before .before .before .before .before .compile-file .ensures) (c .before .made2 .given .1)) .few-bytes)
 
-slice-aggregate-put-compiled : tie.Need-slice-aggregate-put-compiled
-slice-aggregate-put-compiled c = sym (length-take-le _ _ (read-accepted (c .before .before .before .before .before .before .before .before .before .before .before .before .before .args .text .now) _ _ _ _ _ _ (c .before .before .before .before .answer2 .given .1) (c .before .before .before .before .before .before .before .before .read-file .ensures) .entries-in))
+array-share-prefix-table : tie.Need-array-share-prefix-table
+array-share-prefix-table c = made-of (c .before .before .before .before .before .before .compile-file .ensures) (c .before .before .made2 .given .1) .table-in
 
-array-share-prefix-rule : tie.Need-array-share-prefix-rule
-array-share-prefix-rule c = read-accepted (c .before .before .before .before .before .before .before .before .before .before .before .before .before .args .text .now) _ _ _ _ _ _ (c .before .before .before .before .answer2 .given .1) (c .before .before .before .before .before .before .before .before .read-file .ensures) .nodes-in
+slice-aggregate-put-table : tie.Need-slice-aggregate-put-table
+slice-aggregate-put-table c = sym (length-take-le _ _ (made-of (c .before .before .before .before .before .before .before .compile-file .ensures) (c .before .before .before .made2 .given .1) .table-in))
 
-slice-aggregate-put-compiled-2 : tie.Need-slice-aggregate-put-compiled-2
-slice-aggregate-put-compiled-2 c = sym (length-take-le _ _ (read-accepted (c .before .before .before .before .before .before .before .before .before .before .before .before .before .before .args .text .now) _ _ _ _ _ _ (c .before .before .before .before .before .answer2 .given .1) (c .before .before .before .before .before .before .before .before .before .read-file .ensures) .nodes-in))
-
-put-compiled-requires : tie.Need-put-compiled-requires
-put-compiled-requires c κs = search needs
+put-table-requires : tie.Need-put-table-requires
+put-table-requires c κs = few-entries (made-of (c .before .before .before .before .before .before .before .compile-file .ensures) (c .before .before .before .made2 .given .1))
 
 same-length : tie.Need-same-length
 same-length c = search needs
 
 returns : tie.Need-returns
-returns c =
-    puts-as (read-refused (c .before .before .before .before .before .before .before .before .before .before .before .before .before .before .args .text .now) _ _ _ _ _ _ (c .before .before .before .before .before .answer .given .1) (length-replicate {A = ℕ} 256 0) (length-replicate {A = ℕ} 768 0) (c .before .before .before .before .before .before .before .before .before .read-file .ensures))
-    (c .before .before .put-refusal .ensures)
+returns c = let u = unmade (c .before .before .before .before .before .before .before .before .before .compile-file .ensures) (c .before .before .before .before .before .made .given .1) in
+    puts-as (refused-text (omega (arith, length-replicate {A = ℕ} 256 0)) (omega (arith, length-replicate {A = ℕ} 2048 0)) (u .0)) (c .before .before .put-refusal .ensures)
 
 same-length-2 : tie.Need-same-length-2
 same-length-2 c = search needs
 
 returns-2 : tie.Need-returns-2
-returns-2 c =
-    puts-as (read-accepted (c .before .before .before .before .before .before .before .before .before .before .before .before .before .before .before .before .before .args .text .now) _ _ _ _ _ _ (c .before .before .before .before .before .before .before .before .answer2 .given .1) (c .before .before .before .before .before .before .before .before .before .before .before .before .read-file .ensures) .same-text)
-    (c .before .before .put-compiled .ensures)
+returns-2 c = puts-as (made-text (made-of (c .before .before .before .before .before .before .before .before .before .before .compile-file .ensures) (c .before .before .before .before .before .before .made2 .given .1))) (c .before .before .put-table .ensures)
 
 pub put-report-spec : {M : Type 1} → statement M
 put-report-spec =
     tie.close
     (tie.spec
-    slice-aggregate-read-file
-    slice-aggregate-read-file-2
-    read-file-requires
-    enum-known-answer
+    slice-aggregate-compile-file
+    slice-aggregate-compile-file-2
+    compile-file-requires
+    enum-known-made
     put-refusal-requires
-    enum-known-answer-2
+    enum-known-made-2
     mul-size
-    array-share-prefix-meet
-    slice-aggregate-put-compiled
-    array-share-prefix-rule
-    slice-aggregate-put-compiled-2
-    put-compiled-requires
+    mul-size-2
+    array-share-prefix-table
+    slice-aggregate-put-table
+    put-table-requires
     same-length
     returns
     same-length-2

@@ -5,10 +5,6 @@ use Rattle.table_report.proofs.Texts.{row-parts}
 use borrow.Author.Needs.{needs}
 use Rattle.table_report.proofs.put_row.Statement.{statement}
 use Rattle.table_report.proofs.put_row.Tie as tie
-use Rattle.table_report.proofs.put_row.Reads as reads
-use Rattle.table_report.proofs.put_row.Lts as lts
-use Rattle.table_report.proofs.put_line.Reads as put-line-reads
-use Rattle.text_output.proofs.put_field.Reads as put-field-reads
 
 slice-aggregate-put-field : tie.Need-slice-aggregate-put-field
 slice-aggregate-put-field c = search needs

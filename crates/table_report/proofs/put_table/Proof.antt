@@ -12,12 +12,6 @@ use Rattle.table_report.proofs.Texts.{entry-bytes, table-parts}
 use borrow.Author.Needs.{needs}
 use Rattle.table_report.proofs.put_table.Statement.{statement}
 use Rattle.table_report.proofs.put_table.Tie as tie
-use Rattle.table_report.proofs.put_table.Reads as reads
-use Rattle.table_report.proofs.put_table.Lts as lts
-use Rattle.machines.proofs.next_at.Reads as next-at-reads
-use Rattle.machines.proofs.value_at.Reads as value-at-reads
-use Rattle.table_report.proofs.put_line.Reads as put-line-reads
-use Rattle.table_report.proofs.put_row.Reads as put-row-reads
 
 abbrev Inv-loop : tie.InvT-loop
 Inv-loop out₀ events states table a n₀ count i₀ out n i = (i ≤ count) × Puts out₀ (each (entry-line events (machine-of events table)) i 0) out n₀ n

@@ -9,10 +9,6 @@ use Rattle.table_report.proofs.Answers.{report-short, report-all}
 use borrow.Author.Needs.{needs}
 use Rattle.table_report.proofs.report.Statement.{statement}
 use Rattle.table_report.proofs.report.Tie as tie
-use Rattle.table_report.proofs.report.Reads as reads
-use Rattle.table_report.proofs.report.Lts as lts
-use Rattle.table_report.proofs.put_report.Reads as put-report-reads
-use Rattle.text_output.proofs.put_word.Reads as put-word-reads
 
 slice-aggregate-put-report : tie.Need-slice-aggregate-put-report
 slice-aggregate-put-report c = search needs
