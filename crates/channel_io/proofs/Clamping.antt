@@ -1,7 +1,7 @@
 -- A number above 255 held as 255: refusals 1 to 3 and 5 to 9 are the same, and of what is accepted nothing is clamped.
 -- Assumes nothing.
-use Prim.Native.Nat.{ℕ, zero, suc, _+_, _*_, _/_, _≤_, _<_, min}
-use mathlib.Core.Path.{_≡_, refl, sym, ap, ap₂, _∙_, subst}
+use Prim.Native.Nat.{ℕ, zero, suc, _+_, _*_, _/_, _≤_, _<_}
+use mathlib.Core.Path.{_≡_, refl, sym, ap, ap₂, _∙_}
 use mathlib.Core.List.{List, [], _∷_, _++_, map}
 use mathlib.Core.Bool.{Bool, true, false, cond, not, _&&_}
 use mathlib.Core.Option.{Option, none, some}
@@ -17,11 +17,11 @@ use Rattle.theory.proofs.ValueSets.{every-at, and-left, and-right, and-false-ri
 use Rattle.refusal.specs.declared.Refusal.{Refusal}
 use Rattle.refusal.specs.Refusal.{or-else, plain-unless, at-found}
 use Rattle.refusal.proofs.Refusals.{or-else-none, plain-none}
-use Rattle.values.specs.Setup.{Setup, setup, WellFormed, events-test, values-test, entries-test, meet-test, setup-refusal}
+use Rattle.values.specs.Setup.{setup, WellFormed, events-test, values-test, entries-test, meet-test, setup-refusal}
 use Rattle.values.proofs.Setups.{values-small, setup-accepted}
 use Rattle.formulas.specs.NodeBytes.{three-bytes, encode-formula}
 use Rattle.formulas.specs.RuleConditions.{Position, open-to-variable, closed-to-variable}
-use Rattle.formulas.specs.RuleReading.{lowest-from, Kind, kind-T, kind-X, kind-G, kind-O, kind-A, kind-V, unknown-kind, kind-of, fields-fit, end-fault, awaited, first-of, node-of, nodes-from, with-parts, formulas, first-formula, formula-read, lowest-variable, unbound-below, closed-there, lowest-unbound, lowest-closed}
+use Rattle.formulas.specs.RuleReading.{Kind, kind-T, kind-X, kind-G, kind-O, kind-A, kind-V, unknown-kind, kind-of, fields-fit, end-fault, awaited, first-of, node-of, nodes-from, with-parts, formulas, first-formula, formula-read, lowest-variable, unbound-below, closed-there, lowest-unbound, lowest-closed}
 use Rattle.formulas.specs.RuleRefusal.{count-fits, variables-refusal, structure-refusal, misfit-place, nodes-refusal, kind-at, first-at, second-at, rule-refusal, formula-of}
 use Rattle.formulas.proofs.Search.{lowest-same}
 use Rattle.formulas.proofs.Prefix.{length-from}

@@ -1,10 +1,10 @@
 -- The answers to reading and writing a file are those that document 01 asks for, and the only ones.
 -- Assumes nothing.
-use Prim.Native.Nat.{ℕ, _≤_, _<_}
+use Prim.Native.Nat.{ℕ, _<_}
 use mathlib.Core.Path.{_≡_, refl, sym, ap, _∙_}
 use mathlib.Core.Logic.{⊎-elim}
 use mathlib.Core.List.{List, [], _∷_, _++_}
-use mathlib.Core.Bool.{Bool, true, false, _&&_}
+use mathlib.Core.Bool.{Bool, true, false}
 use mathlib.Core.Option.{Option}
 use native.Mathlib.Omega.{arith}
 use lib.Dec.{leb}
@@ -26,7 +26,7 @@ use Rattle.text_format.specs.Format.{Outcome, contents, refused}
 use Rattle.channel_file.specs.ChannelFile.{Contents}
 use Rattle.channel_file.specs.Reading.{AnswersFile, read-file}
 use Rattle.channel_file.proofs.Claims.{answer-claim, one-answer-claim}
-use Rattle.channel_io.specs.FileJudgement.{rule-numbers, pair-conditions, contents-conditions, Short, short-meet, short-rule, read-conditions, FileJudged, off-form, of-contents, pair-refusal, has-room, stored-refusal, contents-read-refusal, read-refusal}
+use Rattle.channel_io.specs.FileJudgement.{rule-numbers, pair-conditions, Short, short-meet, short-rule, read-conditions, FileJudged, off-form, of-contents, pair-refusal, has-room, stored-refusal, contents-read-refusal, read-refusal}
 use Rattle.channel_io.specs.FileWriting.{file-text, write-conditions, write-refusal}
 use Rattle.channel_io.specs.Claims.{ReadClaim, WriteRefusalClaim}
 

@@ -1,9 +1,9 @@
 -- The answers of the functions that read a file, case by case.
 -- Assumes nothing.
-use Prim.Native.Nat.{ℕ, suc, _+_, _*_, _≤_, _<_}
+use Prim.Native.Nat.{ℕ, _+_, _*_, _≤_, _<_}
 use mathlib.Core.Path.{_≡_, refl, sym, ap, ap₂, _∙_, subst}
 use mathlib.Core.Logic.{_⊎_, inl, inr, ⊎-elim}
-use mathlib.Core.List.{List, [], _∷_, _++_, map}
+use mathlib.Core.List.{List, [], _∷_, map}
 use mathlib.Core.Bool.{Bool, true, false, cond, _&&_}
 use mathlib.Core.Option.{Option, none, some}
 use native.Mathlib.Omega.{arith}
@@ -24,17 +24,19 @@ use Rattle.text_format.specs.Format.{Outcome, contents, refused}
 use Rattle.text_format.specs.Series.{separated, OneOrMore}
 use Rattle.text_format.specs.Decimal.{Numeral}
 use Rattle.text_format.proofs.Decimal.{decimal-numeral}
-use Rattle.channel_file.specs.ChannelFile.{Token, token-T, token-A, token-V, token-X, token-G, token-O, Contents, number, Small, SmallToken, token-text, text, SmallContents, Shows}
+use Rattle.channel_file.specs.ChannelFile.{Token, token-T, token-A, token-V, token-X, token-G, token-O, Contents, number, Small, SmallToken, token-text, text, SmallContents}
 use Rattle.channel_file.specs.Reading.{file-limit, read-file}
-use Rattle.channel_file.specs.Bytes.{encoded, meet-bytes, rule-bytes, fits, stored-reply, stored-meet, stored-rule, Stores}
+use Rattle.channel_file.specs.Bytes.{meet-bytes, rule-bytes, fits, stored-reply, stored-meet, stored-rule, Stores}
 use Rattle.channel_file.specs.declared.Stored.{Stored}
 use Rattle.channel_file.proofs.Claims.{shown}
 use Rattle.channel_file.proofs.Buffers.{encoded-length}
 use Rattle.channel_file.proofs.Accepted.{meet-bytes-length, rule-bytes-length}
 use Rattle.channel_io.specs.declared.FileRead.{FileRead}
 use Rattle.channel_io.specs.declared.FileRead.the-variants.{Accepted as Read, Refused as Unread}
+use Rattle.channel_io.specs.declared.Attempt.{Attempt}
+use Rattle.channel_io.specs.declared.Attempt.the-variants.{Answered, Short}
 use Rattle.channel_io.specs.FileJudgement.{node-numbers, rule-numbers, pair-refusal, contents-refusal, has-room, stored-refusal, contents-read-refusal}
-use Rattle.channel_io.specs.FileReading.{numbers, accepted-or, read-answer, meet-after, rule-after, Reads, Keeps}
+use Rattle.channel_io.specs.FileReading.{numbers, accepted-or, read-answer, meet-after, rule-after, Reads, Keeps, TriesReading, answered, short}
 use Rattle.channel_io.proofs.Clamping.{file-same, nothing-clamped}
 
 -- ---- 1 to 3, then 5 to 9
@@ -187,27 +189,6 @@ module _ {t meet rule meet′ rule′ : List ℕ} {r : Stored} (s : Stores t mee
       go (contents c) f r x y = within c f (fits c meet rule) refl r x y
       go (refused q) f r x y = let z : _≡_ {A = ℕ} 0 1 = cc in absurd (omega arith)
 
-  -- 2,048 entries and nodes have room
-  pub never-short : length meet ≡ 2048 → length rule ≡ 6144 → r ≡ Stored.Short → ⊥
-  never-short hm hr d = go (read-file t) refl (sym d ∙ s .reply)
-    where
-      within : (c : Contents) → read-file t ≡ contents c → (b : Bool) → fits c meet rule ≡ b
-          → Stored.Short ≡ cond b (Stored.Form (c .events) (c .values) (c .top) (length (c .meet)) (length (c .rule))) Stored.Short → ⊥
-      within c f true q r = let z : _≡_ {A = ℕ} 0 1 = cc in absurd (omega arith)
-      within c f false q r =
-          let a = shown t c f in
-          let l : length t ≤ file-limit = a .0 in
-          let w = text-items c (a .1 .small) in
-          let z : length (text c) ≡ length t = ap length (a .1 .printed) in
-          ⊎-elim
-          (λ h. let k = leb-false (length (meet-bytes c)) (length meet) h in omega (arith, w .0, meet-bytes-length c))
-          (λ h. let k = leb-false (length (rule-bytes c)) (length rule) h in omega (arith, w .1, rule-bytes-length c))
-          (and-cases (leb (length (meet-bytes c)) (length meet)) (leb (length (rule-bytes c)) (length rule)) q)
-
-      go : (x : Outcome Contents) → read-file t ≡ x → Stored.Short ≡ stored-reply x meet rule → ⊥
-      go (contents c) f r = within c f (fits c meet rule) refl r
-      go (refused q) f r = let z : _≡_ {A = ℕ} 0 1 = cc in absurd (omega arith)
-
   -- 4
   pub not-formed : {p : ℕ} → r ≡ Stored.Refused p → read-file t ≡ refused p
   not-formed {p} d = go (read-file t) (sym d ∙ s .reply)
@@ -220,6 +201,27 @@ module _ {t meet rule meet′ rule′ : List ℕ} {r : Stored} (s : Stores t mee
       go : (x : Outcome Contents) → Stored.Refused p ≡ stored-reply x meet rule → x ≡ refused p
       go (contents c) r = within c (fits c meet rule) r
       go (refused q) r = cc
+
+-- 2,048 entries and nodes have room
+pub never-short : (t meet rule : List ℕ) → length meet ≡ 2048 → length rule ≡ 6144 → stored-reply (read-file t) meet rule ≡ Stored.Short → ⊥
+never-short t meet rule hm hr d = go (read-file t) refl (sym d)
+  where
+    within : (c : Contents) → read-file t ≡ contents c → (b : Bool) → fits c meet rule ≡ b
+        → Stored.Short ≡ cond b (Stored.Form (c .events) (c .values) (c .top) (length (c .meet)) (length (c .rule))) Stored.Short → ⊥
+    within c f true q r = let z : _≡_ {A = ℕ} 0 1 = cc in absurd (omega arith)
+    within c f false q r =
+        let a = shown t c f in
+        let l : length t ≤ file-limit = a .0 in
+        let w = text-items c (a .1 .small) in
+        let z : length (text c) ≡ length t = ap length (a .1 .printed) in
+        ⊎-elim
+        (λ h. let k = leb-false (length (meet-bytes c)) (length meet) h in omega (arith, w .0, meet-bytes-length c))
+        (λ h. let k = leb-false (length (rule-bytes c)) (length rule) h in omega (arith, w .1, rule-bytes-length c))
+        (and-cases (leb (length (meet-bytes c)) (length meet)) (leb (length (rule-bytes c)) (length rule)) q)
+
+    go : (x : Outcome Contents) → read-file t ≡ x → Stored.Short ≡ stored-reply x meet rule → ⊥
+    go (contents c) f r = within c f (fits c meet rule) refl r
+    go (refused q) f r = let z : _≡_ {A = ℕ} 0 1 = cc in absurd (omega arith)
 
 pub reads-refused : (t meet rule : List ℕ) (p : ℕ) → read-file t ≡ refused p → Reads t meet rule meet rule (Unread (At 4 p))
 unfolding read-answer meet-after rule-after
@@ -274,3 +276,29 @@ reads-kept t E N E′ N′ meet rule meet′ rule′ r events values top entries
           ∙ put-same c meet rule (rule-bytes c) (rule-numbers c) rule (λ e. nothing-clamped c e .1) (contents-read-refusal c meet rule) refl
           ∙ sym (ap (λ (x : Outcome Contents). rule-after x meet rule) (f .answer));
     }
+
+-- ---- the two attempts
+module _ {t E N meet rule meet′ rule′ : List ℕ} {x : Attempt} (k : TriesReading t E N meet rule meet′ rule′ x) where
+  pub tried-answered : {r : FileRead} → x ≡ Answered r → Reads t meet rule meet′ rule′ r
+  tried-answered {r} e = go x k e
+    where
+      go : (x : Attempt) → TriesReading t E N meet rule meet′ rule′ x → x ≡ Answered r → Reads t meet rule meet′ rule′ r
+      go x (answered q w) e = let z : q ≡ r = cc in subst (λ (y : FileRead). Reads t meet rule meet′ rule′ y) z w
+      go x (short s m n) e = let z : _≡_ {A = ℕ} 0 1 = cc in absurd (omega arith)
+
+  tried-short : x ≡ Short → (stored-reply (read-file t) E N ≡ Stored.Short) × (meet′ ≡ meet) × (rule′ ≡ rule)
+  tried-short e = go x k e
+    where
+      go : (x : Attempt) → TriesReading t E N meet rule meet′ rule′ x → x ≡ Short → (stored-reply (read-file t) E N ≡ Stored.Short) × (meet′ ≡ meet) × (rule′ ≡ rule)
+      go x (answered q w) e = let z : _≡_ {A = ℕ} 0 1 = cc in absurd (omega arith)
+      go x (short s m n) e = (s, m, n)
+
+  -- with the large buffers
+  pub tried-long : length E ≡ 2048 → length N ≡ 6144 → x ≡ Short → ⊥
+  tried-long hE hN e = never-short t E N hE hN (tried-short e .0)
+
+  -- after the small ones nothing has changed
+  pub tried-again : {meet″ rule″ : List ℕ} {r : FileRead} → x ≡ Short → Reads t meet′ rule′ meet″ rule″ r → Reads t meet rule meet″ rule″ r
+  tried-again {meet″} {rule″} {r} e w =
+      let s = tried-short e in
+      subst (λ (m : List ℕ). Reads t m rule meet″ rule″ r) (s .1) (subst (λ (n : List ℕ). Reads t meet′ n meet″ rule″ r) (s .2) w)

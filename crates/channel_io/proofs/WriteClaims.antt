@@ -2,14 +2,14 @@
 -- Assumes nothing.
 use Prim.Native.Nat.{ℕ, _≤_}
 use mathlib.Core.Path.{_≡_, refl, sym, ap, ap₂, _∙_, subst}
-use mathlib.Core.List.{List, [], _∷_, _++_}
-use mathlib.Core.Option.{Option, none, some}
+use mathlib.Core.List.{List, [], _∷_}
+use mathlib.Core.Option.{none}
 use native.Mathlib.Omega.{arith}
 use lib.ListN.{length}
 use Rattle.text_format.specs.Format.{contents}
 use Rattle.channel_file.specs.ChannelFile.{Token, Contents, text, Form}
 use Rattle.channel_file.specs.FileFormat.{first, second}
-use Rattle.channel_file.specs.Bytes.{clamp, entry, node, encoded, meet-bytes, rule-bytes}
+use Rattle.channel_file.specs.Bytes.{clamp, entry, node, encoded}
 use Rattle.channel_file.specs.Reading.{read-file}
 use Rattle.channel_file.proofs.Claims.{read-back-claim}
 use Rattle.channel_writer.specs.Writing.{node-tokens, contents-of}

@@ -17,7 +17,7 @@ ghost use lib.ListN.{length};
 ghost use Rattle.refusal.specs.Refusal.{judgement};
 ghost use Rattle.refusal.specs.LentBuffers.{put};
 ghost use Rattle.channel_io.specs.FileJudgement.{pair-refusal};
-ghost use Rattle.channel_io.specs.FileReading.{Reads, Keeps};
+ghost use Rattle.channel_io.specs.FileReading.{Reads, Keeps, TriesReading};
 ghost use Rattle.channel_io.specs.FileWriting.{WritesFile};
 
 // The numbers of a file: those of its set-up, and how many meet entries and nodes it has.
@@ -34,6 +34,17 @@ pub enum FileRead {
     Accepted(FileNumbers),
     Refused(Refusal),
 }
+
+// The answer, or that a buffer for the text's entries or nodes is too short.
+enum Attempt {
+    Answered(FileRead),
+    Short,
+}
+
+// No set-up has more meet entries and no rule more nodes, three bytes each.
+const ENTRY_COUNT: usize = 256;
+
+const NODE_BYTES: usize = 768;
 
 // A text within the limit has at most 2,048 entries and at most 2,048 nodes, three bytes each.
 const ENTRY_ROOM: usize = 2048;
@@ -97,16 +108,19 @@ fn store_pair(
     })
 }
 
-// Reads a channel file: its meet entries into one buffer and its rule's nodes, three bytes each, into the other.
-pub fn read_file(text: &[u8], meet: &mut [u8], rule: &mut [u8]) -> FileRead
-    ensures { λ r. ⌜ Reads (now (text .entry)) (now (meet .entry)) (now (rule .entry)) (now (meet .exit)) (now (rule .exit)) r ⌝ }
+// Stores the entries and nodes of a text in two buffers, judges them and puts them into two others.
+fn read_within(
+    text: &[u8],
+    entry_bytes: &mut [u8],
+    node_bytes: &mut [u8],
+    meet: &mut [u8],
+    rule: &mut [u8],
+) -> Attempt
+    ensures { λ r. ⌜ TriesReading (now (text .entry)) (now («entry_bytes» .entry)) (now («node_bytes» .entry)) (now (meet .entry)) (now (rule .entry)) (now (meet .exit)) (now (rule .exit)) r ⌝ }
 {
-    let mut entry_bytes = [0u8; ENTRY_ROOM];
-    let mut node_bytes = [0u8; NODE_ROOM];
-    match read_text(text, &mut entry_bytes, &mut node_bytes) {
-        Stored::Refused(p) => FileRead::Refused(Refusal::At(TEXT_FORM, p)),
-        // a text within the limit has no more entries and nodes than there is room for
-        Stored::Short => FileRead::Refused(Refusal::Plain(BUFFER_LENGTH)),
+    match read_text(text, entry_bytes, node_bytes) {
+        Stored::Refused(p) => Attempt::Answered(FileRead::Refused(Refusal::At(TEXT_FORM, p))),
+        Stored::Short => Attempt::Short,
         Stored::Form {
             events,
             values,
@@ -115,7 +129,7 @@ pub fn read_file(text: &[u8], meet: &mut [u8], rule: &mut [u8]) -> FileRead
             items,
         } => {
             let size = 3 * items;
-            store_pair(
+            let read = store_pair(
                 events,
                 values,
                 top,
@@ -124,8 +138,35 @@ pub fn read_file(text: &[u8], meet: &mut [u8], rule: &mut [u8]) -> FileRead
                 &node_bytes[..size],
                 meet,
                 rule,
-            )
+            );
+            Attempt::Answered(read)
         }
+    }
+}
+
+// For a text that has more entries or nodes than a set-up and a rule may have: buffers that are never too short.
+fn read_long(text: &[u8], meet: &mut [u8], rule: &mut [u8]) -> FileRead
+    ensures { λ r. ⌜ Reads (now (text .entry)) (now (meet .entry)) (now (rule .entry)) (now (meet .exit)) (now (rule .exit)) r ⌝ }
+{
+    let mut entry_bytes = [0u8; ENTRY_ROOM];
+    let mut node_bytes = [0u8; NODE_ROOM];
+    let attempt = read_within(text, &mut entry_bytes, &mut node_bytes, meet, rule);
+    match attempt {
+        Attempt::Answered(read) => read,
+        Attempt::Short => FileRead::Refused(Refusal::Plain(BUFFER_LENGTH)),
+    }
+}
+
+// Reads a channel file: its meet entries into one buffer and its rule's nodes, three bytes each, into the other.
+pub fn read_file(text: &[u8], meet: &mut [u8], rule: &mut [u8]) -> FileRead
+    ensures { λ r. ⌜ Reads (now (text .entry)) (now (meet .entry)) (now (rule .entry)) (now (meet .exit)) (now (rule .exit)) r ⌝ }
+{
+    let mut entry_bytes = [0u8; ENTRY_COUNT];
+    let mut node_bytes = [0u8; NODE_BYTES];
+    let attempt = read_within(text, &mut entry_bytes, &mut node_bytes, meet, rule);
+    match attempt {
+        Attempt::Answered(read) => read,
+        Attempt::Short => read_long(text, meet, rule),
     }
 }
 

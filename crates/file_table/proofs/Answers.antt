@@ -22,7 +22,7 @@ use Rattle.formulas.specs.RuleRefusal.{rule-refusal}
 use Rattle.text_format.specs.Format.{Outcome, refused}
 use Rattle.channel_file.specs.ChannelFile.{Contents}
 use Rattle.channel_file.specs.Reading.{read-file}
-use Rattle.channel_file.specs.Bytes.{meet-bytes, rule-bytes, stored-reply, stored-meet, stored-rule, Stores}
+use Rattle.channel_file.specs.Bytes.{meet-bytes, rule-bytes, stored-reply}
 use Rattle.channel_file.specs.declared.Stored.{Stored}
 use Rattle.machines.specs.TableBytes.{two-bytes}
 use Rattle.machines.proofs.EntryBytes.{table-length}
@@ -226,7 +226,7 @@ module _ {t E N meet to meet′ to′ : List ℕ} {x : Attempt} (k : TriesFile t
       go x (answered q w) e = let z : q ≡ r = cc in subst (λ (y : FileTable). CompilesFile t meet to meet′ to′ y) z w
       go x (short s m n) e = let z : _≡_ {A = ℕ} 0 1 = cc in absurd (omega arith)
 
-  pub tried-short : x ≡ Short → (stored-reply (read-file t) E N ≡ Stored.Short) × (meet′ ≡ meet) × (to′ ≡ to)
+  tried-short : x ≡ Short → (stored-reply (read-file t) E N ≡ Stored.Short) × (meet′ ≡ meet) × (to′ ≡ to)
   tried-short e = go x k e
     where
       go : (x : Attempt) → TriesFile t E N meet to meet′ to′ x → x ≡ Short → (stored-reply (read-file t) E N ≡ Stored.Short) × (meet′ ≡ meet) × (to′ ≡ to)
@@ -235,10 +235,7 @@ module _ {t E N meet to meet′ to′ : List ℕ} {x : Attempt} (k : TriesFile t
 
   -- with the large buffers
   pub tried-long : length E ≡ 2048 → length N ≡ 6144 → x ≡ Short → ⊥
-  tried-long hE hN e =
-      let s : Stores t E N (stored-meet (read-file t) E N) (stored-rule (read-file t) E N) Stored.Short =
-      record { reply = sym (tried-short e .0); meet-is = refl; rule-is = refl } in
-      never-short s hE hN refl
+  tried-long hE hN e = never-short t E N hE hN (tried-short e .0)
 
   -- after the small ones nothing has changed
   pub tried-again : {meet″ to″ : List ℕ} {r : FileTable} → x ≡ Short → CompilesFile t meet′ to′ meet″ to″ r → CompilesFile t meet to meet″ to″ r

@@ -5,8 +5,6 @@ use Rattle.channel_io.proofs.Storing.{pair-setup, pair-rule}
 use borrow.Author.Needs.{needs}
 use Rattle.channel_io.proofs.check_pair.Statement.{statement}
 use Rattle.channel_io.proofs.check_pair.Tie as tie
-use Rattle.channel_io.proofs.check_pair.Reads as reads
-use Rattle.channel_io.proofs.check_pair.Lts as lts
 
 check-setup-requires : tie.Need-check-setup-requires
 check-setup-requires c κs = search needs

@@ -1,9 +1,8 @@
 -- `copy_in` meets its contract. The loop's invariant: the bytes passed were put.
 -- Assumes nothing.
-use Prim.Native.Nat.{ℕ, _+_, _-_, _≤_}
-use mathlib.Core.Path.{_≡_, refl, sym, ap, _∙_}
-use mathlib.Core.List.{List}
-use lib.Seq.{take-all, length-take-le}
+use Prim.Native.Nat.{_-_, _≤_}
+use mathlib.Core.Path.{_≡_, ap, _∙_}
+use lib.Seq.{take-all}
 use lib.ListN.{length, take}
 use borrow.Author.Needs.{needs}
 use native.Mathlib.Omega.{arith}
@@ -11,8 +10,6 @@ use Rattle.channel_file.specs.Steps.{Wrote, puts}
 use Rattle.channel_file.proofs.Buffers.{wrote-none, wrote-on, wrote-length, puts-whole}
 use Rattle.channel_io.proofs.copy_in.Statement.{statement}
 use Rattle.channel_io.proofs.copy_in.Tie as tie
-use Rattle.channel_io.proofs.copy_in.Reads as reads
-use Rattle.channel_io.proofs.copy_in.Lts as lts
 
 abbrev Inv-loop : tie.InvT-loop
 Inv-loop from to₀ i₀ to i = (i ≤ length from) × Wrote to₀ (take i from) to 0 i

@@ -8,10 +8,6 @@ use mathlib.Core.Path.{sym, _∙_}
 use borrow.Author.Needs.{needs}
 use Rattle.channel_io.proofs.store_pair.Statement.{statement}
 use Rattle.channel_io.proofs.store_pair.Tie as tie
-use Rattle.channel_io.proofs.store_pair.Reads as reads
-use Rattle.channel_io.proofs.store_pair.Lts as lts
-use Rattle.channel_io.proofs.check_pair.Reads as check-pair-reads
-use Rattle.channel_io.proofs.copy_in.Reads as copy-in-reads
 
 check-pair-requires : tie.Need-check-pair-requires
 check-pair-requires c κs = search needs

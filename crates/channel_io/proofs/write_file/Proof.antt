@@ -2,14 +2,10 @@
 -- Assumes nothing.
 use Rattle.channel_io.proofs.Writing.{reply-of, writes-refused, small-numbers, writes-judged}
 use native.Mathlib.Omega.{arith}
-use mathlib.Core.Path.{_≡_, sym, ap, _∙_}
+use mathlib.Core.Path.{sym, ap, _∙_}
 use borrow.Author.Needs.{needs}
 use Rattle.channel_io.proofs.write_file.Statement.{statement}
 use Rattle.channel_io.proofs.write_file.Tie as tie
-use Rattle.channel_io.proofs.write_file.Reads as reads
-use Rattle.channel_io.proofs.write_file.Lts as lts
-use Rattle.channel_io.proofs.check_pair.Reads as check-pair-reads
-use Rattle.channel_writer.proofs.write_text.Reads as write-text-reads
 
 check-pair-requires : tie.Need-check-pair-requires
 check-pair-requires c κs = search needs
