@@ -12,7 +12,7 @@ use borrow.Author.Tests.{lt-ltb, le-ltb, eq-eqb, ne-eqb}
 use lib.Arith.{digits-div, digits-mod}
 use lib.Bits.{bitOr}
 use lib.Dec.{eqb}
-use lib.ListN.{length, getD, set, length-set, replicate, getD-replicate}
+use lib.ListN.{length, getD, set, length-set}
 use lib.Seq.{getD-set-same, getD-set-other}
 use Rattle.theory.specs.DemandSets.{empty, union, only}
 use Rattle.theory.specs.Exploration.{member, bits}
@@ -106,9 +106,6 @@ no-words l base f = fun-ext λ j. go j (decLt j 256)
     go j (yes u) =
         in-words l base j u ∙ ap (λ x. eqb (bit-at x (j % 64)) 1) (f (j / 64) (omega arith)) ∙ zero-bit (j % 64)
     go j (no u) = past-words l base j (omega arith)
-
-pub none-at : (n base : ℕ) → base + 4 ≤ n → set-at (replicate n 0) base ≡ empty
-none-at n base h = no-words (replicate n 0) base (λ w u. getD-replicate n (base + w) 0 0 (omega arith))
 
 -- A node of the word that node k is in: k stands at k % 64 in it, and j at i.
 in-word :

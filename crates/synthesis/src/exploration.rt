@@ -41,6 +41,18 @@ fn advance_node(
     }
 }
 
+// The first n sets are emptied.
+fn clear(sets: &mut [u64; 64], n: usize)
+    requires { ⌜ (n ≤ 16) × (length (now sets) ≡ 64) ⌝ }
+    ensures { λ _. ⌜ (length (now (sets .exit)) ≡ 64) × ((e : ℕ) → e < n → row (now (sets .exit)) e ≡ empty) ⌝ }
+{
+    let mut w: usize = 0;
+    while w < n * 4 {
+        sets[w] = 0;
+        w += 1;
+    }
+}
+
 // The next sets of a state, one for each event: the demands of the parts of the set's G nodes for the event.
 fn advance(
     kinds: &[u8; 256],
@@ -53,11 +65,11 @@ fn advance(
     sets: &mut [u64; 64],
 )
     requires { ⌜ (count ≤ 256) × (base + 4 ≤ 256) × (events ≤ 16) × (length (now kinds) ≡ 256) × (length (now firsts) ≡ 256)
-        × (length (now rows) ≡ 1028) × (length (now states) ≡ 256) × (length (now sets) ≡ 64)
-        × ((e : ℕ) → e < events → row (now sets) e ≡ empty) ⌝ }
+        × (length (now rows) ≡ 1028) × (length (now states) ≡ 256) × (length (now sets) ≡ 64) ⌝ }
     ensures { λ _. ⌜ (length (now (sets .exit)) ≡ 64)
         × NextSets (now (kinds .entry)) (now (firsts .entry)) (now (rows .entry)) count (set-at (now (states .entry)) base) events (now (sets .exit)) ⌝ }
 {
+    clear(sets, events);
     let mut node = next_member(states, base, 0, count);
     while node < count {
         advance_node(kinds, firsts, rows, events, node, sets);
@@ -81,7 +93,7 @@ fn find(states: &[u64; 256], n: usize, set: &[u64; 4]) -> usize
 }
 
 // The states that the events lead to from state i come after the n there are, and the entries of state i get their numbers;
-// the limit and one where there are more.
+// the limit and one where there are more. The sets are room for the next sets.
 fn expand(
     kinds: &[u8; 256],
     firsts: &[u8; 256],
@@ -92,30 +104,21 @@ fn expand(
     n: usize,
     states: &mut [u64; 256],
     nexts: &mut [u8; 1024],
+    sets: &mut [u64; 64],
 ) -> usize
     requires { ⌜ (count ≤ 256) × (i < n) × (n ≤ 64) × (events ≤ 16) × (length (now kinds) ≡ 256) × (length (now firsts) ≡ 256)
-        × (length (now rows) ≡ 1028) × (length (now states) ≡ 256) × (length (now nexts) ≡ 1024) ⌝ }
+        × (length (now rows) ≡ 1028) × (length (now states) ≡ 256) × (length (now nexts) ≡ 1024) × (length (now sets) ≡ 64) ⌝ }
     ensures { λ r. ⌜ (length (now (states .exit)) ≡ 256) × (length (now (nexts .exit)) ≡ 1024) × (n ≤ r)
         × Unchanged (i * events + events) (now (nexts .entry)) (now (nexts .exit))
         × Expanded (next-bits (now (kinds .entry)) (now (firsts .entry)) (now (rows .entry)) count) events 64 i n
-        (now (states .entry)) (now (nexts .entry)) r (now (states .exit)) (now (nexts .exit)) ⌝ }
+        (now (states .entry)) (now (nexts .entry)) r (now (states .exit)) (now (nexts .exit)) × (length (now (sets .exit)) ≡ 64) ⌝ }
 {
-    let mut sets = [0u64; 64];
-    advance(
-        kinds,
-        firsts,
-        count,
-        rows,
-        &*states,
-        i * 4,
-        events,
-        &mut sets,
-    );
+    advance(kinds, firsts, count, rows, &*states, i * 4, events, sets);
     let mut k = n;
     let mut event: usize = 0;
     while event < events {
         let mut set = [0u64; 4];
-        copy_row(&mut set, &sets, event);
+        copy_row(&mut set, &*sets, event);
         let j = find(&*states, k, &set);
         if j == k {
             if k == STATE_LIMIT {
@@ -163,10 +166,22 @@ pub fn explore(
         r (r * events) (now (states .exit)) (now (nexts .exit)) ⌝ }
 {
     copy_first(states, rows);
+    let mut sets = [0u64; 64];
     let mut n: usize = 1;
     let mut i: usize = 0;
     while i < n {
-        let m = expand(kinds, firsts, count, rows, events, i, n, states, nexts);
+        let m = expand(
+            kinds,
+            firsts,
+            count,
+            rows,
+            events,
+            i,
+            n,
+            states,
+            nexts,
+            &mut sets,
+        );
         if STATE_LIMIT < m {
             return STATE_LIMIT + 1;
         }

@@ -20,17 +20,20 @@ Inv-loop kinds firsts count rows states base events sets₀ node₀ sets node =
 abbrev μ-loop : tie.MeasureT-loop
 μ-loop kinds firsts count rows states base events sets₀ node₀ sets node = count - node
 
+clear-requires : tie.Need-clear-requires Inv-loop μ-loop
+clear-requires c κs = search needs
+
 next-member-requires : tie.Need-next-member-requires Inv-loop μ-loop
 next-member-requires c κs = search needs
 
 loop-holds : tie.Need-loop-holds Inv-loop μ-loop
 loop-holds c =
-    let a = c .before .args in
+    let a = c .before .before .before .args in
     let D = set-at (a .states .now) (a .base) in
     let x = c .next-member .ensures in (
       x .high,
-      search needs,
-      (λ e h. c .before .pre .8 e h ∙ sym (stepped-none (a .kinds .now) (a .firsts .now) (a .rows .now) 0 D e)
+      c .before .clear .ensures .0,
+      (λ e h. c .before .clear .ensures .1 e h ∙ sym (stepped-none (a .kinds .now) (a .firsts .now) (a .rows .now) 0 D e)
           ∙ sym (stepped-skip (a .kinds .now) (a .firsts .now) (a .rows .now) D e 0 (c .next-member .result) (x .low) (x .before))),
       x .here,
     )
@@ -49,7 +52,7 @@ loop-less c = omega (arith, c .next-member2 .ensures .low)
 
 loop-again : tie.Need-loop-again Inv-loop μ-loop
 loop-again c =
-    let a = c .before .before .before .before .before .before .args in
+    let a = c .before .before .before .before .before .before .before .before .args in
     let l = c .before .before .before .before .loop in
     let D = set-at (a .states .now) (a .base) in
     let x = c .next-member2 .ensures in (
@@ -62,7 +65,7 @@ loop-again c =
 
 returns : tie.Need-returns Inv-loop μ-loop
 returns c =
-    let a = c .before .before .before .args in
+    let a = c .before .before .before .before .before .args in
     let v = c .before .loop .inv in
     let q : c .before .loop .node ≡ a .count = omega arith in
     (v .1, λ e h. v .2 e h ∙ ap (λ n. stepped (a .kinds .now) (a .firsts .now) (a .rows .now) n (set-at (a .states .now) (a .base)) e) q)
@@ -73,6 +76,7 @@ advance-spec =
     (tie.spec
     Inv-loop
     μ-loop
+    clear-requires
     next-member-requires
     loop-holds
     advance-node-requires

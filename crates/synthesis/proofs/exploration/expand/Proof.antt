@@ -12,7 +12,7 @@ use lib.ListN.{length, getD, set, length-set}
 use lib.Seq.{getD-set-other}
 use Rattle.synthesis.specs.NodeWords.{row}
 use Rattle.synthesis.specs.Exploring.{stepped, next-bits, Unchanged, Kept, events-to}
-use Rattle.synthesis.proofs.NodeWords.{none-at, stored-else}
+use Rattle.synthesis.proofs.NodeWords.{stored-else}
 use Rattle.synthesis.proofs.Exploring.{candidate-old, candidate-new, candidate-many, below}
 use Rattle.synthesis.proofs.exploration.expand.Statement.{statement}
 use Rattle.synthesis.proofs.exploration.expand.Tie as tie
@@ -32,8 +32,7 @@ mul-advance : tie.Need-mul-advance Inv-loop μ-loop
 mul-advance c = search needs
 
 advance-requires : tie.Need-advance-requires Inv-loop μ-loop
-advance-requires c κs =
-    (search needs, search needs, search needs, search needs, search needs, search needs, search needs, search needs, λ e h. none-at 64 (e * 4) (omega arith))
+advance-requires c κs = search needs
 
 loop-holds : tie.Need-loop-holds Inv-loop μ-loop
 loop-holds c =
@@ -68,7 +67,7 @@ returns c =
       v .4,
       search needs,
       v .5,
-      λ start P old. record {
+      (λ start P old. record {
         at-most = search needs;
         all = λ h. absurd (omega (arith, h));
         more = λ h. omega (
@@ -76,7 +75,8 @@ returns c =
           c .if2 .taken,
           candidate-many (a .kinds .now) (a .firsts .now) (a .rows .now) (a .count) (a .events) (a .i) (a .n) (l .k) (l .event) (a .states .now) (a .nexts .now) (l .states) (l .nexts) _ (search needs) (v .1) event (c .before .before .before .before .before .copy-row .ensures .1 ∙ c .before .before .before .before .before .before .before .before .before .before .advance .ensures .1 (l .event) event ∙ ap (λ D. stepped (a .kinds .now) (a .firsts .now) (a .rows .now) (a .count) D (l .event)) (sym (v .6))) start P old (v .7 start P old) (c .before .before .find .result) (c .before .if1 .taken) (c .before .before .find .ensures),
         );
-      },
+      }),
+      c .before .before .before .before .before .before .before .before .before .before .advance .ensures .0,
     )
 
 mul-store : tie.Need-mul-store Inv-loop μ-loop
@@ -149,11 +149,12 @@ returns-2 c =
       v .4,
       v .1,
       v .5,
-      λ start P old. record {
+      (λ start P old. record {
         at-most = search needs;
         all = λ h. subst (λ x. Kept (next-bits (a .kinds .now) (a .firsts .now) (a .rows .now) (a .count)) start (a .events) (events-to (next-bits (a .kinds .now) (a .firsts .now) (a .rows .now) (a .count)) start x P (getD P (a .i) [])) (l .k) (a .i * a .events + x) (l .states) (l .nexts)) q (v .7 start P old);
         more = λ h. absurd (omega (arith, h));
-      },
+      }),
+      c .before .before .advance .ensures .0,
     )
 
 pub expand-spec : {M : Type 1} → statement M

@@ -13,13 +13,13 @@ use Rattle.synthesis.proofs.exploration.explore.Statement.{statement}
 use Rattle.synthesis.proofs.exploration.explore.Tie as tie
 
 abbrev Inv-loop : tie.InvT-loop
-Inv-loop kinds firsts count rows events states₀ nexts₀ n₀ i₀ states nexts n i =
+Inv-loop kinds firsts count rows events states₀ nexts₀ sets₀ n₀ i₀ states nexts sets n i =
     (i ≤ n) × (n ≤ 64) × (length states ≡ 256) × (length nexts ≡ 1024) × Unchanged (i * events) nexts₀ nexts
     × Kept (next-bits kinds firsts rows count) (bits-at rows 0) events (all-to (next-bits kinds firsts rows count) rows events i)
-    n (i * events) states nexts
+    n (i * events) states nexts × (length sets ≡ 64)
 
 abbrev μ-loop : tie.MeasureT-loop
-μ-loop kinds firsts count rows events states₀ nexts₀ n₀ i₀ states nexts n i = 64 - i
+μ-loop kinds firsts count rows events states₀ nexts₀ sets₀ n₀ i₀ states nexts sets n i = 64 - i
 
 copy-first-requires : tie.Need-copy-first-requires Inv-loop μ-loop
 copy-first-requires c κs = search needs
@@ -33,6 +33,7 @@ loop-holds c =
       search needs,
       (λ x h. refl),
       kept-start (next-bits (a .kinds .now) (a .firsts .now) (a .rows .now) (a .count)) (a .rows .now) (a .events) _ (a .nexts .now) (c .copy-first .ensures .1),
+      search needs,
     )
 
 expand-requires : tie.Need-expand-requires Inv-loop μ-loop
@@ -43,8 +44,8 @@ add-result c = search needs
 
 returns : tie.Need-returns Inv-loop μ-loop
 returns c =
-    let a = c .before .before .before .before .before .before .before .before .args in
-    let l = c .before .before .before .before .before .loop in
+    let a = c .before .before .before .before .before .before .before .before .before .args in
+    let l = c .before .before .before .before .before .before .loop in
     let v = l .inv in
     let x = c .before .expand .ensures in
     let nb = next-bits (a .kinds .now) (a .firsts .now) (a .rows .now) (a .count) in (
@@ -66,8 +67,8 @@ loop-less c = search needs
 
 loop-again : tie.Need-loop-again Inv-loop μ-loop
 loop-again c =
-    let a = c .before .before .before .before .before .before .before .before .args in
-    let l = c .before .before .before .before .before .loop in
+    let a = c .before .before .before .before .before .before .before .before .before .args in
+    let l = c .before .before .before .before .before .before .loop in
     let v = l .inv in
     let x = c .before .expand .ensures in
     let nb = next-bits (a .kinds .now) (a .firsts .now) (a .rows .now) (a .count) in (
@@ -77,6 +78,7 @@ loop-again c =
       x .1,
       (λ y h. x .3 y (omega (arith, h, add-mul (l .i) 1 (a .events))) ∙ v .4 y (omega (arith, h, add-mul (l .i) 1 (a .events)))),
       row-kept nb (a .rows .now) (a .events) 64 (l .i) (l .n) (c .before .expand .result) (l .states) (l .nexts) _ _ (search needs) (v .5) (x .4) (search needs),
+      x .5,
     )
 
 returns-2 : tie.Need-returns-2 Inv-loop μ-loop
