@@ -148,7 +148,6 @@ pub record Formed (t meet rule meet′ rule′ : List ℕ) (events values top en
   pub events-is : events ≡ inside .events
   pub values-is : values ≡ inside .values
   pub top-is : top ≡ inside .top
-  pub entries-is : entries ≡ length (inside .meet)
   pub items-is : items ≡ length (inside .rule)
   pub few-entries : entries ≤ length meet
   pub few-items : 3 * items ≤ length rule
@@ -175,7 +174,6 @@ module _ {t meet rule meet′ rule′ : List ℕ} {r : Stored} (s : Stores t mee
             events-is = cc;
             values-is = cc;
             top-is = cc;
-            entries-is = em;
             items-is = en;
             few-entries = omega arith;
             few-items = omega arith;
@@ -289,7 +287,8 @@ module _ {t E N meet rule meet′ rule′ : List ℕ} {x : Attempt} (k : TriesRe
   tried-short : x ≡ Short → (stored-reply (read-file t) E N ≡ Stored.Short) × (meet′ ≡ meet) × (rule′ ≡ rule)
   tried-short e = go x k e
     where
-      go : (x : Attempt) → TriesReading t E N meet rule meet′ rule′ x → x ≡ Short → (stored-reply (read-file t) E N ≡ Stored.Short) × (meet′ ≡ meet) × (rule′ ≡ rule)
+      go : (x : Attempt) → TriesReading t E N meet rule meet′ rule′ x → x ≡ Short
+          → (stored-reply (read-file t) E N ≡ Stored.Short) × (meet′ ≡ meet) × (rule′ ≡ rule)
       go x (answered q w) e = let z : _≡_ {A = ℕ} 0 1 = cc in absurd (omega arith)
       go x (short s m n) e = (s, m, n)
 

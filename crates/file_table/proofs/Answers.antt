@@ -63,7 +63,8 @@ module _ (events values top : ℕ) (meet rule : List ℕ) where
 
   pub rows-length : length rows ≡ pair-states events values top meet rule * events * 2
   rows-length =
-      table-length ℕ two-bytes 2 two-bytes-length events (rule-table (Numbered values) events top meet rule 64) (pair-states events values top meet rule)
+      table-length ℕ two-bytes 2 two-bytes-length events (rule-table (Numbered values) events top meet rule 64)
+      (pair-states events values top meet rule)
 
   pub compile-as : (old : List ℕ) → compile-refusal 64 s rule old ≡ or-else P (plain-unless (leb (length rows) (length old)) 13)
   unfolding compile-refusal pair-table-refusal setup
@@ -183,7 +184,8 @@ module _ (c : Contents) (count : ℕ) (meet to meet′ to′ : List ℕ) (r : Fi
   unfolding made-or put-unless
   pair-same k = go (contents-refusal c) refl
     where
-      go : (o : Option Refusal) → contents-refusal c ≡ o → CompilesPair (c .events) (c .values) (c .top) count (c .meet) (rule-numbers c) meet to meet′ to′ r
+      go : (o : Option Refusal) → contents-refusal c ≡ o
+          → CompilesPair (c .events) (c .values) (c .top) count (c .meet) (rule-numbers c) meet to meet′ to′ r
       go none e =
           let same = nothing-clamped c e in
           subst (λ (x : List ℕ). CompilesPair (c .events) (c .values) (c .top) count x (rule-numbers c) meet to meet′ to′ r) (same .0)
@@ -199,7 +201,8 @@ module _ (c : Contents) (count : ℕ) (meet to meet′ to′ : List ℕ) (r : Fi
           (k .table-is ∙ ap (λ (o : Option Refusal). put-unless o (pair-table (c .events) (c .values) (c .top) (meet-bytes c) (rule-bytes c)) to) a)
 
 pub file-formed :
-    (t E N E′ N′ meet to meet′ to′ : List ℕ) (r : FileTable) (events values top entries items : ℕ) (f : Formed t E N E′ N′ events values top entries items)
+    (t E N E′ N′ meet to meet′ to′ : List ℕ) (r : FileTable) (events values top entries items : ℕ)
+    (f : Formed t E N E′ N′ events values top entries items)
     → CompilesPair events values top items (take entries E′) (take (3 * items) N′) meet to meet′ to′ r → CompilesFile t meet to meet′ to′ r
 unfolding compile-answer meet-after table-after
 file-formed t E N E′ N′ meet to meet′ to′ r events values top entries items f k =
@@ -229,7 +232,8 @@ module _ {t E N meet to meet′ to′ : List ℕ} {x : Attempt} (k : TriesFile t
   tried-short : x ≡ Short → (stored-reply (read-file t) E N ≡ Stored.Short) × (meet′ ≡ meet) × (to′ ≡ to)
   tried-short e = go x k e
     where
-      go : (x : Attempt) → TriesFile t E N meet to meet′ to′ x → x ≡ Short → (stored-reply (read-file t) E N ≡ Stored.Short) × (meet′ ≡ meet) × (to′ ≡ to)
+      go : (x : Attempt) → TriesFile t E N meet to meet′ to′ x → x ≡ Short
+          → (stored-reply (read-file t) E N ≡ Stored.Short) × (meet′ ≡ meet) × (to′ ≡ to)
       go x (answered q w) e = let z : _≡_ {A = ℕ} 0 1 = cc in absurd (omega arith)
       go x (short s m n) e = (s, m, n)
 

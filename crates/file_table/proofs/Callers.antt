@@ -103,7 +103,8 @@ module _ {t meet to meet′ to′ : List ℕ} {x : FileTable} (k : CompilesFile 
   unfolding compile-answer table-after put-unless
   unmade {r} is = go (read-file t) refl (sym is ∙ k .answer) (k .table-is)
     where
-      go : (x : Outcome Contents) → read-file t ≡ x → Refused r ≡ compile-answer x meet to → to′ ≡ table-after x meet to → Unmade t meet to r × (to′ ≡ to)
+      go : (x : Outcome Contents) → read-file t ≡ x → Refused r ≡ compile-answer x meet to → to′ ≡ table-after x meet to
+          → Unmade t meet to r × (to′ ≡ to)
       go (refused p) e f g = let z : At 4 p ≡ r = cc in (subst (Unmade t meet to) z (off-form p e), g)
       go (contents c) e f g =
           let a = made-some (file-refusal c meet to) r (file-numbers c) (file-states c) f in
@@ -113,8 +114,8 @@ module _ {t meet to meet′ to′ : List ℕ} {x : FileTable} (k : CompilesFile 
   unfolding compile-answer meet-after table-after put-unless pair-compile-refusal numbers
   made-of {n} {j} is = go (read-file t) refl (sym is ∙ k .answer) (k .meet-is) (k .table-is)
     where
-      go : (x : Outcome Contents) → read-file t ≡ x → Made n j ≡ compile-answer x meet to → meet′ ≡ meet-after x meet to → to′ ≡ table-after x meet to
-          → MadeOf t meet to meet′ to′ n j
+      go : (x : Outcome Contents) → read-file t ≡ x → Made n j ≡ compile-answer x meet to → meet′ ≡ meet-after x meet to
+          → to′ ≡ table-after x meet to → MadeOf t meet to meet′ to′ n j
       go (refused p) e f g h = let z : _≡_ {A = ℕ} 0 1 = cc in absurd (omega arith)
       go (contents c) e f g h =
           let a = made-none (file-refusal c meet to) n (file-numbers c) j (file-states c) f in
@@ -122,7 +123,8 @@ module _ {t meet to meet′ to′ : List ℕ} {x : FileTable} (k : CompilesFile 
           let b : to′ ≡ put (file-table c) to = h ∙ ap (λ (o : Option Refusal). put-unless o (file-table c) to) (a .0) in
           let en : n .entries ≡ length (c .meet) = ap (λ (z : FileNumbers). z .entries) (a .1) in
           let size : j * n .events * 2 ≡ length (file-table c) =
-          ap₂ (λ (i : ℕ) (z : FileNumbers). i * z .events * 2) (a .2) (a .1) ∙ sym (rows-length (c .events) (c .values) (c .top) (c .meet) (rule-numbers c)) in
+          ap₂ (λ (i : ℕ) (z : FileNumbers). i * z .events * 2) (a .2) (a .1)
+          ∙ sym (rows-length (c .events) (c .values) (c .top) (c .meet) (rule-numbers c)) in
           record {
             inside = c;
             reads = e;

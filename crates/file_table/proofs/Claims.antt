@@ -109,7 +109,8 @@ module _ (c : Contents) where
           few-bytes = omega (arith, rows-length (c .events) (c .values) (c .top) (c .meet) rule, mul-le-mul (k .few) (formed .few-events));
           few-entries = omega (arith, formed .whole, square-small (formed .few-values));
           table =
-              subst (λ (l : List ℕ). RuleTable (meetAt (c .values) (c .meet)) (c .top) (c .events) (c .values) rule (file-states c) (machine-of (c .events) l))
+              subst
+              (λ (l : List ℕ). RuleTable (meetAt (c .values) (c .meet)) (c .top) (c .events) (c .values) rule (file-states c) (machine-of (c .events) l))
               room-contents (k .table);
         }
 
@@ -168,7 +169,9 @@ module _ (c : Contents) where
       let some-rule = first-rest _ _ _ (λ r f. f .0 (w .some-events, w .few-events)) all in
       let rule-none = subst (First (three-byte-conditions (c .events) (c .values) rule)) (a .1) (rule-refusal-first (c .events) (c .values) rule) in
       subst (First (ten ∷ []))
-      (ap (λ (b : Bool). or-else (plain-unless b 1) (or-else (rule-refusal (c .events) (c .values) rule) (plain-unless (leb (file-states c) 64) 10))) passed
+      (ap
+      (λ (b : Bool). or-else (plain-unless b 1) (or-else (rule-refusal (c .events) (c .values) rule) (plain-unless (leb (file-states c) 64) 10)))
+      passed
       ∙ ap (λ (o : Option Refusal). or-else o (plain-unless (leb (file-states c) 64) 10)) (a .1))
       (first-later (three-byte-conditions (c .events) (c .values) rule) (ten ∷ []) _ rule-none some-rule)
 
@@ -199,7 +202,9 @@ module _ (c : Contents) where
 
     file-first : First (file-conditions c meet to) (file-refusal c meet to)
     unfolding pair-compile-refusal
-    file-first = first-then (contents-table-conditions c) (short-condition c meet to ∷ []) (contents-table-refusal c) _ table-first (λ ok. short-first ok meet to)
+    file-first =
+        first-then (contents-table-conditions c) (short-condition c meet to ∷ []) (contents-table-refusal c) _ table-first
+        (λ ok. short-first ok meet to)
 
     file-only : (answer : Option Refusal) → First (file-conditions c meet to) answer → answer ≡ file-refusal c meet to
     unfolding AllFunctional
@@ -214,7 +219,8 @@ module _ (c : Contents) where
     file-order =
         record {
           numbered =
-              numbers-append (1 ∷ 2 ∷ 3 ∷ 5 ∷ 6 ∷ 7 ∷ 8 ∷ 9 ∷ 10 ∷ []) (13 ∷ []) (contents-table-conditions c) (short-condition c meet to ∷ []) table-numbers
+              numbers-append (1 ∷ 2 ∷ 3 ∷ 5 ∷ 6 ∷ 7 ∷ 8 ∷ 9 ∷ 10 ∷ []) (13 ∷ []) (contents-table-conditions c) (short-condition c meet to ∷ [])
+              table-numbers
               ((λ r m. plain-number 13 Unit refl r (tt, short-is r m)), tt);
           ordered = refl;
         }

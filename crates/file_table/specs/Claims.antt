@@ -55,7 +55,7 @@ pub record FileTableClaim : Type 0 where
       (c : Contents) (meet to : List ℕ) → InOrder (1 ∷ 2 ∷ 3 ∷ 5 ∷ 6 ∷ 7 ∷ 8 ∷ 9 ∷ 10 ∷ 13 ∷ []) (file-conditions c meet to)
 
 -- Where 1 to 3 and 5 to 10 are not met, the table is that of the file's rule, with the rule's values on every event sequence; and
--- every table has room in so many bytes.
+-- table and meet entries have room in so many bytes.
 pub record FileTableMade (c : Contents) : Type 0 where
   pub few-states : file-states c ≤ state-limit
   pub few-bytes : length (file-table c) ≤ 2048
