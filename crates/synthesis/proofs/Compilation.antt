@@ -1,6 +1,6 @@
 -- The answers of the compilers, case by case.
 -- Assumes nothing.
-use mathlib.Core.Path.{_≡_, sym, _∙_, ap, ap₂, subst}
+use mathlib.Core.Path.{_≡_, refl, sym, _∙_, ap, ap₂, subst}
 use mathlib.Core.Bool.{Bool, true, false, _&&_, cond, and-false, false≢true}
 use mathlib.Core.List.{List}
 use mathlib.Core.Option.{Option, none, some}
@@ -9,32 +9,34 @@ use native.Mathlib.Decide.{decLt}
 use native.Mathlib.Omega.{arith}
 use borrow.Author.Tests.{lt-ltb, le-ltb, le-leb, lt-leb, leb-true}
 use lib.Dec.{ltb, leb}
-use lib.ListN.{length, getD, replicate, getD-replicate}
+use lib.ListN.{length, getD, replicate, length-replicate, getD-replicate}
 use lib.Seq.{ext-getD}
 use Rattle.theory.specs.Formula.{size}
 use Rattle.theory.specs.ValueSets.{Below}
 use Rattle.theory.proofs.Claims.{grammar}
 use Rattle.refusal.specs.declared.Refusal.{Refusal}
 use Rattle.refusal.specs.declared.Refusal.the-variants.{Plain}
+use Rattle.refusal.specs.declared.Counted.{Counted}
 use Rattle.refusal.specs.declared.Counted.the-variants.{Count, Refused}
 use Rattle.refusal.specs.declared.Judgement.{Judgement}
 use Rattle.refusal.specs.declared.Judgement.the-variants.{Refused as RefusedJudgement}
 use Rattle.refusal.specs.Refusal.{or-else, plain-unless, judgement, counted}
-use Rattle.refusal.proofs.Refusals.{or-else-none, or-else-assoc, plain-none}
+use Rattle.refusal.proofs.Refusals.{or-else-none, or-else-assoc, plain-none, counted-refused}
 use Rattle.values.specs.declared.ValueKind.{ValueKind}
 use Rattle.values.specs.ValueKind.{meetOf}
 use Rattle.values.specs.Setup.{events-test, event-limit}
 use Rattle.formulas.specs.NodeArrays.{padded, decoded}
-use Rattle.formulas.specs.RuleRefusal.{rule-refusal, formula-of}
+use Rattle.formulas.specs.RuleRefusal.{count-fits, fields-refusal, rule-refusal, formula-of}
+use Rattle.formulas.specs.NodeWalks.{field}
 use Rattle.formulas.specs.declared.Nodes.{Nodes}
 use Rattle.formulas.proofs.Padding.{padded-length, padded-none}
-use Rattle.formulas.proofs.Decoding.{decoded-limit}
+use Rattle.formulas.proofs.Decoding.{decoded-limit, decoded-refusal, rule-misfit}
 use Rattle.formulas.proofs.RuleClaims.{accepted-formula-of, decoded-reads}
 use Rattle.synthesis.specs.declared.Compiled.{Compiled}
 use Rattle.synthesis.specs.Exploring.{Unchanged}
 use Rattle.synthesis.specs.TableEntries.{EntriesTo}
 use Rattle.synthesis.specs.MadeTable.{Tabled, Tables}
-use Rattle.synthesis.specs.Compilation.{value-count, rule-states, rule-table, rule-table-refusal, compile-rule-refusal, entry-count, flat, refused, compiled-within, compiled}
+use Rattle.synthesis.specs.Compilation.{value-count, rule-states, rule-table, rule-table-refusal, compile-rule-refusal, entry-count, flat, refused, compiled-within, compiled, Made}
 
 -- Entries and zeros after them.
 padded-at :
@@ -93,18 +95,14 @@ few-events events h = leb-true events event-limit (right (leb 1 events) (leb eve
     right true b h = h
     right false b h = absurd (false≢true h)
 
--- 1, then 5 to 9, as the code judges them.
-module _ (kind : ValueKind) (events : ℕ) (rule : List ℕ) where
+-- 1, and what is judged after it.
+module _ (events : ℕ) (later : Option Refusal) where
   abbrev first-answer : Judgement
-  first-answer = judgement (or-else (plain-unless (events-test events) 1) (rule-refusal events (value-count kind) rule))
+  first-answer = judgement (or-else (plain-unless (events-test events) 1) later)
 
   off : events-test events ≡ false → RefusedJudgement (Plain 1) ≡ first-answer
   unfolding judgement or-else plain-unless
-  off h = sym (ap (λ b. judgement (or-else (plain-unless b 1) (rule-refusal events (value-count kind) rule))) h)
-
-  on : events-test events ≡ true → judgement (rule-refusal events (value-count kind) rule) ≡ first-answer
-  unfolding judgement or-else plain-unless
-  on h = sym (ap (λ b. judgement (or-else (plain-unless b 1) (rule-refusal events (value-count kind) rule))) h)
+  off h = sym (ap (λ b. judgement (or-else (plain-unless b 1) later)) h)
 
   pub judged-few : events < 1 → RefusedJudgement (Plain 1) ≡ first-answer
   unfolding events-test
@@ -114,13 +112,50 @@ module _ (kind : ValueKind) (events : ℕ) (rule : List ℕ) where
   unfolding events-test
   judged-many h = off (ap (λ b. leb 1 events && b) (lt-leb events event-limit h) ∙ and-false (leb 1 events))
 
-  pub judged-rule :
-      (values : ℕ) → 1 ≤ events → events ≤ event-limit → values ≡ value-count kind →
-      judgement (rule-refusal events values rule) ≡ first-answer
-  unfolding events-test
-  judged-rule values h l q =
-      ap (λ v. judgement (rule-refusal events v rule)) q
-      ∙ on (ap₂ (λ a b. a && b) (le-leb 1 events h) (le-leb events event-limit l))
+  pub judged-later : 1 ≤ events → events ≤ event-limit → judgement later ≡ first-answer
+  unfolding events-test or-else plain-unless
+  judged-later h l =
+      sym
+      (ap (λ b. judgement (or-else (plain-unless b 1) later))
+      (ap₂ (λ a b. a && b) (le-leb 1 events h) (le-leb events event-limit l)))
+
+-- 5 by the number of bytes, and what is judged after it.
+pub bytes-misfit : (t : Bool) (later : Option Refusal) → t ≡ false → RefusedJudgement (Plain 5) ≡ judgement (or-else (plain-unless t 5) later)
+unfolding judgement or-else plain-unless
+bytes-misfit t later h = sym (ap (λ b. judgement (or-else (plain-unless b 5) later)) h)
+
+pub bytes-fit : (t : Bool) (later : Option Refusal) → t ≡ true → judgement later ≡ judgement (or-else (plain-unless t 5) later)
+unfolding or-else plain-unless
+bytes-fit t later h = sym (ap (λ b. judgement (or-else (plain-unless b 5) later)) h)
+
+-- The nodes of a rule are judged as its bytes are.
+judged-nodes :
+    (events values : ℕ) (rule : List ℕ) (nodes : Nodes) → nodes ≡ decoded rule →
+    or-else (plain-unless (count-fits 3 256 (length rule)) 5)
+    (fields-refusal (field (nodes .kinds)) (field (nodes .firsts)) (field (nodes .values)) (nodes .count) (λ v. ltb v values) events)
+    ≡ rule-refusal events values rule
+unfolding or-else plain-unless
+judged-nodes events values rule nodes d =
+    ap (λ n. or-else (plain-unless (count-fits 3 256 (length rule)) 5) (judged-of n)) d ∙ go (count-fits 3 256 (length rule)) refl
+  where
+    judged-of : Nodes → Option Refusal
+    judged-of n = fields-refusal (field (n .kinds)) (field (n .firsts)) (field (n .values)) (n .count) (λ v. ltb v values) events
+
+    go :
+        (b : Bool) → count-fits 3 256 (length rule) ≡ b →
+        or-else (plain-unless (count-fits 3 256 (length rule)) 5) (judged-of (decoded rule)) ≡ rule-refusal events values rule
+    go true e = ap (λ b. or-else (plain-unless b 5) (judged-of (decoded rule))) e ∙ decoded-refusal events values rule e
+    go false e = ap (λ b. or-else (plain-unless b 5) (judged-of (decoded rule))) e ∙ sym (rule-misfit events values rule e)
+
+pub judged-bytes :
+    (kind : ValueKind) (events : ℕ) (rule : List ℕ) (nodes : Nodes) → nodes ≡ decoded rule → (o : Option Refusal) →
+    or-else (plain-unless (events-test events) 1)
+    (or-else (plain-unless (count-fits 3 256 (length rule)) 5)
+    (fields-refusal (field (nodes .kinds)) (field (nodes .firsts)) (field (nodes .values)) (nodes .count) (λ v. ltb v (value-count kind)) events))
+    ≡ o →
+    or-else (plain-unless (events-test events) 1) (rule-refusal events (value-count kind) rule) ≡ o
+judged-bytes kind events rule nodes d o e =
+    sym (ap (or-else (plain-unless (events-test events) 1)) (judged-nodes events (value-count kind) rule nodes d)) ∙ e
 
 module _ (limit : ℕ) (kind : ValueKind) (events top : ℕ) (table rule : List ℕ) where
   abbrev judged : Option Refusal
@@ -160,6 +195,13 @@ module _ (limit : ℕ) (kind : ValueKind) (events top : ℕ) (table rule : List 
   within-refused r e =
       sym
       (answer-is ∙ ap (λ j. answer (or-else j (plain-unless (leb states limit) 10))) e ∙ answer-refused r)
+
+  pub within-answer :
+      (r : Refusal) → compiled-within limit kind events top table rule .verdict ≡ Refused r →
+      refused r ≡ compiled-within limit kind events top table rule
+  unfolding compiled-within
+  within-answer r e =
+      sym (ap answer (counted-refused (compile-rule-refusal kind events top table rule limit) states r e) ∙ answer-refused r)
 
   module _ (e : judged ≡ none) where
     pub few : events ≤ event-limit
@@ -214,21 +256,48 @@ module _ (limit : ℕ) (kind : ValueKind) (events top : ℕ) (table rule : List 
           made : ℕ → List ℕ → List ℕ → Compiled
           made y a b = record { verdict = Count y; values = a; nexts = b }
 
--- The decoded nodes, of those that were decoded so.
+-- The decoded nodes, of those that were decoded so, and arrays of zeros.
 tables-of :
-    (limit : ℕ) (kind : ValueKind) (events top : ℕ) (table rule : List ℕ) (nodes : Nodes) (values nexts : List ℕ) (n : ℕ) →
-    nodes ≡ decoded rule →
-    Tables (nodes .kinds) (nodes .firsts) (nodes .values) (nodes .count) (meetOf kind table) top events limit (replicate 1024 0)
-    (replicate 1024 0) values nexts n →
+    (limit : ℕ) (kind : ValueKind) (events top : ℕ) (table rule : List ℕ) (nodes : Nodes) (values₀ nexts₀ values nexts : List ℕ) (n : ℕ) →
+    nodes ≡ decoded rule → values₀ ≡ replicate 1024 0 → nexts₀ ≡ replicate 1024 0 →
+    Tables (nodes .kinds) (nodes .firsts) (nodes .values) (nodes .count) (meetOf kind table) top events limit values₀ nexts₀ values nexts n →
     Tables (decoded rule .kinds) (decoded rule .firsts) (decoded rule .values) (decoded rule .count) (meetOf kind table) top events limit
     (replicate 1024 0) (replicate 1024 0) values nexts n
-tables-of limit kind events top table rule nodes values nexts n e t =
-    subst
-    (λ d. Tables (d .kinds) (d .firsts) (d .values) (d .count) (meetOf kind table) top events limit (replicate 1024 0) (replicate 1024 0)
-    values nexts n) e t
+tables-of limit kind events top table rule nodes values₀ nexts₀ values nexts n e u v t =
+    subst (λ d. made d (replicate 1024 0) (replicate 1024 0)) e
+    (subst (λ x. made nodes x (replicate 1024 0)) u (subst (made nodes values₀) v t))
+  where
+    made : Nodes → List ℕ → List ℕ → Type 0
+    made d x y = Tables (d .kinds) (d .firsts) (d .values) (d .count) (meetOf kind table) top events limit x y values nexts n
+
+pub zeros-sized : (l : List ℕ) → l ≡ replicate 1024 0 → length l ≡ 1024
+zeros-sized l e = ap length e ∙ length-replicate {A = ℕ} 1024 0
 
 pub few-nodes : (rule : List ℕ) (nodes : Nodes) → nodes ≡ decoded rule → nodes .count ≤ 256
 few-nodes rule nodes e = subst (λ d. d .count ≤ 256) (sym e) (decoded-limit rule)
+
+-- What is left in the arrays, by the answer as a value; and the value of what is left.
+pub made-refused :
+    (c : Compiled) (r : Refusal) (values nexts : List ℕ) → length values ≡ 1024 → length nexts ≡ 1024 → refused r ≡ c →
+    Made c (Refused r) values nexts
+unfolding refused
+made-refused c r values nexts u v e =
+    record { sized = (u, v); answer = ap (λ d. d .verdict) e; entries = λ n q. let z : _≡_ {A = ℕ} 0 1 = cc in absurd (omega arith) }
+
+pub made-table :
+    (c : Compiled) (n : ℕ) (values nexts : List ℕ) → length values ≡ 1024 → length nexts ≡ 1024 →
+    record { verdict = Count n; values = values; nexts = nexts } ≡ c → Made c (Count n) values nexts
+made-table c n values nexts u v e =
+    record { sized = (u, v); answer = ap (λ d. d .verdict) e; entries = λ m q. (ap (λ d. d .values) e, ap (λ d. d .nexts) e) }
+
+pub made-value :
+    (c : Compiled) (verdict : Counted) (n : ℕ) (values nexts : List ℕ) → Made c verdict values nexts → verdict ≡ Count n →
+    record { verdict = verdict; values = values; nexts = nexts } ≡ c
+made-value c verdict n values nexts m e =
+    ap (λ v. whole v values nexts) (m .answer) ∙ ap₂ (whole (c .verdict)) (m .entries n e .0) (m .entries n e .1)
+  where
+    whole : Counted → List ℕ → List ℕ → Compiled
+    whole v a b = record { verdict = v; values = a; nexts = b }
 
 -- At document 01's limit.
 module _ (kind : ValueKind) (events top : ℕ) (table rule : List ℕ) where
@@ -238,16 +307,21 @@ module _ (kind : ValueKind) (events top : ℕ) (table rule : List ℕ) where
   unfolding compiled
   compiled-refused r e = within-refused 64 kind events top table rule r e
 
+  pub compiled-answer : (r : Refusal) → compiled kind events top table rule .verdict ≡ Refused r → refused r ≡ compiled kind events top table rule
+  unfolding compiled
+  compiled-answer r e = within-answer 64 kind events top table rule r e
+
   module _ (e : or-else (plain-unless (events-test events) 1) (rule-refusal events (value-count kind) rule) ≡ none)
-      (nodes : Nodes) (d : nodes ≡ decoded rule) (values nexts : List ℕ) (n : ℕ)
+      (nodes : Nodes) (d : nodes ≡ decoded rule) (values₀ nexts₀ values nexts : List ℕ) (u : values₀ ≡ replicate 1024 0)
+      (w : nexts₀ ≡ replicate 1024 0) (n : ℕ)
       (t : Tables (nodes .kinds) (nodes .firsts) (nodes .values) (nodes .count) (meetOf kind table) top events
-      64 (replicate 1024 0) (replicate 1024 0) values nexts n) where
+      64 values₀ nexts₀ values nexts n) where
     pub compiled-many : 64 < n → refused (Plain 10) ≡ compiled kind events top table rule
     unfolding compiled
-    compiled-many h = within-many 64 kind events top table rule e values nexts n (tables-of 64 kind events top table rule nodes values nexts n d t) h
+    compiled-many h = within-many 64 kind events top table rule e values nexts n (tables-of 64 kind events top table rule nodes values₀ nexts₀ values nexts n d u w t) h
 
     pub compiled-table :
         n ≤ 64 → length values ≡ 1024 → length nexts ≡ 1024 →
         record { verdict = Count n; values = values; nexts = nexts } ≡ compiled kind events top table rule
     unfolding compiled
-    compiled-table h v x = within-table 64 kind events top table rule e values nexts n (tables-of 64 kind events top table rule nodes values nexts n d t) h v x
+    compiled-table h v x = within-table 64 kind events top table rule e values nexts n (tables-of 64 kind events top table rule nodes values₀ nexts₀ values nexts n d u w t) h v x

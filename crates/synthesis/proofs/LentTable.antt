@@ -1,6 +1,6 @@
 -- The answer and the buffer's later contents of `compile`, case by case.
 -- Assumes nothing.
-use mathlib.Core.Path.{_≡_, sym, _∙_, ap, subst}
+use mathlib.Core.Path.{_≡_, refl, sym, _∙_, ap, ap₂, subst}
 use mathlib.Core.Bool.{Bool, true, false}
 use mathlib.Core.List.{List}
 use mathlib.Core.Option.{Option, none, some}
@@ -18,6 +18,7 @@ use Rattle.theory.proofs.Claims.{grammar}
 use Rattle.refusal.specs.declared.Refusal.{Refusal}
 use Rattle.refusal.specs.declared.Refusal.the-variants.{Plain}
 use Rattle.refusal.specs.declared.Judgement.the-variants.{Accepted as AcceptedJudgement, Refused as RefusedJudgement}
+use Rattle.refusal.specs.declared.Counted.{Counted}
 use Rattle.refusal.specs.declared.Counted.the-variants.{Count, Refused}
 use Rattle.refusal.specs.Refusal.{or-else, plain-unless, judgement, counted}
 use Rattle.refusal.proofs.Refusals.{judgement-accepted, judgement-refused, counted-accepted, counted-refused, or-else-none, plain-none}
@@ -35,7 +36,7 @@ use Rattle.machines.specs.StoredEntries.{stored, storable, after-store}
 use Rattle.machines.proofs.Stores.{stored-table, storable-room, after-none, after-all}
 use Rattle.machines.proofs.EntryIndex.{state-below, event-below}
 use Rattle.synthesis.specs.declared.Compiled.{Compiled}
-use Rattle.synthesis.specs.Compilation.{value-count, rule-states, rule-table, rule-table-refusal, compile-rule-refusal, entry-count, flat, compiled-within, compiled, setup-states, setup-table, compile-refusal, compile-contents}
+use Rattle.synthesis.specs.Compilation.{value-count, rule-states, rule-table, rule-table-refusal, compile-rule-refusal, entry-count, flat, compiled-within, compiled, Made, setup-states, setup-table, compile-refusal, compile-contents}
 use Rattle.synthesis.proofs.Compilation.{flat-at}
 use Rattle.synthesis.proofs.CompiledTable.{table-runs}
 use Rattle.values.specs.Setup as S
@@ -49,7 +50,7 @@ unfolding compile-contents
 contents-at limit s rule old answer e =
     ap
     (λ (a : Option Refusal).
-        put-unless a (table-bytes two-bytes (s .events) (setup-table limit s rule old) (setup-states limit s rule old)) old)
+    put-unless a (table-bytes two-bytes (s .events) (setup-table limit s rule old) (setup-states limit s rule old)) old)
     e
 
 -- What an accepted set-up and an accepted rule are.
@@ -239,40 +240,55 @@ module _ (events values top : ℕ) (meet rule old : List ℕ) where
         let w = well-formed s₀ (judgement-accepted (setup-refusal s₀) ok) in
         (w .few-values, w .laws .top-in, w .few-events)
 
-    module _ (c : Compiled) (made : c ≡ compiled (Numbered values) events top meet rule) where
-      within : c ≡ compiled-within 64 (Numbered (s₀ .values)) (s₀ .events) (s₀ .top) (s₀ .meet) rule
-      unfolding setup compiled
-      within = made
+    abbrev c₀ : Compiled
+    c₀ = compiled (Numbered values) events top meet rule
 
+    within : c₀ ≡ compiled-within 64 (Numbered (s₀ .values)) (s₀ .events) (s₀ .top) (s₀ .meet) rule
+    unfolding setup compiled
+    within = refl
+
+    module _ (verdict : Counted) (entries nexts : List ℕ) (made : Made c₀ verdict entries nexts) where
       pub rule-case :
-          (r : Refusal) → c .verdict ≡ Refused r →
-          (c .verdict ≡ counted (compile-refusal 64 s₀ rule old) (setup-states 64 s₀ rule old)) × (old ≡ compile-contents 64 s₀ rule old)
-      rule-case = case-rule 64 s₀ rule old (judgement-accepted (setup-refusal s₀) ok) c within
+          (r : Refusal) → verdict ≡ Refused r →
+          (verdict ≡ counted (compile-refusal 64 s₀ rule old) (setup-states 64 s₀ rule old)) × (old ≡ compile-contents 64 s₀ rule old)
+      rule-case r e =
+          let w = case-rule 64 s₀ rule old (judgement-accepted (setup-refusal s₀) ok) c₀ within r (sym (made .answer) ∙ e) in
+          (made .answer ∙ w .0, w .1)
 
-      module _ (n : ℕ) (e : c .verdict ≡ Count n) where
+      module _ (n : ℕ) (e : verdict ≡ Count n) where
+        counts : c₀ .verdict ≡ Count n
+        counts = sym (made .answer) ∙ e
+
         pub entries-few : n * events ≤ 1024
         entries-few =
             omega (
               arith,
               mul-le-mul-left n (in-limits .2),
-              few-of 64 s₀ rule old (judgement-accepted (setup-refusal s₀) ok) c within n e,
+              few-of 64 s₀ rule old (judgement-accepted (setup-refusal s₀) ok) c₀ within n counts,
             )
+
+        stores : {A : Type 0} (f : List ℕ → List ℕ → ℕ → List ℕ → A) → f entries nexts (n * events) old ≡ f (c₀ .values) (c₀ .nexts) (n * events) old
+        stores f = ap₂ (λ a b. f a b (n * events) old) (made .entries n e .0) (made .entries n e .1)
 
         little : n * s₀ .events ≤ 1024
         unfolding setup
         little = entries-few
 
         pub room-case :
-            (now : List ℕ) (b : Bool) → b ≡ storable (c .values) (c .nexts) (n * events) old → b ≡ false →
-            now ≡ after-store (c .values) (c .nexts) (n * events) old →
+            (now : List ℕ) (b : Bool) → b ≡ storable entries nexts (n * events) old → b ≡ false →
+            now ≡ after-store entries nexts (n * events) old →
             (Refused (Plain 13) ≡ counted (compile-refusal 64 s₀ rule old) (setup-states 64 s₀ rule old))
             × (now ≡ compile-contents 64 s₀ rule old)
         unfolding setup
-        room-case now b q f z = case-room 64 s₀ rule old (judgement-accepted (setup-refusal s₀) ok) c within n e little now (sym q ∙ f) z
+        room-case now b q f z =
+            case-room 64 s₀ rule old (judgement-accepted (setup-refusal s₀) ok) c₀ within n counts little now
+            (sym (stores storable) ∙ sym q ∙ f) (z ∙ stores after-store)
 
         pub stored-case :
-            (now : List ℕ) (b : Bool) → b ≡ storable (c .values) (c .nexts) (n * events) old → b ≡ true →
-            now ≡ after-store (c .values) (c .nexts) (n * events) old →
+            (now : List ℕ) (b : Bool) → b ≡ storable entries nexts (n * events) old → b ≡ true →
+            now ≡ after-store entries nexts (n * events) old →
             (Count n ≡ counted (compile-refusal 64 s₀ rule old) (setup-states 64 s₀ rule old)) × (now ≡ compile-contents 64 s₀ rule old)
         unfolding setup
-        stored-case now b q f z = case-stored 64 s₀ rule old (judgement-accepted (setup-refusal s₀) ok) c within n e little now (sym q ∙ f) z
+        stored-case now b q f z =
+            case-stored 64 s₀ rule old (judgement-accepted (setup-refusal s₀) ok) c₀ within n counts little now
+            (sym (stores storable) ∙ sym q ∙ f) (z ∙ stores after-store)

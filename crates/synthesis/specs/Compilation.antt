@@ -1,5 +1,6 @@
 -- What the two compilers answer: the computing twins of the conditions and claims in `Claims`.
 -- Assumes nothing.
+use mathlib.Core.Path.{_≡_}
 use mathlib.Core.List.{List}
 use mathlib.Core.Option.{Option, none, some}
 use Prim.Native.Nat.{ℕ, _*_, _/_, _%_}
@@ -7,7 +8,8 @@ use lib.Dec.{leb}
 use lib.ListN.{length, replicate}
 use Rattle.theory.specs.MealyMachine.{Machine}
 use Rattle.refusal.specs.declared.Refusal.{Refusal}
-use Rattle.refusal.specs.declared.Counted.the-variants.{Refused}
+use Rattle.refusal.specs.declared.Counted.{Counted}
+use Rattle.refusal.specs.declared.Counted.the-variants.{Count, Refused}
 use Rattle.refusal.specs.Refusal.{or-else, plain-unless, counted}
 use Rattle.refusal.specs.LentBuffers.{put-unless}
 use Rattle.values.specs.declared.ValueKind.{ValueKind}
@@ -80,6 +82,12 @@ compiled-within limit kind events top table rule =
 
 unfoldable pub compiled : ValueKind → ℕ → ℕ → List ℕ → List ℕ → Compiled
 compiled = compiled-within state-limit
+
+-- What `make_table` leaves: the answer, and beside a number of states the entries.
+pub record Made (c : Compiled) (verdict : Counted) (values nexts : List ℕ) : Type 0 where
+  pub sized : (length values ≡ entry-limit) × (length nexts ≡ entry-limit)
+  pub answer : verdict ≡ c .verdict
+  pub entries : (n : ℕ) → verdict ≡ Count n → (values ≡ c .values) × (nexts ≡ c .nexts)
 
 -- The answer of `compile` for a set-up, a rule and what the lent buffer held.
 module _ (limit : ℕ) (s : Setup) (rule old : List ℕ) where

@@ -13,13 +13,13 @@ ghost use Rattle.values.specs.ValueKind.{meetOf};
 ghost use Rattle.synthesis.specs.MadeTable.{Tables};
 
 // The number of states, or the limit and one where there are more; the entries by state and then event.
-pub fn table_of(
+pub fn table_of<'a>(
     kind: ValueKind,
     meet: &[u8],
     top: u32,
-    kinds: &[u8; 256],
-    firsts: &[u8; 256],
-    fields: &[u32; 256],
+    kinds: &'a [u8; 256],
+    firsts: &'a [u8; 256],
+    fields: &'a [u32; 256],
     count: usize,
     events: usize,
     values: &mut [u32; 1024],

@@ -22,19 +22,19 @@ returns c =
 enum-told : tie.Need-enum-told
 enum-told c = search needs
 
-cast-t14 : tie.Need-cast-t14
-cast-t14 c =
+cast-t13 : tie.Need-cast-t13
+cast-t13 c =
     let a = c .before .before .before .before .before .before .args in
     omega (arith, in-limits (a .events) (a .values) (a .top) (a .meet .now) (a .rule .now) (a .to .now) (sym (c .before .before .check-setup .ensures) ∙ c .enum-told .given .1) .0)
 
-cast-compile-rule : tie.Need-cast-compile-rule
-cast-compile-rule c =
+cast-make-table : tie.Need-cast-make-table
+cast-make-table c =
     let a = c .before .before .before .before .before .before .args in
     let w = in-limits (a .events) (a .values) (a .top) (a .meet .now) (a .rule .now) (a .to .now) (sym (c .before .before .check-setup .ensures) ∙ c .enum-told .given .1) in
     omega (arith, w .0, w .1)
 
-compile-rule-requires : tie.Need-compile-rule-requires
-compile-rule-requires c κs = search needs
+make-table-requires : tie.Need-make-table-requires
+make-table-requires c κs = search needs
 
 enum-known-verdict : tie.Need-enum-known-verdict
 enum-known-verdict c = search needs
@@ -44,8 +44,8 @@ enum-told-2 c = search needs
 
 returns-2 : tie.Need-returns-2
 returns-2 c =
-    let a = c .before .before .before .before .before .before .before .before .before .args in
-    rule-case (a .events) (a .values) (a .top) (a .meet .now) (a .rule .now) (a .to .now) (sym (c .before .before .before .before .before .check-setup .ensures) ∙ c .before .before .before .enum-told .given .1) (c .before .before .compile-rule .result) (c .before .before .compile-rule .ensures) _ (c .enum-told2 .given .1)
+    let a = c .before .before .before .before .before .before .before .before .before .before .before .args in
+    rule-case (a .events) (a .values) (a .top) (a .meet .now) (a .rule .now) (a .to .now) (sym (c .before .before .before .before .before .before .before .check-setup .ensures) ∙ c .before .before .before .before .before .enum-told .given .1) _ _ _ (c .before .before .make-table .ensures) _ (c .enum-told2 .given .1)
 
 slice-aggregate-store-entries : tie.Need-slice-aggregate-store-entries
 slice-aggregate-store-entries c = search needs
@@ -56,7 +56,7 @@ slice-aggregate-store-entries-2 c = search needs
 mul-store-entries : tie.Need-mul-store-entries
 mul-store-entries c =
     let a = c .before .before .before .before .before .before .before .before .before .before .before .before .before .before .args in
-    omega (arith, entries-few (a .events) (a .values) (a .top) (a .meet .now) (a .rule .now) (a .to .now) (sym (c .before .before .before .before .before .before .before .before .before .before .check-setup .ensures) ∙ c .before .before .before .before .before .before .before .before .enum-told .given .1) (c .before .before .before .before .before .before .before .compile-rule .result) (c .before .before .before .before .before .before .before .compile-rule .ensures) _ (c .before .before .before .before .before .verdict .given .1))
+    omega (arith, entries-few (a .events) (a .values) (a .top) (a .meet .now) (a .rule .now) (a .to .now) (sym (c .before .before .before .before .before .before .before .before .before .before .check-setup .ensures) ∙ c .before .before .before .before .before .before .before .before .enum-told .given .1) _ _ _ (c .before .before .before .before .before .make-table .ensures) _ (c .before .before .before .verdict .given .1))
 
 store-entries-requires : tie.Need-store-entries-requires
 store-entries-requires c κs = search needs
@@ -67,7 +67,8 @@ same-length c = search needs
 returns-3 : tie.Need-returns-3
 returns-3 c =
     let a = c .before .before .before .before .before .before .before .before .before .before .before .before .before .before .before .before .before .before .before .args in
-    room-case (a .events) (a .values) (a .top) (a .meet .now) (a .rule .now) (a .to .now) (sym (c .before .before .before .before .before .before .before .before .before .before .before .before .before .before .before .check-setup .ensures) ∙ c .before .before .before .before .before .before .before .before .before .before .before .before .before .enum-told .given .1) (c .before .before .before .before .before .before .before .before .before .before .before .before .compile-rule .result) (c .before .before .before .before .before .before .before .before .before .before .before .before .compile-rule .ensures) _ (c .before .before .before .before .before .before .before .before .before .before .verdict .given .1) _ (c .before .before .before .store-entries .result) (c .before .before .before .store-entries .ensures .0) (not-true _ (c .if1 .taken)) (c .before .before .before .store-entries .ensures .1)
+    let x = c .before .before .before .store-entries in
+    room-case (a .events) (a .values) (a .top) (a .meet .now) (a .rule .now) (a .to .now) (sym (c .before .before .before .before .before .before .before .before .before .before .before .before .before .before .before .check-setup .ensures) ∙ c .before .before .before .before .before .before .before .before .before .before .before .before .before .enum-told .given .1) _ _ _ (c .before .before .before .before .before .before .before .before .before .before .make-table .ensures) _ (c .before .before .before .before .before .before .before .before .verdict .given .1) _ (x .result) (x .ensures .0) (not-true _ (c .if1 .taken)) (x .ensures .1)
 
 same-length-2 : tie.Need-same-length-2
 same-length-2 c = search needs
@@ -75,7 +76,8 @@ same-length-2 c = search needs
 returns-4 : tie.Need-returns-4
 returns-4 c =
     let a = c .before .before .before .before .before .before .before .before .before .before .before .before .before .before .before .before .before .before .before .args in
-    stored-case (a .events) (a .values) (a .top) (a .meet .now) (a .rule .now) (a .to .now) (sym (c .before .before .before .before .before .before .before .before .before .before .before .before .before .before .before .check-setup .ensures) ∙ c .before .before .before .before .before .before .before .before .before .before .before .before .before .enum-told .given .1) (c .before .before .before .before .before .before .before .before .before .before .before .before .compile-rule .result) (c .before .before .before .before .before .before .before .before .before .before .before .before .compile-rule .ensures) _ (c .before .before .before .before .before .before .before .before .before .before .verdict .given .1) _ (c .before .before .before .store-entries .result) (c .before .before .before .store-entries .ensures .0) (not-false _ (c .if1 .left)) (c .before .before .before .store-entries .ensures .1)
+    let x = c .before .before .before .store-entries in
+    stored-case (a .events) (a .values) (a .top) (a .meet .now) (a .rule .now) (a .to .now) (sym (c .before .before .before .before .before .before .before .before .before .before .before .before .before .before .before .check-setup .ensures) ∙ c .before .before .before .before .before .before .before .before .before .before .before .before .before .enum-told .given .1) _ _ _ (c .before .before .before .before .before .before .before .before .before .before .make-table .ensures) _ (c .before .before .before .before .before .before .before .before .verdict .given .1) _ (x .result) (x .ensures .0) (not-false _ (c .if1 .left)) (x .ensures .1)
 
 pub compile-spec : {M : Type 1} → statement M
 compile-spec =
@@ -85,9 +87,9 @@ compile-spec =
     enum-known-judged
     returns
     enum-told
-    cast-t14
-    cast-compile-rule
-    compile-rule-requires
+    cast-t13
+    cast-make-table
+    make-table-requires
     enum-known-verdict
     enum-told-2
     returns-2
