@@ -16,10 +16,10 @@ use Rattle.theory.proofs.NodeSets.{empty-union, swap-at, demands-swap}
 use Rattle.formulas.specs.NodeReading.{Reads}
 use Rattle.formulas.specs.NodeWalks.{field}
 use Rattle.formulas.proofs.Walking.{size-positive}
-use Rattle.synthesis.specs.NodeWords.{row}
+use Rattle.synthesis.specs.NodeWords.{row, WordsTo}
 use Rattle.synthesis.specs.NodeWalks.{Ends}
 use Rattle.synthesis.specs.DemandRows.{RowStored, AllBelow, UnguardedRows, Gathers, Gathered, RowsAt, RowsTo}
-use Rattle.synthesis.proofs.NodeWords.{set-insert, set-else, WordsTo}
+use Rattle.synthesis.proofs.NodeWords.{set-insert, set-else}
 use Rattle.synthesis.proofs.NodeSetLaws.{binder-map}
 use Rattle.synthesis.proofs.NodeWalks.{reads-at, binds-at, end-none, end-greatest, end-conjunction}
 

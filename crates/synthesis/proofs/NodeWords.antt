@@ -17,7 +17,7 @@ use lib.Seq.{getD-set-same, getD-set-other}
 use Rattle.theory.specs.DemandSets.{empty, union, only}
 use Rattle.theory.specs.Exploration.{member, bits}
 use Rattle.theory.proofs.BitSets.{member-bits}
-use Rattle.synthesis.specs.NodeWords.{bit-at, set-at, row, bits-at, Stored, FirstBit, LastBit}
+use Rattle.synthesis.specs.NodeWords.{bit-at, set-at, row, bits-at, WordsTo, Stored, FirstBit, LastBit}
 use Rattle.synthesis.proofs.Bits.{or-bit, power-bit, zero-bit, same-number}
 
 pub in-words : (l : List ℕ) (b j : ℕ) → j < 256 → set-at l b j ≡ eqb (bit-at (getD l (b + j / 64) 0) (j % 64)) 1
@@ -159,13 +159,7 @@ word-left l b node bit end some small found f j h u = go (decLt j node)
     go (yes w) = word-after l b (node - 1) bit (omega arith) found j h (omega arith)
     go (no w) = f j (omega arith) u
 
--- The first m words from base on are those of f, and all others are as before.
-pub record WordsTo (f : ℕ → ℕ) (base m : ℕ) (before after : List ℕ) : Type 0 where
-  pub sized : length after ≡ length before
-  pub there : (w : ℕ) → w < m → getD after (base + w) 0 ≡ f w
-  pub below : (x : ℕ) → x < base → getD after x 0 ≡ getD before x 0
-  pub above : (x : ℕ) → base + m ≤ x → getD after x 0 ≡ getD before x 0
-
+-- Words stored one by one.
 pub words-none : (f : ℕ → ℕ) (base : ℕ) (l : List ℕ) → WordsTo f base 0 l l
 words-none f base l =
     record { sized = refl; there = λ w h. absurd (omega arith); below = λ x h. refl; above = λ x h. refl }

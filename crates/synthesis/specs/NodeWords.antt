@@ -26,12 +26,16 @@ row rows i = set-at rows (i * 4)
 unfoldable pub bits-at : List ℕ → ℕ → List Bool
 bits-at words base = bits 256 0 (set-at words base)
 
--- The four words from base on are those of a set, and the others are as before.
-pub record Stored (before after : List ℕ) (base : ℕ) (set : List ℕ) : Type 0 where
+-- The first m words from base on are those of f, and all others are as before.
+pub record WordsTo (f : ℕ → ℕ) (base m : ℕ) (before after : List ℕ) : Type 0 where
   pub sized : length after ≡ length before
-  pub there : (w : ℕ) → w < 4 → getD after (base + w) 0 ≡ getD set w 0
+  pub there : (w : ℕ) → w < m → getD after (base + w) 0 ≡ f w
   pub below : (x : ℕ) → x < base → getD after x 0 ≡ getD before x 0
-  pub above : (x : ℕ) → base + 4 ≤ x → getD after x 0 ≡ getD before x 0
+  pub above : (x : ℕ) → base + m ≤ x → getD after x 0 ≡ getD before x 0
+
+-- The four words from base on are those of a set, and the others are as before.
+abbrev pub Stored : List ℕ → List ℕ → ℕ → List ℕ → Type 0
+Stored before after base set = WordsTo (λ w. getD set w 0) base 4 before after
 
 -- Set i of the sets has the members of D too, and the others are as before.
 pub record United (before after : List ℕ) (i : ℕ) (D : NodeSet) : Type 0 where

@@ -4,7 +4,8 @@ use mathlib.Core.Path.{_≡_, refl, subst}
 use Prim.Native.Nat.{_≤_, _-_, _*_}
 use native.Mathlib.Omega.{arith}
 use lib.ListN.{length}
-use Rattle.synthesis.proofs.NodeWords.{WordsTo, words-none, words-more, no-words}
+use Rattle.synthesis.specs.NodeWords.{WordsTo}
+use Rattle.synthesis.proofs.NodeWords.{words-none, words-more, no-words}
 use Rattle.synthesis.proofs.DemandRows.{row-stored}
 use borrow.Author.Needs.{needs}
 use Rattle.synthesis.proofs.demands.store_none.Statement.{statement}

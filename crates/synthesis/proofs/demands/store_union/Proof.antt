@@ -6,7 +6,8 @@ use Prim.Native.Nat.{ℕ, _≤_, _+_, _-_, _*_}
 use native.Mathlib.Omega.{arith}
 use lib.Bits.{bitOr}
 use lib.ListN.{length, getD}
-use Rattle.synthesis.proofs.NodeWords.{WordsTo, words-none, words-more, words-unread, set-unite}
+use Rattle.synthesis.specs.NodeWords.{WordsTo}
+use Rattle.synthesis.proofs.NodeWords.{words-none, words-more, words-unread, set-unite}
 use Rattle.synthesis.proofs.DemandRows.{row-stored}
 use borrow.Author.Needs.{needs}
 use Rattle.synthesis.proofs.demands.store_union.Statement.{statement}

@@ -12,7 +12,7 @@ use lib.ListN.{length, getD, set, length-set}
 use lib.Seq.{getD-set-other}
 use Rattle.synthesis.specs.NodeWords.{row}
 use Rattle.synthesis.specs.Exploring.{stepped, next-bits, Unchanged, Kept, events-to}
-use Rattle.synthesis.proofs.NodeWords.{stored-else}
+use Rattle.synthesis.proofs.NodeWords.{set-else}
 use Rattle.synthesis.proofs.Exploring.{candidate-old, candidate-new, candidate-many, below}
 use Rattle.synthesis.proofs.exploration.expand.Statement.{statement}
 use Rattle.synthesis.proofs.exploration.expand.Tie as tie
@@ -122,7 +122,7 @@ loop-again c =
       ap length (w .5) ∙ w .4 .ensures .sized ∙ v .3,
       sized,
       kept,
-      ap (λ x. row x (a .i)) (w .5) ∙ stored-else (l .states) _ _ (l .k) (a .i) (w .4 .ensures) (λ e. omega (arith, e, v .1)) ∙ v .6,
+      ap (λ x. row x (a .i)) (w .5) ∙ set-else (l .states) _ (l .k) (a .i) (w .4 .ensures .below) (w .4 .ensures .above) (λ e. omega (arith, e, v .1)) ∙ v .6,
       λ start P old. rw (w .5, w .6)
           (candidate-new (a .kinds .now) (a .firsts .now) (a .rows .now) (a .count) (a .events) (a .i) (a .n) (l .k) (l .event) (a .states .now) (a .nexts .now) (l .states) (l .nexts) _ (search needs) (v .1) event (c .before .before .before .before .before .before .copy-row .ensures .1 ∙ c .before .before .before .before .before .before .before .before .before .before .before .advance .ensures .1 (l .event) event ∙ ap (λ D. stepped (a .kinds .now) (a .firsts .now) (a .rows .now) (a .count) D (l .event)) (sym (v .6))) start P old (v .7 start P old) _ (c .before .before .before .find .result) (c .before .entry-at .result) (c .narrow .result) (w .0 .taken) (c .before .before .before .find .ensures) (w .4 .ensures) at (c .narrow .ensures) fits),
     ))

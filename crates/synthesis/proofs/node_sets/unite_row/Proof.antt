@@ -1,29 +1,30 @@
 -- `unite_row` meets its contract. The loop's invariant: the words passed are united, all others as before.
 -- Assumes nothing.
-use Prim.Native.Nat.{ℕ, _≤_, _<_, _-_, _+_, _*_}
-use mathlib.Core.Path.{_≡_, _∙_, ap}
+use Prim.Native.Nat.{ℕ, _≤_, _-_, _+_, _*_}
+use mathlib.Core.Path.{_≡_, ap, subst}
+use mathlib.Core.List.{List}
 use native.Mathlib.Omega.{arith}
-use borrow.Author.Count.{below-more}
 use lib.ListN.{length, getD}
 use lib.Bits.{bitOr}
-use lib.Seq.{getD-set-same, getD-set-other}
-use Rattle.synthesis.proofs.NodeWords.{set-unite, set-else}
+use Rattle.synthesis.specs.NodeWords.{WordsTo}
+use Rattle.synthesis.proofs.NodeWords.{set-unite, set-else, words-none, words-more}
 use borrow.Author.Needs.{needs}
 use Rattle.synthesis.proofs.node_sets.unite_row.Statement.{statement}
 use Rattle.synthesis.proofs.node_sets.unite_row.Tie as tie
 
+abbrev united : List ℕ → ℕ → List ℕ → ℕ → ℕ → ℕ
+united sets i rows base w = bitOr (getD sets (i * 4 + w) 0) (getD rows (base + w) 0)
+
 abbrev Inv-loop : tie.InvT-loop
-Inv-loop sets₀ i rows base w₀ sets w =
-    (w ≤ 4) × (length sets ≡ 64)
-    × ((v : ℕ) → v < w → getD sets (i * 4 + v) 0 ≡ bitOr (getD sets₀ (i * 4 + v) 0) (getD rows (base + v) 0))
-    × ((x : ℕ) → x < i * 4 → getD sets x 0 ≡ getD sets₀ x 0)
-    × ((x : ℕ) → i * 4 + w ≤ x → getD sets x 0 ≡ getD sets₀ x 0)
+Inv-loop sets₀ i rows base w₀ sets w = (w ≤ 4) × (length sets ≡ 64) × WordsTo (united sets₀ i rows base) (i * 4) w sets₀ sets
 
 abbrev μ-loop : tie.MeasureT-loop
 μ-loop sets₀ i rows base w₀ sets w = 4 - w
 
 loop-holds : tie.Need-loop-holds Inv-loop μ-loop
-loop-holds c = search needs
+loop-holds c =
+    let a = c .args in
+    (search needs, search needs, words-none (united (a .sets .now) (a .i) (a .rows .now) (a .base)) (a .i * 4) (a .sets .now))
 
 mul-sets : tie.Need-mul-sets Inv-loop μ-loop
 mul-sets c = search needs
@@ -67,29 +68,26 @@ loop-less c = search needs
 loop-again : tie.Need-loop-again Inv-loop μ-loop
 loop-again c =
     let a = c .before .before .before .before .args in
-    let l = c .before .before .before .loop .sets in
-    let w = c .before .before .before .loop .w in
-    let inv = c .before .before .before .loop .inv in
-    let at = a .i * 4 + w in
-    let x = bitOr (getD l at 0) (getD (a .rows .now) (a .base + w) 0) in (
+    let l = c .before .before .before .loop in
+    let f = united (a .sets .now) (a .i) (a .rows .now) (a .base) in (
       search needs,
       search needs,
-      below-more _ _
-          (λ v h. getD-set-other l at (a .i * 4 + v) x 0 (λ e. omega (arith, e)) ∙ inv .2 v h)
-          (getD-set-same l at x 0 (search needs) ∙ ap (λ y. bitOr y (getD (a .rows .now) (a .base + w) 0)) (inv .4 at (omega arith))),
-      (λ y h. getD-set-other l at y x 0 (λ e. omega (arith, e)) ∙ inv .3 y h),
-      λ y h. getD-set-other l at y x 0 (λ e. omega (arith, e)) ∙ inv .4 y (omega arith),
+      words-more f (a .i * 4) (l .w) (united (l .sets) (a .i) (a .rows .now) (a .base) (l .w)) (a .sets .now) (l .sets) (search needs)
+          (ap (λ y. bitOr y (getD (a .rows .now) (a .base + l .w) 0)) (l .inv .2 .above (a .i * 4 + l .w) (omega arith)))
+          (l .inv .2),
     )
 
 returns : tie.Need-returns Inv-loop μ-loop
 returns c =
     let a = c .before .before .args in
-    let v = c .before .loop .inv in
-    let e : c .before .loop .w ≡ 4 = omega arith in
+    let l = c .before .loop in
+    let f = united (a .sets .now) (a .i) (a .rows .now) (a .base) in
+    let q : l .w ≡ 4 = omega arith in
+    let v = subst (λ x. WordsTo f (a .i * 4) x (a .sets .now) (l .sets)) q (l .inv .2) in
     record {
-      sized = search needs;
-      there = set-unite (c .before .loop .sets) (a .sets .now) (a .rows .now) (a .i * 4) (a .i * 4) (a .base) (λ w h. v .2 w (omega arith));
-      others = λ j d. set-else (a .sets .now) (c .before .loop .sets) (a .i) j (v .3) (λ x h. v .4 x (omega arith)) d;
+      sized = v .sized;
+      there = set-unite (l .sets) (a .sets .now) (a .rows .now) (a .i * 4) (a .i * 4) (a .base) (v .there);
+      others = λ j d. set-else (a .sets .now) (l .sets) (a .i) j (v .below) (v .above) d;
     }
 
 pub unite-row-spec : {M : Type 1} → statement M
