@@ -1,9 +1,11 @@
 //! Seeded inputs, good and damaged, given to both versions of each call.
 
+mod both;
+
 use std::collections::BTreeMap;
 use std::fmt::Debug;
 
-use gurvazze_differential::{replay, rule, table, trial, trial_table, Called};
+use both::{replay, rule, table, trial, trial_table, Called};
 use gurvazze_reference::channel_file::{self, ChannelFile};
 use gurvazze_reference::formula::Rule;
 use gurvazze_reference::generate::{Generator, RawTable};

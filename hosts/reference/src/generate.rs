@@ -387,9 +387,7 @@ impl Generator {
         if self.once_in(4) {
             // The rule line alone, so that 8 and 9 are not hidden by what comes before them.
             let set_up = channel_file::read(text.as_bytes()).expect("a file is accepted").set_up;
-            let mut line = "rule=".to_string();
-            channel_file::push_items(&mut line, &self.misplaced_variables(&set_up));
-            lines[4] = line;
+            lines[4] = format!("rule={}", tokens_of(&self.misplaced_variables(&set_up)));
             return (lines.join("\n") + "\n").into_bytes();
         }
         for _ in 0..self.between(1, 2) {
@@ -408,21 +406,7 @@ impl Generator {
                     lines[3] = format!("meet={}", items.join(" "));
                 }
                 _ => {
-                    let mut items: Vec<String> = lines[4]["rule=".len()..].split(' ').map(str::to_string).collect();
-                    for _ in 0..self.between(1, 2) {
-                        let at = self.below(items.len());
-                        match self.below(4) {
-                            0 if items.len() > 1 => drop(items.remove(at)),
-                            1 => items.insert(at, self.loose_item()),
-                            _ => items[at] = self.loose_item(),
-                        }
-                    }
-                    if self.once_in(12) {
-                        let item = self.loose_item();
-                        let more = self.between(250, 300);
-                        items.extend(std::iter::repeat_n(item, more));
-                    }
-                    lines[4] = format!("rule={}", items.join(" "));
+                    lines[4] = format!("rule={}", self.loose_items(&lines[4]["rule=".len()..]));
                 }
             }
         }
@@ -458,6 +442,25 @@ impl Generator {
         }
     }
 
+    /// These items with one or two of them removed, inserted or set anew, and at times too many behind them.
+    fn loose_items(&mut self, items: &str) -> String {
+        let mut items: Vec<String> = items.split(' ').map(str::to_string).collect();
+        for _ in 0..self.between(1, 2) {
+            let at = self.below(items.len());
+            match self.below(4) {
+                0 if items.len() > 1 => drop(items.remove(at)),
+                1 => items.insert(at, self.loose_item()),
+                _ => items[at] = self.loose_item(),
+            }
+        }
+        if self.once_in(12) {
+            let item = self.loose_item();
+            let more = self.between(250, 300);
+            items.extend(std::iter::repeat_n(item, more));
+        }
+        items.join(" ")
+    }
+
     fn loose_item(&mut self) -> String {
         match self.below(6) {
             0 => "T".to_string(),
@@ -471,8 +474,21 @@ impl Generator {
 
     /// A text damaged in its bytes, so that mostly 4 arises.
     pub fn damaged_file(&mut self) -> Vec<u8> {
-        const BYTES: &[u8] = b"\n\r\t \0.=0123456789TXGOAVtxgoaveventsvaluestopmeetrule\x7f\x80\xff";
         let mut text = if self.once_in(3) { self.loose_file() } else { self.file() };
+        self.damage(&mut text);
+        if self.once_in(30) {
+            // Near the limit, in the form or with one byte set anew.
+            text = self.long_file_near_limit();
+            if self.once_in(2) {
+                let at = self.below(text.len());
+                text[at] = self.one_of(BYTES);
+            }
+        }
+        text
+    }
+
+    /// Damages a text, which is not empty, in one to three places.
+    pub fn damage(&mut self, text: &mut Vec<u8>) {
         for _ in 0..self.one_of(&[1, 1, 1, 2, 3]) {
             let at = self.below(text.len());
             match self.below(9) {
@@ -499,14 +515,42 @@ impl Generator {
                 break;
             }
         }
-        if self.once_in(30) {
-            // Near the limit, in the form or with one byte set anew.
-            text = self.long_file_near_limit();
-            if self.once_in(2) {
-                let at = self.below(text.len());
-                text[at] = self.one_of(BYTES);
-            }
-        }
-        text
     }
+
+    // Tokens: what stands behind `rule=`.
+
+    /// The tokens of a rule.
+    pub fn good_tokens(&mut self, set_up: &SetUp) -> String {
+        let rule = if self.once_in(4) { self.rule_of_loops(set_up) } else { self.rule(set_up) };
+        tokens_of(rule.nodes())
+    }
+
+    /// Tokens of any kind: good, in the form with 5 to 10 among them, or damaged in their bytes.
+    pub fn tokens(&mut self, set_up: &SetUp) -> Vec<u8> {
+        let mut tokens = match self.below(16) {
+            0..=3 => tokens_of(&self.misplaced_variables(set_up)),
+            4..=8 => {
+                let good = self.good_tokens(set_up);
+                self.loose_items(&good)
+            }
+            // About 64 states, and about 256 nodes.
+            9 => format!("{}T", "G0 ".repeat(self.between(61, 66))),
+            10 => format!("{}T", "G0 ".repeat(self.between(253, 260))),
+            _ => self.good_tokens(set_up),
+        }
+        .into_bytes();
+        if self.once_in(12) {
+            self.damage(&mut tokens);
+        }
+        tokens
+    }
+}
+
+/// Bytes that a text has, and some that it has not.
+const BYTES: &[u8] = b"\n\r\t \0.=0123456789TXGOAVtxgoaveventsvaluestopmeetrule\x7f\x80\xff";
+
+fn tokens_of(nodes: &[Node]) -> String {
+    let mut tokens = String::new();
+    channel_file::push_items(&mut tokens, nodes);
+    tokens
 }

@@ -1,0 +1,452 @@
+//! Seeded scripts of commands, good and damaged. Equal seeds give equal scripts.
+
+use gurvazze_reference::channel_file;
+use gurvazze_reference::generate::{Generator, RawTable};
+use gurvazze_reference::table::Table;
+use gurvazze_reference::values::{RawSetUp, SetUp};
+
+use crate::session::{file_head, Session, LINE_BYTES};
+use crate::tally::Tally;
+
+/// A script and what the program prints for it.
+pub struct Script {
+    /// The lines of the script.
+    pub commands: Vec<u8>,
+    /// What is expected on standard output.
+    pub answers: Vec<u8>,
+    /// How often each answer arose.
+    pub tally: Tally,
+}
+
+impl Script {
+    /// A script of about so many lines. The first come before a set-up, and the next before a device.
+    pub fn new(seed: u64, lines: usize) -> Script {
+        let mut writer = Writer(Generator::new(seed));
+        let mut script = Script { commands: Vec::new(), answers: Vec::new(), tally: Tally::default() };
+        let mut session = Session::default();
+        for _ in 0..lines / 40 {
+            script.add(&mut session, &[writer.before_set_up()]);
+        }
+        script.add(&mut session, &[SET_UP.into()]);
+        for _ in 0..lines / 160 {
+            script.add(&mut session, &[writer.before_device()]);
+        }
+        script.add(&mut session, &limits());
+        while script.lines() < lines {
+            for _ in 0..100 {
+                let set_up = session.set_up().expect("a set-up was accepted").clone();
+                script.add(&mut session, &writer.commands(&set_up));
+            }
+        }
+        // The last line needs no byte 10.
+        if seed.is_multiple_of(2) {
+            script.commands.pop();
+        }
+        script
+    }
+
+    fn lines(&self) -> usize {
+        self.commands.iter().filter(|&&byte| byte == b'\n').count()
+    }
+
+    /// Adds commands and their answers. A damaged command may be two lines.
+    fn add(&mut self, session: &mut Session, commands: &[Vec<u8>]) {
+        for command in commands {
+            for line in command.split(|&byte| byte == b'\n') {
+                self.commands.extend_from_slice(line);
+                self.commands.push(b'\n');
+                self.add_answer(session, line);
+            }
+        }
+    }
+
+    fn add_answer(&mut self, session: &mut Session, line: &[u8]) {
+        let Some(answer) = session.answer(line) else {
+            return self.tally.count("line", "skipped");
+        };
+        self.answers.extend_from_slice(answer.text.as_bytes());
+        self.tally.answer(&answer);
+        if let ("setup", "ok\n", Some(set_up)) = (answer.command, answer.text.as_str(), session.set_up()) {
+            if set_up.events() == 16 {
+                self.tally.count("set-up of", "16-events");
+            }
+            if set_up.values() == 16 {
+                self.tally.count("set-up of", "16-values");
+            }
+        }
+    }
+}
+
+/// The four-value set with one event.
+const SET_UP: &str = "setup 1 4 3 0 0 0 0 0 1 0 1 0 0 2 2 0 1 2 3";
+
+/// Words that are no numbers.
+const NO_NUMBERS: [&str; 10] = ["x", "-1", "+1", "1x", "0x1", "1.0", "1,", "al", "\t1", "1\r"];
+
+/// Numbers too large for everything; some of them wrap to small ones.
+const LARGE: [&str; 10] =
+    ["17", "64", "255", "256", "257", "65535", "65536", "4294967296", "18446744073709551616", "99999999999999999999999"];
+
+const CALLS: [&str; 11] = [
+    "table T",
+    "dot T",
+    "load 0 T",
+    "event 0 0",
+    "events 0 0",
+    "restart 0",
+    "restart all",
+    "clear 0",
+    "show 0",
+    "trial T",
+    "write",
+];
+
+struct Writer(Generator);
+
+impl Writer {
+    /// A command that needs a set-up, or a line that is no command.
+    fn before_set_up(&mut self) -> Vec<u8> {
+        match self.0.below(16) {
+            0 => self.no_command(),
+            1..=4 => {
+                let set_up = self.set_up();
+                self.call(&set_up)
+            }
+            _ => self.0.one_of(&CALLS).into(),
+        }
+    }
+
+    /// A command that needs a device, or a device that is not read.
+    fn before_device(&mut self) -> Vec<u8> {
+        match self.0.below(8) {
+            0 => "write now".into(),
+            1..=3 => "write".into(),
+            4 => self.0.one_of(&["device", "device 1", "device x 0", "device 1 0 3 y"]).into(),
+            _ => {
+                let set_up = self.set_up();
+                self.tokens("trial", &set_up)
+            }
+        }
+    }
+
+    /// Some commands of any kind that belong together.
+    fn commands(&mut self, set_up: &SetUp) -> Vec<Vec<u8>> {
+        let mut commands = match self.0.below(100) {
+            0 | 1 => self.set_up_and_loads(),
+            2..=4 => vec![self.damaged_set_up()],
+            5..=11 => vec![self.miscounted_or_no_number(set_up)],
+            12..=15 => vec![self.no_command()],
+            16..=21 => self.device_and_trials(set_up),
+            22..=26 => self.device_and_rule(set_up),
+            _ => vec![self.call(set_up)],
+        };
+        if self.0.once_in(25) {
+            let at = self.0.below(commands.len());
+            // Nothing says what words behind help come to.
+            if !commands[at].is_empty() && !commands[at].trim_ascii_start().starts_with(b"help") {
+                self.0.damage(&mut commands[at]);
+            }
+        }
+        commands
+    }
+
+    // Set-ups.
+
+    fn set_up(&mut self) -> SetUp {
+        match self.0.below(6) {
+            // The sets of four things, which are 16 values.
+            0 => {
+                let meet = (0..16u8).flat_map(|b| (0..16u8).map(move |c| b & c)).collect();
+                let raw = RawSetUp { events: self.0.between(1, 3), values: 16, top: 15, meet };
+                SetUp::new(raw).expect("intersections obey the laws")
+            }
+            1 => {
+                let raw = RawSetUp { events: 16, ..self.0.set_up().raw().clone() };
+                SetUp::new(raw).expect("the laws do not speak of events")
+            }
+            _ => self.0.set_up(),
+        }
+    }
+
+    /// A set-up, then rules in the channels that are used most.
+    fn set_up_and_loads(&mut self) -> Vec<Vec<u8>> {
+        let set_up = self.set_up();
+        let mut commands = vec![self.set_up_line(set_up.raw())];
+        for channel in 0..2 {
+            commands.push(format!("load {channel} {}", self.0.good_tokens(&set_up)).into());
+        }
+        commands
+    }
+
+    fn damaged_set_up(&mut self) -> Vec<u8> {
+        let raw = self.0.damaged_set_up();
+        self.set_up_line(&raw)
+    }
+
+    fn set_up_line(&mut self, raw: &RawSetUp) -> Vec<u8> {
+        let mut words = vec!["setup".to_string()];
+        words.extend([raw.events, raw.values, raw.top].map(|number| self.number(number)));
+        words.extend(raw.meet.iter().map(|&entry| entry.to_string()));
+        if self.0.once_in(12) {
+            let at = self.0.between(1, words.len() - 1);
+            words[at] = self.0.one_of(&LARGE).to_string();
+        }
+        self.spaced(&words)
+    }
+
+    // Calls and questions.
+
+    fn call(&mut self, set_up: &SetUp) -> Vec<u8> {
+        let channel = self.channel();
+        match self.0.below(84) {
+            // Tables of many events are long, so most are loaded and not printed.
+            0..=15 if set_up.events() > 3 && !self.0.once_in(12) => self.load(&channel, set_up),
+            0..=7 => self.tokens("table", set_up),
+            8..=15 => self.tokens("dot", set_up),
+            16..=27 => self.load(&channel, set_up),
+            28..=47 => {
+                let event = if self.0.once_in(10) { self.large_event(set_up) } else { self.event(set_up) };
+                self.spaced(&["event".to_string(), channel, event])
+            }
+            48..=59 => self.events(channel, set_up),
+            60..=63 => self.spaced(&["restart".to_string(), channel]),
+            64 => self.spaced(&["restart".to_string(), "all".to_string()]),
+            65..=69 => self.spaced(&["clear".to_string(), channel]),
+            70..=77 => self.spaced(&["show".to_string(), channel]),
+            78..=80 => self.tokens("trial", set_up),
+            _ => "write".into(),
+        }
+    }
+
+    /// Few channels are used much, so that their histories grow long.
+    fn channel(&mut self) -> String {
+        match self.0.below(16) {
+            0 if self.0.once_in(2) => self.0.one_of(&LARGE).to_string(),
+            0 => self.0.between(8, 17).to_string(),
+            1..=3 => self.0.below(8).to_string(),
+            _ => {
+                let channel = self.0.below(2);
+                self.number(channel)
+            }
+        }
+    }
+
+    fn event(&mut self, set_up: &SetUp) -> String {
+        let event = self.0.below(set_up.events());
+        self.number(event)
+    }
+
+    fn large_event(&mut self, set_up: &SetUp) -> String {
+        let event = set_up.events() + self.0.below(3);
+        if self.0.once_in(2) {
+            self.0.one_of(&LARGE).to_string()
+        } else {
+            event.to_string()
+        }
+    }
+
+    fn events(&mut self, channel: String, set_up: &SetUp) -> Vec<u8> {
+        let length = match self.0.below(40) {
+            0 => self.0.between(1000, 4100),
+            1..=3 => 0,
+            4..=8 => self.0.below(200),
+            _ => self.0.below(12),
+        };
+        let mut words = vec!["events".to_string(), channel];
+        words.extend((0..length).map(|_| self.0.below(set_up.events()).to_string()));
+        if length > 0 && self.0.once_in(8) {
+            let at = self.0.between(2, words.len() - 1);
+            words[at] = self.large_event(set_up);
+        }
+        self.spaced(&words)
+    }
+
+    /// A load, more often of a good rule than not.
+    fn load(&mut self, channel: &str, set_up: &SetUp) -> Vec<u8> {
+        let head = format!("load {channel}");
+        if self.0.once_in(2) {
+            return self.tokens(&head, set_up);
+        }
+        format!("{head} {}", self.0.good_tokens(set_up)).into()
+    }
+
+    /// A command with tokens of any kind.
+    fn tokens(&mut self, head: &str, set_up: &SetUp) -> Vec<u8> {
+        let tokens = if self.0.once_in(60) { self.long_tokens(set_up) } else { self.0.tokens(set_up) };
+        let spaces = if self.0.once_in(12) { self.0.between(1, 3) } else { 1 };
+        let mut line = head.as_bytes().to_vec();
+        line.resize(head.len() + spaces, b' ');
+        line.extend_from_slice(&tokens);
+        line
+    }
+
+    /// As many tokens as a channel file has room for, or a byte more or less.
+    fn long_tokens(&mut self, set_up: &SetUp) -> Vec<u8> {
+        let room = channel_file::MAX_BYTES - file_head(set_up).len() - 1;
+        let length = room + self.0.below(3) - 1;
+        let mut tokens = if length.is_multiple_of(2) { "G0" } else { "T" }.to_string();
+        while tokens.len() < length {
+            tokens.push_str(self.0.one_of(&[" T", " A", " V"]));
+        }
+        tokens.into()
+    }
+
+    // Devices.
+
+    /// A device near a rule's table or any other, then trials.
+    fn device_and_trials(&mut self, set_up: &SetUp) -> Vec<Vec<u8>> {
+        let tokens = self.0.good_tokens(set_up);
+        let device = match (self.0.below(8), table_of(set_up, &tokens)) {
+            (0 | 1, _) => self.0.damaged_table(set_up),
+            (2, _) | (_, None) => self.0.table(set_up),
+            (_, Some(table)) => self.0.device_near(set_up, &table),
+        };
+        let mut commands = vec![self.device(&device), format!("trial {tokens}").into()];
+        for _ in 0..self.0.below(3) {
+            commands.push(self.tokens("trial", set_up));
+        }
+        // A device that is not read leaves the last one.
+        if self.0.once_in(4) {
+            commands.push(format!("device 1 0 {} 0 x", self.0.below(16)).into());
+            commands.push(format!("trial {tokens}").into());
+        }
+        commands
+    }
+
+    fn device_and_rule(&mut self, set_up: &SetUp) -> Vec<Vec<u8>> {
+        let device = match self.0.below(8) {
+            0 => self.0.damaged_table(set_up),
+            1 => self.0.table(set_up),
+            _ => self.0.chain(set_up),
+        };
+        vec![self.device(&device), self.spaced(&["write".to_string()])]
+    }
+
+    fn device(&mut self, device: &RawTable) -> Vec<u8> {
+        let mut words = vec!["device".to_string(), self.number(device.states), self.number(device.start)];
+        words.extend(device.bytes.iter().map(|&byte| byte.to_string()));
+        if self.0.once_in(15) {
+            // A number that wraps to the one that was there, in a byte or in two.
+            let at = self.0.between(1, words.len() - 1);
+            let number: u128 = words[at].parse().expect("the words are numbers");
+            words[at] = (number + self.0.one_of(&[256, 65_536, 1 << 32, 1 << 64])).to_string();
+        }
+        self.spaced(&words)
+    }
+
+    // Lines that are not of the form.
+
+    /// Too few or too many words, or a word that is no number.
+    fn miscounted_or_no_number(&mut self, set_up: &SetUp) -> Vec<u8> {
+        const GOOD: [&str; 11] = [
+            "setup 2 1 0 0",
+            "load 0 T",
+            "load 1",
+            "event 0 0",
+            "events 0 0",
+            "events 1",
+            "restart 0",
+            "clear 0",
+            "show 0",
+            "device 1 0 0 0",
+            "write",
+        ];
+        let mut words: Vec<String> = self.0.one_of(&GOOD).split(' ').map(str::to_string).collect();
+        let last = words.len() - 1;
+        match self.0.below(7) {
+            0 | 1 => words.truncate(1),
+            2 => words.truncate(self.0.between(1, last.max(1))),
+            3 => {
+                let more = if self.0.once_in(2) { self.event(set_up) } else { self.0.one_of(&NO_NUMBERS).to_string() };
+                words.push(more);
+            }
+            _ if last > 0 => {
+                let at = self.0.between(1, last);
+                words[at] = self.0.one_of(&NO_NUMBERS).to_string();
+            }
+            _ => words.push("now".to_string()),
+        }
+        self.spaced(&words)
+    }
+
+    /// Comments, empty lines, words that name nothing, lines at the limit and beyond it; and help.
+    fn no_command(&mut self) -> Vec<u8> {
+        match self.0.below(12) {
+            0 => Vec::new(),
+            1 => " ".repeat(self.0.between(1, 4)).into(),
+            2 => self.0.one_of(&["# a comment", "#", "  #event 0 0", "# setup 2 1 0 0"]).into(),
+            3..=6 => self
+                .0
+                .one_of(&["Event 0 0", "eventss 0 0", "even 0 0", "0", "show\t0", "show\r", "\u{e9}", "all", "set up 2", "-"])
+                .into(),
+            7..=9 => {
+                let length = LINE_BYTES - 1 + self.0.below(4);
+                let mut line = self.0.one_of(&["show 0", "# a comment", "", "restart 0", "events 0"]).as_bytes().to_vec();
+                line.resize(length, b' ');
+                if self.0.once_in(4) {
+                    *line.last_mut().expect("the line is long") = b'0';
+                }
+                line
+            }
+            10 => self.0.one_of(&["help", " help", "help  "]).into(),
+            _ => {
+                let length = self.0.below(20);
+                self.0.bytes(length).into_iter().filter(|&byte| byte != b'\n').collect()
+            }
+        }
+    }
+
+    // Words.
+
+    /// A number, at times with zeros before it.
+    fn number(&mut self, number: usize) -> String {
+        let zeros = if self.0.once_in(20) { self.0.between(1, 30) } else { 0 };
+        format!("{}{number}", "0".repeat(zeros))
+    }
+
+    /// The words with a space between two, or at times more, also before and behind them.
+    fn spaced(&mut self, words: &[String]) -> Vec<u8> {
+        if !self.0.once_in(12) {
+            return words.join(" ").into();
+        }
+        let mut line = " ".repeat(self.0.below(3));
+        for word in words {
+            line.push_str(word);
+            line.push_str(&" ".repeat(self.0.between(1, 3)));
+        }
+        line.into()
+    }
+}
+
+/// The table of a rule in tokens, if it has at most 64 states.
+fn table_of(set_up: &SetUp, tokens: &str) -> Option<Table> {
+    let text = format!("{}{tokens}\n", file_head(set_up));
+    let file = channel_file::read(text.as_bytes()).ok()?;
+    Table::of_rule(set_up, &file.rule).ok()
+}
+
+/// Commands at document 01's limits, for one event.
+fn limits() -> Vec<Vec<u8>> {
+    let mut commands = Vec::new();
+    for states in [63, 64] {
+        commands.push(format!("load 0 {}T", "G0 ".repeat(states)));
+        commands.push(device_of(states, |state| (3, (state + 1).min(states - 1))));
+        commands.push("write".to_string());
+    }
+    for nodes in [255, 256] {
+        commands.push(format!("table {}T", "V ".repeat(nodes)));
+        commands.push(format!("dot {}T", "A T ".repeat(nodes / 2)));
+    }
+    // A device loop of 64 states against a rule loop of 63: the failing word has 64 × 63 events.
+    for (states, others) in [(64, 63), (63, 64), (64, 64), (61, 59)] {
+        commands.push(device_of(states, |state| (if state + 1 == states { 3 } else { 1 }, (state + 1) % states)));
+        commands.push(format!("trial V {}A O0.1 G0 X0", "G0 ".repeat(others - 1)));
+    }
+    commands.into_iter().map(String::into_bytes).collect()
+}
+
+/// A device for one event by the value and the next state of each state.
+fn device_of(states: usize, entry: impl Fn(usize) -> (usize, usize)) -> String {
+    let entries = (0..states).map(entry).map(|(value, next)| format!(" {value} {next}"));
+    format!("device {states} 0{}", entries.collect::<String>())
+}

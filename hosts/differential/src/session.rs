@@ -1,0 +1,336 @@
+//! The command program as docs/DECISIONS.md, "Command program", has it; every judgement is the reference's.
+
+use std::fmt::Write;
+
+use gurvazze_reference::formula::{Rule, MAX_NODES, NODE_BYTES};
+use gurvazze_reference::generate::RawTable;
+use gurvazze_reference::table::Table;
+use gurvazze_reference::tool::{Tool, CHANNELS};
+use gurvazze_reference::trial::{trial_of_rule, Outcome, WORD_BYTES};
+use gurvazze_reference::values::{RawSetUp, SetUp};
+use gurvazze_reference::{channel_file, characteristic, render, Refusal};
+
+/// "A line has at most 8,192 bytes".
+pub const LINE_BYTES: usize = 8192;
+
+const HELP: &str = "\
+setup EVENTS VALUES TOP MEET...   the set-up; channels are empty
+table TOKENS                      the table of a rule
+load C TOKENS                     a rule into channel C
+event C E                         event E on channel C
+events C E E...                   events on channel C, all or none
+restart C                         channel C at state 0
+restart all                       every loaded channel at state 0
+clear C                           channel C empty
+show C                            what channel C holds
+device STATES START V N V N...    a device to keep; judged when it is used
+trial TOKENS                      the device against a rule
+write                             the rule of the device
+dot TOKENS                        the table of a rule as a Graphviz digraph
+help                              this list
+";
+
+/// What a line came to.
+pub struct Answer {
+    /// The command, as the tally names it.
+    pub command: &'static str,
+    /// What is printed.
+    pub text: String,
+}
+
+/// Why a command has no other answer.
+enum Problem {
+    /// A reason of `error=`.
+    Error(&'static str),
+    Refused(Refusal),
+}
+
+impl From<Refusal> for Problem {
+    fn from(refusal: Refusal) -> Problem {
+        Problem::Refused(refusal)
+    }
+}
+
+type Reply = Result<String, Problem>;
+
+/// A tool that was set up.
+struct Ready {
+    set_up: SetUp,
+    tool: Tool,
+}
+
+/// What the program keeps from line to line.
+#[derive(Default)]
+pub struct Session {
+    ready: Option<Ready>,
+    device: Option<RawTable>,
+}
+
+impl Session {
+    /// The set-up, once one was accepted.
+    pub fn set_up(&self) -> Option<&SetUp> {
+        self.ready.as_ref().map(|ready| &ready.set_up)
+    }
+
+    /// The answer to a line without its byte 10; an empty line and a comment have none.
+    pub fn answer(&mut self, line: &[u8]) -> Option<Answer> {
+        if line.len() > LINE_BYTES {
+            return Some(Answer { command: "line", text: "error=line\n".to_string() });
+        }
+        let line = Line { bytes: line, words: words(line) };
+        let first = *line.words.first()?;
+        if first.starts_with(b"#") {
+            return None;
+        }
+        let mut command = name(first);
+        let text = match self.obey(command, &line) {
+            Ok(text) => text,
+            Err(Problem::Error(reason)) => format!("error={reason}\n"),
+            Err(Problem::Refused(refusal)) => render::refusal(refusal),
+        };
+        if line.words == [&b"restart"[..], b"all"] {
+            command = "restart all";
+        }
+        Some(Answer { command, text })
+    }
+
+    fn obey(&mut self, command: &str, line: &Line) -> Reply {
+        match command {
+            "unknown" => return Err(Problem::Error("command")),
+            "help" => return Ok(HELP.to_string()),
+            "setup" => return self.set_up_anew(line),
+            "device" => return self.keep_device(line),
+            _ => {}
+        }
+        let ready = self.ready.as_mut().ok_or(Problem::Error("setup"))?;
+        let device = self.device.as_ref();
+        match command {
+            "table" => ready.table(line),
+            "dot" => ready.dot(line),
+            "load" => ready.load(line),
+            "event" => ready.event(line),
+            "events" => ready.events(line),
+            "restart" => ready.restart(line),
+            "clear" => ready.clear(line),
+            "show" => ready.show(line),
+            "trial" => ready.trial(device, line),
+            _ => ready.write(device, line),
+        }
+    }
+
+    /// "A new set-up empties the channels and keeps the device; a refused one leaves all as it was."
+    fn set_up_anew(&mut self, line: &Line) -> Reply {
+        line.at_least(4)?;
+        let (events, values, top) = (line.number(1)?, line.number(2)?, line.number(3)?);
+        let raw = RawSetUp { events, values, top, meet: line.bytes_from(4)? };
+        let set_up = SetUp::new(raw.clone())?;
+        self.ready = Some(Ready { set_up, tool: Tool::new(raw)? });
+        Ok("ok\n".to_string())
+    }
+
+    /// The device is judged when it is used.
+    fn keep_device(&mut self, line: &Line) -> Reply {
+        line.at_least(3)?;
+        self.device = Some(RawTable { states: line.number(1)?, start: line.number(2)?, bytes: line.bytes_from(3)? });
+        Ok("ok\n".to_string())
+    }
+}
+
+impl Ready {
+    /// The rule in bytes: "tokens keep the channel file's form", and "Tokens too long for a channel file are `error=tokens`".
+    fn rule(&self, tokens: &[u8]) -> Result<Vec<u8>, Problem> {
+        let mut text = file_head(&self.set_up).into_bytes();
+        text.extend_from_slice(tokens);
+        text.push(b'\n');
+        channel_file::lines(&text).map(|lines| lines.rule).map_err(|_| Problem::Error("tokens"))
+    }
+
+    fn table_of(&self, tokens: &[u8]) -> Result<Table, Problem> {
+        let rule = Rule::from_bytes(&self.set_up, &self.rule(tokens)?)?;
+        Ok(Table::of_rule(&self.set_up, &rule)?)
+    }
+
+    fn table(&self, line: &Line) -> Reply {
+        let text = render::table(&self.table_of(line.rest(1))?);
+        // Without the line of events.
+        Ok(text[text.find("states=").expect("a table has states")..].to_string())
+    }
+
+    fn dot(&self, line: &Line) -> Reply {
+        let table = self.table_of(line.rest(1))?;
+        let mut text = "digraph table {\n".to_string();
+        for (index, entry) in table.entries().iter().enumerate() {
+            let (state, event) = (index / table.events(), index % table.events());
+            let value = if entry.value == self.set_up.top() { "open".to_string() } else { entry.value.to_string() };
+            add(&mut text, format_args!("  {state} -> {} [label=\"{event}/{value}\"];\n", entry.next));
+        }
+        text.push_str("}\n");
+        Ok(text)
+    }
+
+    fn load(&mut self, line: &Line) -> Reply {
+        line.at_least(2)?;
+        let channel = line.number(1)?;
+        let rule = self.rule(line.rest(2))?;
+        self.tool.load(channel, &rule)?;
+        Ok(format!("states={}\n", self.tool.channels[channel].states))
+    }
+
+    fn event(&mut self, line: &Line) -> Reply {
+        line.exactly(3)?;
+        let (channel, event) = (line.number(1)?, line.number(2)?);
+        Ok(format!("value={}\n", self.tool.event(channel, event)?))
+    }
+
+    /// All or none. 14 and 15 are those of a restart, also where there are no events.
+    fn events(&mut self, line: &Line) -> Reply {
+        line.at_least(2)?;
+        let channel = line.number(1)?;
+        let events = line.numbers_from(2)?;
+        self.tool.clone().restart_one(channel)?;
+        let mut after = self.tool.clone();
+        let values = events.iter().map(|&event| after.sound_event(channel, event)).collect::<Result<Vec<u8>, Refusal>>()?;
+        self.tool = after;
+        Ok(list("values=", &values))
+    }
+
+    fn restart(&mut self, line: &Line) -> Reply {
+        line.exactly(2)?;
+        if line.words[1] == b"all" {
+            self.tool.restart_all()?;
+        } else {
+            self.tool.restart_one(line.number(1)?)?;
+        }
+        Ok("ok\n".to_string())
+    }
+
+    fn clear(&mut self, line: &Line) -> Reply {
+        line.exactly(2)?;
+        self.tool.clear(line.number(1)?)?;
+        Ok("ok\n".to_string())
+    }
+
+    fn show(&self, line: &Line) -> Reply {
+        line.exactly(2)?;
+        let number = line.number(1)?;
+        if number >= CHANNELS {
+            return Err(Refusal::new(14).into());
+        }
+        let channel = &self.tool.channels[number];
+        if channel.is_empty() {
+            return Ok("empty\n".to_string());
+        }
+        Ok(format!("states={} state={}\n", channel.states, channel.current))
+    }
+
+    fn trial(&self, device: Option<&RawTable>, line: &Line) -> Reply {
+        let device = device.ok_or(Problem::Error("device"))?;
+        let rule = self.rule(line.rest(1))?;
+        let mut word = [0; WORD_BYTES];
+        Ok(match trial_of_rule(self.set_up.raw(), device.lent(), &rule, &mut word)? {
+            Outcome::Passes => "pass\n".to_string(),
+            Outcome::Fails(length) => list("fail=", &word[..length]),
+        })
+    }
+
+    fn write(&self, device: Option<&RawTable>, line: &Line) -> Reply {
+        line.exactly(1)?;
+        let device = device.ok_or(Problem::Error("device"))?;
+        let mut nodes = [0; MAX_NODES * NODE_BYTES];
+        let count = characteristic::write_rule(self.set_up.raw(), device.lent(), &mut nodes)?;
+        let rule = Rule::from_bytes(&self.set_up, &nodes[..count * NODE_BYTES])?;
+        let text = channel_file::to_text(&self.set_up, &rule);
+        Ok(text[text.find("rule=").expect("a file has a rule line")..].to_string())
+    }
+}
+
+/// The text of a channel file up to its tokens.
+pub(crate) fn file_head(set_up: &SetUp) -> String {
+    let rule = Rule::from_bytes(set_up, &[0, 0, 0]).expect("T is a rule");
+    let mut text = channel_file::to_text(set_up, &rule);
+    text.truncate(text.len() - "T\n".len());
+    text
+}
+
+/// A line and its words.
+struct Line<'a> {
+    bytes: &'a [u8],
+    words: Vec<&'a [u8]>,
+}
+
+impl<'a> Line<'a> {
+    fn at_least(&self, count: usize) -> Result<(), Problem> {
+        if self.words.len() < count {
+            return Err(Problem::Error("arguments"));
+        }
+        Ok(())
+    }
+
+    fn exactly(&self, count: usize) -> Result<(), Problem> {
+        if self.words.len() != count {
+            return Err(Problem::Error("arguments"));
+        }
+        Ok(())
+    }
+
+    /// The line from a word on, with the spaces behind it; nothing where there is no such word.
+    fn rest(&self, index: usize) -> &'a [u8] {
+        let mut rest = self.bytes;
+        for word in &self.words[..index.min(self.words.len())] {
+            rest = &without_spaces(rest)[word.len()..];
+        }
+        without_spaces(rest)
+    }
+
+    fn number(&self, index: usize) -> Result<usize, Problem> {
+        number(self.words[index])
+    }
+
+    fn numbers_from(&self, index: usize) -> Result<Vec<usize>, Problem> {
+        self.words[index.min(self.words.len())..].iter().map(|word| number(word)).collect()
+    }
+
+    /// Numbers above 255 stand as 255, too large all the same.
+    fn bytes_from(&self, index: usize) -> Result<Vec<u8>, Problem> {
+        Ok(self.numbers_from(index)?.into_iter().map(|number| u8::try_from(number).unwrap_or(u8::MAX)).collect())
+    }
+}
+
+/// "A word is a longest run of bytes other than space."
+fn words(line: &[u8]) -> Vec<&[u8]> {
+    line.split(|&byte| byte == b' ').filter(|word| !word.is_empty()).collect()
+}
+
+fn without_spaces(text: &[u8]) -> &[u8] {
+    &text[text.iter().position(|&byte| byte != b' ').unwrap_or(text.len())..]
+}
+
+/// The name of a command, `unknown` where there is none.
+fn name(word: &[u8]) -> &'static str {
+    const NAMES: [&str; 13] =
+        ["setup", "table", "load", "event", "events", "restart", "clear", "show", "device", "trial", "write", "dot", "help"];
+    NAMES.into_iter().find(|name| name.as_bytes() == word).unwrap_or("unknown")
+}
+
+/// "A number is one or more digits, and leading zeros say nothing." Numbers too large for a usize stand as its largest.
+fn number(word: &[u8]) -> Result<usize, Problem> {
+    word.iter().try_fold(0usize, |number, byte| match byte {
+        b'0'..=b'9' => Ok(number.saturating_mul(10).saturating_add(usize::from(byte - b'0'))),
+        _ => Err(Problem::Error("number")),
+    })
+}
+
+/// A key with numbers, as a line.
+fn list(key: &str, numbers: &[u8]) -> String {
+    let mut text = key.to_string();
+    for (index, number) in numbers.iter().enumerate() {
+        let space = if index > 0 { " " } else { "" };
+        add(&mut text, format_args!("{space}{number}"));
+    }
+    text.push('\n');
+    text
+}
+
+fn add(text: &mut String, more: std::fmt::Arguments<'_>) {
+    text.write_fmt(more).expect("a string takes everything");
+}

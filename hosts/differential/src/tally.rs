@@ -1,0 +1,76 @@
+//! How often each answer of each command arose.
+
+use std::collections::BTreeMap;
+
+use crate::session::Answer;
+
+/// Fewer answers of a kind than this say little.
+const ENOUGH: usize = 20;
+
+/// Every answer that each command can have.
+const EXPECTED: [(&str, &str); 19] = [
+    ("setup", "ok refused=1 refused=2 refused=3 error=arguments error=number"),
+    ("table", "states refused=5 refused=6 refused=7 refused=8 refused=9 refused=10 error=setup error=tokens"),
+    ("dot", "digraph refused=5 refused=6 refused=7 refused=8 refused=9 refused=10 error=setup error=tokens"),
+    ("load", "states refused=5 refused=6 refused=7 refused=8 refused=9 refused=10 refused=14"),
+    ("load", "error=setup error=arguments error=number error=tokens"),
+    ("event", "value refused=14 refused=15 refused=16 error=setup error=arguments error=number"),
+    ("events", "values refused=14 refused=15 refused=16 error=setup error=arguments error=number"),
+    ("restart", "ok refused=14 refused=15 error=setup error=arguments error=number"),
+    ("restart all", "ok error=setup"),
+    ("clear", "ok refused=14 error=setup error=arguments error=number"),
+    ("show", "empty states refused=14 error=setup error=arguments error=number"),
+    ("device", "ok error=arguments error=number"),
+    ("trial", "pass fail refused=5 refused=6 refused=7 refused=8 refused=9 refused=10 refused=11"),
+    ("trial", "error=setup error=device error=tokens"),
+    ("write", "rule refused=11 refused=12 error=setup error=arguments error=device"),
+    ("help", "help"),
+    ("unknown", "error=command"),
+    ("line", "error=line skipped"),
+    // Set-ups that were accepted.
+    ("set-up of", "16-events 16-values"),
+];
+
+/// Counts by command and kind of answer.
+#[derive(Default)]
+pub struct Tally(BTreeMap<(&'static str, String), usize>);
+
+impl Tally {
+    /// Counts an answer.
+    pub fn answer(&mut self, answer: &Answer) {
+        self.count(answer.command, &kind(answer));
+    }
+
+    /// Counts something else.
+    pub fn count(&mut self, command: &'static str, kind: &str) {
+        *self.0.entry((command, kind.to_string())).or_default() += 1;
+    }
+
+    /// What hardly arose, though it should.
+    pub fn missing(&self) -> Vec<String> {
+        let all = EXPECTED.iter().flat_map(|&(command, kinds)| kinds.split(' ').map(move |kind| (command, kind)));
+        all.filter(|&(command, kind)| self.0.get(&(command, kind.to_string())).is_none_or(|&count| count < ENOUGH))
+            .map(|(command, kind)| format!("{command} {kind}"))
+            .collect()
+    }
+
+    /// A line for each command.
+    pub fn lines(&self) -> String {
+        let mut lines = BTreeMap::<&str, String>::new();
+        for ((command, kind), count) in &self.0 {
+            *lines.entry(command).or_default() += &format!(" {kind}:{count}");
+        }
+        lines.iter().map(|(command, counts)| format!("{command}{counts}\n")).collect()
+    }
+}
+
+/// `refused=` and `error=` with what follows, up to a place; of other answers the first word or key.
+fn kind(answer: &Answer) -> String {
+    if answer.command == "help" {
+        return "help".to_string();
+    }
+    let ends: &[char] =
+        if answer.text.starts_with("refused=") || answer.text.starts_with("error=") { &[' ', '\n'] } else { &[' ', '\n', '='] };
+    let end = answer.text.find(ends).expect("an answer ends a line");
+    answer.text[..end].to_string()
+}

@@ -1,0 +1,159 @@
+//! Both versions of each call behind one signature: the proved library's and the reference's.
+//!
+//! A call is given a buffer with old contents and returns the answer with the buffer afterwards, so that a comparison sees every byte.
+
+use gurvazze_reference::channel_file::{self, ChannelFile};
+use gurvazze_reference::generate::RawTable;
+use gurvazze_reference::table::Table;
+use gurvazze_reference::trial::{trial_of_rule, trial_of_table, Outcome};
+use gurvazze_reference::values::RawSetUp;
+use gurvazze_reference::{characteristic, Refusal};
+
+/// An answer, or the refusal's number and place; and the lent buffer afterwards.
+pub type Called<T> = (Result<T, (u8, Option<usize>)>, Vec<u8>);
+
+/// States, events, values and top of a table that was made.
+pub type Numbers = (usize, usize, usize, usize);
+
+fn plain<T>(result: Result<T, Refusal>) -> Result<T, (u8, Option<usize>)> {
+    result.map_err(|refusal| (refusal.number, refusal.place))
+}
+
+fn proved<T>(result: Result<T, gurvazze::Refusal>) -> Result<T, (u8, Option<usize>)> {
+    result.map_err(|refusal| (refusal.number, refusal.place))
+}
+
+fn set_up(raw: &RawSetUp) -> gurvazze::SetUp<'_> {
+    gurvazze::SetUp { events: raw.events, values: raw.values, top: raw.top, meet: &raw.meet }
+}
+
+fn lent(table: &RawTable) -> gurvazze::Table<'_> {
+    gurvazze::Table { states: table.states, start: table.start, bytes: &table.bytes }
+}
+
+/// 0 for a pass, and else the length of the failing word.
+fn length(verdict: gurvazze::Verdict) -> usize {
+    match verdict {
+        gurvazze::Verdict::Pass => 0,
+        gurvazze::Verdict::Fail(length) => length,
+    }
+}
+
+fn reference_length(outcome: Outcome) -> usize {
+    match outcome {
+        Outcome::Passes => 0,
+        Outcome::Fails(length) => length,
+    }
+}
+
+fn compiled(text: &[u8]) -> Result<(ChannelFile, Table), Refusal> {
+    let file = channel_file::read(text)?;
+    let table = Table::of_rule(&file.set_up, &file.rule)?;
+    Ok((file, table))
+}
+
+/// The table of a channel file's rule.
+pub mod table {
+    use super::*;
+
+    /// By the proved library.
+    pub fn library(text: &[u8], old: &[u8]) -> Called<Numbers> {
+        let mut to = old.to_vec();
+        let answer = gurvazze::table(text, &mut to);
+        (proved(answer.map(|made| (made.states, made.events, made.values, made.top))), to)
+    }
+
+    /// By the reference.
+    pub fn reference(text: &[u8], old: &[u8]) -> Called<Numbers> {
+        let mut to = old.to_vec();
+        let answer = compiled(text).and_then(|(file, table)| {
+            let states = table.write_bytes(&mut to)?;
+            let raw = file.set_up.raw();
+            Ok((states, raw.events, raw.values, raw.top))
+        });
+        (plain(answer), to)
+    }
+}
+
+/// Replay of events by a channel file's rule.
+pub mod replay {
+    use super::*;
+
+    /// By the proved library.
+    pub fn library(text: &[u8], word: &[u8], old: &[u8]) -> Called<()> {
+        let mut to = old.to_vec();
+        (proved(gurvazze::replay(text, word, &mut to)), to)
+    }
+
+    /// By the reference.
+    pub fn reference(text: &[u8], word: &[u8], old: &[u8]) -> Called<()> {
+        let mut to = old.to_vec();
+        let answer = compiled(text).and_then(|(file, table)| {
+            if word.iter().any(|&event| usize::from(event) >= file.set_up.events()) {
+                return Err(Refusal::new(16));
+            }
+            if to.len() < word.len() {
+                return Err(Refusal::new(13));
+            }
+            to[..word.len()].copy_from_slice(&table.run(0, word).0);
+            Ok(())
+        });
+        (plain(answer), to)
+    }
+}
+
+/// Trial of a device against a channel file's rule.
+pub mod trial {
+    use super::*;
+
+    /// By the proved library.
+    pub fn library(text: &[u8], device: &RawTable, old: &[u8]) -> Called<usize> {
+        let mut word = old.to_vec();
+        (proved(gurvazze::trial(text, lent(device), &mut word).map(length)), word)
+    }
+
+    /// By the reference.
+    pub fn reference(text: &[u8], device: &RawTable, old: &[u8]) -> Called<usize> {
+        let mut word = old.to_vec();
+        let answer = channel_file::read(text).and_then(|file| {
+            trial_of_rule(file.set_up.raw(), device.lent(), &file.rule.to_bytes(), &mut word).map(reference_length)
+        });
+        (plain(answer), word)
+    }
+}
+
+/// Trial of a device against a rule's table.
+pub mod trial_table {
+    use super::*;
+
+    /// By the proved library.
+    pub fn library(raw: &RawSetUp, table: &RawTable, device: &RawTable, old: &[u8]) -> Called<usize> {
+        let mut word = old.to_vec();
+        let answer = gurvazze::trial_of_table(set_up(raw), table.states, &table.bytes, lent(device), &mut word);
+        (proved(answer.map(length)), word)
+    }
+
+    /// By the reference.
+    pub fn reference(raw: &RawSetUp, table: &RawTable, device: &RawTable, old: &[u8]) -> Called<usize> {
+        let mut word = old.to_vec();
+        let answer = trial_of_table(raw, device.lent(), table.states, &table.bytes, &mut word);
+        (plain(answer.map(reference_length)), word)
+    }
+}
+
+/// The rule of a table.
+pub mod rule {
+    use super::*;
+
+    /// By the proved library.
+    pub fn library(raw: &RawSetUp, table: &RawTable, old: &[u8]) -> Called<usize> {
+        let mut to = old.to_vec();
+        (proved(gurvazze::rule(set_up(raw), lent(table), &mut to)), to)
+    }
+
+    /// By the reference.
+    pub fn reference(raw: &RawSetUp, table: &RawTable, old: &[u8]) -> Called<usize> {
+        let mut to = old.to_vec();
+        (plain(characteristic::write_rule(raw, table.lent(), &mut to)), to)
+    }
+}
