@@ -16,13 +16,15 @@ pub struct Script {
     pub answers: Vec<u8>,
     /// How often each answer arose.
     pub tally: Tally,
+    /// Where the answer to each line ends.
+    ends: Vec<usize>,
 }
 
 impl Script {
     /// A script of about so many lines. The first come before a set-up, and the next before a device.
     pub fn new(seed: u64, lines: usize) -> Script {
         let mut writer = Writer(Generator::new(seed));
-        let mut script = Script { commands: Vec::new(), answers: Vec::new(), tally: Tally::default() };
+        let mut script = Script { commands: Vec::new(), answers: Vec::new(), tally: Tally::default(), ends: Vec::new() };
         let mut session = Session::default();
         for _ in 0..lines / 40 {
             script.add(&mut session, &[writer.before_set_up()]);
@@ -32,7 +34,7 @@ impl Script {
             script.add(&mut session, &[writer.before_device()]);
         }
         script.add(&mut session, &limits());
-        while script.lines() < lines {
+        while script.ends.len() < lines {
             for _ in 0..100 {
                 let set_up = session.set_up().expect("a set-up was accepted").clone();
                 script.add(&mut session, &writer.commands(&set_up));
@@ -45,8 +47,11 @@ impl Script {
         script
     }
 
-    fn lines(&self) -> usize {
-        self.commands.iter().filter(|&&byte| byte == b'\n').count()
+    /// The line, counted from 1, whose answer has a byte of the answers.
+    pub fn answered_at(&self, byte: usize) -> Option<(usize, &[u8])> {
+        let index = self.ends.iter().position(|&end| byte < end)?;
+        let line = self.commands.split(|&byte| byte == b'\n').nth(index)?;
+        Some((index + 1, line))
     }
 
     /// Adds commands and their answers. A damaged command may be two lines.
@@ -56,6 +61,7 @@ impl Script {
                 self.commands.extend_from_slice(line);
                 self.commands.push(b'\n');
                 self.add_answer(session, line);
+                self.ends.push(self.answers.len());
             }
         }
     }

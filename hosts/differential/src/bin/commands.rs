@@ -7,10 +7,17 @@ use std::process::ExitCode;
 
 use gurvazze_differential::script::Script;
 
-const USAGE: &str = "usage: commands SEED LINES SCRIPT ANSWERS";
+const USAGE: &str = "usage: commands SEED LINES SCRIPT ANSWERS, or commands SEED LINES BYTE";
 
 fn main() -> ExitCode {
-    match run(&env::args().skip(1).collect::<Vec<String>>()) {
+    let arguments: Vec<String> = env::args().skip(1).collect();
+    let arguments: Vec<&str> = arguments.iter().map(String::as_str).collect();
+    let done = match arguments[..] {
+        [seed, lines, script, answers] => write(seed, lines, script, answers),
+        [seed, lines, byte] => show(seed, lines, byte),
+        _ => Err(USAGE.into()),
+    };
+    match done {
         Ok(()) => ExitCode::SUCCESS,
         Err(error) => {
             eprintln!("{error}");
@@ -19,10 +26,8 @@ fn main() -> ExitCode {
     }
 }
 
-fn run(arguments: &[String]) -> Result<(), Box<dyn Error>> {
-    let [seed, lines, commands, answers] = arguments else {
-        return Err(USAGE.into());
-    };
+/// Writes both files and prints how often each answer arose.
+fn write(seed: &str, lines: &str, commands: &str, answers: &str) -> Result<(), Box<dyn Error>> {
     let script = Script::new(seed.parse()?, lines.parse()?);
     fs::write(commands, &script.commands)?;
     fs::write(answers, &script.answers)?;
@@ -30,6 +35,16 @@ fn run(arguments: &[String]) -> Result<(), Box<dyn Error>> {
     let missing = script.tally.missing();
     if !missing.is_empty() {
         return Err(format!("hardly arose: {}", missing.join(", ")).into());
+    }
+    Ok(())
+}
+
+/// Prints the line whose answer has this byte of the answers.
+fn show(seed: &str, lines: &str, byte: &str) -> Result<(), Box<dyn Error>> {
+    let script = Script::new(seed.parse()?, lines.parse()?);
+    match script.answered_at(byte.parse()?) {
+        Some((number, line)) => println!("line {number}: {}", line.escape_ascii()),
+        None => println!("that is behind the answer to the last line"),
     }
     Ok(())
 }
