@@ -110,11 +110,15 @@ const CALLS: [&str; 11] = [
 struct Writer(Generator);
 
 impl Writer {
-    /// A command that needs a set-up, or a line that is no command.
+    /// A command that needs a set-up, a line that is no command, or a set-up or device that is refused or not read.
     fn before_set_up(&mut self) -> Vec<u8> {
         match self.0.below(16) {
             0 => self.no_command(),
-            1..=4 => {
+            1 => self
+                .0
+                .one_of(&["setup 0 1 0 0", "setup 1 1 1 0", "setup 1 1 0 1", "setup 1 1", "device 1", "device 1 x"])
+                .into(),
+            2..=5 => {
                 let set_up = self.set_up();
                 self.call(&set_up)
             }
