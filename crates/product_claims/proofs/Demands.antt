@@ -11,6 +11,8 @@ use Rattle.recorder_claims.proofs.CallRefusals.{call-refusals}
 use Rattle.recorder_claims.proofs.Claims.{tool-record, tool-independence, blank-refused}
 use Rattle.channel_io.proofs.RefusalClaims.{read-claim, write-refusal-claim as file-write-refusal}
 use Rattle.channel_io.proofs.WriteClaims.{write-claim}
+use Rattle.file_table.proofs.Claims.{file-table-claim, file-table-made}
+use Rattle.table_graph.proofs.GraphClaims.{graph-refusals}
 use Rattle.product_claims.proofs.Compiled.{rule-trial, recompiled-claim}
 
 pub demand-one : DemandOne
@@ -32,6 +34,8 @@ demand-one =
       calls-on-a-refused-set-up = blank-refused;
       reading-a-file = read-claim;
       writing-a-file = file-write-refusal;
+      table-of-a-file = file-table-claim;
+      digraph-of-a-table = graph-refusals;
     }
 
 pub demand-two : DemandTwo
@@ -42,6 +46,7 @@ demand-two =
       table-to-rule-to-table = recompiled-claim;
       file-to-rule = read-claim;
       rule-to-file = write-claim;
+      file-to-table = file-table-made;
     }
 
 pub demand-three : DemandThree

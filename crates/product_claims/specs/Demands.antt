@@ -26,6 +26,8 @@ use Rattle.conformance.specs.Claims as conformance
 use Rattle.recorder_claims.specs.Claims as recorder
 use Rattle.recorder_claims.specs.CallConditions.{CallRefusalClaim}
 use Rattle.channel_io.specs.Claims as channel_io
+use Rattle.file_table.specs.Claims as file_table
+use Rattle.table_graph.specs.Graph.{GraphRefusalClaim}
 
 -- The states of a table, of a device and of a rule's table; the longest word of a trial.
 abbrev pub states-limit : ℕ
@@ -56,6 +58,8 @@ pub record DemandOne : Type 1 where
   pub calls-on-a-refused-set-up : recorder.BlankClaim
   pub reading-a-file : channel_io.ReadClaim
   pub writing-a-file : channel_io.WriteRefusalClaim
+  pub table-of-a-file : file_table.FileTableClaim
+  pub digraph-of-a-table : GraphRefusalClaim
 
 -- The bytes of a rule's table, at the front of the lent buffer after `compile`.
 abbrev pub compiled-bytes : Setup → List ℕ → List ℕ → List ℕ
@@ -87,6 +91,8 @@ pub record DemandTwo : Type 0 where
   -- an accepted file written out again is the same bytes
   pub file-to-rule : channel_io.ReadClaim
   pub rule-to-file : channel_io.WriteClaim
+  -- the table of a file's rule has the rule's values on every event sequence
+  pub file-to-table : file_table.FileTableMadeClaim
 
 -- A device's trial against the table that `compile` stored for a rule.
 abbrev pub trial-of : Setup → List ℕ → List ℕ → ℕ → ℕ → List ℕ → TrialInput
