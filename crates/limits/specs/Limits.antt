@@ -1,0 +1,57 @@
+-- The limits of documents 01 and 02, a name each; src/lib.rt has the same names for code.
+use Prim.Native.Nat.{ℕ, _*_, _/_}
+
+-- "A set-up has 1 to 16 events, 1 to 16 values, .. a meet table, .. values × values entries"; document 02, F-7: "1 to 16 lines".
+abbrev pub event-limit : ℕ
+event-limit = 16
+
+abbrev pub value-limit : ℕ
+value-limit = 16
+
+abbrev pub meet-limit : ℕ
+meet-limit = value-limit * value-limit
+
+abbrev pub line-limit : ℕ
+line-limit = 16
+
+-- "1 to 256 nodes"; a set of nodes in words of 64 bits.
+abbrev pub node-limit : ℕ
+node-limit = 256
+
+abbrev pub set-words : ℕ
+set-words = node-limit / 64
+
+-- The states of a rule's table, "at most 64"; its entries, and its bytes at two an entry.
+abbrev pub state-limit : ℕ
+state-limit = 64
+
+abbrev pub entry-limit : ℕ
+entry-limit = state-limit * event-limit
+
+abbrev pub table-bytes-limit : ℕ
+table-bytes-limit = entry-limit * 2
+
+-- "A device is a table of 1 to 64 states"; 11 "for a device or any other table handed in: states not 1 to 64".
+abbrev pub device-limit : ℕ
+device-limit = 64
+
+abbrev pub table-limit : ℕ
+table-limit = 64
+
+-- "A word of 1 to 4,096 events": as many as there are pairs of states.
+abbrev pub word-limit : ℕ
+word-limit = device-limit * table-limit
+
+-- "Eight channels"; the rows of all their tables, "a row being one state of a loaded table" (document 02, F-12), and their entries.
+abbrev pub channel-limit : ℕ
+channel-limit = 8
+
+abbrev pub row-limit : ℕ
+row-limit = channel-limit * state-limit
+
+abbrev pub store-limit : ℕ
+store-limit = row-limit * event-limit
+
+-- A channel file has "up to 4,096 bytes".
+abbrev pub file-limit : ℕ
+file-limit = 4096

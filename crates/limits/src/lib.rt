@@ -1,0 +1,40 @@
+// The limits of documents 01 and 02, a name each; specs/Limits has the same names for contracts and claims.
+
+// A set-up: events, values, meet entries, lines of a register.
+pub const EVENT_LIMIT: usize = 16;
+
+pub const VALUE_LIMIT: usize = 16;
+
+pub const MEET_LIMIT: usize = VALUE_LIMIT * VALUE_LIMIT;
+
+pub const LINE_LIMIT: usize = 16;
+
+// A rule: nodes, and the words of 64 bits of a set of nodes.
+pub const NODE_LIMIT: usize = 256;
+
+pub const SET_WORDS: usize = NODE_LIMIT / 64;
+
+// A rule's table: states, entries, and bytes at two an entry.
+pub const STATE_LIMIT: usize = 64;
+
+pub const ENTRY_LIMIT: usize = STATE_LIMIT * EVENT_LIMIT;
+
+pub const TABLE_BYTES: usize = ENTRY_LIMIT * 2;
+
+// A device, and any other table handed in: states.
+pub const DEVICE_LIMIT: usize = 64;
+
+pub const TABLE_LIMIT: usize = 64;
+
+// A failing word: events.
+pub const WORD_LIMIT: usize = DEVICE_LIMIT * TABLE_LIMIT;
+
+// The tool: channels, rows and entries of all their tables; a row is one state.
+pub const CHANNEL_LIMIT: usize = 8;
+
+pub const ROW_LIMIT: usize = CHANNEL_LIMIT * STATE_LIMIT;
+
+pub const STORE_LIMIT: usize = ROW_LIMIT * EVENT_LIMIT;
+
+// A channel file: bytes.
+pub const FILE_LIMIT: usize = 4096;
