@@ -1,9 +1,5 @@
 -- There is one first refusal and one lowest place; the computing twins yield them.
--- Assumes nothing.
-use mathlib.Core.Path.{_≡_, refl, sym, _∙_, ap, subst}
-use mathlib.Core.Logic.{inl, inr}
-use mathlib.Core.Bool.{Bool, true, false, true≢false}
-use mathlib.Core.Option.{Option, none, some, Option·some-ne-none}
+use mathlib.Core.{Path.{_≡_, refl, sym, _∙_, ap}, Logic.{inl, inr}, Bool.{Bool, true, false}, Option.{Option, none, some, Option·some-ne-none}}
 use mathlib.Core.List.{List, [], _∷_, _++_}
 use Prim.Native.Nat.{ℕ, _<_}
 use native.Mathlib.Omega.{arith}
@@ -11,37 +7,23 @@ use Rattle.refusal.specs.declared.Refusal.{Refusal}
 use Rattle.refusal.specs.declared.Refusal.the-variants.{Plain, At}
 use Rattle.refusal.specs.declared.Judgement.the-variants.{Accepted, Refused}
 use Rattle.refusal.specs.declared.Counted.the-variants.{Count, Refused as Uncounted}
-use Rattle.refusal.specs.Refusal.{number, place, has-place, HasNumber, HasNumbers, Condition, plain, Lowest, at-lowest, First, or-else, plain-unless, at-found, judgement, counted}
-use Rattle.refusal.specs.RefusalClaims.{Functional, AllFunctional, LowestUniqueClaim, FirstUniqueClaim, FirstAppendClaim, NoneMet, AcceptedClaim}
+use Rattle.refusal.specs.Refusal.{Condition, plain, at-lowest, Gives, Lowest, First, or-else, plain-unless, judgement, counted}
+use Rattle.refusal.specs.RefusalClaims.{LowestUniqueClaim, FirstUniqueClaim, JudgedClaim, FirstAppendClaim, NoneMet, AcceptedClaim}
 
--- Conditions without a place: at most one refusal, of their number.
-pub plain-functional : (n : ℕ) (Met : Type 0) → Functional (plain n Met)
-plain-functional n Met r s met met2 = met .1 ∙ sym (met2 .1)
-
-pub plain-number : (n : ℕ) (Met : Type 0) → has-place n ≡ false → (refusal : Refusal) → plain n Met refusal → HasNumber n refusal
-unfolding number place
-plain-number n Met placeless refusal met =
-    subst (HasNumber n) (sym (met .1)) (record { number-is = refl; place-is = (λ e. refl, λ e. placeless) })
-
--- Conditions with a place: the lowest place is one, so there is at most one refusal, of their number.
+-- The lowest place is one, so that a condition gives one refusal at most.
 pub lowest-unique : LowestUniqueClaim
 lowest-unique P p q l m =
     let not-above : ¬ (q < p) = λ h. l .least q h (m .holds) in
     let not-below : ¬ (p < q) = λ h. m .least p h (l .holds) in
     omega arith
 
-pub at-lowest-functional : (n : ℕ) (Met : ℕ → Type 0) → Functional (at-lowest n Met)
-at-lowest-functional n Met r s (p, l, e) (q, m, d) = e ∙ ap (At n) (lowest-unique Met p q l m) ∙ sym d
+gives-one : (C : Condition) (r s : Refusal) → Gives C r → Gives C s → r ≡ s
+gives-one (plain n Met) r s met met2 = met .1 ∙ sym (met2 .1)
+gives-one (at-lowest n Met) r s (p, l, e) (q, m, d) = e ∙ ap (At n) (lowest-unique Met p q l m) ∙ sym d
 
-pub at-lowest-number :
-    (n : ℕ) (Met : ℕ → Type 0) → has-place n ≡ true → (refusal : Refusal) → at-lowest n Met refusal → HasNumber n refusal
-unfolding number place
-at-lowest-number n Met placed refusal (p, l, e) =
-    subst (HasNumber n) (sym e)
-    (record {
-      number-is = refl;
-      place-is = (λ f. absurd (true≢false (sym placed ∙ f)), λ f. absurd (Option·some-ne-none p f));
-    })
+-- Where at most one place will do, it is the lowest.
+pub only-place : (P : ℕ → Type 0) (p : ℕ) → P p → ((q : ℕ) → P q → q ≡ p) → Lowest P p
+only-place P p h one = record { holds = h; least = λ i l m. omega (arith, l, one i m) }
 
 -- The twin of a condition without a place, from a test that decides it.
 pub plain-first : (n : ℕ) (Met : Type 0) (test : Bool) → (test ≡ false → Met) → (test ≡ true → ¬ Met) → First (plain n Met ∷ []) (plain-unless test n)
@@ -50,12 +32,16 @@ plain-first n Met true met unmet = inr (λ r m. unmet refl (m .0), refl)
 plain-first n Met false met unmet = inl (Plain n, (met refl, refl), refl)
 
 pub first-unique : FirstUniqueClaim
-unfolding First AllFunctional
-first-unique [] f a b x y = x ∙ sym y
-first-unique (C ∷ cs) f a b (inl (r, x, d)) (inl (s, y, e)) = d ∙ ap some (f .0 r s x y) ∙ sym e
-first-unique (C ∷ cs) f a b (inl (r, x, d)) (inr (unmet, y)) = absurd (unmet r x)
-first-unique (C ∷ cs) f a b (inr (unmet, x)) (inl (s, y, e)) = absurd (unmet s y)
-first-unique (C ∷ cs) f a b (inr (unmet, x)) (inr (unmet2, y)) = first-unique cs (f .1) a b x y
+unfolding First
+first-unique [] a b x y = x ∙ sym y
+first-unique (C ∷ cs) a b (inl (r, x, d)) (inl (s, y, e)) = d ∙ ap some (gives-one C r s x y) ∙ sym e
+first-unique (C ∷ cs) a b (inl (r, x, d)) (inr (unmet, y)) = absurd (unmet r x)
+first-unique (C ∷ cs) a b (inr (unmet, x)) (inl (s, y, e)) = absurd (unmet s y)
+first-unique (C ∷ cs) a b (inr (unmet, x)) (inr (unmet2, y)) = first-unique cs a b x y
+
+pub judged : JudgedClaim
+judged cs answer first ordered placed =
+    record { first = first; only = λ other x. first-unique cs other answer x first; ordered = ordered; placed = placed }
 
 pub accepted-exactly : AcceptedClaim
 unfolding First NoneMet
@@ -119,32 +105,18 @@ first-append cs ds a b x y = first-then cs ds a b x (λ e. y)
 
 -- One condition, from an answer that it decides; and one more in front of others.
 pub first-one :
-    (C : Condition) (a : Option Refusal) → ((r : Refusal) → a ≡ some r → C r) → (a ≡ none → (r : Refusal) → ¬ C r) → First (C ∷ []) a
+    (C : Condition) (a : Option Refusal) → ((r : Refusal) → a ≡ some r → Gives C r) → (a ≡ none → (r : Refusal) → ¬ Gives C r) → First (C ∷ []) a
 unfolding First
 first-one C (some r) met unmet = inl (r, met r refl, refl)
 first-one C none met unmet = inr (unmet refl, refl)
 
 pub first-cons :
-    (C : Condition) (cs : List Condition) (a b : Option Refusal) → ((r : Refusal) → a ≡ some r → C r) → (a ≡ none → (r : Refusal) → ¬ C r)
+    (C : Condition) (cs : List Condition) (a b : Option Refusal) → ((r : Refusal) → a ≡ some r → Gives C r) → (a ≡ none → (r : Refusal) → ¬ Gives C r)
     → (a ≡ none → First cs b) → First (C ∷ cs) (or-else a b)
 first-cons C cs a b met unmet later = first-then (C ∷ []) cs a b (first-one C a met unmet) later
 
 -- What follows a condition that is not met.
-pub first-rest : (C : Condition) (cs : List Condition) (a : Option Refusal) → ((r : Refusal) → ¬ C r) → First (C ∷ cs) a → First cs a
+pub first-rest : (C : Condition) (cs : List Condition) (a : Option Refusal) → ((r : Refusal) → ¬ Gives C r) → First (C ∷ cs) a → First cs a
 unfolding First
 first-rest C cs a unmet (inl (r, met, e)) = absurd (unmet r met)
 first-rest C cs a unmet (inr (u, rest)) = rest
-
--- Two lists of conditions that each give at most one refusal, and each their numbers.
-pub functional-append : (cs ds : List Condition) → AllFunctional cs → AllFunctional ds → AllFunctional (cs ++ ds)
-unfolding AllFunctional
-functional-append [] ds x y = y
-functional-append (C ∷ cs) ds x y = (x .0, functional-append cs ds (x .1) y)
-
-pub numbers-append :
-    (ns ms : List ℕ) (cs ds : List Condition) → HasNumbers ns cs → HasNumbers ms ds → HasNumbers (ns ++ ms) (cs ++ ds)
-unfolding HasNumbers
-numbers-append [] ms [] ds x y = y
-numbers-append [] ms (C ∷ cs) ds x y = absurd x
-numbers-append (n ∷ ns) ms [] ds x y = absurd x
-numbers-append (n ∷ ns) ms (C ∷ cs) ds x y = (x .0, numbers-append ns ms cs ds (x .1) y)

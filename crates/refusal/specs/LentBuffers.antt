@@ -1,6 +1,5 @@
 -- A lent buffer after a call (document 01, 13: "What lies after an output keeps its contents"; and of a refusal, that it "leaves
 -- the tool and all lent memory as before").
--- Assumes nothing.
 use mathlib.Core.List.{List, _++_}
 use mathlib.Core.Option.{Option, none, some}
 use Prim.Native.Nat.{ℕ}

@@ -1,8 +1,7 @@
 -- Refusals (document 01, "Who can cause a refusal"): number and place, their order, and which one a call gives.
--- Assumes nothing.
 use mathlib.Core.Path.{_≡_}
-use mathlib.Core.Logic.{_⊎_, _↔_}
-use mathlib.Core.Bool.{Bool, true, false, cond, _&&_, _||_}
+use mathlib.Core.Logic.{_⊎_}
+use mathlib.Core.Bool.{Bool, true, false, cond, not, _&&_, _||_}
 use mathlib.Core.Option.{Option, none, some}
 use mathlib.Core.List.{List, [], _∷_}
 use Prim.Native.Nat.{ℕ, _<_}
@@ -28,45 +27,34 @@ place (At n p) = some p
 unfoldable pub has-place : ℕ → Bool
 has-place n = eqb n 4 || (leb 6 n && leb n 9)
 
--- Document 01's order: 17, 14, 15, 16, then 4, then 1 to 3, 5 to 10, 11, 12, and 13 last.
+-- Document 01's order: 17, 14, 15, 16, then 4, then 1 to 3, 5 to 10, 11, 12, and 13 last. Document 02 adds 18 to 25: 25 after 17 and,
+-- where a table is loaded, after 10; 19 after 16; 22 "first of all"; 20 "in the place of 2 and 3", then 18; 23 after 8 and, for a
+-- written rule, after 12; 21 and 24 after 11.
 unfoldable pub order : List ℕ
-order = 17 ∷ 14 ∷ 15 ∷ 16 ∷ 4 ∷ 1 ∷ 2 ∷ 3 ∷ 5 ∷ 6 ∷ 7 ∷ 8 ∷ 9 ∷ 10 ∷ 11 ∷ 12 ∷ 13 ∷ []
-
--- A condition of the list, for one input: the refusals that it gives there.
-abbrev pub Condition : Type 1
-Condition = Refusal → Type 0
-
--- A condition without a place: its number, where the input meets it.
-abbrev pub plain : ℕ → Type 0 → Condition
-plain n Met refusal = Met × (refusal ≡ Plain n)
+order =
+    17 ∷ 25 ∷ 14 ∷ 15 ∷ 16 ∷ 19 ∷ 22 ∷ 4 ∷ 1 ∷ 2 ∷ 3 ∷ 20 ∷ 18 ∷ 5 ∷ 6 ∷ 7 ∷ 8 ∷ 23 ∷ 9 ∷ 10 ∷ 25 ∷ 11 ∷ 12 ∷ 23 ∷ 21 ∷ 24 ∷ 13 ∷ []
 
 -- The lowest place at which something holds.
 pub record Lowest (P : ℕ → Type 0) (p : ℕ) : Type 0 where
   pub holds : P p
   pub least : (i : ℕ) → i < p → ¬ P i
 
--- A condition with a place: its number and the lowest place where the input meets it.
-abbrev pub at-lowest : ℕ → (ℕ → Type 0) → Condition
-at-lowest n Met refusal = (p : ℕ) × Lowest Met p × (refusal ≡ At n p)
+-- A condition of the list, for one input: its number and what the input meets; with a place, what it meets there.
+pub data Condition : Type 1 where
+  plain : ℕ → Type 0 → Condition
+  at-lowest : ℕ → (ℕ → Type 0) → Condition
+
+-- The refusal that it gives, where it is met: its number, and the lowest place where it is met.
+abbrev pub Gives : Condition → Refusal → Type 0
+Gives (plain n Met) refusal = Met × (refusal ≡ Plain n)
+Gives (at-lowest n Met) refusal = (p : ℕ) × Lowest Met p × (refusal ≡ At n p)
 
 -- "Each is tested over its whole input before the next": the first condition that gives a refusal gives the answer,
 -- and a call that meets none of the conditions is accepted.
 unfoldable pub First : List Condition → Option Refusal → Type 0
 First [] answer = answer ≡ none
 First (C ∷ cs) answer =
-    ((refusal : Refusal) × C refusal × (answer ≡ some refusal)) ⊎ (((refusal : Refusal) → ¬ C refusal) × First cs answer)
-
--- A refusal of number n, with a place exactly if that number has one.
-pub record HasNumber (n : ℕ) (refusal : Refusal) : Type 0 where
-  pub number-is : number refusal ≡ n
-  pub place-is : (has-place n ≡ false) ↔ (place refusal ≡ none)
-
--- Each condition of a list gives only refusals of its number.
-unfoldable pub HasNumbers : List ℕ → List Condition → Type 0
-HasNumbers [] [] = Unit
-HasNumbers [] (C ∷ cs) = ⊥
-HasNumbers (n ∷ ns) [] = ⊥
-HasNumbers (n ∷ ns) (C ∷ cs) = ((refusal : Refusal) → C refusal → HasNumber n refusal) × HasNumbers ns cs
+    ((refusal : Refusal) × Gives C refusal × (answer ≡ some refusal)) ⊎ (((refusal : Refusal) → ¬ Gives C refusal) × First cs answer)
 
 -- The first list is the second with some numbers left out.
 unfoldable pub part-of : List ℕ → List ℕ → Bool
@@ -74,10 +62,24 @@ part-of [] ms = true
 part-of (n ∷ ns) [] = false
 part-of (n ∷ ns) (m ∷ ms) = cond (eqb n m) (part-of ns ms) (part-of (n ∷ ns) ms)
 
--- A call's conditions stand in document 01's order.
-pub record InOrder (numbers : List ℕ) (cs : List Condition) : Type 0 where
-  pub numbered : HasNumbers numbers cs
-  pub ordered : part-of numbers order ≡ true
+-- The numbers of a call's conditions, and whether each has a place exactly if its number has one.
+unfoldable pub condition-numbers : List Condition → List ℕ
+condition-numbers [] = []
+condition-numbers (plain n Met ∷ cs) = n ∷ condition-numbers cs
+condition-numbers (at-lowest n Met ∷ cs) = n ∷ condition-numbers cs
+
+unfoldable pub right-places : List Condition → Bool
+right-places [] = true
+right-places (plain n Met ∷ cs) = not (has-place n) && right-places cs
+right-places (at-lowest n Met ∷ cs) = has-place n && right-places cs
+
+-- What is claimed of every call that can be refused, for each input: its answer is the first refusal that its conditions give, or
+-- none where they give none; there is no other answer; and the conditions stand in document 01's order.
+pub record Judged (cs : List Condition) (answer : Option Refusal) : Type 0 where
+  pub first : First cs answer
+  pub only : (other : Option Refusal) → First cs other → other ≡ answer
+  pub ordered : part-of (condition-numbers cs) order ≡ true
+  pub placed : right-places cs ≡ true
 
 -- Computing twins, for the definitions that contracts cite. The first of two answers that is a refusal.
 unfoldable pub or-else : Option Refusal → Option Refusal → Option Refusal

@@ -1,21 +1,12 @@
 -- What is claimed of the first refusal of a list of conditions: there is one answer, and lists may be judged one after the other.
--- Assumes nothing.
 use mathlib.Core.Path.{_≡_}
 use mathlib.Core.Logic.{_↔_}
+use mathlib.Core.Bool.{true}
 use mathlib.Core.Option.{Option, none}
 use mathlib.Core.List.{List, [], _∷_, _++_}
 use Prim.Native.Nat.{ℕ}
 use Rattle.refusal.specs.declared.Refusal.{Refusal}
-use Rattle.refusal.specs.Refusal.{Condition, Lowest, First, or-else}
-
--- A condition gives at most one refusal.
-abbrev pub Functional : Condition → Type 0
-Functional C = (r s : Refusal) → C r → C s → r ≡ s
-
--- So does each condition of a list.
-unfoldable pub AllFunctional : List Condition → Type 0
-AllFunctional [] = Unit
-AllFunctional (C ∷ cs) = Functional C × AllFunctional cs
+use Rattle.refusal.specs.Refusal.{order, Condition, Gives, Lowest, First, part-of, condition-numbers, right-places, Judged, or-else}
 
 -- There is at most one lowest place.
 abbrev pub LowestUniqueClaim : Type 1
@@ -23,7 +14,13 @@ LowestUniqueClaim = (P : ℕ → Type 0) (p q : ℕ) → Lowest P p → Lowest P
 
 -- There is at most one answer.
 abbrev pub FirstUniqueClaim : Type 1
-FirstUniqueClaim = (cs : List Condition) → AllFunctional cs → (a b : Option Refusal) → First cs a → First cs b → a ≡ b
+FirstUniqueClaim = (cs : List Condition) (a b : Option Refusal) → First cs a → First cs b → a ≡ b
+
+-- So a list in order is judged by its first refusal.
+abbrev pub JudgedClaim : Type 1
+JudgedClaim =
+    (cs : List Condition) (answer : Option Refusal) → First cs answer → part-of (condition-numbers cs) order ≡ true → right-places cs ≡ true →
+    Judged cs answer
 
 -- Two lists one after the other: the first answer that is a refusal.
 abbrev pub FirstAppendClaim : Type 1
@@ -33,7 +30,7 @@ FirstAppendClaim =
 -- Nothing is refused exactly if no condition gives a refusal.
 unfoldable pub NoneMet : List Condition → Type 0
 NoneMet [] = Unit
-NoneMet (C ∷ cs) = ((refusal : Refusal) → ¬ C refusal) × NoneMet cs
+NoneMet (C ∷ cs) = ((refusal : Refusal) → ¬ Gives C refusal) × NoneMet cs
 
 abbrev pub AcceptedClaim : Type 1
 AcceptedClaim = (cs : List Condition) (a : Option Refusal) → First cs a → (a ≡ none) ↔ NoneMet cs

@@ -25,6 +25,10 @@ pub const SETUP_EVENTS: u8 = 1;
 pub const SETUP_VALUES: u8 = 2;
 // 3: meet length wrong, an entry not below values, or a law broken.
 pub const SETUP_MEET: u8 = 3;
+// 18: pulses or millimetres of a wheel's turn not 1 to 65,535 (document 02, F-6).
+pub const SETUP_WHEEL: u8 = 18;
+// 20: lines of a register not 1 to 16 (document 02, F-7).
+pub const SETUP_LINES: u8 = 20;
 
 // Rule writer.
 // 4: text not in the form; has a place.
@@ -41,12 +45,18 @@ pub const UNBOUND_VARIABLE: u8 = 8;
 pub const CLOSED_VARIABLE: u8 = 9;
 // 10: over 64 states, where the call makes a table.
 pub const STATE_COUNT: u8 = 10;
+// 23: more than twelve binders on a path (document 02, F-9).
+pub const BINDER_DEPTH: u8 = 23;
 
 // Device supplier.
 // 11: states, entry count, start, value or next state of a table handed in.
 pub const TABLE_LIMITS: u8 = 11;
 // 12: written rule over 256 nodes.
 pub const WRITTEN_SIZE: u8 = 12;
+// 21: a table that KISS2 cannot hold (document 02, F-8).
+pub const KISS2_VALUES: u8 = 21;
+// 22: text not in the form of KISS2 (document 02, F-8).
+pub const KISS2_FORM: u8 = 22;
 
 // Calling program.
 // 13: lent buffer too short.
@@ -59,3 +69,9 @@ pub const CHANNEL_EMPTY: u8 = 15;
 pub const EVENT_NUMBER: u8 = 16;
 // 17: a tool whose set-up fails 1 to 3, or whose channel fails 11's limits.
 pub const TOOL_CONTENTS: u8 = 17;
+// 19: the pulses of a channel above 1,099,511,627,776 in all (document 02, F-6).
+pub const PULSE_TOTAL: u8 = 19;
+// 24: a length not 1 to 15 (document 02, F-11).
+pub const SEQUENCE_LENGTH: u8 = 24;
+// 25: rows of the tool's tables above 512 in all (document 02, F-12).
+pub const ROW_TOTAL: u8 = 25;
