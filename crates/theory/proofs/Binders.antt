@@ -1,13 +1,10 @@
 -- What the binders above a part of a formula stand for: their demands, and the closed formulas put for their variables.
--- Assumes nothing.
-use mathlib.Core.Path.{_≡_, refl, sym, ap, subst, subst⁻¹}
-use mathlib.Core.List.{List, [], _∷_}
+use mathlib.Core.{Path.{_≡_, refl, sym, ap, subst, subst⁻¹}, List.{List, [], _∷_}}
 use Prim.Native.Nat.{ℕ, zero, suc, _<_}
 use native.Mathlib.Nat.{not-suc-le-zero, le-of-suc-le-suc}
 use lib.ListN.{length, getD}
 use Rattle.theory.specs.Formula.{Formula, greatest, FreeBelow, Closed, Guarded, Fits, WellFormed}
-use Rattle.theory.specs.PrefixCode.{Stands, root, part-of-transition, left-part, right-part, part-of-greatest}
-use Rattle.theory.specs.Demands.{NodeSet}
+use Rattle.theory.specs.{PrefixCode.{Stands, root, part-of-transition, left-part, right-part, part-of-greatest}, Demands.{NodeSet}}
 use Rattle.theory.specs.DemandSets.{binder-set, demands}
 use Rattle.theory.proofs.Instantiation.{instantiate, nth, instantiate-greatest, AllWellFormed, well-formed-instantiate}
 

@@ -1,19 +1,13 @@
 -- Node sets as bits: of a formula no larger than the width, the machine of bits reaches the states that the machine of node sets
 -- reaches, with the same values.
--- Assumes nothing.
-use mathlib.Core.Path.{_≡_, refl, sym, _∙_, ap, ap₂, subst, subst⁻¹, fun-ext}
-use mathlib.Core.Bool.{Bool, true, false, _||_, _&&_, cond, Bool·beq}
-use mathlib.Core.Logic.{_↔_}
+use mathlib.Core.{Path.{_≡_, refl, sym, _∙_, ap, ap₂, subst, subst⁻¹, fun-ext}, Bool.{Bool, true, false, _||_, _&&_, cond, Bool·beq}, Logic.{_↔_}}
 use mathlib.Core.List.{List, [], _∷_}
 use Prim.Native.Nat.{ℕ, zero, suc, _+_, _≤_, _<_}
-use native.Mathlib.Nat.{le-of-suc-le-suc, not-suc-le-zero}
-use native.Mathlib.Decide.{decLt}
-use native.Mathlib.Omega.{arith}
+use native.Mathlib.{Nat.{le-of-suc-le-suc, not-suc-le-zero}, Decide.{decLt}, Omega.{arith}}
 use lib.Dec.{T, eqb}
 use mir.Facts.{and-yes}
 use borrow.Author.Tests.{ne-eqb}
-use Rattle.theory.specs.Formula.{Formula, truth, variable, transition, output, conjunction, greatest, size}
-use Rattle.theory.specs.Demands.{NodeSet, value-of-set}
+use Rattle.theory.specs.{Formula.{Formula, truth, variable, transition, output, conjunction, greatest, size}, Demands.{NodeSet, value-of-set}}
 use Rattle.theory.specs.DemandSets.{empty, only, union, binder-set, demands, moved, set-machine, first-set}
 use Rattle.theory.specs.Exploration.{member, bits, same-bits, bit-machine, first-bits}
 use Rattle.theory.proofs.Transport.{SameStates, map-same-states}

@@ -1,27 +1,16 @@
 -- The claim on the formula of a table (specs/Claims).
--- Assumes nothing.
-use mathlib.Core.Path.{_≡_, sym}
-use mathlib.Core.Bool.{Bool}
-use mathlib.Core.List.{List, [], reverse}
+use mathlib.Core.{Path.{_≡_, sym}, Bool.{Bool}, List.{List, [], reverse}}
 use Prim.Native.Nat.{ℕ, _≤_, _<_}
 use native.Mathlib.Omega.{arith}
 use lib.ListN.{length, getD, length-map}
-use Rattle.theory.specs.Semilattice.{MeetSemilattice}
-use Rattle.theory.specs.Formula.{Formula, size, binders, WellFormed, Accepted}
-use Rattle.theory.specs.MealyMachine.{Machine, after}
-use Rattle.theory.specs.ReachableStates.{state-at}
-use Rattle.theory.specs.CharacteristicFormula.{Writes, written}
-use Rattle.theory.specs.DemandSets.{set-machine, first-set}
-use Rattle.theory.specs.Exploration.{same-bits, bit-machine, first-bits, sequences-of, state-count}
-use Rattle.theory.specs.Claims.{CharacteristicClaim}
-use Rattle.theory.proofs.SemanticsEquality.{answers-claim}
-use Rattle.theory.proofs.SetMachine.{table-of-iff}
-use Rattle.theory.proofs.ExploredStates.{in-order, explored-words, explored-different}
-use Rattle.theory.proofs.BitSets.{same-bits-iff, same-as-bits}
+use Rattle.theory.specs.{Semilattice.{MeetSemilattice}, Formula.{Formula, size, binders, WellFormed, Accepted}, MealyMachine.{Machine, after}}
+use Rattle.theory.specs.{ReachableStates.{state-at}, CharacteristicFormula.{Writes, written}, DemandSets.{set-machine, first-set}}
+use Rattle.theory.specs.{Exploration.{same-bits, bit-machine, first-bits, sequences-of, state-count}, Claims.{CharacteristicClaim}}
+use Rattle.theory.proofs.{SemanticsEquality.{answers-claim}, SetMachine.{table-of-iff}}
+use Rattle.theory.proofs.{ExploredStates.{in-order, explored-words, explored-different}, BitSets.{same-bits-iff, same-as-bits}}
 use Rattle.theory.proofs.TableClaims.{table-claim}
 use Rattle.theory.proofs.CharacteristicFormula.{writes-tree, writes-one, written-writes, writes-accepted, writes-well-formed, writes-size}
-use Rattle.theory.proofs.CharacteristicValues.{writes-values}
-use Rattle.theory.proofs.CharacteristicTable.{states-at-most, table-count}
+use Rattle.theory.proofs.{CharacteristicValues.{writes-values}, CharacteristicTable.{states-at-most, table-count}}
 
 module _ {B : Type 0} (In : B → Type 0) (meet : B → B → B) (top : B) (laws : MeetSemilattice In meet top) (events : ℕ) where
   -- Exploring a written formula finds no more states than it has V nodes, whatever the limit.

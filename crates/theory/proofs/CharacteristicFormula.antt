@@ -1,22 +1,16 @@
 -- The formula of a table: one and only one is written for each start; its size is known from its V nodes; and it is closed, of
 -- the grammar and within the set-up. All is shown by induction on how a formula is written.
--- Assumes nothing.
-use mathlib.Core.Path.{_≡_, refl, sym, _∙_, ap, ap₂, subst, subst⁻¹}
-use mathlib.Core.Bool.{Bool, true, false, cond}
-use mathlib.Core.Logic.{_⊎_, inl, inr}
-use mathlib.Core.List.{List, [], _∷_, List·Memᴰ, List·Memᴰ·head, List·Memᴰ·tail, List·Memᴰ·not-nil}
-use mathlib.Core.Option.{none, some}
+use mathlib.Core.{Path.{_≡_, refl, sym, _∙_, ap, ap₂, subst, subst⁻¹}, Bool.{Bool, true, false, cond}, Logic.{_⊎_, inl, inr}}
+use mathlib.Core.{List.{List, [], _∷_, List·Memᴰ, List·Memᴰ·head, List·Memᴰ·tail, List·Memᴰ·not-nil}, Option.{none, some}}
 use Prim.Native.Nat.{ℕ, zero, suc, _+_, _*_, _≤_, _<_, zero-le, suc-le-suc}
-use native.Mathlib.Nat.{mul-suc, mul-add, mul-assoc, suc-mul}
-use native.Mathlib.Omega.{arith}
-use lib.Dec.{eqb}
-use lib.ListN.{length}
+use native.Mathlib.{Nat.{mul-suc, mul-add, mul-assoc, suc-mul}, Omega.{arith}}
+use lib.{Dec.{eqb}, ListN.{length}}
 use borrow.Author.Tests.{eqb-true, eqb-false}
-use Rattle.theory.specs.Formula.{Formula, truth, variable, transition, output, conjunction, greatest, size, binders, FreeBelow, OpenPosition, ClosedPosition, Fits, WellFormed, Accepted}
-use Rattle.theory.specs.MealyMachine.{Machine, Runs, States}
-use Rattle.theory.specs.CharacteristicFormula.{OpenAt, here, above, Writes, already-open, opened, Rows, last-row, row, one-more, open-at, variable-or, rows, write, written}
-use Rattle.theory.proofs.Substitution.{accepted-well-formed}
-use Rattle.theory.proofs.DistinctLists.{Distinct, distinct-below}
+use Rattle.theory.specs.Formula.{Formula, truth, variable, transition, output, conjunction, greatest, size, binders, FreeBelow, OpenPosition}
+use Rattle.theory.specs.{Formula.{ClosedPosition, Fits, WellFormed, Accepted}, MealyMachine.{Machine, Runs, States}}
+use Rattle.theory.specs.CharacteristicFormula.{OpenAt, here, above, Writes, already-open, opened, Rows, last-row, row, one-more, open-at, variable-or}
+use Rattle.theory.specs.CharacteristicFormula.{rows, write, written}
+use Rattle.theory.proofs.{Substitution.{accepted-well-formed}, DistinctLists.{Distinct, distinct-below}}
 
 -- ---- where a state is open on a path
 pub open-one : {s : ℕ} {path : List ℕ} {i j : ℕ} → OpenAt s path i → OpenAt s path j → i ≡ j

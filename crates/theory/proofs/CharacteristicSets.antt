@@ -1,22 +1,14 @@
 -- The demands of the V nodes of a written formula: each has the G and O nodes of its own rows, so that no two are equal, and
 -- each event leads from it to the demands of the part of its row for that event.
--- Assumes nothing.
-use mathlib.Core.Path.{_≡_, refl, _∙_, ap, ap₂, subst⁻¹, fun-ext}
-use mathlib.Core.Bool.{Bool, true, false, _||_, _&&_, cond}
-use mathlib.Core.Logic.{⊎-elim}
+use mathlib.Core.{Path.{_≡_, refl, _∙_, ap, ap₂, subst⁻¹}, Bool.{Bool, true, false, _||_, _&&_, cond}, Logic.{⊎-elim}}
 use mathlib.Core.List.{List, [], _∷_, _++_, List·Memᴰ, List·Memᴰ·not-nil, List·Memᴰ·cases-cons, List·Memᴰ·append-cases}
 use Prim.Native.Nat.{ℕ, suc, _+_, _≤_, _<_}
-use native.Mathlib.Omega.{arith}
-use native.Mathlib.Decide.{decLt}
-use lib.Dec.{eqb}
-use lib.ListN.{length, length-append}
+use native.Mathlib.{Omega.{arith}, Decide.{decLt}}
+use lib.{Dec.{eqb}, ListN.{length, length-append}}
 use borrow.Author.Tests.{eq-eqb, ne-eqb}
 use Rattle.theory.specs.Formula.{Formula, truth, variable, transition, output, conjunction, greatest, size, binders, OpenPosition, ClosedPosition}
-use Rattle.theory.specs.MealyMachine.{Machine}
-use Rattle.theory.specs.Demands.{NodeSet}
-use Rattle.theory.specs.DemandSets.{empty, only, union, demands, moved}
-use Rattle.theory.proofs.NodeSets.{union-empty, empty-union, only-self, only-other}
-use Rattle.theory.proofs.DistinctLists.{Distinct, distinct-append}
+use Rattle.theory.specs.{MealyMachine.{Machine}, Demands.{NodeSet}, DemandSets.{empty, union, demands, moved}}
+use Rattle.theory.proofs.{NodeSets.{union-empty, empty-union, only-self, only-other}, DistinctLists.{Distinct, distinct-append}}
 use Rattle.theory.proofs.CharacteristicFormula.{Tree, bound, binding, Branches, last-branch, branch, tree-position, branches-position}
 
 -- ---- sets of nodes

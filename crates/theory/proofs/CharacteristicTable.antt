@@ -1,27 +1,20 @@
 -- The table of a written formula has one state for each V node: each V's demands are reached, along the G nodes on the way to
 -- it, and nothing else is.
--- Assumes nothing.
-use mathlib.Core.Path.{_≡_, refl, sym, _∙_, ap, subst}
-use mathlib.Core.Bool.{false, _&&_, cond}
-use mathlib.Core.Logic.{_⊎_, inl, inr, ⊎-elim}
-use mathlib.Core.List.{List, [], _∷_, _++_, map, List·Memᴰ, List·Memᴰ·head, List·Memᴰ·tail, List·Memᴰ·not-nil, List·Memᴰ·cases-cons, List·Memᴰ·append-cases, Memᴰ·append-left, Memᴰ·append-right, Memᴰ·cast}
+use mathlib.Core.{Path.{_≡_, refl, sym, _∙_, ap, subst}, Bool.{false, _&&_, cond}, Logic.{_⊎_, inl, inr, ⊎-elim}}
+use mathlib.Core.List.{List, [], _∷_, _++_, map, List·Memᴰ, List·Memᴰ·head, List·Memᴰ·tail, List·Memᴰ·not-nil, List·Memᴰ·cases-cons, List·Memᴰ·append-cases}
+use mathlib.Core.List.{Memᴰ·append-left, Memᴰ·append-right, Memᴰ·cast}
 use Prim.Native.Nat.{ℕ, zero, suc, _+_, _≤_, _<_, zero-le}
-use native.Mathlib.Nat.{le-of-suc-le-suc, not-suc-le-zero, eq-or-lt-of-le}
-use native.Mathlib.Omega.{arith}
-use lib.Dec.{eqb}
-use lib.ListN.{length, getD, length-map, List·getD-map}
+use native.Mathlib.{Nat.{le-of-suc-le-suc, not-suc-le-zero, eq-or-lt-of-le}, Omega.{arith}}
+use lib.{Dec.{eqb}, ListN.{length, getD, length-map, List·getD-map}}
 use Rattle.theory.specs.Formula.{Formula, transition, output, conjunction, greatest, size, binders, ClosedPosition}
-use Rattle.theory.specs.MealyMachine.{Machine, Word, after}
-use Rattle.theory.specs.Demands.{NodeSet}
-use Rattle.theory.specs.ReachableStates.{Numbering, IsTable}
-use Rattle.theory.specs.CharacteristicFormula.{Writes}
-use Rattle.theory.specs.DemandSets.{empty, union, binder-set, demands, moved, set-machine, first-set}
-use Rattle.theory.proofs.NodeSets.{union-empty, empty-union}
-use Rattle.theory.proofs.WordOrder.{word-append}
-use Rattle.theory.proofs.ReachableStates.{after-append}
+use Rattle.theory.specs.{MealyMachine.{Machine, Word, after}, Demands.{NodeSet}, ReachableStates.{Numbering, IsTable}}
+use Rattle.theory.specs.{CharacteristicFormula.{Writes}, DemandSets.{empty, union, binder-set, demands, moved, set-machine, first-set}}
+use Rattle.theory.proofs.{NodeSets.{union-empty, empty-union}, WordOrder.{word-append}, ReachableStates.{after-append}}
 use Rattle.theory.proofs.DistinctLists.{distinct-length, member-at, number-of, distinct-by-number}
-use Rattle.theory.proofs.CharacteristicFormula.{Tree, bound, binding, Branches, last-branch, branch, open-below, writes-tree, tree-position, branches-position}
-use Rattle.theory.proofs.CharacteristicSets.{demands-below, demands-beyond, demands-alone, moved-clear, binder-sets, length-binder-sets, part-node, rest-node, Agrees, agrees-rest, moved-own, to-part, to-rest, tree-distinct}
+use Rattle.theory.proofs.CharacteristicFormula.{Tree, bound, binding, Branches, last-branch, branch, open-below, writes-tree, tree-position}
+use Rattle.theory.proofs.CharacteristicFormula.{branches-position}
+use Rattle.theory.proofs.CharacteristicSets.{demands-below, demands-beyond, demands-alone, moved-clear, binder-sets, length-binder-sets, part-node}
+use Rattle.theory.proofs.CharacteristicSets.{rest-node, Agrees, agrees-rest, moved-own, to-part, to-rest, tree-distinct}
 
 -- ---- the parts of a formula, with the demands of the binders above each
 module _ {B : Type 0} (Φ : Formula B) where

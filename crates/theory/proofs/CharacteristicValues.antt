@@ -1,25 +1,20 @@
 -- The formula written for a state has the state's values on every event sequence.
--- Assumes nothing.
-use mathlib.Core.Path.{_≡_, refl, _∙_, ap, ap₂, subst, subst⁻¹}
-use mathlib.Core.Bool.{cond}
-use mathlib.Core.Logic.{_⊎_, inl, inr}
-use mathlib.Core.List.{List, [], _∷_}
+use mathlib.Core.{Path.{_≡_, refl, _∙_, ap, ap₂, subst, subst⁻¹}, Bool.{cond}, Logic.{_⊎_, inl, inr}, List.{List, [], _∷_}}
 use Prim.Native.Nat.{ℕ, zero, suc, _≤_, _<_, zero-le}
-use native.Mathlib.Nat.{eq-or-lt-of-le}
-use native.Mathlib.Omega.{arith}
-use lib.Dec.{eqb}
-use lib.ListN.{length}
+use native.Mathlib.{Nat.{eq-or-lt-of-le}, Omega.{arith}}
+use lib.{Dec.{eqb}, ListN.{length}}
 use borrow.Author.Tests.{eq-eqb, ne-eqb}
 use Rattle.theory.specs.Semilattice.{MeetSemilattice}
 use Rattle.theory.specs.Formula.{Formula, truth, transition, output, conjunction, greatest, unfolded, WellFormed}
-use Rattle.theory.specs.MealyMachine.{Machine, Word, after, Runs, States}
-use Rattle.theory.specs.CharacteristicFormula.{OpenAt, here, above, Writes}
+use Rattle.theory.specs.{MealyMachine.{Machine, Word, after, Runs, States}, CharacteristicFormula.{OpenAt, here, above, Writes}}
 use Rattle.theory.specs.Evaluation.{value, follower, formulas}
-use Rattle.theory.proofs.Order.{top-meet, top-top}
-use Rattle.theory.proofs.Substitution.{open-position-guarded, closed-position-guarded}
-use Rattle.theory.proofs.Instantiation.{instantiate, nth, instantiate-transition, instantiate-output, instantiate-conjunction, instantiate-greatest, instantiate-variable, AllWellFormed, all-closed, well-formed-instantiate}
-use Rattle.theory.proofs.Equations.{step-truth, step-transition, step-output, step-greatest, value-in, follower-well-formed, conjunction-values, well-formed-conjunction}
-use Rattle.theory.proofs.CharacteristicFormula.{Tree, bound, binding, Branches, last-branch, branch, open-below, writes-tree, tree-free, tree-position, tree-fits, branches-free, branches-position, branches-fits}
+use Rattle.theory.proofs.{Order.{top-meet, top-top}, Substitution.{open-position-guarded, closed-position-guarded}}
+use Rattle.theory.proofs.Instantiation.{instantiate, nth, instantiate-transition, instantiate-output, instantiate-conjunction, instantiate-greatest}
+use Rattle.theory.proofs.Instantiation.{instantiate-variable, AllWellFormed, all-closed, well-formed-instantiate}
+use Rattle.theory.proofs.Equations.{step-truth, step-transition, step-output, step-greatest, value-in, follower-well-formed, conjunction-values}
+use Rattle.theory.proofs.Equations.{well-formed-conjunction}
+use Rattle.theory.proofs.CharacteristicFormula.{Tree, bound, binding, Branches, last-branch, branch, open-below, writes-tree, tree-free, tree-position}
+use Rattle.theory.proofs.CharacteristicFormula.{tree-fits, branches-free, branches-position, branches-fits}
 
 module _ {B : Type 0} (m : Machine ℕ B) (events : ℕ) (In : B → Type 0) (n : ℕ) (runs : Runs events In (States n) m) where
   abbrev Good : Formula B → Type 0

@@ -1,17 +1,13 @@
 -- A proof of each proposition of specs/Claims.
--- Assumes nothing.
 use Prim.Native.Nat.{ℕ}
 use Rattle.theory.specs.Semilattice.{MeetSemilattice}
-use Rattle.theory.specs.Claims.{GrammarClaim, SemanticsClaim, AnswersClaim, ConjunctionClaim, SimulationClaim, NumberingClaim, TableSimulationClaim, SatisfactionClaim, TableSatisfactionClaim, DemandClaim, DemandValuesClaim, TableClaim, TableValuesClaim, CharacteristicClaim, ConformanceClaim, TrialClaim}
-use Rattle.theory.proofs.Substitution.{accepted-well-formed}
-use Rattle.theory.proofs.SemanticsEquality.{semantics-claim, answers-claim, conjunction-claim}
-use Rattle.theory.proofs.Simulation.{simulation-claim}
-use Rattle.theory.proofs.Satisfaction.{satisfaction-claim}
-use Rattle.theory.proofs.TableSatisfaction.{table-satisfaction-claim}
-use Rattle.theory.proofs.DemandClaims.{demand-claim, demand-values-claim}
-use Rattle.theory.proofs.TableClaims.{numbering-claim, table-claim, table-values-claim}
-use Rattle.theory.proofs.CharacteristicClaims.{characteristic-claim}
-use Rattle.theory.proofs.ConformanceClaims.{table-simulation-claim, conformance-claim}
+use Rattle.theory.specs.Claims.{GrammarClaim, SemanticsClaim, AnswersClaim, ConjunctionClaim, SimulationClaim, NumberingClaim, TableSimulationClaim}
+use Rattle.theory.specs.Claims.{SatisfactionClaim, TableSatisfactionClaim, DemandClaim, DemandValuesClaim, TableClaim, TableValuesClaim}
+use Rattle.theory.specs.Claims.{CharacteristicClaim, ConformanceClaim, TrialClaim}
+use Rattle.theory.proofs.{Substitution.{accepted-well-formed}, SemanticsEquality.{semantics-claim, answers-claim, conjunction-claim}}
+use Rattle.theory.proofs.{Simulation.{simulation-claim}, Satisfaction.{satisfaction-claim}, TableSatisfaction.{table-satisfaction-claim}}
+use Rattle.theory.proofs.{DemandClaims.{demand-claim, demand-values-claim}, TableClaims.{numbering-claim, table-claim, table-values-claim}}
+use Rattle.theory.proofs.{CharacteristicClaims.{characteristic-claim}, ConformanceClaims.{table-simulation-claim, conformance-claim}}
 use Rattle.theory.proofs.Trial.{trial-claim}
 
 pub grammar : GrammarClaim

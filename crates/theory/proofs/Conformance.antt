@@ -1,27 +1,16 @@
 -- The check of one table against another: no word is found exactly where every value is at or below on every word, which is
 -- simulation; a word that is found is the first counterexample, of at least one and at most n × k events.
--- Assumes nothing.
-use mathlib.Core.Path.{_≡_, refl, sym, _∙_, ap, subst, subst⁻¹}
-use mathlib.Core.Bool.{Bool, true, false, not}
-use mathlib.Core.Logic.{_↔_}
-use mathlib.Core.List.{List, [], _∷_, _++_, reverse, reverse-cons, reverse-reverse, reverse-append}
-use mathlib.Core.Option.{Option, none, some}
+use mathlib.Core.{Path.{_≡_, refl, _∙_, ap, subst, subst⁻¹}, Bool.{Bool, true, false, not}, Logic.{_↔_}}
+use mathlib.Core.{List.{List, [], _∷_, _++_, reverse, reverse-cons, reverse-reverse, reverse-append}, Option.{Option, none, some}}
 use Prim.Native.Nat.{ℕ, _+_, _*_, _≤_, _<_}
-use native.Mathlib.Nat.{mul-le-mul-right, suc-mul}
-use native.Mathlib.Omega.{arith}
-use lib.Dec.{T, eqb, eqb→eq, eqb-refl, T-not, not-T}
-use lib.ListN.{length, length-reverse}
+use native.Mathlib.{Nat.{mul-le-mul-right, suc-mul}, Omega.{arith}}
+use lib.{Dec.{T, eqb, eqb→eq, eqb-refl, T-not, not-T}, ListN.{length, length-reverse}}
 use mir.Facts.{and-yes, yes-and}
-use Rattle.theory.specs.Semilattice.{AtOrBelow}
-use Rattle.theory.specs.MealyMachine.{Machine, Word, after, Runs, States, IsSimulation, BelowOnWords}
-use Rattle.theory.specs.WordOrder.{NoLater}
+use Rattle.theory.specs.{Semilattice.{AtOrBelow}, MealyMachine.{Machine, Word, after, Runs, States, BelowOnWords}, WordOrder.{NoLater}}
 use Rattle.theory.specs.Exploration.{reached, explored}
 use Rattle.theory.specs.Conformance.{Counterexample, FirstCounterexample, first-bad, next-pair, bad-pair, same-pair, in-play-order, counterexample}
-use Rattle.theory.proofs.Numbers.{digits-equal, pigeonhole}
-use Rattle.theory.proofs.WordOrder.{word-reverse, word-left, word-right, no-later-iff-number}
-use Rattle.theory.proofs.Exploration.{at, Kept, invariant}
-use Rattle.theory.proofs.ReachableStates.{reached-reverse}
-use Rattle.theory.proofs.FirstBad.{Answer, answer}
+use Rattle.theory.proofs.{Numbers.{digits-equal, pigeonhole}, WordOrder.{word-reverse, word-left, word-right, no-later-iff-number}}
+use Rattle.theory.proofs.{Exploration.{at, Kept, invariant}, ReachableStates.{reached-reverse}, FirstBad.{Answer, answer}}
 
 pub same-pair-iff : (x y : ℕ × ℕ) → T (same-pair x y) ↔ (x ≡ y)
 same-pair-iff x y = (

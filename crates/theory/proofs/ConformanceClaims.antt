@@ -1,19 +1,11 @@
 -- Between tables, simulation by a decided relation is simulation, and the check decides it.
--- Assumes nothing.
-use mathlib.Core.Path.{_≡_, refl, subst, subst⁻¹}
-use mathlib.Core.Bool.{Bool, true, false}
-use mathlib.Core.Logic.{_↔_}
-use mathlib.Core.List.{List, [], _∷_}
-use mathlib.Core.Option.{Option, none, some}
-use Prim.Native.Nat.{ℕ, zero, _<_}
+use mathlib.Core.{Path.{_≡_, refl}, Bool.{Bool, true, false}, Logic.{_↔_}, List.{[], _∷_}, Option.{Option, none, some}}
+use Prim.Native.Nat.{ℕ, _<_}
 use native.Mathlib.Omega.{arith}
 use lib.Dec.{T}
-use Rattle.theory.specs.Semilattice.{MeetSemilattice, AtOrBelow}
-use Rattle.theory.specs.MealyMachine.{Machine, Word, after, Runs, States, SimulatedTable, BelowOnWords}
-use Rattle.theory.specs.Conformance.{counterexample}
-use Rattle.theory.specs.Claims.{TableSimulationClaim, ConformanceClaim}
-use Rattle.theory.proofs.Simulation.{simulation-below}
-use Rattle.theory.proofs.Conformance.{conformance}
+use Rattle.theory.specs.{Semilattice.{MeetSemilattice, AtOrBelow}, MealyMachine.{Machine, Runs, States, SimulatedTable, BelowOnWords}}
+use Rattle.theory.specs.{Conformance.{counterexample}, Claims.{TableSimulationClaim, ConformanceClaim}}
+use Rattle.theory.proofs.{Simulation.{simulation-below}, Conformance.{conformance}}
 
 is-none : {A : Type 0} → Option A → Bool
 is-none none = true

@@ -1,11 +1,7 @@
 -- Counting the members of a decided set below a bound.
--- Assumes nothing.
-use mathlib.Core.Path.{_≡_, refl, sym, _∙_, ap, ap₂, subst}
-use mathlib.Core.Bool.{Bool, true, false, _&&_}
-use mathlib.Core.Logic.{_⊎_, inl, inr}
+use mathlib.Core.{Path.{_≡_, refl, sym, _∙_, ap, ap₂, subst}, Bool.{Bool, true, false, _&&_}, Logic.{_⊎_, inl, inr}}
 use Prim.Native.Nat.{ℕ, zero, suc, _+_, _≤_, _<_, zero-le}
-use native.Mathlib.Nat.{le-of-suc-le-suc, not-suc-le-zero, eq-or-lt-of-le, suc-inj}
-use native.Mathlib.Omega.{arith}
+use native.Mathlib.{Nat.{le-of-suc-le-suc, not-suc-le-zero, eq-or-lt-of-le, suc-inj}, Omega.{arith}}
 
 abbrev pub one : Bool → ℕ
 one true = 1

@@ -1,19 +1,9 @@
 -- The claims about demands (specs/Claims).
--- Assumes nothing.
-use mathlib.Core.Path.{_≡_, sym, _∙_, ap, ap₂, subst, subst⁻¹}
-use mathlib.Core.List.{List}
+use mathlib.Core.{Path.{_∙_, subst, subst⁻¹}, List.{List}}
 use Prim.Native.Nat.{ℕ}
-use Rattle.theory.specs.Semilattice.{MeetSemilattice}
-use Rattle.theory.specs.Formula.{Formula, WellFormed}
-use Rattle.theory.specs.Semantics.{Answers}
-use Rattle.theory.specs.MealyMachine.{Machine, after}
-use Rattle.theory.specs.Demands.{NodeSet}
-use Rattle.theory.specs.DemandSets.{set-machine, first-set}
-use Rattle.theory.specs.Claims.{DemandClaim, DemandValuesClaim}
-use Rattle.theory.proofs.SemanticsEquality.{answers}
-use Rattle.theory.proofs.Demands.{shown-is-value}
-use Rattle.theory.proofs.ReachedSets.{reached-nodes}
-use Rattle.theory.proofs.DemandValues.{demand-values}
+use Rattle.theory.specs.{Semilattice.{MeetSemilattice}, Formula.{Formula, WellFormed}, Semantics.{Answers}, MealyMachine.{after}}
+use Rattle.theory.specs.{DemandSets.{set-machine, first-set}, Claims.{DemandClaim, DemandValuesClaim}}
+use Rattle.theory.proofs.{SemanticsEquality.{answers}, Demands.{shown-is-value}, ReachedSets.{reached-nodes}, DemandValues.{demand-values}}
 use Rattle.theory.proofs.SetMachine.{set-machine-is, only-set-machine}
 
 module _ {B : Type 0} (In : B → Type 0) (meet : B → B → B) (top : B) (laws : MeetSemilattice In meet top) (events : ℕ) where

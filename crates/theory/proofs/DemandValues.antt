@@ -1,26 +1,21 @@
 -- The machine of demand sets has the formula's computed values on every event sequence.
--- Assumes nothing.
-use mathlib.Core.Path.{_≡_, refl, sym, _∙_, ap, ap₂, subst, subst⁻¹}
-use mathlib.Core.Bool.{Bool, true, false, _&&_, cond}
-use mathlib.Core.List.{List, [], _∷_}
+use mathlib.Core.{Path.{_≡_, refl, sym, _∙_, ap, ap₂, subst, subst⁻¹}, Bool.{Bool, true, false, _&&_, cond}, List.{List, [], _∷_}}
 use Prim.Native.Nat.{ℕ, zero, suc, _+_, _<_}
-use native.Mathlib.Nat.{not-suc-le-zero}
-use native.Mathlib.Omega.{arith}
-use lib.Dec.{eqb}
-use lib.ListN.{length, getD}
+use native.Mathlib.{Nat.{not-suc-le-zero}, Omega.{arith}}
+use lib.{Dec.{eqb}, ListN.{length, getD}}
 use Rattle.theory.specs.Semilattice.{MeetSemilattice}
 use Rattle.theory.specs.Formula.{Formula, truth, variable, transition, output, conjunction, greatest, size, unfolded, WellFormed}
-use Rattle.theory.specs.MealyMachine.{after}
-use Rattle.theory.specs.PrefixCode.{Stands, root, part-of-transition, left-part, right-part, part-of-greatest}
-use Rattle.theory.specs.Demands.{NodeSet}
-use Rattle.theory.specs.Evaluation.{unguarded-depth, step, value, follower, formulas}
+use Rattle.theory.specs.{MealyMachine.{after}, PrefixCode.{Stands, root, part-of-transition, left-part, right-part, part-of-greatest}}
+use Rattle.theory.specs.{Demands.{NodeSet}, Evaluation.{unguarded-depth, step, value, follower, formulas}}
 use Rattle.theory.specs.DemandSets.{empty, only, union, binder-set, demands, moved, set-machine, first-set}
 use Rattle.theory.proofs.Order.{top-meet}
-use Rattle.theory.proofs.Instantiation.{instantiate, nth, instantiate-truth, instantiate-transition, instantiate-output, instantiate-conjunction, instantiate-greatest, instantiate-variable, all-closed}
+use Rattle.theory.proofs.Instantiation.{instantiate, nth, instantiate-truth, instantiate-transition, instantiate-output, instantiate-conjunction}
+use Rattle.theory.proofs.Instantiation.{instantiate-greatest, instantiate-variable, all-closed}
 use Rattle.theory.proofs.Equations.{step-truth, step-transition, step-output, step-conjunction, step-greatest, depth-unfolded, follower-well-formed}
-use Rattle.theory.proofs.NodeSets.{shown, Misses, Lies, only-self, only-other, only-lies, empty-misses, union-empty, empty-union, moved-union, moved-miss, shown-miss, shown-in, shown-union}
-use Rattle.theory.proofs.Binders.{binder-demands, binder-formulas, binder-formulas-length, IsBinder, binder-of, part-free, part-fits, binder-formulas-well-formed, part-well-formed}
-use Rattle.theory.proofs.Demands.{own-demands}
+use Rattle.theory.proofs.NodeSets.{shown, Misses, Lies, only-self, only-other, only-lies, empty-misses, union-empty, empty-union, moved-union}
+use Rattle.theory.proofs.NodeSets.{moved-miss, shown-miss, shown-in, shown-union}
+use Rattle.theory.proofs.Binders.{binder-demands, binder-formulas, binder-formulas-length, IsBinder, binder-of, part-free, part-fits}
+use Rattle.theory.proofs.{Binders.{binder-formulas-well-formed, part-well-formed}, Demands.{own-demands}}
 
 module _ {B : Type 0} (φ : Formula B) where
   -- Of a set within a part's nodes, the whole formula's next set is the part's.

@@ -1,20 +1,15 @@
 -- The computed demands, first set, next set and value are the printed ones (document 01, "Table of a rule").
--- Assumes nothing.
-use mathlib.Core.Path.{_≡_, refl, sym, _∙_, ap, subst, subst⁻¹, subst₂}
-use mathlib.Core.Logic.{_↔_, inl, inr, ⊎-elim, Iff·symm, Iff·trans}
-use mathlib.Core.Bool.{Bool, true, false, _&&_, cond}
-use mathlib.Core.List.{List, [], _∷_, _++_, append-nil, append-assoc}
+use mathlib.Core.{Path.{_≡_, refl, sym, _∙_, ap, subst, subst⁻¹, subst₂}, Logic.{_↔_, inl, inr, ⊎-elim, Iff·symm, Iff·trans}}
+use mathlib.Core.{Bool.{Bool, true, false, _&&_, cond}, List.{List, [], _∷_, _++_, append-nil, append-assoc}}
 use Prim.Native.Nat.{ℕ, zero, suc, _+_, _<_, zero-le, suc-le-suc}
 use native.Mathlib.Omega.{arith}
-use lib.Dec.{T, eqb, eqb→eq, eqb-refl}
-use lib.ListN.{length, getD}
+use lib.{Dec.{T, eqb, eqb→eq, eqb-refl}, ListN.{length, getD}}
 use Rattle.theory.specs.Semilattice.{MeetSemilattice}
 use Rattle.theory.specs.Formula.{Formula, truth, variable, transition, output, conjunction, greatest, size, Guarded, Fits}
 use Rattle.theory.specs.PrefixCode.{Node, nodes, Stands, root, part-of-transition, left-part, right-part, part-of-greatest}
-use Rattle.theory.specs.Demands.{NodeSet, Demands, of-transition, of-output, of-left, of-right, of-greatest, of-variable, IsFirstSet, InNextSet, IsNextSet, outputs, meet-all, value-of-set}
-use Rattle.theory.specs.DemandSets.{empty, binder-set, demands, moved, first-set}
-use Rattle.theory.proofs.Order.{top-meet}
-use Rattle.theory.proofs.PrefixCode.{stands-once}
+use Rattle.theory.specs.Demands.{NodeSet, Demands, of-transition, of-output, of-left, of-right, of-greatest, of-variable, IsFirstSet, InNextSet}
+use Rattle.theory.specs.{Demands.{IsNextSet, outputs, meet-all, value-of-set}, DemandSets.{empty, binder-set, demands, moved, first-set}}
+use Rattle.theory.proofs.{Order.{top-meet}, PrefixCode.{stands-once}}
 use Rattle.theory.proofs.NodeSets.{shown, not-in-empty, in-only, in-union, same-members, demands-swap, shown-in}
 use Rattle.theory.proofs.Binders.{binder-demands, binder-of, part-guarded}
 

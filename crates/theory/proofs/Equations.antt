@@ -1,16 +1,11 @@
 -- The equations of source 000, section 3, hold for the computed value and follower of each closed guarded formula (the wider class).
--- Assumes nothing.
-use mathlib.Core.Path.{_≡_, refl, sym, _∙_, ap, ap₂, subst}
-use mathlib.Core.Bool.{Bool, true, false, cond}
-use mathlib.Core.List.{List, [], _∷_}
-use Prim.Native.Nat.{ℕ, zero, suc, max, _≤_, _<_, zero-le, suc-le-suc}
-use native.Mathlib.Nat.{not-suc-le-zero}
-use native.Mathlib.Omega.{arith}
+use mathlib.Core.{Path.{_≡_, refl, _∙_, ap, ap₂}, Bool.{Bool, true, false, cond}, List.{List, [], _∷_}}
+use Prim.Native.Nat.{ℕ, zero, suc, max, _<_}
+use native.Mathlib.{Nat.{not-suc-le-zero}, Omega.{arith}}
 use lib.Dec.{eqb}
 use Rattle.theory.specs.Semilattice.{MeetSemilattice}
 use Rattle.theory.specs.Formula.{Formula, truth, variable, transition, output, conjunction, greatest, unfolded, WellFormed}
-use Rattle.theory.specs.MealyMachine.{after, Runs}
-use Rattle.theory.specs.Evaluation.{unguarded-depth, step-by, step-in, step, value, follower, formulas}
+use Rattle.theory.specs.{MealyMachine.{after}, Evaluation.{unguarded-depth, step-in, step, value, follower, formulas}}
 use Rattle.theory.proofs.Substitution.{free-substitute, guarded-substitute, fits-substitute, depth-substitute}
 
 module _ {B : Type 0} (events : ℕ) (In : B → Type 0) where
@@ -86,7 +81,8 @@ module _ {B : Type 0} (events : ℕ) (In : B → Type 0) where
     pub step-greatest : (e : ℕ) (r : Formula B) → Good (greatest r) → step meet top e (greatest r) ≡ step meet top e (unfolded r)
     unfolding step
     step-greatest e r g =
-        stable e (suc (unguarded-depth r)) (suc (unguarded-depth (unfolded r))) (unfolded r) (well-formed-unfolded r g) (omega (arith, depth-unfolded r g)) (omega arith)
+        stable e (suc (unguarded-depth r)) (suc (unguarded-depth (unfolded r))) (unfolded r) (well-formed-unfolded r g) (omega (arith, depth-unfolded r g))
+        (omega arith)
 
     -- followers are closed and guarded again, values are of the set
     follower-in-well-formed : (k e : ℕ) (r : Formula B) → Good r → Good (step-in meet top k e r .1)

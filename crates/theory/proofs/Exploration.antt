@@ -1,22 +1,14 @@
 -- `explored` has different states' sequences in rising order; where they are within the limit, the first sequence of each state
 -- that is reached. Sequences have their last event first here. For any test `same` that decides equality of states.
--- Assumes nothing.
-use mathlib.Core.Path.{_≡_, refl, sym, _∙_, ap, ap₂, subst, subst⁻¹}
-use mathlib.Core.Bool.{Bool, true, false, _||_, cond}
-use mathlib.Core.Logic.{_↔_, _⊎_, inl, inr}
+use mathlib.Core.{Path.{_≡_, refl, sym, _∙_, ap, ap₂, subst, subst⁻¹}, Bool.{Bool, true, false, _||_, cond}, Logic.{_↔_, _⊎_, inl, inr}}
 use mathlib.Core.List.{List, [], _∷_, _++_}
 use Prim.Native.Nat.{ℕ, zero, suc, _+_, _*_, _≤_, _<_, zero-le, suc-le-suc}
-use native.Mathlib.Nat.{le-of-suc-le-suc, not-suc-le-zero, eq-or-lt-of-le, suc-inj, mul-le-mul-right, mul-le-mul-left, suc-mul}
-use native.Mathlib.Decide.{decLt}
+use native.Mathlib.{Nat.{le-of-suc-le-suc, not-suc-le-zero, eq-or-lt-of-le, suc-inj, mul-le-mul-right, mul-le-mul-left, suc-mul}, Decide.{decLt}}
 use native.Mathlib.Omega.{arith}
-use lib.Dec.{T, ltb}
-use lib.ListN.{length, getD, length-append, List·getD-append}
-use lib.Seq.{getD-append-seam}
+use lib.{Dec.{T, ltb}, ListN.{length, getD, length-append, List·getD-append}, Seq.{getD-append-seam}}
 use borrow.Author.Tests.{ltb-true, ltb-false}
-use Rattle.theory.specs.MealyMachine.{Word}
-use Rattle.theory.specs.Exploration.{reached, has-state, add, add-events, explore, explored}
-use Rattle.theory.proofs.Numbers.{Comparison, less, equal, greater, comparison, digits-less, digits-equal}
-use Rattle.theory.proofs.WordOrder.{code}
+use Rattle.theory.specs.{MealyMachine.{Word}, Exploration.{reached, has-state, add, add-events, explore, explored}}
+use Rattle.theory.proofs.{Numbers.{Comparison, less, equal, greater, comparison, digits-less, digits-equal}, WordOrder.{code}}
 
 abbrev Sequences : Type 0
 Sequences = List (List ℕ)

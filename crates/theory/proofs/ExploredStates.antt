@@ -1,24 +1,13 @@
 -- Exploration finds the numbering of the states reached and the table, where at most `limit` states are reached; and it finds more
 -- than `limit` sequences exactly where more are reached. For any test `same` that decides equality of states.
--- Assumes nothing.
-use mathlib.Core.Path.{_≡_, sym, _∙_, ap}
-use mathlib.Core.Bool.{Bool, true, false, cond}
-use mathlib.Core.Logic.{_↔_}
-use mathlib.Core.List.{List, [], _∷_, map, reverse, reverse-reverse}
+use mathlib.Core.{Path.{_≡_, sym, _∙_, ap}, Bool.{Bool, true, false, cond}, Logic.{_↔_}, List.{List, [], _∷_, map, reverse, reverse-reverse}}
 use Prim.Native.Nat.{ℕ, zero, suc, _≤_, _<_, zero-le, suc-le-suc}
-use native.Mathlib.Nat.{le-of-suc-le-suc, not-suc-le-zero}
-use native.Mathlib.Decide.{decLt}
-use native.Mathlib.Omega.{arith}
-use lib.Dec.{T}
-use lib.ListN.{length, getD, length-map, List·getD-map, List·getD-eq-default}
-use Rattle.theory.specs.MealyMachine.{Machine, Word, after}
-use Rattle.theory.specs.WordOrder.{Before, NoLater}
-use Rattle.theory.specs.ReachableStates.{state-at, Numbering, ReachesAtMost, IsTable}
-use Rattle.theory.specs.Exploration.{reached, explored, index, numbered}
-use Rattle.theory.proofs.Numbers.{pigeonhole}
-use Rattle.theory.proofs.WordOrder.{code, word-reverse, number-before, no-later-iff-number}
-use Rattle.theory.proofs.Exploration.{at, Kept, Hits, invariant, all-reached}
-use Rattle.theory.proofs.ReachableStates.{after-reverse, reached-reverse}
+use native.Mathlib.{Nat.{le-of-suc-le-suc, not-suc-le-zero}, Decide.{decLt}, Omega.{arith}}
+use lib.{Dec.{T}, ListN.{length, getD, length-map, List·getD-map, List·getD-eq-default}}
+use Rattle.theory.specs.{MealyMachine.{Machine, Word, after}, WordOrder.{Before, NoLater}}
+use Rattle.theory.specs.{ReachableStates.{state-at, Numbering, ReachesAtMost, IsTable}, Exploration.{reached, explored, index, numbered}}
+use Rattle.theory.proofs.{Numbers.{pigeonhole}, WordOrder.{code, word-reverse, number-before, no-later-iff-number}}
+use Rattle.theory.proofs.{Exploration.{at, Kept, Hits, invariant, all-reached}, ReachableStates.{after-reverse, reached-reverse}}
 
 -- The sequences in order of play.
 abbrev pub in-order : List (List ℕ) → List (List ℕ)

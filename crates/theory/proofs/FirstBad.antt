@@ -1,22 +1,12 @@
 -- `first-bad` finds the first word at which a test of states and events strikes, where there is one, once all states are explored.
 -- Words have their last event first here.
--- Assumes nothing.
-use mathlib.Core.Path.{_≡_, refl, ap, subst, subst⁻¹}
-use mathlib.Core.Bool.{Bool, true, false, cond}
-use mathlib.Core.Logic.{_↔_, _⊎_, inl, inr}
-use mathlib.Core.List.{List, [], _∷_}
+use mathlib.Core.{Path.{_≡_, refl, ap, subst, subst⁻¹}, Bool.{Bool, true, false, cond}, Logic.{_↔_, _⊎_, inl, inr}, List.{List, [], _∷_}}
 use mathlib.Core.Option.{Option, none, some}
 use Prim.Native.Nat.{ℕ, zero, suc, _+_, _*_, _≤_, _<_, zero-le, suc-le-suc}
-use native.Mathlib.Nat.{le-of-suc-le-suc, not-suc-le-zero, eq-or-lt-of-le, mul-le-mul-right}
-use native.Mathlib.Omega.{arith}
-use lib.Dec.{T}
-use lib.ListN.{length}
-use Rattle.theory.specs.MealyMachine.{Word}
-use Rattle.theory.specs.Exploration.{reached, explored}
-use Rattle.theory.specs.Conformance.{bad-event, or-else, first-bad}
-use Rattle.theory.proofs.Numbers.{digits-less}
-use Rattle.theory.proofs.WordOrder.{code}
-use Rattle.theory.proofs.Exploration.{at, Kept, Hits, invariant, all-reached}
+use native.Mathlib.{Nat.{le-of-suc-le-suc, not-suc-le-zero, eq-or-lt-of-le, mul-le-mul-right}, Omega.{arith}}
+use lib.{Dec.{T}, ListN.{length}}
+use Rattle.theory.specs.{MealyMachine.{Word}, Exploration.{reached, explored}, Conformance.{bad-event, or-else, first-bad}}
+use Rattle.theory.proofs.{Numbers.{digits-less}, WordOrder.{code}, Exploration.{at, Kept, Hits, invariant, all-reached}}
 
 module _ {S : Type 0} (next : S → ℕ → S) (start : S) (bad : S → ℕ → Bool) (events : ℕ) where
   abbrev state : List ℕ → S

@@ -1,12 +1,10 @@
 -- A list of closed formulas put for the free variables.
--- Assumes nothing.
-use mathlib.Core.Path.{_≡_, refl, sym, _∙_, ap, ap₂, subst, subst⁻¹}
-use mathlib.Core.List.{List, [], _∷_}
-use Prim.Native.Nat.{ℕ, zero, suc, _+_, _≤_, _<_, zero-le, suc-le-suc}
-use native.Mathlib.Nat.{le-of-suc-le-suc, not-suc-le-zero}
-use native.Mathlib.Omega.{arith}
+use mathlib.Core.{Path.{_≡_, refl, _∙_, ap, subst}, List.{List, [], _∷_}}
+use Prim.Native.Nat.{ℕ, zero, suc, _+_, _<_, zero-le}
+use native.Mathlib.{Nat.{le-of-suc-le-suc, not-suc-le-zero}, Omega.{arith}}
 use lib.ListN.{length}
-use Rattle.theory.specs.Formula.{Formula, truth, variable, transition, output, conjunction, greatest, FreeBelow, Closed, substitute, unfolded, Guarded, Fits, WellFormed}
+use Rattle.theory.specs.Formula.{Formula, truth, variable, transition, output, conjunction, greatest, FreeBelow, Closed, substitute, Guarded, Fits}
+use Rattle.theory.specs.Formula.{WellFormed}
 use Rattle.theory.proofs.Substitution.{substitute-same, substitute-other, substitute-free, free-substitute, guarded-substitute, fits-substitute}
 
 module _ {B : Type 0} where

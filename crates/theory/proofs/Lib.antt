@@ -37,3 +37,5 @@ pub mod CharacteristicSets
 pub mod CharacteristicTable
 pub mod CharacteristicClaims
 pub mod Claims
+-- The values of a sequence of events.
+pub mod Words

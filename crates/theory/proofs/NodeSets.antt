@@ -1,17 +1,13 @@
 -- Laws of sets of nodes, and what demands, next set and value make of them.
--- Assumes nothing.
-use mathlib.Core.Path.{_≡_, refl, sym, _∙_, ap, ap₂, subst, fun-ext}
-use mathlib.Core.Logic.{_↔_, _⊎_, inl, inr}
-use mathlib.Core.Bool.{Bool, true, false, _||_, _&&_, cond, or-false, or-self, or-assoc, or-comm}
-use mathlib.Core.List.{List, [], _∷_}
+use mathlib.Core.{Path.{_≡_, refl, sym, _∙_, ap, ap₂, subst, fun-ext}, Logic.{_↔_, _⊎_, inl, inr}}
+use mathlib.Core.{Bool.{Bool, true, false, _||_, _&&_, cond, or-false, or-self, or-assoc, or-comm}, List.{List, [], _∷_}}
 use Prim.Native.Nat.{ℕ, zero, suc, _+_, _≤_, _<_}
 use native.Mathlib.Omega.{arith}
 use lib.Dec.{T, eqb, eqb→eq, eqb-refl}
 use borrow.Author.Tests.{eq-eqb, ne-eqb}
 use Rattle.theory.specs.Semilattice.{MeetSemilattice}
 use Rattle.theory.specs.Formula.{Formula, truth, variable, transition, output, conjunction, greatest, size, GuardedIn, Fits}
-use Rattle.theory.specs.Demands.{NodeSet}
-use Rattle.theory.specs.DemandSets.{empty, only, union, binder-set, demands, moved}
+use Rattle.theory.specs.{Demands.{NodeSet}, DemandSets.{empty, only, union, binder-set, demands, moved}}
 use Rattle.theory.proofs.Order.{top-meet, top-top, meet-swap}
 
 -- Union is idempotent, has the empty set as neutral element, and two unions of two may be regrouped.

@@ -1,7 +1,5 @@
 -- The order of a meet-semilattice: at or below is reflexive, transitive and antisymmetric, and meet is the greatest lower bound.
--- Assumes nothing.
-use mathlib.Core.Path.{_≡_, refl, sym, _∙_, ap}
-use mathlib.Core.Logic.{_↔_}
+use mathlib.Core.{Path.{_≡_, sym, _∙_, ap}, Logic.{_↔_}}
 use Rattle.theory.specs.Semilattice.{MeetSemilattice, AtOrBelow}
 
 module _ {B : Type 0} (In : B → Type 0) (meet : B → B → B) (top : B) (L : MeetSemilattice In meet top) where

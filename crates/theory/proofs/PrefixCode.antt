@@ -1,16 +1,12 @@
 -- The prefix order determines the formula, and each node of a formula one part and its binders.
--- Assumes nothing.
-use mathlib.Core.Path.{_≡_, refl, sym, _∙_, ap, ap₂}
-use mathlib.Core.Bool.{cond}
-use mathlib.Core.List.{List, [], _∷_, _++_, append-nil, append-assoc}
+use mathlib.Core.{Path.{_≡_, refl, sym, _∙_, ap, ap₂}, Bool.{cond}, List.{List, [], _∷_, _++_, append-nil, append-assoc}}
 use Prim.Native.Nat.{ℕ, zero, suc, _+_, _≤_, _<_}
 use native.Mathlib.Omega.{arith}
-use lib.Dec.{eqb, ltb}
-use lib.ListN.{length, drop, length-append}
-use lib.Seq.{drop-at, drop-drop}
+use lib.{Dec.{eqb, ltb}, ListN.{length, drop, length-append}, Seq.{drop-at, drop-drop}}
 use borrow.Author.Tests.{eq-eqb, ne-eqb, lt-ltb, le-ltb}
 use Rattle.theory.specs.Formula.{Formula, truth, variable, transition, output, conjunction, greatest, size}
-use Rattle.theory.specs.PrefixCode.{Node, truth-node, variable-node, transition-node, output-node, conjunction-node, greatest-node, nodes, Stands, root, part-of-transition, left-part, right-part, part-of-greatest}
+use Rattle.theory.specs.PrefixCode.{Node, truth-node, variable-node, transition-node, output-node, conjunction-node, greatest-node, nodes, Stands, root}
+use Rattle.theory.specs.PrefixCode.{part-of-transition, left-part, right-part, part-of-greatest}
 
 module _ {B : Type 0} where
   pub size-positive : (φ : Formula B) → 0 < size φ

@@ -1,17 +1,12 @@
 -- Numberings of the states that a machine reaches: there is only one, it depends only on which words reach the same state, and
 -- exploration finds it. The same for the table, which has the machine's values on every word.
--- Assumes nothing.
-use mathlib.Core.Path.{_≡_, refl, sym, _∙_, ap, subst, subst⁻¹}
-use mathlib.Core.Logic.{inl, inr}
+use mathlib.Core.{Path.{_≡_, refl, sym, _∙_, ap, subst, subst⁻¹}, Logic.{inl, inr}}
 use mathlib.Core.List.{List, [], _∷_, _++_, reverse, reverse-cons, reverse-reverse}
 use Prim.Native.Nat.{ℕ, zero, suc, _≤_, _<_, zero-le}
 use native.Mathlib.Omega.{arith}
-use lib.ListN.{length, getD}
-use lib.Seq.{ext-getD}
-use Rattle.theory.specs.MealyMachine.{Machine, Word, after, Runs, States}
-use Rattle.theory.specs.WordOrder.{Before, NoLater}
-use Rattle.theory.specs.ReachableStates.{state-at, Numbering, IsTable}
-use Rattle.theory.specs.Exploration.{reached}
+use lib.{ListN.{length, getD}, Seq.{ext-getD}}
+use Rattle.theory.specs.{MealyMachine.{Machine, Word, after, Runs, States}, WordOrder.{Before, NoLater}}
+use Rattle.theory.specs.{ReachableStates.{state-at, Numbering, IsTable}, Exploration.{reached}}
 use Rattle.theory.proofs.Numbers.{Comparison, less, equal, greater, comparison}
 use Rattle.theory.proofs.WordOrder.{not-before-empty, before-irreflexive, before-asymmetric, no-later-antisymmetric}
 

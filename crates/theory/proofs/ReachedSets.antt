@@ -1,20 +1,10 @@
 -- A state is a set of G and O node numbers (document 01, "Table of a rule"): each set that a sequence reaches is.
--- Assumes nothing.
-use mathlib.Core.Path.{_≡_, refl, sym, _∙_, fun-ext}
-use mathlib.Core.Logic.{_⊎_, inl, inr}
-use mathlib.Core.Bool.{Bool, true, false}
-use mathlib.Core.List.{List, [], _∷_}
-use Prim.Native.Nat.{ℕ, zero, _≤_, _<_, zero-le}
-use native.Mathlib.Omega.{arith}
-use lib.Dec.{T, ltb}
-use borrow.Author.Tests.{ltb-true, ltb-false}
-use Rattle.theory.specs.Formula.{Formula, transition, output, size}
-use Rattle.theory.specs.MealyMachine.{after}
-use Rattle.theory.specs.PrefixCode.{Stands, root}
+use mathlib.Core.{Logic.{inl, inr}, List.{List, [], _∷_}}
+use Prim.Native.Nat.{ℕ, zero}
+use lib.Dec.{T}
+use Rattle.theory.specs.{Formula.{Formula}, MealyMachine.{after}, PrefixCode.{root}}
 use Rattle.theory.specs.Demands.{NodeSet, Demands, IsTransitionOrOutput, of-transition, of-output, of-left, of-right, of-greatest, of-variable}
 use Rattle.theory.specs.DemandSets.{moved, set-machine, first-set}
-use Rattle.theory.proofs.PrefixCode.{stands-within}
-use Rattle.theory.proofs.NodeSets.{Agree}
 use Rattle.theory.proofs.Demands.{demands-sound, next-set-sound}
 
 module _ {B : Type 0} (φ : Formula B) where

@@ -1,21 +1,17 @@
 -- A state satisfies a formula by the set definition exactly if the formula simulates it: every machine, the wider guarded class.
--- Assumes nothing.
-use mathlib.Core.Path.{_≡_, refl, sym, _∙_, ap, subst, subst⁻¹}
-use mathlib.Core.Logic.{_↔_, Lift, _⊎_, inl, inr}
-use mathlib.Core.List.{List, [], _∷_}
-use Prim.Native.Nat.{ℕ, zero, suc, _≤_, _<_, zero-le, suc-le-suc}
+use mathlib.Core.{Path.{_≡_, refl, subst, subst⁻¹}, Logic.{_↔_, _⊎_, inl, inr}, List.{List, [], _∷_}}
+use Prim.Native.Nat.{ℕ, zero, suc, _<_}
 use native.Mathlib.Nat.{le-of-suc-le-suc, not-suc-le-zero}
 use lib.ListN.{length}
-use Rattle.theory.specs.Semilattice.{MeetSemilattice, AtOrBelow}
+use Rattle.theory.specs.Semilattice.{MeetSemilattice}
 use Rattle.theory.specs.Formula.{Formula, truth, variable, transition, output, conjunction, greatest, FreeBelow, GuardedIn, Guarded, Fits, WellFormed}
-use Rattle.theory.specs.MealyMachine.{Machine, Runs, Simulated, BelowOnWords}
-use Rattle.theory.specs.Satisfaction.{extend, SatisfiesIn, Satisfies}
-use Rattle.theory.specs.Evaluation.{formulas}
+use Rattle.theory.specs.{MealyMachine.{Machine, Runs, BelowOnWords}, Satisfaction.{extend, SatisfiesIn}, Evaluation.{formulas}}
 use Rattle.theory.specs.Claims.{SatisfactionClaim}
-use Rattle.theory.proofs.Instantiation.{instantiate, nth, instantiate-truth, instantiate-transition, instantiate-output, instantiate-conjunction, instantiate-greatest, instantiate-variable, AllWellFormed, all-closed, well-formed-instantiate}
-use Rattle.theory.proofs.Equations.{follower-well-formed, value-in}
-use Rattle.theory.proofs.Simulation.{simulation-claim, up-to-iff}
-use Rattle.theory.proofs.SatisfactionUpTo.{UpTo, up-to-truth, up-to-transition, transition-up-to, up-to-output, output-up-to, up-to-conjunction, conjunction-up-to, up-to-greatest, greatest-up-to, up-to-less}
+use Rattle.theory.proofs.Instantiation.{instantiate, nth, instantiate-truth, instantiate-transition, instantiate-output, instantiate-conjunction}
+use Rattle.theory.proofs.Instantiation.{instantiate-greatest, instantiate-variable, AllWellFormed, all-closed, well-formed-instantiate}
+use Rattle.theory.proofs.{Equations.{follower-well-formed, value-in}, Simulation.{simulation-claim, up-to-iff}}
+use Rattle.theory.proofs.SatisfactionUpTo.{UpTo, up-to-truth, up-to-transition, transition-up-to, up-to-output, output-up-to, up-to-conjunction}
+use Rattle.theory.proofs.SatisfactionUpTo.{conjunction-up-to, up-to-greatest, greatest-up-to, up-to-less}
 
 on-right : {P Q R : Type 0} → (Q → R) → P ⊎ Q → P ⊎ R
 on-right f (inl u) = inl u

@@ -1,14 +1,11 @@
 -- Being simulated up to k events, by each kind of formula.
--- Assumes nothing.
-use mathlib.Core.Path.{_≡_, refl, sym, _∙_, ap, subst, subst⁻¹}
-use mathlib.Core.Bool.{Bool, true, false, cond}
+use mathlib.Core.{Path.{_≡_, refl, subst, subst⁻¹}, Bool.{Bool, true, false, cond}}
 use Prim.Native.Nat.{ℕ, zero, suc, _<_}
 use lib.Dec.{eqb}
 use borrow.Author.Tests.{eqb-true, eq-eqb}
 use Rattle.theory.specs.Semilattice.{MeetSemilattice, AtOrBelow}
-use Rattle.theory.specs.Formula.{Formula, truth, variable, transition, output, conjunction, greatest, unfolded, WellFormed}
-use Rattle.theory.specs.MealyMachine.{Machine, Runs}
-use Rattle.theory.specs.Evaluation.{step, value, follower, formulas}
+use Rattle.theory.specs.Formula.{Formula, truth, transition, output, conjunction, greatest, unfolded, WellFormed}
+use Rattle.theory.specs.{MealyMachine.{Machine, Runs}, Evaluation.{value, follower, formulas}}
 use Rattle.theory.proofs.Order.{below-top, below-meet, below-meet-iff}
 use Rattle.theory.proofs.Equations.{step-truth, step-transition, step-output, step-conjunction, step-greatest, follower-well-formed, value-in}
 use Rattle.theory.proofs.Simulation.{BelowUpTo}

@@ -1,20 +1,15 @@
 -- The printed semantics and the computed value and follower are the same, on events and on event sequences.
--- Assumes nothing.
-use mathlib.Core.Path.{_≡_, refl, sym, _∙_, ap, ap₂, subst, subst⁻¹}
-use mathlib.Core.Bool.{Bool, true, false, cond}
-use mathlib.Core.Logic.{_↔_}
-use mathlib.Core.List.{List, [], _∷_}
-use Prim.Native.Nat.{ℕ, zero, suc, max, _<_}
-use native.Mathlib.Nat.{not-suc-le-zero}
-use native.Mathlib.Omega.{arith}
+use mathlib.Core.{Path.{_≡_, refl, sym, _∙_, ap, ap₂, subst, subst⁻¹}, Bool.{Bool, true, false, cond}, List.{List, [], _∷_}}
+use Prim.Native.Nat.{ℕ, zero, suc, _<_}
+use native.Mathlib.{Nat.{not-suc-le-zero}, Omega.{arith}}
 use lib.Dec.{eqb}
 use borrow.Author.Tests.{eqb-true, eqb-false, eq-eqb, ne-eqb}
 use Rattle.theory.specs.Formula.{Formula, truth, variable, transition, output, conjunction, greatest, unfolded, WellFormed}
-use Rattle.theory.specs.Semantics.{Steps, of-truth, of-transition, of-other-transition, of-output, of-other-output, of-conjunction, of-greatest, Answers, now, later}
-use Rattle.theory.specs.MealyMachine.{after}
-use Rattle.theory.specs.Evaluation.{unguarded-depth, step-in, step, value, follower, formulas}
+use Rattle.theory.specs.Semantics.{Steps, of-truth, of-transition, of-other-transition, of-output, of-other-output, of-conjunction, of-greatest, Answers}
+use Rattle.theory.specs.{Semantics.{now, later}, MealyMachine.{after}, Evaluation.{unguarded-depth, step-in, step, value, follower, formulas}}
 use Rattle.theory.specs.Claims.{SemanticsClaim, AnswersClaim, ConjunctionClaim}
-use Rattle.theory.proofs.Equations.{well-formed-unfolded, well-formed-left, well-formed-right, well-formed-conjunction, depth-unfolded, step-truth, step-transition, step-output, step-conjunction, step-greatest, follower-well-formed, conjunction-values}
+use Rattle.theory.proofs.Equations.{well-formed-unfolded, well-formed-left, well-formed-right, well-formed-conjunction, depth-unfolded, step-truth}
+use Rattle.theory.proofs.Equations.{step-transition, step-output, step-conjunction, step-greatest, follower-well-formed, conjunction-values}
 
 module _ {B : Type 0} (In : B → Type 0) (meet : B → B → B) (top : B) (events : ℕ) where
   abbrev Good : Formula B → Type 0

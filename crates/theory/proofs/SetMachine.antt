@@ -1,14 +1,9 @@
 -- The computed machine of node sets is the one that document 01 describes, and the only one; so a table of a formula is a table of
 -- that machine.
--- Assumes nothing.
-use mathlib.Core.Path.{_≡_, refl, sym, _∙_, ap, ap₂, subst, subst⁻¹, fun-ext}
-use mathlib.Core.Logic.{_↔_}
-use Prim.Native.Nat.{ℕ, zero}
-use Rattle.theory.specs.Formula.{Formula, Guarded}
-use Rattle.theory.specs.MealyMachine.{Machine}
-use Rattle.theory.specs.Demands.{NodeSet, IsSetMachine}
-use Rattle.theory.specs.ReachableStates.{ReachesAtMost, IsTable, IsTableOf, StatesAtMost}
-use Rattle.theory.specs.DemandSets.{set-machine, first-set}
+use mathlib.Core.{Path.{_≡_, refl, ap₂, subst, fun-ext}, Logic.{_↔_}}
+use Prim.Native.Nat.{ℕ}
+use Rattle.theory.specs.{Formula.{Formula, Guarded}, MealyMachine.{Machine}, Demands.{NodeSet, IsSetMachine}}
+use Rattle.theory.specs.{ReachableStates.{ReachesAtMost, IsTable, IsTableOf, StatesAtMost}, DemandSets.{set-machine, first-set}}
 use Rattle.theory.proofs.Demands.{is-first-set, is-next-set, only-first-set, only-next-set}
 
 module _ {B : Type 0} (meet : B → B → B) (top : B) (φ : Formula B) (guarded : Guarded φ) where

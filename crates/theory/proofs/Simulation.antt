@@ -1,11 +1,8 @@
 -- Simulation (definition 1) is being at or below on every event sequence, and is being so up to every length.
--- Assumes nothing.
-use mathlib.Core.Logic.{_↔_}
-use mathlib.Core.List.{List, [], _∷_}
+use mathlib.Core.{Logic.{_↔_}, List.{List, [], _∷_}}
 use Prim.Native.Nat.{ℕ, zero, suc, _<_}
 use lib.ListN.{length}
-use Rattle.theory.specs.Semilattice.{AtOrBelow}
-use Rattle.theory.specs.MealyMachine.{Machine, Word, after, Runs, IsSimulation, Simulated, BelowOnWords}
+use Rattle.theory.specs.{Semilattice.{AtOrBelow}, MealyMachine.{Machine, Word, after, Runs, IsSimulation, BelowOnWords}}
 use Rattle.theory.specs.Claims.{SimulationClaim}
 
 -- A simulation that holds of two states has the first at or below the second on every word.

@@ -1,14 +1,11 @@
 -- Laws of substitution, and that the grammar's formulas are of the wider guarded class.
--- Assumes nothing.
-use mathlib.Core.Path.{_≡_, refl, sym, _∙_, ap, ap₂, subst, subst⁻¹}
-use mathlib.Core.Bool.{Bool, true, false, cond}
-use Prim.Native.Nat.{ℕ, zero, suc, max, _≤_, _<_, zero-le, suc-le-suc}
-use native.Mathlib.Nat.{lt-of-lt-of-le}
-use native.Mathlib.Omega.{arith}
+use mathlib.Core.{Path.{_≡_, refl, ap, ap₂}, Bool.{Bool, true, false, cond}}
+use Prim.Native.Nat.{ℕ, zero, suc, max, _≤_, zero-le, suc-le-suc}
+use native.Mathlib.{Nat.{lt-of-lt-of-le}, Omega.{arith}}
 use lib.Dec.{eqb}
 use borrow.Author.Tests.{eqb-true, eqb-false, eq-eqb, ne-eqb}
-use Rattle.theory.specs.Formula.{Formula, truth, variable, transition, output, conjunction, greatest, FreeBelow, Closed, substitute, OpenPosition, ClosedPosition, GuardedIn, Guarded, Fits, WellFormed, Accepted}
-use Rattle.theory.specs.Evaluation.{unguarded-depth}
+use Rattle.theory.specs.Formula.{Formula, truth, variable, transition, output, conjunction, greatest, FreeBelow, Closed, substitute, OpenPosition}
+use Rattle.theory.specs.{Formula.{ClosedPosition, GuardedIn, Guarded, Fits, WellFormed, Accepted}, Evaluation.{unguarded-depth}}
 
 module _ {B : Type 0} where
   -- What substitution makes of a variable.

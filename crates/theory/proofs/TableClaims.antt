@@ -1,24 +1,15 @@
 -- Each machine has one numbering and one table; the computed table of a formula is the formula's, and has its values.
--- Assumes nothing.
-use mathlib.Core.Path.{subst, subst⁻¹}
-use mathlib.Core.Logic.{_↔_, Iff·trans, Iff·symm}
+use mathlib.Core.{Path.{subst, subst⁻¹}, Logic.{_↔_, Iff·trans, Iff·symm}}
 use Prim.Native.Nat.{ℕ, zero, _≤_}
-use Rattle.theory.specs.Semilattice.{MeetSemilattice}
-use Rattle.theory.specs.Formula.{Formula, size, WellFormed}
-use Rattle.theory.specs.Semantics.{Answers}
-use Rattle.theory.specs.MealyMachine.{Runs}
-use Rattle.theory.specs.DemandSets.{set-machine, first-set}
-use Rattle.theory.specs.ReachableStates.{ReachesAtMost, IsTable}
+use Rattle.theory.specs.{Semilattice.{MeetSemilattice}, Formula.{Formula, size, WellFormed}, Semantics.{Answers}, MealyMachine.{Runs}}
+use Rattle.theory.specs.{DemandSets.{set-machine, first-set}, ReachableStates.{ReachesAtMost, IsTable}}
 use Rattle.theory.specs.Exploration.{same-bits, bit-machine, first-bits, state-count, table-of}
 use Rattle.theory.specs.Claims.{NumberingClaim, TableClaim, TableValuesClaim}
-use Rattle.theory.proofs.NodeSets.{shown-in}
-use Rattle.theory.proofs.Demands.{shown-is-value}
-use Rattle.theory.proofs.SetMachine.{table-of-iff, states-at-most-iff}
+use Rattle.theory.proofs.{NodeSets.{shown-in}, Demands.{shown-is-value}, SetMachine.{table-of-iff, states-at-most-iff}}
 use Rattle.theory.proofs.DemandClaims.{set-answers}
 use Rattle.theory.proofs.ReachableStates.{numbering-unique, table-unique, table-nonempty, table-runs, table-values}
 use Rattle.theory.proofs.Transport.{SameStates, same-states-sym, transport-at-most, transport-table}
-use Rattle.theory.proofs.ExploredStates.{explored-at-most, explored-table}
-use Rattle.theory.proofs.BitSets.{same-bits-iff, same-as-bits}
+use Rattle.theory.proofs.{ExploredStates.{explored-at-most, explored-table}, BitSets.{same-bits-iff, same-as-bits}}
 
 pub numbering-claim : {B : Type 0} (In : B → Type 0) (meet : B → B → B) (top : B) (events : ℕ) → NumberingClaim In meet top events
 numbering-claim In meet top events S m start = (numbering-unique events m start, table-unique events m start)

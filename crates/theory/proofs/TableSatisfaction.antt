@@ -1,18 +1,13 @@
 -- Over a table of n states the set definition with decided sets is the set definition: the greatest set of a binder comes down
 -- from all states in n rounds.
--- Assumes nothing.
-use mathlib.Core.Path.{_≡_, refl, sym, _∙_, ap, ap₂, subst, subst⁻¹, fun-ext}
-use mathlib.Core.Bool.{Bool, true, false, _&&_}
-use mathlib.Core.Logic.{_↔_, _⊎_, inl, inr, Lift}
+use mathlib.Core.{Path.{_≡_, refl, sym, _∙_, ap, subst⁻¹, fun-ext}, Bool.{Bool, true, false, _&&_}, Logic.{_↔_, _⊎_, inl, inr}}
 use Prim.Native.Nat.{ℕ, zero, suc, _+_, _≤_, _<_}
-use native.Mathlib.Omega.{arith}
-use native.Mathlib.Decide.{decLt}
+use native.Mathlib.{Omega.{arith}, Decide.{decLt}}
 use lib.Dec.{T, ltb, lt→ltb, ltb→lt}
 use mir.Facts.{and-yes, yes-and}
 use Rattle.theory.specs.Semilattice.{MeetSemilattice, AtOrBelow}
-use Rattle.theory.specs.Formula.{Formula, truth, variable, transition, output, conjunction, greatest, Fits, WellFormed}
-use Rattle.theory.specs.MealyMachine.{Machine, Runs, States}
-use Rattle.theory.specs.Satisfaction.{extend, SatisfiesIn, TableSatisfiesIn}
+use Rattle.theory.specs.Formula.{Formula, truth, variable, transition, output, conjunction, greatest, Fits}
+use Rattle.theory.specs.{MealyMachine.{Machine, Runs, States}, Satisfaction.{extend, SatisfiesIn, TableSatisfiesIn}}
 use Rattle.theory.specs.Claims.{TableSatisfactionClaim}
 use Rattle.theory.proofs.Counting.{count, count-le, Inside, inside-or-fewer}
 

@@ -1,15 +1,11 @@
 -- Two machines whose words reach the same state in one exactly where they do in the other, with the same values, have the same
 -- numbering and the same tables. A map that is injective on the states reached makes two machines such.
--- Assumes nothing.
-use mathlib.Core.Path.{_≡_, refl, sym, _∙_, ap}
-use mathlib.Core.List.{List, [], _∷_, _++_}
+use mathlib.Core.{Path.{_≡_, refl, sym, _∙_, ap}, List.{List, [], _∷_, _++_}}
 use Prim.Native.Nat.{ℕ, _<_}
 use native.Mathlib.Omega.{arith}
 use lib.ListN.{length, getD}
-use Rattle.theory.specs.MealyMachine.{Machine, Word, after}
-use Rattle.theory.specs.ReachableStates.{state-at, Numbering, ReachesAtMost, IsTable}
-use Rattle.theory.proofs.WordOrder.{word-append}
-use Rattle.theory.proofs.ReachableStates.{after-append, after-in}
+use Rattle.theory.specs.{MealyMachine.{Machine, Word, after}, ReachableStates.{state-at, Numbering, ReachesAtMost, IsTable}}
+use Rattle.theory.proofs.{WordOrder.{word-append}, ReachableStates.{after-append, after-in}}
 
 module _ {S Q B : Type 0} (events : ℕ) (m : Machine S B) (start : S) (q : Machine Q B) (begin : Q) where
   pub record SameStates : Type 0 where

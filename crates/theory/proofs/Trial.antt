@@ -1,22 +1,11 @@
 -- A device passes against the table of a formula exactly if its start satisfies the formula by the set definition.
--- Assumes nothing.
-use mathlib.Core.Path.{_≡_, refl, subst, subst⁻¹}
-use mathlib.Core.Logic.{_↔_, Iff·trans, Iff·symm}
-use mathlib.Core.List.{List}
-use mathlib.Core.Option.{none}
+use mathlib.Core.{Path.{_≡_, subst, subst⁻¹}, Logic.{_↔_, Iff·trans, Iff·symm}, List.{List}}
 use Prim.Native.Nat.{ℕ, zero, _<_}
-use Rattle.theory.specs.Semilattice.{MeetSemilattice, AtOrBelow}
-use Rattle.theory.specs.Formula.{Formula, WellFormed}
-use Rattle.theory.specs.MealyMachine.{Machine, Word, after, Runs, States, BelowOnWords}
-use Rattle.theory.specs.Satisfaction.{Satisfies}
-use Rattle.theory.specs.Evaluation.{value, formulas}
-use Rattle.theory.specs.ReachableStates.{IsTableOf}
+use Rattle.theory.specs.{Semilattice.{MeetSemilattice, AtOrBelow}, Formula.{Formula, WellFormed}}
+use Rattle.theory.specs.{MealyMachine.{Machine, Word, after, States, BelowOnWords}, Evaluation.{value, formulas}, ReachableStates.{IsTableOf}}
 use Rattle.theory.specs.Claims.{TrialClaim}
-use Rattle.theory.proofs.SemanticsEquality.{only-answer}
-use Rattle.theory.proofs.Satisfaction.{satisfies-iff}
-use Rattle.theory.proofs.TableSatisfaction.{table-satisfaction-claim}
-use Rattle.theory.proofs.TableClaims.{table-values-claim}
-use Rattle.theory.proofs.ConformanceClaims.{passes-iff}
+use Rattle.theory.proofs.{SemanticsEquality.{only-answer}, Satisfaction.{satisfies-iff}, TableSatisfaction.{table-satisfaction-claim}}
+use Rattle.theory.proofs.{TableClaims.{table-values-claim}, ConformanceClaims.{passes-iff}}
 
 module _ {B : Type 0} (In : B → Type 0) (meet : B → B → B) (top : B) (laws : MeetSemilattice In meet top) (events : ℕ) where
   -- Being at or below the table on every word is being so for the formula.

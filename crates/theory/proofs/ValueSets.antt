@@ -1,20 +1,13 @@
 -- The two kinds of values are meet-semilattices (document 01, "Value sets"; document 02, F-7).
--- Assumes nothing.
-use mathlib.Core.Path.{_≡_, refl, sym, _∙_, ap, ap₂, subst}
-use mathlib.Core.Bool.{Bool, true, false, _&&_}
-use mathlib.Core.Logic.{_⊎_, inl, inr, ⊎-elim}
-use mathlib.Core.List.{List}
+use mathlib.Core.{Path.{_≡_, refl, sym, _∙_, ap, ap₂, subst}, Bool.{Bool, true, false, _&&_}, Logic.{_⊎_, inl, inr, ⊎-elim}, List.{List}}
 use Prim.Native.Nat.{ℕ, zero, suc, _+_, _*_, _-_, _/_, _%_, _^_, min, _≤_, _<_}
-use native.Mathlib.Nat.{le-of-suc-le-suc, not-suc-le-zero, mod-eq-of-lt, eq-or-lt-of-le, lt-of-lt-of-le}
-use native.Mathlib.Numerals.{add-one}
-use native.Mathlib.Omega.{arith}
+use native.Mathlib.{Nat.{le-of-suc-le-suc, not-suc-le-zero, mod-eq-of-lt, eq-or-lt-of-le, lt-of-lt-of-le}, Numerals.{add-one}, Omega.{arith}}
 use borrow.Author.Tests.{ltb-true, eqb-true, lt-ltb, eq-eqb}
-use lib.Dec.{ltb}
-use lib.Pow.{pow-pos, pow-mono}
-use lib.Bits.{bitAnd, and-comm, and-self, and-lt, and-mask, and-step, and-zero-l, and-mod, and-shr}
+use lib.{Dec.{ltb}, Pow.{pow-pos, pow-mono}, Bits.{bitAnd, and-comm, and-self, and-lt, and-mask, and-step, and-zero-l, and-mod, and-shr}}
 use Rattle.theory.specs.Semilattice.{MeetSemilattice}
 use Rattle.theory.specs.ValueSets.{Below, meetAt, four-value-meet, Masks, OfLines, meet-masks, top-masks, pack, unpack}
-use Rattle.theory.specs.ValueSetClaims.{every, closed-test, idempotent-test, commutative-test, associative-test, neutral-test, lawful, LawfulClaim, FourValueClaim, MasksClaim, PackingClaim, PackedClaim}
+use Rattle.theory.specs.ValueSetClaims.{every, closed-test, idempotent-test, commutative-test, associative-test, neutral-test, lawful, LawfulClaim}
+use Rattle.theory.specs.ValueSetClaims.{FourValueClaim, MasksClaim, PackingClaim, PackedClaim}
 
 -- Tests joined by `&&`.
 pub and-left : (a b : Bool) → (a && b) ≡ true → a ≡ true

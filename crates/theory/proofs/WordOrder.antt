@@ -1,15 +1,11 @@
 -- `Before` orders event sequences: irreflexive, transitive and total. Over the events of a count it is the order of numbers
 -- that the sequences, their last event first, are the digits of.
--- Assumes nothing.
-use mathlib.Core.Path.{_≡_, refl, sym, _∙_, ap, ap₂, subst⁻¹}
-use mathlib.Core.Logic.{_↔_, _⊎_, inl, inr}
+use mathlib.Core.{Path.{_≡_, refl, sym, _∙_, ap, ap₂, subst⁻¹}, Logic.{_↔_, _⊎_, inl, inr}}
 use mathlib.Core.List.{List, [], _∷_, _++_, append-assoc, reverse, reverse-cons, reverse-append}
 use Prim.Native.Nat.{ℕ, zero, suc, _+_, _*_, _≤_, _<_, zero-le, suc-le-suc}
-use native.Mathlib.Nat.{suc-inj, not-suc-le-zero, eq-or-lt-of-le}
-use native.Mathlib.Omega.{arith}
+use native.Mathlib.{Nat.{suc-inj, not-suc-le-zero, eq-or-lt-of-le}, Omega.{arith}}
 use lib.ListN.{length, length-reverse}
-use Rattle.theory.specs.MealyMachine.{Word}
-use Rattle.theory.specs.WordOrder.{Before, shorter, smaller, NoLater}
+use Rattle.theory.specs.{MealyMachine.{Word}, WordOrder.{Before, shorter, smaller, NoLater}}
 use Rattle.theory.proofs.Numbers.{Comparison, less, equal, greater, comparison, digits-less}
 
 -- Words of the events of a count.

@@ -1,5 +1,4 @@
 -- The theorems of this crate as propositions, for every meet-semilattice and every limit; proofs/Claims has a proof of each.
--- Assumes nothing.
 use mathlib.Core.Path.{_≡_}
 use mathlib.Core.Bool.{Bool}
 use mathlib.Core.Logic.{_↔_}

@@ -1,5 +1,4 @@
 -- The check of one table against another (document 01, "Trial").
--- Assumes nothing.
 use mathlib.Core.Path.{_≡_}
 use mathlib.Core.Bool.{Bool, not, _&&_, cond}
 use mathlib.Core.List.{List, [], _∷_, _++_, reverse}

@@ -1,6 +1,5 @@
 -- First set and next set computed: the computing twin of `Demands`.
--- Assumes nothing.
-use mathlib.Core.Bool.{Bool, false, _||_, _&&_, cond}
+use mathlib.Core.Bool.{false, _||_, _&&_, cond}
 use mathlib.Core.List.{List, [], _∷_}
 use Prim.Native.Nat.{ℕ, zero, suc, _+_}
 use lib.Dec.{eqb}

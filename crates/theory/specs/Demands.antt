@@ -1,5 +1,4 @@
 -- Demands, and the sets of nodes that are the states of a formula's table (document 01, "Table of a rule").
--- Assumes nothing.
 use mathlib.Core.Path.{_≡_}
 use mathlib.Core.Logic.{_↔_, _⊎_}
 use mathlib.Core.Bool.{Bool, _&&_, cond}
@@ -7,7 +6,7 @@ use mathlib.Core.List.{List, [], _∷_}
 use Prim.Native.Nat.{ℕ, zero, suc, _+_, _<_}
 use lib.Dec.{T, eqb}
 use lib.ListN.{length, getD}
-use Rattle.theory.specs.Formula.{Formula, truth, variable, transition, output, conjunction, greatest, size}
+use Rattle.theory.specs.Formula.{Formula, variable, transition, output, conjunction, greatest, size}
 use Rattle.theory.specs.MealyMachine.{Machine}
 use Rattle.theory.specs.PrefixCode.{Node, truth-node, variable-node, transition-node, output-node, conjunction-node, greatest-node, nodes, Stands}
 

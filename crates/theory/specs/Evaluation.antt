@@ -1,5 +1,4 @@
 -- Value and follower computed: the computing twin of `Semantics`.
--- Assumes nothing.
 use mathlib.Core.Bool.{cond}
 use Prim.Native.Nat.{ℕ, zero, suc, max}
 use lib.Dec.{eqb}

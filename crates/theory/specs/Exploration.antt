@@ -1,6 +1,5 @@
 -- Reachable states found breadth first, and the table computed from them: the computing twin of `ReachableStates`.
 -- Here a sequence is kept with its LAST event first.
--- Assumes nothing.
 use mathlib.Core.Bool.{Bool, true, false, _&&_, _||_, cond, Bool·beq}
 use mathlib.Core.List.{List, [], _∷_, _++_}
 use Prim.Native.Nat.{ℕ, zero, suc}

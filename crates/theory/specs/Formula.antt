@@ -1,5 +1,4 @@
 -- Formulas of the Mealy logic (document 01, "Rules"; source 000, definition 3). Document 01 calls a formula a rule.
--- Assumes nothing.
 use mathlib.Core.Path.{_≡_}
 use mathlib.Core.Bool.{cond}
 use Prim.Native.Nat.{ℕ, zero, suc, _+_, _≤_, _<_}

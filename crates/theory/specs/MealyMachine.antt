@@ -1,6 +1,5 @@
 -- Mealy machines, values on event sequences, and simulation (source 000, section 2, definition 1).
 -- Document 01 calls a machine whose states are numbers a table, or a device where it is judged.
--- Assumes nothing.
 use mathlib.Core.Bool.{Bool}
 use mathlib.Core.List.{List, [], _∷_}
 use Prim.Native.Nat.{ℕ, _<_}
@@ -21,6 +20,11 @@ Word events (e ∷ w) = (e < events) × Word events w
 abbrev pub after : {S B : Type 0} → Machine S B → S → List ℕ → S
 after m s [] = s
 after m s (e ∷ w) = after m (m .next s e) w
+
+-- The values of a sequence from a state: "An event returns the value and moves to the next state".
+abbrev pub word-values : {S B : Type 0} → Machine S B → S → List ℕ → List B
+word-values m s [] = []
+word-values m s (e ∷ w) = m .value s e ∷ word-values m (m .next s e) w
 
 -- The states are those of `State`: from each of them every event gives a value of the set and leads to one of them.
 pub record Runs {S B : Type 0} (events : ℕ) (In : B → Type 0) (State : S → Type 0) (m : Machine S B) : Type 0 where

@@ -1,5 +1,4 @@
 -- Formulas in prefix order: a node, then its parts (document 01, "Rules"). How a node lies in bytes is no matter here.
--- Assumes nothing.
 use mathlib.Core.List.{List, [], _∷_, _++_}
 use Prim.Native.Nat.{ℕ, zero, suc, _+_}
 use Rattle.theory.specs.Formula.{Formula, truth, variable, transition, output, conjunction, greatest, size}

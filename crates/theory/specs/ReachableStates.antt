@@ -1,6 +1,5 @@
 -- The states that event sequences reach, numbered by their first sequence, and the table that they make
 -- (document 01, "Table of a rule"). Over any machine and start.
--- Assumes nothing.
 use mathlib.Core.Path.{_≡_}
 use mathlib.Core.List.{List, []}
 use Prim.Native.Nat.{ℕ, _≤_, _<_}

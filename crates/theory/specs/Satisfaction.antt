@@ -1,5 +1,4 @@
 -- The set definition of satisfaction (document 01, "Trial"; source 000, section 3, second definition). No table is built.
--- Assumes nothing.
 use mathlib.Core.Logic.{Lift}
 use mathlib.Core.Bool.{Bool, false}
 use Prim.Native.Nat.{ℕ, zero, suc, _<_}

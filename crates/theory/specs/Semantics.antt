@@ -1,9 +1,8 @@
 -- The value and the follower of a formula on an event (document 01, "Meaning"; source 000, section 3).
--- Assumes nothing.
 use mathlib.Core.Path.{_≡_}
 use mathlib.Core.List.{List, [], _∷_}
 use Prim.Native.Nat.{ℕ}
-use Rattle.theory.specs.Formula.{Formula, truth, variable, transition, output, conjunction, greatest, unfolded}
+use Rattle.theory.specs.Formula.{Formula, truth, transition, output, conjunction, greatest, unfolded}
 
 module _ {B : Type 0} (meet : B → B → B) (top : B) where
   -- `Steps e φ b ψ`: on event e the value of φ is b, and its follower is ψ. One constructor for each equation of section 3;

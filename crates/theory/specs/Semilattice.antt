@@ -1,5 +1,4 @@
 -- Meet-semilattices (document 01, "Value sets"; source 000, section 2).
--- Assumes nothing.
 use mathlib.Core.Path.{_≡_}
 
 -- Meet is idempotent, commutative, associative for every three values, and top is neutral.

@@ -1,5 +1,4 @@
 -- What is claimed of the two kinds of values (document 01, "Value sets"; document 02, F-7), and the test of a meet table's laws.
--- Assumes nothing.
 use mathlib.Core.Path.{_≡_}
 use mathlib.Core.Logic.{_↔_}
 use mathlib.Core.Bool.{Bool, true, _&&_}

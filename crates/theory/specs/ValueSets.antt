@@ -1,6 +1,5 @@
 -- The two kinds of values: numbers with a meet table (document 01, "Value sets") and registers of lines (document 02, F-7).
 -- Both are instances of `MeetSemilattice`; nothing else in this crate knows of either.
--- Assumes nothing.
 use mathlib.Core.List.{List, [], _∷_}
 use Prim.Native.Nat.{ℕ, _+_, _*_, _-_, _/_, _%_, _^_, _<_}
 use lib.ListN.{getD}

@@ -1,6 +1,5 @@
 -- The order of event sequences (document 01, "Table of a rule"): shortest first, then the smaller at the first difference.
 -- The first event played stands first.
--- Assumes nothing.
 use mathlib.Core.Path.{_≡_}
 use mathlib.Core.Logic.{_⊎_}
 use mathlib.Core.List.{List, _∷_, _++_}

@@ -1,4 +1,6 @@
--- What the tests of a set-up say, and the claims of `specs/Setup.antt`.
-pub mod Setups
--- The claims of `specs/ValueKind.antt`.
+-- The claims on kinds of values.
 pub mod ValueKinds
+-- The claims on values in bytes.
+pub mod ValueBytes
+-- What the tests of a set-up say, and the claims on set-ups.
+pub mod Setups

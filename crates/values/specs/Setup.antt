@@ -1,97 +1,93 @@
--- A set-up and refusals 1, 2 and 3 (document 01, "Value sets" and "Who can cause a refusal").
--- Assumes nothing.
+-- A set-up and its refusals: 1, 2 and 3, or 1 and 20 (document 01, "Value sets" and "Who can cause a refusal"; document 02, F-7).
 use mathlib.Core.Path.{_≡_}
-use mathlib.Core.Logic.{_↔_}
-use mathlib.Core.Bool.{Bool, _&&_}
-use mathlib.Core.Option.{Option, none}
 use mathlib.Core.List.{List, [], _∷_}
 use Prim.Native.Nat.{ℕ, _*_, _≤_, _<_}
-use lib.Dec.{leb, ltb, eqb}
 use lib.ListN.{length, getD}
-use Rattle.refusal.specs.declared.Refusal.{Refusal}
-use Rattle.refusal.specs.Refusal.{Condition, plain, First, InOrder, or-else, plain-unless}
+use Rattle.limits.specs.Limits.{event-limit, value-limit, line-limit}
+use Rattle.refusal.specs.Refusal.{Condition, plain}
 use Rattle.theory.specs.Semilattice.{MeetSemilattice}
-use Rattle.theory.specs.ValueSets.{Below, meetAt, four-value-meet}
-use Rattle.theory.specs.ValueSetClaims.{every, lawful}
+use Rattle.theory.specs.ValueSets.{Below, meetAt, pack, top-masks}
+use Rattle.values.specs.declared.ValueKind.{ValueKind}
+use Rattle.values.specs.declared.ValueKind.the-variants.{Numbered, Register}
+use Rattle.values.specs.ValueKind.{ValueIn, meetOf, topOf}
 
--- A set-up as it is handed in: any numbers, and the meet table's entries, row by row.
+-- A set-up as it is handed in: any numbers, and the meet table's entries, row by row. A register's top and meet are fixed: what
+-- stands there is not looked at.
 pub record Setup : Type 0 where
   pub events : ℕ
-  pub values : ℕ
+  pub kind : ValueKind
   pub top : ℕ
   pub meet : List ℕ
 
-unfoldable pub setup : ℕ → ℕ → ℕ → List ℕ → Setup
-setup events values top meet = record { events = events; values = values; top = top; meet = meet }
+abbrev pub setup-of-kind : ℕ → ValueKind → ℕ → List ℕ → Setup
+setup-of-kind events kind top meet = record { events = events; kind = kind; top = top; meet = meet }
 
--- A set-up has 1 to 16 events and 1 to 16 values.
-abbrev pub event-limit : ℕ
-event-limit = 16
+-- Document 01's set-up, and document 02's of a register.
+abbrev pub setup : ℕ → ℕ → ℕ → List ℕ → Setup
+setup events values top meet = setup-of-kind events (Numbered values) top meet
 
-abbrev pub value-limit : ℕ
-value-limit = 16
+abbrev pub register-setup : ℕ → ℕ → Setup
+register-setup events lines = setup-of-kind events (Register lines) (pack (top-masks lines)) []
+
+-- Which numbers are its values, their meet, and top.
+abbrev pub SetupValue : Setup → ℕ → Type 0
+SetupValue s = ValueIn (s .kind)
+
+abbrev pub setup-meet : Setup → ℕ → ℕ → ℕ
+setup-meet s = meetOf (s .kind) (s .meet)
+
+abbrev pub setup-top : Setup → ℕ
+setup-top s = topOf (s .kind) (s .top)
+
+-- What its values obey.
+abbrev pub Laws : Setup → Type 0
+Laws s = MeetSemilattice (SetupValue s) (setup-meet s) (setup-top s)
 
 -- 1: events not 1 to 16.
-abbrev pub EventsFault : Setup → Type 0
-EventsFault s = ¬ ((1 ≤ s .events) × (s .events ≤ event-limit))
+abbrev pub EventsFault : ℕ → Type 0
+EventsFault events = ¬ ((1 ≤ events) × (events ≤ event-limit))
 
 -- 2: values not 1 to 16, or top not below values.
-pub data ValuesFault (s : Setup) : Type 0 where
-  values-out-of-limits : ¬ ((1 ≤ s .values) × (s .values ≤ value-limit)) → ValuesFault s
-  top-not-below : ¬ (s .top < s .values) → ValuesFault s
+pub data ValuesFault (values top : ℕ) : Type 0 where
+  values-out-of-limits : ¬ ((1 ≤ values) × (values ≤ value-limit)) → ValuesFault values top
+  top-not-below : ¬ (top < values) → ValuesFault values top
 
 -- 3: meet length wrong, an entry not below values, or a law broken.
-pub data MeetFault (s : Setup) : Type 0 where
-  length-wrong : ¬ (length (s .meet) ≡ s .values * s .values) → MeetFault s
-  entry-not-below : (i : ℕ) → i < length (s .meet) → ¬ (getD (s .meet) i 0 < s .values) → MeetFault s
-  law-broken : ¬ MeetSemilattice (Below (s .values)) (meetAt (s .values) (s .meet)) (s .top) → MeetFault s
+pub data MeetFault (values top : ℕ) (meet : List ℕ) : Type 0 where
+  length-wrong : ¬ (length meet ≡ values * values) → MeetFault values top meet
+  entry-not-below : (i : ℕ) → i < length meet → ¬ (getD meet i 0 < values) → MeetFault values top meet
+  law-broken : ¬ MeetSemilattice (Below values) (meetAt values meet) top → MeetFault values top meet
+
+-- 20: lines not 1 to 16.
+abbrev pub LinesFault : ℕ → Type 0
+LinesFault lines = ¬ ((1 ≤ lines) × (lines ≤ line-limit))
+
+-- After 1: 2 and 3 for numbers with a meet table, 20 in their place for a register.
+unfoldable pub kind-conditions : ValueKind → ℕ → List ℕ → List Condition
+kind-conditions (Numbered values) top meet = plain 2 (ValuesFault values top) ∷ plain 3 (MeetFault values top meet) ∷ []
+kind-conditions (Register lines) top meet = plain 20 (LinesFault lines) ∷ []
 
 -- The conditions that a set-up meets, in document 01's order.
 unfoldable pub setup-conditions : Setup → List Condition
-setup-conditions s = plain 1 (EventsFault s) ∷ plain 2 (ValuesFault s) ∷ plain 3 (MeetFault s) ∷ []
+setup-conditions s = plain 1 (EventsFault (s .events)) ∷ kind-conditions (s .kind) (s .top) (s .meet)
+
+-- Its kind of values is within the limits, and the meet table of numbers is whole.
+pub record NumbersInLimits (values : ℕ) (meet : List ℕ) : Type 0 where
+  pub some-values : 1 ≤ values
+  pub few-values : values ≤ value-limit
+  pub whole : length meet ≡ values * values
+
+pub record LinesInLimits (lines : ℕ) : Type 0 where
+  pub some-lines : 1 ≤ lines
+  pub few-lines : lines ≤ line-limit
+
+abbrev pub KindInLimits : ValueKind → List ℕ → Type 0
+KindInLimits (Numbered values) meet = NumbersInLimits values meet
+KindInLimits (Register lines) meet = LinesInLimits lines
 
 -- What an accepted set-up is: a meet-semilattice with that top, within the limits.
 pub record WellFormed (s : Setup) : Type 0 where
   pub some-events : 1 ≤ s .events
   pub few-events : s .events ≤ event-limit
-  pub some-values : 1 ≤ s .values
-  pub few-values : s .values ≤ value-limit
-  pub whole : length (s .meet) ≡ s .values * s .values
-  pub laws : MeetSemilattice (Below (s .values)) (meetAt (s .values) (s .meet)) (s .top)
-
--- The computing twin: a test for each condition, and the first that fails.
-unfoldable pub events-test : ℕ → Bool
-events-test events = leb 1 events && leb events event-limit
-
-unfoldable pub values-test : ℕ → ℕ → Bool
-values-test values top = leb 1 values && (leb values value-limit && ltb top values)
-
-unfoldable pub entries-test : ℕ → List ℕ → Bool
-entries-test values meet = every (length meet) (λ i. ltb (getD meet i 0) values)
-
-unfoldable pub meet-test : ℕ → ℕ → List ℕ → Bool
-meet-test values top meet = eqb (length meet) (values * values) && (entries-test values meet && lawful values meet top)
-
-unfoldable pub setup-refusal : Setup → Option Refusal
-setup-refusal s =
-    or-else (plain-unless (events-test (s .events)) 1)
-    (or-else (plain-unless (values-test (s .values) (s .top)) 2) (plain-unless (meet-test (s .values) (s .top) (s .meet)) 3))
-
--- The twin is the first refusal of the list, and the only one; the list stands in document 01's order.
-pub record SetupClaim : Type 0 where
-  pub first : (s : Setup) → First (setup-conditions s) (setup-refusal s)
-  pub only : (s : Setup) (answer : Option Refusal) → First (setup-conditions s) answer → answer ≡ setup-refusal s
-  pub ordered : (s : Setup) → InOrder (1 ∷ 2 ∷ 3 ∷ []) (setup-conditions s)
-
--- A set-up is accepted exactly if it is a meet-semilattice with that top within the limits, at every size.
-abbrev pub SetupAcceptedClaim : Type 0
-SetupAcceptedClaim = (s : Setup) → (setup-refusal s ≡ none) ↔ WellFormed s
-
--- The four-value set is accepted with any number of events within the limits.
-abbrev pub FourValueSetupClaim : Type 0
-FourValueSetupClaim = (events : ℕ) → 1 ≤ events → events ≤ event-limit → setup-refusal (setup events 4 3 four-value-meet) ≡ none
-
--- What the private tests of the laws ask of a table: at most 16 values, and whole.
-pub record Square (values : ℕ) (meet : List ℕ) : Type 0 where
-  pub small : values ≤ value-limit
-  pub whole : length meet ≡ values * values
+  pub of-kind : KindInLimits (s .kind) (s .meet)
+  pub laws : Laws s

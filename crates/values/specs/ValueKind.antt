@@ -1,31 +1,27 @@
--- The two kinds of values behind one number, and their meet (document 01, "Value sets"; document 02, F-7).
--- Assumes nothing.
-use mathlib.Core.Path.{_≡_}
-use mathlib.Core.Logic.{_↔_}
-use mathlib.Core.Bool.{Bool, true}
+-- The two kinds of values behind one number: which numbers are values, top and meet (document 01, "Value sets"; document 02, F-7).
 use mathlib.Core.List.{List}
-use Prim.Native.Nat.{ℕ, _≤_}
+use Prim.Native.Nat.{ℕ, _^_, _<_}
 use lib.Bits.{bitAnd}
-use lib.Dec.{eqb}
-use Rattle.theory.specs.Semilattice.{MeetSemilattice, AtOrBelow}
-use Rattle.theory.specs.ValueSets.{Below, meetAt, Packed, pack, top-masks}
+use Rattle.theory.specs.ValueSets.{Below, meetAt, OfLines, pack, unpack, top-masks}
 use Rattle.values.specs.declared.ValueKind.{ValueKind}
 use Rattle.values.specs.declared.ValueKind.the-variants.{Numbered, Register}
-use Rattle.values.specs.Setup.{Setup, WellFormed}
+
+-- A value of a register is two 16-bit masks; no bit at or above the line count is set.
+pub record RegisterValue (lines v : ℕ) : Type 0 where
+  pub two-masks : v < 2 ^ 32
+  pub of-lines : OfLines lines (unpack v)
+
+-- Which numbers are values of a kind: those below the count, or the packed masks of so many lines.
+abbrev pub ValueIn : ValueKind → ℕ → Type 0
+ValueIn (Numbered n) v = Below n v
+ValueIn (Register lines) v = RegisterValue lines v
 
 -- The meet of two values: by the table for a numbered set, by bitwise and for packed register values.
 unfoldable pub meetOf : ValueKind → List ℕ → ℕ → ℕ → ℕ
 meetOf (Numbered n) table a b = meetAt n table a b
-meetOf Register table a b = bitAnd a b
+meetOf (Register lines) table a b = bitAnd a b
 
--- "b is at or below c when the meet of b and c is b", as a test.
-abbrev pub at-or-below : ValueKind → List ℕ → ℕ → ℕ → Bool
-at-or-below kind table b c = eqb (meetOf kind table b c) b
-
--- Both kinds are meet-semilattices, and the test is their order.
-pub record ValueKindClaim : Type 0 where
-  pub numbered :
-      (s : Setup) → WellFormed s → MeetSemilattice (Below (s .values)) (meetOf (Numbered (s .values)) (s .meet)) (s .top)
-  pub register :
-      (lines : ℕ) (table : List ℕ) → lines ≤ 16 → MeetSemilattice (Packed lines) (meetOf Register table) (pack (top-masks lines))
-  pub order : (kind : ValueKind) (table : List ℕ) (b c : ℕ) → (at-or-below kind table b c ≡ true) ↔ AtOrBelow (meetOf kind table) b c
+-- The top value: the one that is handed in, or all lines' bits in both masks.
+abbrev pub topOf : ValueKind → ℕ → ℕ
+topOf (Numbered n) top = top
+topOf (Register lines) top = pack (top-masks lines)

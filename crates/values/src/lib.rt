@@ -1,25 +1,26 @@
-// Document 01, "Value sets": the check of a set-up, the four-value set, meet and "at or below".
+// Document 01, "Value sets": the check of a set-up, the four-value set, values of either kind, their meet and "at or below".
+use limits::EVENT_LIMIT;
+use limits::VALUE_LIMIT;
 use refusal::Judgement;
 use refusal::Refusal;
 ghost use mathlib.Core.Path.{_≡_};
 ghost use mathlib.Core.Bool.{true};
-ghost use Prim.Native.Nat.{_<_};
-ghost use lib.ListN.{getD};
+ghost use Prim.Native.Nat.{_+_, _^_, _<_, _≤_};
+ghost use lib.ListN.{length, getD};
 ghost use Rattle.refusal.specs.Refusal.{judgement};
 ghost use Rattle.theory.specs.ValueSets.{meetAt, four-value-meet};
 ghost use Rattle.theory.specs.ValueSetClaims.{idempotent-test, commutative-test, associative-test, neutral-test};
-ghost use Rattle.values.specs.Setup.{setup, events-test, values-test, entries-test, meet-test, setup-refusal, Square};
-ghost use Rattle.values.specs.ValueKind.{meetOf, at-or-below};
+ghost use Rattle.values.specs.Setup.{setup};
+ghost use Rattle.values.specs.SetupTests.{events-test, values-test, entries-test, meet-test, setup-refusal, Square};
+ghost use Rattle.values.specs.ValueBytes.{value-width};
+ghost use Rattle.values.specs.ValueReading.{masks-value, masks-from, value-from};
+ghost use Rattle.values.specs.ValueKind.{meetOf};
+ghost use Rattle.values.specs.ValueTests.{masks-fit, value-fits, at-or-below};
 
-// Document 01's limits of a set-up.
-pub const EVENT_LIMIT: usize = 16;
-
-pub const VALUE_LIMIT: usize = 16;
-
-// What the values are: so many numbers with a meet table, or registers, whose value is low + 65536 * high.
+// What the values are: so many numbers with a meet table, or registers of so many lines, whose value is low + 65536 * high.
 pub enum ValueKind {
     Numbered(u32),
-    Register,
+    Register(u32),
 }
 
 const FOUR_VALUE_MEET: [u8; 16] = [0, 0, 0, 0, 0, 1, 0, 1, 0, 0, 2, 2, 0, 1, 2, 3];
@@ -38,12 +39,12 @@ fn wide(x: u8) -> usize
 }
 
 fn wide32(x: u8) -> u32
-    ensures { λ r. ⌜ r ≡ x ⌝ }
+    ensures { λ r. ⌜ (r ≡ x) × (r < 256) ⌝ }
 {
     x as u32
 }
 
-// The table's entry, or 0 outside it.
+// The entry of a table, or 0 outside it.
 fn entry(table: &[u8], at: usize) -> u32
     ensures { λ r. ⌜ r ≡ getD (now (table .entry)) at 0 ⌝ }
 {
@@ -60,7 +61,88 @@ pub fn meet_of(kind: ValueKind, table: &[u8], a: u32, b: u32) -> u32
 {
     match kind {
         ValueKind::Numbered(n) => entry(table, (a as usize) * (n as usize) + (b as usize)),
-        ValueKind::Register => a & b,
+        ValueKind::Register(_) => a & b,
+    }
+}
+
+// The least number that is no mask of so many lines.
+fn mask_bound(lines: u32) -> u32
+    requires { ⌜ lines ≤ 16 ⌝ }
+    ensures { λ r. ⌜ (r ≡ 2 ^ lines) × (1 ≤ r) × (r ≤ 65536) ⌝ }
+{
+    1u32 << lines
+}
+
+// Whether no mask has a bit at or above the line count.
+fn masks_fit(lines: u32, v: u32) -> bool
+    ensures { λ r. ⌜ r ≡ masks-fit lines v ⌝ }
+{
+    if 16 <= lines {
+        return true;
+    }
+    let bound = mask_bound(lines);
+    if bound <= v % 65536 {
+        return false;
+    }
+    v / 65536 < bound
+}
+
+// Whether a number is a value of a kind.
+pub fn value_fits(kind: ValueKind, v: u32) -> bool
+    ensures { λ r. ⌜ r ≡ value-fits kind v ⌝ }
+{
+    match kind {
+        ValueKind::Numbered(n) => v < n,
+        ValueKind::Register(lines) => masks_fit(lines, v),
+    }
+}
+
+// The bytes of a value.
+pub fn value_width(kind: ValueKind) -> usize
+    ensures { λ r. ⌜ r ≡ value-width kind ⌝ }
+{
+    match kind {
+        ValueKind::Numbered(_) => 1,
+        ValueKind::Register(_) => 4,
+    }
+}
+
+// The value of two masks in bytes, each mask's low byte first.
+fn masks_value(a: u8, b: u8, c: u8, d: u8) -> u32
+    ensures { λ r. ⌜ r ≡ masks-value a b c d ⌝ }
+{
+    wide32(a) + 256 * wide32(b) + 65536 * (wide32(c) + 256 * wide32(d))
+}
+
+// A byte, or 0 past the end.
+fn byte_at(bytes: &[u8], at: usize) -> u8
+    ensures { λ r. ⌜ r ≡ getD (now (bytes .entry)) at 0 ⌝ }
+{
+    if at < bytes.len() { bytes[at] } else { 0 }
+}
+
+fn masks_from(bytes: &[u8], at: usize) -> u32
+    ensures { λ r. ⌜ r ≡ masks-from (now (bytes .entry)) at ⌝ }
+{
+    if bytes.len() <= at {
+        return 0;
+    }
+    let rest = &bytes[at..];
+    masks_value(
+        byte_at(rest, 0),
+        byte_at(rest, 1),
+        byte_at(rest, 2),
+        byte_at(rest, 3),
+    )
+}
+
+// The value in the bytes from a place on; bytes past the end are 0.
+pub fn value_from(kind: ValueKind, bytes: &[u8], at: usize) -> u32
+    ensures { λ r. ⌜ r ≡ value-from kind (now (bytes .entry)) at ⌝ }
+{
+    match kind {
+        ValueKind::Numbered(_) => entry(bytes, at),
+        ValueKind::Register(_) => masks_from(bytes, at),
     }
 }
 
@@ -177,7 +259,7 @@ fn lawful_meet(values: usize, top: usize, meet: &[u8]) -> bool
 }
 
 // Whether events are 1 to 16.
-fn events_in_limits(events: usize) -> bool
+pub fn events_in_limits(events: usize) -> bool
     ensures { λ r. ⌜ r ≡ events-test events ⌝ }
 {
     if events < 1 {
@@ -187,7 +269,7 @@ fn events_in_limits(events: usize) -> bool
 }
 
 // Whether values are 1 to 16 and top is below them.
-fn values_in_limits(values: usize, top: usize) -> bool
+pub fn values_in_limits(values: usize, top: usize) -> bool
     ensures { λ r. ⌜ r ≡ values-test values top ⌝ }
 {
     if values < 1 {

@@ -1,49 +1,32 @@
 -- `values::check_setup` meets its contract: each answer is the judgement at the first test that fails.
--- Assumes nothing.
 use mathlib.Core.Path.{sym, _∙_}
-use borrow.Author.Needs.{needs}
-use borrow.Author.Tests.{not-true, not-false}
-use Rattle.values.specs.Setup.{setup}
+use borrow.Author.{Needs.{needs}, Tests.{not-true, not-false}}
 use Rattle.values.proofs.Setups.{judged-events, judged-values, judged-meet, judged-accepted}
 use Rattle.values.proofs.check_setup.Statement.{statement}
 use Rattle.values.proofs.check_setup.Tie as tie
 
-events-in-limits-requires : tie.Need-events-in-limits-requires
-events-in-limits-requires c κs = search needs
-
 returns : tie.Need-returns
-unfolding setup
-returns c = sym (judged-events _ (sym (c .before .events-in-limits .ensures) ∙ not-true _ (c .if1 .taken)))
-
-values-in-limits-requires : tie.Need-values-in-limits-requires
-values-in-limits-requires c κs = search needs
+returns c = sym (judged-events _ _ _ _ (sym (c .before .events-in-limits .ensures) ∙ not-true _ (c .if1 .taken)))
 
 returns-2 : tie.Need-returns-2
-unfolding setup
 returns-2 c = sym
-    (judged-values _ (sym (c .before .before .before .events-in-limits .ensures) ∙ not-false _ (c .before .before .if1 .left)) (sym (c .before .values-in-limits .ensures) ∙ not-true _ (c .if2 .taken)))
+    (judged-values _ _ _ _ (sym (c .before .before .before .events-in-limits .ensures) ∙ not-false _ (c .before .before .if1 .left))
+    (sym (c .before .values-in-limits .ensures) ∙ not-true _ (c .if2 .taken)))
 
 lawful-meet-requires : tie.Need-lawful-meet-requires
 lawful-meet-requires c κs = sym (c .before .values-in-limits .ensures) ∙ not-false _ (c .if2 .left)
 
 returns-3 : tie.Need-returns-3
-unfolding setup
 returns-3 c = sym
-    (judged-meet _ (sym (c .before .before .before .before .before .events-in-limits .ensures) ∙ not-false _ (c .before .before .before .before .if1 .left)) (sym (c .before .before .before .values-in-limits .ensures) ∙ not-false _ (c .before .before .if2 .left)) (sym (c .before .lawful-meet .ensures) ∙ not-true _ (c .if3 .taken)))
+    (judged-meet _ _ _ _ (sym (c .before .before .before .before .before .events-in-limits .ensures) ∙ not-false _
+    (c .before .before .before .before .if1 .left)) (sym (c .before .before .before .values-in-limits .ensures) ∙ not-false _
+    (c .before .before .if2 .left)) (sym (c .before .lawful-meet .ensures) ∙ not-true _ (c .if3 .taken)))
 
 returns-4 : tie.Need-returns-4
-unfolding setup
 returns-4 c = sym
-    (judged-accepted _ (sym (c .before .before .before .before .before .events-in-limits .ensures) ∙ not-false _ (c .before .before .before .before .if1 .left)) (sym (c .before .before .before .values-in-limits .ensures) ∙ not-false _ (c .before .before .if2 .left)) (sym (c .before .lawful-meet .ensures) ∙ not-false _ (c .if3 .left)))
+    (judged-accepted _ _ _ _ (sym (c .before .before .before .before .before .events-in-limits .ensures) ∙ not-false _
+    (c .before .before .before .before .if1 .left)) (sym (c .before .before .before .values-in-limits .ensures) ∙ not-false _
+    (c .before .before .if2 .left)) (sym (c .before .lawful-meet .ensures) ∙ not-false _ (c .if3 .left)))
 
 pub check-setup-spec : {M : Type 1} → statement M
-check-setup-spec =
-    tie.close
-    (tie.spec
-    events-in-limits-requires
-    returns
-    values-in-limits-requires
-    returns-2
-    lawful-meet-requires
-    returns-3
-    returns-4)
+check-setup-spec = tie.close (tie.spec (λ c κs. search needs) returns (λ c κs. search needs) returns-2 lawful-meet-requires returns-3 returns-4)

@@ -1,13 +1,10 @@
 -- `values::commutative` meets its contract. The loops' invariants: the law holds at every pair before (a, b).
--- Assumes nothing.
-use mathlib.Core.Path.{_≡_, sym, _∙_}
-use mathlib.Core.Bool.{true}
+use mathlib.Core.{Path.{_≡_, sym, _∙_}, Bool.{true}}
 use Prim.Native.Nat.{_≤_, _-_}
 use native.Mathlib.Omega.{arith}
 use borrow.Author.Tests.{eq-eqb, ne-eqb}
 use lib.Dec.{eqb}
-use Rattle.theory.specs.ValueSets.{meetAt}
-use Rattle.theory.specs.ValueSetClaims.{every, commutative-test}
+use Rattle.theory.specs.{ValueSets.{meetAt}, ValueSetClaims.{every, commutative-test}}
 use Rattle.theory.proofs.ValueSets.{every-none, every-more, every-not, every-done}
 use Rattle.values.proofs.commutative.Statement.{statement}
 use Rattle.values.proofs.commutative.Tie as tie
@@ -44,23 +41,12 @@ returns c = sym
     (every-not _ _ (c .before .before .before .before .loop2 .b) (c .before .before .before .loop2-test .taken)
     (ne-eqb _ _ (λ e. c .if1 .taken (c .before .before .meet-at .ensures ∙ e ∙ sym (c .before .meet-at2 .ensures))))))
 
-add-b : tie.Need-add-b Inv-loop2 μ-loop2 Inv-loop μ-loop
-add-b c = omega arith
-
-loop2-less : tie.Need-loop2-less Inv-loop2 μ-loop2 Inv-loop μ-loop
-loop2-less c = omega arith
-
 loop2-again : tie.Need-loop2-again Inv-loop2 μ-loop2 Inv-loop μ-loop
 loop2-again c = (
   omega arith,
-  every-more _ _ (c .before .before .before .before .loop2 .inv .1) (eq-eqb _ _ (sym (c .before .before .meet-at .ensures) ∙ c .if1 .left ∙ c .before .meet-at2 .ensures)),
+  every-more _ _ (c .before .before .before .before .loop2 .inv .1) (eq-eqb _ _
+      (sym (c .before .before .meet-at .ensures) ∙ c .if1 .left ∙ c .before .meet-at2 .ensures)),
 )
-
-add-a : tie.Need-add-a Inv-loop2 μ-loop2 Inv-loop μ-loop
-add-a c = omega arith
-
-loop-less : tie.Need-loop-less Inv-loop2 μ-loop2 Inv-loop μ-loop
-loop-less c = omega arith
 
 loop-again : tie.Need-loop-again Inv-loop2 μ-loop2 Inv-loop μ-loop
 loop-again c = (
@@ -73,22 +59,5 @@ unfolding commutative-test
 returns-2 c = sym (every-done _ _ _ (c .before .loop .inv .0) (c .loop-test .left) (c .before .loop .inv .1))
 
 pub commutative-spec : {M : Type 1} → statement M
-commutative-spec =
-    tie.close
-    (tie.spec
-    Inv-loop2
-    μ-loop2
-    Inv-loop
-    μ-loop
-    loop-holds
-    loop2-holds
-    meet-at-requires
-    meet-at-requires-2
-    returns
-    add-b
-    loop2-less
-    loop2-again
-    add-a
-    loop-less
-    loop-again
-    returns-2)
+commutative-spec = tie.close (tie.spec Inv-loop2 μ-loop2 Inv-loop μ-loop loop-holds loop2-holds meet-at-requires meet-at-requires-2 returns
+    (λ c. omega arith) (λ c. omega arith) loop2-again (λ c. omega arith) (λ c. omega arith) loop-again returns-2)

@@ -1,5 +1,4 @@
 -- `values::four_values` meets its contract: the constant is the definition's list.
--- Assumes nothing.
 use mathlib.Core.Path.{refl}
 use Rattle.theory.specs.ValueSets.{four-value-meet}
 use Rattle.values.proofs.four_values.Statement.{statement}

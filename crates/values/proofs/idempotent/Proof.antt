@@ -1,13 +1,10 @@
 -- `values::idempotent` meets its contract. The loop's invariant: the law holds at every value before a.
--- Assumes nothing.
-use mathlib.Core.Path.{_≡_, sym, _∙_}
-use mathlib.Core.Bool.{true}
+use mathlib.Core.{Path.{_≡_, sym, _∙_}, Bool.{true}}
 use Prim.Native.Nat.{_≤_, _-_}
 use native.Mathlib.Omega.{arith}
 use borrow.Author.Tests.{eq-eqb, ne-eqb}
 use lib.Dec.{eqb}
-use Rattle.theory.specs.ValueSets.{meetAt}
-use Rattle.theory.specs.ValueSetClaims.{every, idempotent-test}
+use Rattle.theory.specs.{ValueSets.{meetAt}, ValueSetClaims.{every, idempotent-test}}
 use Rattle.theory.proofs.ValueSets.{every-none, every-more, every-not, every-done}
 use Rattle.values.proofs.idempotent.Statement.{statement}
 use Rattle.values.proofs.idempotent.Tie as tie
@@ -27,13 +24,8 @@ meet-at-requires c κs = (c .before .before .before .pre, c .loop-test .taken, c
 returns : tie.Need-returns Inv-loop μ-loop
 unfolding idempotent-test
 returns c = sym
-    (every-not _ _ (c .before .before .before .loop .a) (c .before .before .loop-test .taken) (ne-eqb _ _ (λ e. c .if1 .taken (c .before .meet-at .ensures ∙ e))))
-
-add-a : tie.Need-add-a Inv-loop μ-loop
-add-a c = omega arith
-
-loop-less : tie.Need-loop-less Inv-loop μ-loop
-loop-less c = omega arith
+    (every-not _ _ (c .before .before .before .loop .a) (c .before .before .loop-test .taken)
+    (ne-eqb _ _ (λ e. c .if1 .taken (c .before .meet-at .ensures ∙ e))))
 
 loop-again : tie.Need-loop-again Inv-loop μ-loop
 loop-again c = (omega arith, every-more _ _ (c .before .before .before .loop .inv .1) (eq-eqb _ _ (sym (c .before .meet-at .ensures) ∙ c .if1 .left)))
@@ -43,15 +35,4 @@ unfolding idempotent-test
 returns-2 c = sym (every-done _ _ _ (c .before .loop .inv .0) (c .loop-test .left) (c .before .loop .inv .1))
 
 pub idempotent-spec : {M : Type 1} → statement M
-idempotent-spec =
-    tie.close
-    (tie.spec
-    Inv-loop
-    μ-loop
-    loop-holds
-    meet-at-requires
-    returns
-    add-a
-    loop-less
-    loop-again
-    returns-2)
+idempotent-spec = tie.close (tie.spec Inv-loop μ-loop loop-holds meet-at-requires returns (λ c. omega arith) (λ c. omega arith) loop-again returns-2)

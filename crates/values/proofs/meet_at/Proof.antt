@@ -1,5 +1,4 @@
 -- `values::meet_at` meets its contract: the place lies within a whole table.
--- Assumes nothing.
 use native.Mathlib.Omega.{arith}
 use borrow.Author.Needs.{needs}
 use Rattle.theory.specs.ValueSets.{meetAt}
@@ -14,14 +13,12 @@ add-wide : tie.Need-add-wide
 add-wide c = omega (arith, place-small (c .before .args .a) (c .before .args .b) (c .before .pre .0) (c .before .pre .1) (c .before .pre .2))
 
 shared-slice-read-wide : tie.Need-shared-slice-read-wide
-shared-slice-read-wide c = place-in (c .before .before .args .a) (c .before .before .args .b) (c .before .before .pre .0) (c .before .before .pre .1) (c .before .before .pre .2)
-
-wide-requires : tie.Need-wide-requires
-wide-requires c κs = search needs
+shared-slice-read-wide c = place-in (c .before .before .args .a) (c .before .before .args .b) (c .before .before .pre .0) (c .before .before .pre .1)
+    (c .before .before .pre .2)
 
 returns : tie.Need-returns
 unfolding meetAt
 returns c = search needs
 
 pub meet-at-spec : {M : Type 1} → statement M
-meet-at-spec = tie.close (tie.spec mul-wide add-wide shared-slice-read-wide wide-requires returns)
+meet-at-spec = tie.close (tie.spec mul-wide add-wide shared-slice-read-wide (λ c κs. search needs) returns)

@@ -1,5 +1,4 @@
 -- `values::meet_of` meets its contract: the place of two 32-bit values fits 64 bits, and each arm is `meetOf`'s.
--- Assumes nothing.
 use native.Mathlib.Omega.{arith}
 use borrow.Author.Needs.{needs}
 use Rattle.theory.specs.ValueSets.{meetAt}
@@ -8,26 +7,18 @@ use Rattle.values.proofs.Setups.{place-fits}
 use Rattle.values.proofs.meet_of.Statement.{statement}
 use Rattle.values.proofs.meet_of.Tie as tie
 
-enum-known-kind : tie.Need-enum-known-kind
-enum-known-kind c = search needs
-
-cast-entry : tie.Need-cast-entry
-cast-entry c = search needs
-
 mul-entry : tie.Need-mul-entry
-mul-entry c = omega
-    (arith, place-fits (c .before .before .before .before .args .a) (c .before .kind .given .0 .0) (c .before .before .before .before .args .b) (omega arith) (omega arith) (omega arith))
+mul-entry c = omega (
+  arith,
+  place-fits (c .before .before .before .before .args .a) (c .before .kind .given .0 .0) (c .before .before .before .before .args .b)
+      (omega arith) (omega arith) (omega arith),
+)
 
 add-entry : tie.Need-add-entry
 add-entry c = record {
-  fits = place-fits (c .before .before .before .before .args .a) (c .before .kind .given .0 .0) (c .before .before .before .before .args .b) (omega arith) (omega arith) (omega arith);
+  fits = place-fits (c .before .before .before .before .args .a) (c .before .kind .given .0 .0) (c .before .before .before .before .args .b) (omega arith)
+      (omega arith) (omega arith);
 }
-
-entry-requires : tie.Need-entry-requires
-entry-requires c κs = search needs
-
-enum-told : tie.Need-enum-told
-enum-told c = search needs
 
 returns : tie.Need-returns
 unfolding meetOf meetAt
@@ -38,14 +29,5 @@ unfolding meetOf
 returns-2 c = rw (c .enum-told .given .1)
 
 pub meet-of-spec : {M : Type 1} → statement M
-meet-of-spec =
-    tie.close
-    (tie.spec
-    enum-known-kind
-    cast-entry
-    mul-entry
-    add-entry
-    entry-requires
-    enum-told
-    returns
+meet-of-spec = tie.close (tie.spec (λ c. search needs) (λ c. search needs) mul-entry add-entry (λ c κs. search needs) (λ c. search needs) returns
     returns-2)

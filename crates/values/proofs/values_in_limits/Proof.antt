@@ -1,8 +1,7 @@
 -- `values::values_in_limits` meets its contract: each answer is the test's.
--- Assumes nothing.
 use native.Mathlib.Omega.{arith}
 use borrow.Author.Tests.{le-leb, lt-leb}
-use Rattle.values.specs.Setup.{values-test}
+use Rattle.values.specs.SetupTests.{values-test}
 use Rattle.values.proofs.values_in_limits.Statement.{statement}
 use Rattle.values.proofs.values_in_limits.Tie as tie
 

@@ -1,0 +1,19 @@
+-- Which numbers are values of a kind, and the order of values, computed: the twins of `ValueIn` and `AtOrBelow`.
+use mathlib.Core.Bool.{Bool, _&&_}
+use mathlib.Core.List.{List}
+use Prim.Native.Nat.{ℕ, _/_, _%_, _^_}
+use lib.Dec.{eqb, ltb}
+use Rattle.values.specs.declared.ValueKind.{ValueKind}
+use Rattle.values.specs.declared.ValueKind.the-variants.{Numbered, Register}
+use Rattle.values.specs.ValueKind.{meetOf}
+
+unfoldable pub masks-fit : ℕ → ℕ → Bool
+masks-fit lines v = ltb v (2 ^ 32) && (ltb (v % 65536) (2 ^ lines) && ltb (v / 65536) (2 ^ lines))
+
+abbrev pub value-fits : ValueKind → ℕ → Bool
+value-fits (Numbered n) v = ltb v n
+value-fits (Register lines) v = masks-fit lines v
+
+-- "b is at or below c when the meet of b and c is b", as a test.
+abbrev pub at-or-below : ValueKind → List ℕ → ℕ → ℕ → Bool
+at-or-below kind table b c = eqb (meetOf kind table b c) b
