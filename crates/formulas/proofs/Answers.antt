@@ -1,8 +1,5 @@
 -- The answers of 5 to 9, one after the other, and that they depend on the nodes' fields alone.
--- Assumes nothing.
-use mathlib.Core.Path.{_≡_, refl, sym, _∙_, ap, ap₂}
-use mathlib.Core.Bool.{Bool, true, false, not, _&&_}
-use mathlib.Core.Option.{Option, none, some, Option·some-ne-none}
+use mathlib.Core.{Path.{_≡_, refl, sym, _∙_, ap, ap₂}, Bool.{Bool, true, false, not, _&&_}, Option.{Option, none, some, Option·some-ne-none}}
 use mathlib.Core.List.{_∷_}
 use Prim.Native.Nat.{ℕ, zero, suc, _+_, _≤_, _<_}
 use native.Mathlib.Omega.{arith}
@@ -14,15 +11,13 @@ use Rattle.refusal.specs.declared.Refusal.{Refusal}
 use Rattle.refusal.specs.declared.Refusal.the-variants.{Plain, At}
 use Rattle.refusal.specs.declared.Judgement.the-variants.{Refused}
 use Rattle.refusal.proofs.Refusals.{or-else-assoc, or-else-none, judgement-refused}
-use Rattle.formulas.specs.RuleConditions.{closed-to-variable}
-use Rattle.formulas.specs.NodeReading.{Reads}
-use Rattle.formulas.specs.RuleReading.{first-of, kind-of, fields-fit, awaited, end-fault, node-of, nodes-from, formulas, first-formula, formula-read, lowest-unbound, lowest-closed}
-use Rattle.formulas.specs.RuleRefusal.{node-limit, variables-refusal, structure-refusal, misfit-place, tree-refusal, nodes-refusal, fields-refusal}
+use Rattle.formulas.specs.{RuleConditions.{closed-to-variable}, NodeReading.{Reads}}
+use Rattle.formulas.specs.RuleReading.{first-of, kind-of, fields-fit, awaited, end-fault, node-of, nodes-from, formulas, first-formula, formula-read}
+use Rattle.formulas.specs.RuleReading.{lowest-unbound, lowest-closed}
+use Rattle.formulas.specs.RuleRefusal.{variables-refusal, structure-refusal, misfit-place, tree-refusal, nodes-refusal, fields-refusal}
 use Rattle.formulas.specs.NodeWalks.{Noted, Keeps}
-use Rattle.formulas.proofs.KindFacts.{fit-known}
-use Rattle.formulas.proofs.Search.{lowest-clear, lowest-same}
-use Rattle.formulas.proofs.Prefix.{no-fault}
-use Rattle.formulas.proofs.Reading.{whole-read}
+use Rattle.formulas.proofs.{KindFacts.{fit-known}, Search.{lowest-clear, lowest-same}, Prefix.{no-fault}, Reading.{whole-read}}
+use Rattle.limits.specs.Limits.{node-limit}
 
 -- Every kind is known.
 abbrev KnownKinds : (ℕ → ℕ) → ℕ → Type 0
@@ -31,13 +26,13 @@ KnownKinds kind count = (i : ℕ) → i < count → kind i < 6
 -- A note that was clear before, taken back to the place.
 pub kept-place : (o : Option ℕ) (n : ℕ) → Keeps o node-limit n → n < node-limit → o ≡ some n
 unfolding Keeps Noted first-of
-kept-place none n w h = let v : n ≡ 256 = w none refl in absurd (omega arith)
+kept-place none n w h = let v : n ≡ node-limit = w none refl in absurd (omega arith)
 kept-place (some i) n w h = ap some (sym (w none refl .0))
 
 pub kept-clear : (o : Option ℕ) (n : ℕ) → Keeps o node-limit n → node-limit ≤ n → o ≡ none
 unfolding Keeps Noted first-of
 kept-clear none n w h = refl
-kept-clear (some i) n w h = let v : (n ≡ i) × (i < 256) = w none refl in absurd (omega (arith, v .0, v .1))
+kept-clear (some i) n w h = let v : (n ≡ i) × (i < node-limit) = w none refl in absurd (omega (arith, v .0, v .1))
 
 pub place-unmet : (o : Option ℕ) (n : ℕ) → at-found o n ≡ none → o ≡ none
 unfolding at-found

@@ -1,35 +1,28 @@
 -- Refusals 5 to 9 for any way in which nodes lie in bytes: the answer computed from a test of each node and from accessors is the
 -- first refusal that is met.
--- Assumes nothing.
-use mathlib.Core.Path.{_≡_, refl, sym, _∙_, ap, ap₂, subst}
-use mathlib.Core.Logic.{_⊎_, inl, inr}
-use mathlib.Core.Bool.{Bool, true, false, not, _&&_}
-use mathlib.Core.Option.{Option, none, some, Option·some-ne-none}
-use mathlib.Core.List.{List, [], _∷_, _++_, append-assoc, append-nil}
+use mathlib.Core.{Path.{_≡_, refl, sym, _∙_, ap, ap₂, subst}, Logic.{_⊎_, inl, inr}, Bool.{Bool, true, false, not, _&&_}}
+use mathlib.Core.{Option.{Option, none, some, Option·some-ne-none}, List.{List, [], _∷_, _++_, append-assoc, append-nil}}
 use Prim.Native.Nat.{ℕ, zero, suc, _+_, _*_, _/_, _%_, _≤_, _<_}
-use native.Mathlib.Nat.{div-add-mod', add-zero, zero-mul, mul-div-cancel, mul-mod-left}
-use native.Mathlib.Omega.{arith}
-use lib.Dec.{leb}
-use lib.ListN.{length, take, drop}
+use native.Mathlib.{Nat.{div-add-mod', add-zero, zero-mul, mul-div-cancel, mul-mod-left}, Omega.{arith}}
+use lib.{Dec.{leb}, ListN.{length, take, drop}}
 use borrow.Author.Tests.{eq-eqb, lt-ltb, le-leb, not-true, not-false}
 use Rattle.theory.specs.Formula.{Formula, truth, variable, transition, output, conjunction, greatest, size, Fits, Accepted}
 use Rattle.theory.specs.PrefixCode.{Node, nodes}
-use Rattle.refusal.specs.Refusal.{Condition, plain, at-lowest, First, or-else, plain-unless, at-found}
-use Rattle.refusal.specs.RefusalClaims.{Functional, AllFunctional, NoneMet}
+use Rattle.refusal.specs.{Refusal.{Condition, plain, at-lowest, Gives, First, or-else, plain-unless, at-found}, RefusalClaims.{NoneMet}}
 use Rattle.refusal.specs.declared.Refusal.{Refusal}
 use Rattle.refusal.specs.declared.Refusal.the-variants.{Plain, At}
-use Rattle.refusal.proofs.Refusals.{plain-functional, at-lowest-functional, first-one, first-cons, or-else-none, plain-none}
+use Rattle.refusal.proofs.Refusals.{only-place, first-one, first-cons, or-else-none, plain-none}
 use Rattle.formulas.specs.NodeBytes.{NodeCode, encode-all, encode-formula}
-use Rattle.formulas.specs.RuleConditions.{Unbound, InClosedPosition, closed-to-variable, NodeFits, node-count, node-at, CountAtFault, NodeAtFault, RunOut, LeftOver, OfFormula, rule-conditions}
+use Rattle.formulas.specs.RuleConditions.{Unbound, InClosedPosition, closed-to-variable, NodeFits, node-count, node-at, CountAtFault, NodeAtFault, RunOut}
+use Rattle.formulas.specs.RuleConditions.{LeftOver, OfFormula, rule-conditions}
 use Rattle.formulas.specs.RuleReading.{lowest-from, kind-of, end-fault, node-of, nodes-from, formula-read, lowest-unbound, lowest-closed}
 use Rattle.formulas.specs.RuleRefusal.{count-fits, variables-refusal}
-use Rattle.formulas.proofs.Search.{FoundFrom, lowest-clear, lowest-found}
-use Rattle.formulas.proofs.Walking.{size-positive}
-use Rattle.formulas.proofs.Prefix.{length-nodes, Outcome, whole, over, short, outcome, length-from, no-fault}
-use Rattle.formulas.proofs.Answers.{place-unmet}
+use Rattle.formulas.proofs.{Search.{FoundFrom, lowest-clear, lowest-found}, Walking.{size-positive}}
+use Rattle.formulas.proofs.{Prefix.{length-nodes, Outcome, whole, over, short, outcome, length-from, no-fault}, Answers.{place-unmet}}
 use Rattle.formulas.proofs.Decoding.{CountFits, count-facts}
 use Rattle.formulas.proofs.Encoding.{All, all-append, all-left, all-right, encode-append, formula-unique, formula-length, every-node, bytes-from}
-use Rattle.formulas.proofs.Variables.{Answered, unbound-answered, closed-answered, unbound-fault, fault-unbound, closed-fault, fault-closed, free-below, below-free, may-stand, stand-may}
+use Rattle.formulas.proofs.Variables.{Answered, unbound-answered, closed-answered, unbound-fault, fault-unbound, closed-fault, fault-closed, free-below}
+use Rattle.formulas.proofs.Variables.{below-free, may-stand, stand-may}
 
 -- The answers of the two kinds of condition.
 plain-met : (t : Bool) (n : ℕ) (r : Refusal) → plain-unless t n ≡ some r → (t ≡ false) × (r ≡ Plain n)
@@ -37,20 +30,20 @@ unfolding plain-unless
 plain-met true n r e = absurd (Option·some-ne-none r (sym e))
 plain-met false n r e = let d : Plain n ≡ r = cc in (refl, sym d)
 
-place-met : (o : Option ℕ) (n : ℕ) (r : Refusal) → at-found o n ≡ some r → (p : ℕ) × (o ≡ some p) × (r ≡ At n p)
-unfolding at-found
-place-met none n r e = absurd (Option·some-ne-none r (sym e))
-place-met (some p) n r e = let d : At n p ≡ r = cc in (p, refl, sym d)
-
-answered-met : (P : ℕ → Type 0) (n : ℕ) (o : Option ℕ) → Answered P o → (r : Refusal) → at-found o n ≡ some r → at-lowest n P r
+answered-met : (P : ℕ → Type 0) (n : ℕ) (o : Option ℕ) → Answered P o → (r : Refusal) → at-found o n ≡ some r → Gives (at-lowest n P) r
 unfolding at-found
 answered-met P n none w r e = absurd (Option·some-ne-none r (sym e))
 answered-met P n (some p) w r e = let d : At n p ≡ r = cc in (p, w, sym d)
 
-answered-unmet : (P : ℕ → Type 0) (n : ℕ) (o : Option ℕ) → Answered P o → at-found o n ≡ none → (r : Refusal) → ¬ at-lowest n P r
+answered-unmet : (P : ℕ → Type 0) (n : ℕ) (o : Option ℕ) → Answered P o → at-found o n ≡ none → (r : Refusal) → ¬ Gives (at-lowest n P) r
 unfolding at-found
 answered-unmet P n none w e r (p, l, d) = w p (l .holds)
 answered-unmet P n (some p) w e r l = Option·some-ne-none (At n p) e
+
+-- Places of two sentences that say the same.
+answered-same : (P Q : ℕ → Type 0) → ((i : ℕ) → P i → Q i) → ((i : ℕ) → Q i → P i) → (o : Option ℕ) → Answered P o → Answered Q o
+answered-same P Q f g none w = λ j q. w j (g j q)
+answered-same P Q f g (some p) w = record { holds = f p (w .holds); least = λ i h q. w .least i h (g i q) }
 
 -- 5's test.
 pub count-true : (width limit n : ℕ) → CountFits width limit n → count-fits width limit n ≡ true
@@ -86,19 +79,20 @@ module _ {B : Type 0} (width : ℕ) (encode : Node B → List ℕ) (code : NodeC
   at = node-at width bytes
 
   -- 7 for bytes that are the nodes of a formula, and with nodes left over or missing.
-  not-run-out : (φ : Formula B) → bytes ≡ encode-formula encode φ → (r : Refusal) → ¬ RunOut width encode limit events In bytes r
+  not-run-out : (φ : Formula B) → bytes ≡ encode-formula encode φ → (r : ℕ) → ¬ RunOut width encode bytes r
   not-run-out φ e r (χ, n, ns, d, q) =
-      let w = formula-unique width encode code φ χ (n ∷ ns) [] (ap (λ l. l ++ encode-all encode (n ∷ ns)) (sym e) ∙ d ∙ sym (append-nil (encode-formula encode χ))) in
+      let w = formula-unique width encode code φ χ (n ∷ ns) [] (ap (λ l. l ++ encode-all encode (n ∷ ns)) (sym e) ∙ d ∙ sym
+      (append-nil (encode-formula encode χ))) in
       let l : suc (length ns) ≡ 0 = ap length (w .1) in
       omega arith
 
-  not-left-over : (φ : Formula B) → bytes ≡ encode-formula encode φ → (r : Refusal) → ¬ LeftOver width encode limit events In bytes r
+  not-left-over : (φ : Formula B) → bytes ≡ encode-formula encode φ → (r : ℕ) → ¬ LeftOver encode bytes r
   not-left-over φ e r (χ, n, ns, d, q) =
       let w = formula-unique width encode code φ χ [] (n ∷ ns) (append-nil (encode-formula encode φ) ∙ sym e ∙ d) in
       let l : 0 ≡ suc (length ns) = ap length (w .1) in
       omega arith
 
-  not-both : (r s : Refusal) → RunOut width encode limit events In bytes r → ¬ LeftOver width encode limit events In bytes s
+  not-both : (r s : ℕ) → RunOut width encode bytes r → ¬ LeftOver encode bytes s
   not-both r s (φ, n, ns, e, q) (χ, m, ms, d, p) =
       let w =
       formula-unique width encode code φ χ [] ((m ∷ ms) ++ (n ∷ ns))
@@ -116,35 +110,20 @@ module _ {B : Type 0} (width : ℕ) (encode : Node B → List ℕ) (code : NodeC
       formula-unique width encode code φ χ [] []
       (append-nil (encode-formula encode φ) ∙ sym e ∙ d ∙ sym (append-nil (encode-formula encode χ))) .0
 
-  of-formula-functional :
-      (C : Formula B → Condition) → ((φ : Formula B) → Functional (C φ)) → Functional (OfFormula width encode limit events In bytes C)
-  of-formula-functional C f r s (φ, e, x) (χ, d, y) = f χ r s (subst (λ ψ. C ψ r) (one-formula φ χ e d) x) y
+  -- What is said of it is said of the one formula.
+  of-formula : (φ : Formula B) → bytes ≡ encode-formula encode φ → (Met : Formula B → Type 0) → OfFormula encode bytes Met → Met φ
+  of-formula φ e Met (χ, d, x) = subst Met (one-formula χ φ d e) x
 
-  end-functional : Functional (λ r. RunOut width encode limit events In bytes r ⊎ LeftOver width encode limit events In bytes r)
-  end-functional r s (inl (φ, n, ns, e, q)) (inl (χ, m, ms, d, p)) = q ∙ sym p
-  end-functional r s (inl x) (inr y) = absurd (not-both r s x y)
-  end-functional r s (inr x) (inl y) = absurd (not-both s r y x)
-  end-functional r s (inr (φ, n, ns, e, q)) (inr (χ, m, ms, d, p)) =
-      q ∙ ap (λ ψ. At 7 (size ψ)) (formula-unique width encode code φ χ (n ∷ ns) (m ∷ ms) (sym e ∙ d) .0) ∙ sym p
+  -- 7 has one place.
+  abbrev EndFault : ℕ → Type 0
+  EndFault p = RunOut width encode bytes p ⊎ LeftOver encode bytes p
 
-  pub conditions-functional : AllFunctional (rule-conditions width encode limit events In bytes)
-  unfolding AllFunctional
-  conditions-functional = (
-    plain-functional 5 (CountAtFault width encode limit events In bytes),
-    (
-      at-lowest-functional 6 (NodeAtFault width encode limit events In bytes),
-      (
-        end-functional,
-        (
-          of-formula-functional (λ φ. at-lowest 8 (Unbound φ)) (λ φ. at-lowest-functional 8 (Unbound φ)),
-          (
-            of-formula-functional (λ φ. at-lowest 9 (InClosedPosition φ)) (λ φ. at-lowest-functional 9 (InClosedPosition φ)),
-            tt,
-          ),
-        ),
-      ),
-    ),
-  )
+  one-end : (p q : ℕ) → EndFault p → EndFault q → q ≡ p
+  one-end p q (inl (φ, n, ns, e, x)) (inl (χ, m, ms, d, y)) = y ∙ sym x
+  one-end p q (inl x) (inr y) = absurd (not-both p q x y)
+  one-end p q (inr x) (inl y) = absurd (not-both q p y x)
+  one-end p q (inr (φ, n, ns, e, x)) (inr (χ, m, ms, d, y)) =
+      y ∙ ap size (formula-unique width encode code χ φ (m ∷ ms) (n ∷ ns) (sym d ∙ e) .0) ∙ sym x
 
   -- A formula that is accepted, in bytes: none of the conditions is met.
   module _ (φ : Formula B) (written : bytes ≡ encode-formula encode φ) (accepted : Accepted limit events In φ) where
@@ -165,7 +144,7 @@ module _ {B : Type 0} (width : ℕ) (encode : Node B → List ℕ) (code : NodeC
           within = subst (λ x. x ≤ limit) (sym count-there) (accepted .within);
         }
 
-    not-misfit : (i : ℕ) → ¬ NodeAtFault width encode limit events In bytes i
+    not-misfit : (i : ℕ) → ¬ NodeAtFault width encode bytes events In i
     not-misfit i (h, w) =
         let v =
         every-node width encode code bytes (NodeFits events In) (nodes φ) 0 (nodes-fit events In φ (accepted .fits))
@@ -181,10 +160,6 @@ module _ {B : Type 0} (width : ℕ) (encode : Node B → List ℕ) (code : NodeC
     not-closed : (j : ℕ) → ¬ InClosedPosition φ j
     not-closed j u = stand-may φ closed-to-variable 0 (accepted .position) j (closed-fault φ j u)
 
-    not-of-formula :
-        (C : Formula B → Condition) → ((r : Refusal) → ¬ C φ r) → (r : Refusal) → ¬ OfFormula width encode limit events In bytes C r
-    not-of-formula C h r (χ, e, x) = h r (subst (λ ψ. C ψ r) (one-formula χ φ e written) x)
-
     pub none-met : NoneMet (rule-conditions width encode limit events In bytes)
     unfolding NoneMet
     none-met = (
@@ -192,11 +167,11 @@ module _ {B : Type 0} (width : ℕ) (encode : Node B → List ℕ) (code : NodeC
       (
         λ r m. not-misfit (m .0) (m .1 .holds),
         (
-          end-unmet,
+          λ r m. end-unmet (m .0) (m .1 .holds),
           (
-            not-of-formula (λ ψ. at-lowest 8 (Unbound ψ)) (λ r m. not-unbound (m .0) (m .1 .holds)),
+            λ r m. not-unbound (m .0) (of-formula φ written (λ ψ. Unbound ψ (m .0)) (m .1 .holds)),
             (
-              not-of-formula (λ ψ. at-lowest 9 (InClosedPosition ψ)) (λ r m. not-closed (m .0) (m .1 .holds)),
+              λ r m. not-closed (m .0) (of-formula φ written (λ ψ. InClosedPosition ψ (m .0)) (m .1 .holds)),
               tt,
             ),
           ),
@@ -204,14 +179,15 @@ module _ {B : Type 0} (width : ℕ) (encode : Node B → List ℕ) (code : NodeC
       ),
     )
       where
-        end-unmet : (r : Refusal) → ¬ (RunOut width encode limit events In bytes r ⊎ LeftOver width encode limit events In bytes r)
-        end-unmet r (inl x) = not-run-out φ written r x
-        end-unmet r (inr x) = not-left-over φ written r x
+        end-unmet : (p : ℕ) → ¬ EndFault p
+        end-unmet p (inl x) = not-run-out φ written p x
+        end-unmet p (inr x) = not-left-over φ written p x
 
   -- Accessors for the nodes, and a test that decides which nodes are in order.
   module _
       (kind first : ℕ → ℕ) (value : ℕ → B) (fit : ℕ → Bool)
-      (sound : (i : ℕ) → i < count → fit i ≡ true → (at i ≡ encode (node-of (kind-of (kind i)) (first i) (value i))) × NodeFits events In (node-of (kind-of (kind i)) (first i) (value i)))
+      (sound : (i : ℕ) → i < count → fit i ≡ true → (at i ≡ encode (node-of (kind-of (kind i)) (first i) (value i))) × NodeFits events In
+      (node-of (kind-of (kind i)) (first i) (value i)))
       (full : (i : ℕ) → i < count → fit i ≡ false → (n : Node B) → at i ≡ encode n → ¬ NodeFits events In n) where
     abbrev ns : List (Node B)
     ns = nodes-from kind first value count 0
@@ -228,18 +204,18 @@ module _ {B : Type 0} (width : ℕ) (encode : Node B → List ℕ) (code : NodeC
         (or-else (at-found misfits 6) (or-else (at-found (end-fault kind 1 count 0) 7) (variables-refusal read)))
 
     -- 6.
-    misfit-answered : Answered (NodeAtFault width encode limit events In bytes) misfits
+    misfit-answered : Answered (NodeAtFault width encode bytes events In) misfits
     misfit-answered = go misfits refl
       where
-        at-fault : (i : ℕ) → i < count → not (fit i) ≡ true → NodeAtFault width encode limit events In bytes i
+        at-fault : (i : ℕ) → i < count → not (fit i) ≡ true → NodeAtFault width encode bytes events In i
         at-fault i h e = (h, full i h (not-true (fit i) e))
 
-        in-order : (i : ℕ) → not (fit i) ≡ false → ¬ NodeAtFault width encode limit events In bytes i
+        in-order : (i : ℕ) → not (fit i) ≡ false → ¬ NodeAtFault width encode bytes events In i
         in-order i e (h, w) =
             let v = sound i h (not-false (fit i) e) in
             w (node-of (kind-of (kind i)) (first i) (value i)) (v .0) (v .1)
 
-        go : (o : Option ℕ) → misfits ≡ o → Answered (NodeAtFault width encode limit events In bytes) o
+        go : (o : Option ℕ) → misfits ≡ o → Answered (NodeAtFault width encode bytes events In) o
         go none e = λ j f. in-order j (lowest-clear (λ i. not (fit i)) count 0 e j (omega arith) (omega (arith, f .0))) f
         go (some p) e =
             let w : FoundFrom (λ i. not (fit i)) 0 count p = lowest-found (λ i. not (fit i)) count 0 p e in
@@ -263,14 +239,15 @@ module _ {B : Type 0} (width : ℕ) (encode : Node B → List ℕ) (code : NodeC
               let z : 0 + count ≡ count = omega arith in
               sym (div-add-mod' (length bytes) width) ∙ ap (λ x. count * width + x) (counted .whole) ∙ add-zero (count * width) ∙ ap (λ x. x * width) (sym z)
 
-      nodes-in : (left i : ℕ) → ((j : ℕ) → i ≤ j → j < i + left → fit j ≡ true) → i + left ≤ count → All (NodeFits events In) (nodes-from kind first value left i)
+      nodes-in : (left i : ℕ) → ((j : ℕ) → i ≤ j → j < i + left → fit j ≡ true) → i + left ≤ count → All (NodeFits events In)
+          (nodes-from kind first value left i)
       unfolding nodes-from
       nodes-in zero i h l = tt
       nodes-in (suc left) i h l =
           (sound i (omega arith) (h i (omega arith) (omega arith)) .1, nodes-in left (suc i) (λ j u v. h j (omega arith) (omega arith)) (omega arith))
 
       -- 7.
-      end-met : (o : Option ℕ) → Outcome ns 1 0 o → (p : ℕ) → o ≡ some p → RunOut width encode limit events In bytes (At 7 p) ⊎ LeftOver width encode limit events In bytes (At 7 p)
+      end-met : (o : Option ℕ) → Outcome ns 1 0 o → (p : ℕ) → o ≡ some p → EndFault p
       end-met _ (whole φs l d) p e = absurd (Option·some-ne-none p (sym e))
       end-met _ (over [] m ms q l d z) p e = absurd (omega (arith, l))
       end-met _ (over (φ ∷ []) m ms q l d z) p e =
@@ -283,7 +260,7 @@ module _ {B : Type 0} (width : ℕ) (encode : Node B → List ℕ) (code : NodeC
             nodes-there
                 ∙ ap (encode-all encode) (d ∙ ap (λ l. l ++ (m ∷ ms)) (append-nil (nodes φ)))
                 ∙ encode-append width encode code (nodes φ) (m ∷ ms),
-            ap (At 7) (sym pq ∙ s),
+            sym pq ∙ s,
           )
         where
           zero-plus : (n : ℕ) → 0 + n ≡ n
@@ -300,7 +277,7 @@ module _ {B : Type 0} (width : ℕ) (encode : Node B → List ℕ) (code : NodeC
             ap (λ l. l ++ encode-all encode (m ∷ ms)) nodes-there
                 ∙ sym (encode-append width encode code ns (m ∷ ms))
                 ∙ ap (encode-all encode) (d ∙ append-nil (nodes φ)),
-            ap (At 7) (sym pq ∙ s),
+            sym pq ∙ s,
           )
         where
           zero-plus : (n : ℕ) → 0 + n ≡ n
@@ -312,49 +289,50 @@ module _ {B : Type 0} (width : ℕ) (encode : Node B → List ℕ) (code : NodeC
         pub formula-there : bytes ≡ encode-formula encode read
         formula-there = nodes-there ∙ ap (encode-all encode) (no-fault kind first value count ended)
 
-        of-read : (C : Formula B → Condition) (r : Refusal) → OfFormula width encode limit events In bytes C r → C read r
-        of-read C r (χ, e, x) = subst (λ ψ. C ψ r) (one-formula χ read e formula-there) x
+        unbound-there : Answered (λ i. OfFormula encode bytes (λ φ. Unbound φ i)) (lowest-unbound 0 0 read)
+        unbound-there =
+            answered-same (Unbound read) (λ i. OfFormula encode bytes (λ φ. Unbound φ i)) (λ i u. (read, formula-there, u))
+            (λ i. of-formula read formula-there (λ φ. Unbound φ i)) (lowest-unbound 0 0 read) (unbound-answered read)
+
+        closed-there : Answered (λ i. OfFormula encode bytes (λ φ. InClosedPosition φ i)) (lowest-closed closed-to-variable 0 read)
+        closed-there =
+            answered-same (InClosedPosition read) (λ i. OfFormula encode bytes (λ φ. InClosedPosition φ i)) (λ i u. (read, formula-there, u))
+            (λ i. of-formula read formula-there (λ φ. InClosedPosition φ i)) (lowest-closed closed-to-variable 0 read) (closed-answered read)
 
         first-variables :
             First
-            (OfFormula width encode limit events In bytes (λ φ. at-lowest 8 (Unbound φ))
-            ∷ OfFormula width encode limit events In bytes (λ φ. at-lowest 9 (InClosedPosition φ))
-            ∷ [])
+            (at-lowest 8 (λ i. OfFormula encode bytes (λ φ. Unbound φ i)) ∷ at-lowest 9 (λ i. OfFormula encode bytes (λ φ. InClosedPosition φ i)) ∷ [])
             (variables-refusal read)
         unfolding variables-refusal
         first-variables =
-            first-cons
-            (OfFormula width encode limit events In bytes (λ φ. at-lowest 8 (Unbound φ)))
-            (OfFormula width encode limit events In bytes (λ φ. at-lowest 9 (InClosedPosition φ)) ∷ [])
-            (at-found (lowest-unbound 0 0 read) 8)
-            (at-found (lowest-closed closed-to-variable 0 read) 9)
-            (λ r e. (read, formula-there, answered-met (Unbound read) 8 (lowest-unbound 0 0 read) (unbound-answered read) r e))
-            (λ e r m. answered-unmet (Unbound read) 8 (lowest-unbound 0 0 read) (unbound-answered read) e r (of-read (λ φ. at-lowest 8 (Unbound φ)) r m))
+            first-cons _ _ (at-found (lowest-unbound 0 0 read) 8) (at-found (lowest-closed closed-to-variable 0 read) 9)
+            (answered-met _ 8 (lowest-unbound 0 0 read) unbound-there)
+            (answered-unmet _ 8 (lowest-unbound 0 0 read) unbound-there)
             (λ e.
-            first-one
-            (OfFormula width encode limit events In bytes (λ φ. at-lowest 9 (InClosedPosition φ)))
-            (at-found (lowest-closed closed-to-variable 0 read) 9)
-            (λ r d. (read, formula-there, answered-met (InClosedPosition read) 9 (lowest-closed closed-to-variable 0 read) (closed-answered read) r d))
-            (λ d r m.
-            answered-unmet (InClosedPosition read) 9 (lowest-closed closed-to-variable 0 read) (closed-answered read) d r
-            (of-read (λ φ. at-lowest 9 (InClosedPosition φ)) r m)))
+            first-one _ (at-found (lowest-closed closed-to-variable 0 read) 9)
+            (answered-met _ 9 (lowest-closed closed-to-variable 0 read) closed-there)
+            (answered-unmet _ 9 (lowest-closed closed-to-variable 0 read) closed-there))
 
         -- What is accepted.
         pub accepted-there : variables-refusal read ≡ none → Accepted limit events In read
         unfolding variables-refusal
         accepted-there e =
             let w = or-else-none (at-found (lowest-unbound 0 0 read) 8) (at-found (lowest-closed closed-to-variable 0 read) 9) e in
-            let s : size read ≡ count = sym (length-nodes read) ∙ ap length (sym (no-fault kind first value count ended)) ∙ length-from kind first value count 0 in
+            let s : size read ≡ count = sym (length-nodes read) ∙ ap length (sym (no-fault kind first value count ended)) ∙ length-from kind first value
+            count 0 in
             record {
               within = subst (λ x. x ≤ limit) (sym s) (counted .within);
               closed =
-                  free-below read 0 0 (λ j f. nowhere (Unbound read) (lowest-unbound 0 0 read) (unbound-answered read) (place-unmet (lowest-unbound 0 0 read) 8 (w .0)) j (fault-unbound read j f));
+                  free-below read 0 0 (λ j f. nowhere (Unbound read) (lowest-unbound 0 0 read) (unbound-answered read)
+                  (place-unmet (lowest-unbound 0 0 read) 8 (w .0)) j (fault-unbound read j f));
               position =
                   may-stand read closed-to-variable 0
-                  (λ j f. nowhere (InClosedPosition read) (lowest-closed closed-to-variable 0 read) (closed-answered read) (place-unmet (lowest-closed closed-to-variable 0 read) 9 (w .1)) j (fault-closed read j f));
+                  (λ j f. nowhere (InClosedPosition read) (lowest-closed closed-to-variable 0 read) (closed-answered read)
+                  (place-unmet (lowest-closed closed-to-variable 0 read) 9 (w .1)) j (fault-closed read j f));
               fits =
                   fit-nodes events In read
-                  (subst (All (NodeFits events In)) (no-fault kind first value count ended) (nodes-in count 0 (λ j l u. fits-there j (omega (arith, u))) (omega arith)));
+                  (subst (All (NodeFits events In)) (no-fault kind first value count ended)
+                  (nodes-in count 0 (λ j l u. fits-there j (omega (arith, u))) (omega arith)));
             }
           where
             nowhere : (P : ℕ → Type 0) (o : Option ℕ) → Answered P o → o ≡ none → (j : ℕ) → ¬ P j
@@ -365,14 +343,15 @@ module _ {B : Type 0} (width : ℕ) (encode : Node B → List ℕ) (code : NodeC
     pub first-refusal : First (rule-conditions width encode limit events In bytes) answer
     first-refusal =
         first-cons
-        (plain 5 (CountAtFault width encode limit events In bytes))
+        (plain 5 (CountAtFault width limit bytes))
         later
         (plain-unless (count-fits width limit (length bytes)) 5)
         (or-else (at-found misfits 6) (or-else (at-found (end-fault kind 1 count 0) 7) (variables-refusal read)))
         (λ r e.
         let w = plain-met (count-fits width limit (length bytes)) 5 r e in
         (λ f. clash (sym (w .0) ∙ count-true width limit (length bytes) (record { whole = f .0; some-node = f .1; within = f .2 })), w .1))
-        (λ e r m. let f = count-facts width limit (length bytes) (plain-none (count-fits width limit (length bytes)) 5 e) in m .0 (f .whole, f .some-node, f .within))
+        (λ e r m. let f = count-facts width limit (length bytes) (plain-none (count-fits width limit (length bytes)) 5 e) in m .0
+        (f .whole, f .some-node, f .within))
         (λ e. first-later (count-facts width limit (length bytes) (plain-none (count-fits width limit (length bytes)) 5 e)))
       where
         clash : false ≡ true → ⊥
@@ -380,48 +359,51 @@ module _ {B : Type 0} (width : ℕ) (encode : Node B → List ℕ) (code : NodeC
 
         last-two : List Condition
         last-two =
-            OfFormula width encode limit events In bytes (λ φ. at-lowest 8 (Unbound φ))
-            ∷ OfFormula width encode limit events In bytes (λ φ. at-lowest 9 (InClosedPosition φ))
-            ∷ []
-
-        end : Condition
-        end r = RunOut width encode limit events In bytes r ⊎ LeftOver width encode limit events In bytes r
+            at-lowest 8 (λ i. OfFormula encode bytes (λ φ. Unbound φ i)) ∷ at-lowest 9 (λ i. OfFormula encode bytes (λ φ. InClosedPosition φ i)) ∷ []
 
         later : List Condition
-        later = at-lowest 6 (NodeAtFault width encode limit events In bytes) ∷ end ∷ last-two
+        later = at-lowest 6 (NodeAtFault width encode bytes events In) ∷ at-lowest 7 EndFault ∷ last-two
 
-        first-end : CountFits width limit (length bytes) → misfits ≡ none → First (end ∷ last-two) (or-else (at-found (end-fault kind 1 count 0) 7) (variables-refusal read))
-        first-end f m =
-            first-cons
-            end
-            last-two
-            (at-found (end-fault kind 1 count 0) 7)
-            (variables-refusal read)
-            (λ r e.
-            let w = place-met (end-fault kind 1 count 0) 7 r e in
-            subst end (sym (w .2)) (end-met f m (end-fault kind 1 count 0) (outcome kind first value count 1 0) (w .0) (w .1)))
-            (λ e. unmet (formula-there f m (place-unmet (end-fault kind 1 count 0) 7 e)))
-            (λ e. first-variables f m (place-unmet (end-fault kind 1 count 0) 7 e))
+        end-answered : CountFits width limit (length bytes) → misfits ≡ none → Answered EndFault (end-fault kind 1 count 0)
+        end-answered f m = go (end-fault kind 1 count 0) refl
           where
-            unmet : bytes ≡ encode-formula encode read → (r : Refusal) → ¬ end r
-            unmet d r (inl x) = not-run-out read d r x
-            unmet d r (inr x) = not-left-over read d r x
+            unmet : bytes ≡ encode-formula encode read → (p : ℕ) → ¬ EndFault p
+            unmet d p (inl x) = not-run-out read d p x
+            unmet d p (inr x) = not-left-over read d p x
 
-        first-later : CountFits width limit (length bytes) → First later (or-else (at-found misfits 6) (or-else (at-found (end-fault kind 1 count 0) 7) (variables-refusal read)))
+            go : (o : Option ℕ) → end-fault kind 1 count 0 ≡ o → Answered EndFault o
+            go none e = unmet (formula-there f m e)
+            go (some p) e =
+                let met = end-met f m (end-fault kind 1 count 0) (outcome kind first value count 1 0) p e in
+                only-place EndFault p met (λ q. one-end p q met)
+
+        first-end :
+            CountFits width limit (length bytes) → misfits ≡ none →
+            First (at-lowest 7 EndFault ∷ last-two) (or-else (at-found (end-fault kind 1 count 0) 7) (variables-refusal read))
+        first-end f m =
+            first-cons (at-lowest 7 EndFault) last-two (at-found (end-fault kind 1 count 0) 7) (variables-refusal read)
+            (answered-met EndFault 7 (end-fault kind 1 count 0) (end-answered f m))
+            (answered-unmet EndFault 7 (end-fault kind 1 count 0) (end-answered f m))
+            (λ e. first-variables f m (place-unmet (end-fault kind 1 count 0) 7 e))
+
+        first-later :
+            CountFits width limit (length bytes) →
+            First later (or-else (at-found misfits 6) (or-else (at-found (end-fault kind 1 count 0) 7) (variables-refusal read)))
         first-later f =
             first-cons
-            (at-lowest 6 (NodeAtFault width encode limit events In bytes))
-            (end ∷ last-two)
+            (at-lowest 6 (NodeAtFault width encode bytes events In))
+            (at-lowest 7 EndFault ∷ last-two)
             (at-found misfits 6)
             (or-else (at-found (end-fault kind 1 count 0) 7) (variables-refusal read))
-            (λ r e. answered-met (NodeAtFault width encode limit events In bytes) 6 misfits misfit-answered r e)
-            (λ e r m. answered-unmet (NodeAtFault width encode limit events In bytes) 6 misfits misfit-answered e r m)
+            (λ r e. answered-met (NodeAtFault width encode bytes events In) 6 misfits misfit-answered r e)
+            (λ e r m. answered-unmet (NodeAtFault width encode bytes events In) 6 misfits misfit-answered e r m)
             (λ e. first-end f (place-unmet misfits 6 e))
 
     -- Accepted bytes are those of the formula read, which is accepted.
     pub accepted-formula : answer ≡ none → (bytes ≡ encode-formula encode read) × Accepted limit events In read
     accepted-formula e =
-        let a = or-else-none (plain-unless (count-fits width limit (length bytes)) 5) (or-else (at-found misfits 6) (or-else (at-found (end-fault kind 1 count 0) 7) (variables-refusal read))) e in
+        let a = or-else-none (plain-unless (count-fits width limit (length bytes)) 5)
+        (or-else (at-found misfits 6) (or-else (at-found (end-fault kind 1 count 0) 7) (variables-refusal read))) e in
         let b = or-else-none (at-found misfits 6) (or-else (at-found (end-fault kind 1 count 0) 7) (variables-refusal read)) (a .1) in
         let c = or-else-none (at-found (end-fault kind 1 count 0) 7) (variables-refusal read) (b .1) in
         let f = count-facts width limit (length bytes) (plain-none (count-fits width limit (length bytes)) 5 (a .0)) in

@@ -1,10 +1,7 @@
 -- Nodes one after the other in bytes, for any way in which a node lies in bytes.
--- Assumes nothing.
-use mathlib.Core.Path.{_≡_, refl, sym, _∙_, ap, ap₂, subst}
-use mathlib.Core.List.{List, [], _∷_, _++_, append-assoc}
+use mathlib.Core.{Path.{_≡_, refl, sym, _∙_, ap, ap₂, subst}, List.{List, [], _∷_, _++_, append-assoc}}
 use Prim.Native.Nat.{ℕ, zero, suc, _+_, _*_, _≤_, _<_}
-use native.Mathlib.Nat.{suc-mul, zero-mul, add-zero}
-use native.Mathlib.Omega.{arith}
+use native.Mathlib.{Nat.{suc-mul, zero-mul, add-zero}, Omega.{arith}}
 use lib.ListN.{length, getD, take, drop, length-append, List·getD-append, take-append-drop}
 use lib.Seq.{take-at, drop-at, drop-drop, drop-length, getD-drop}
 use Rattle.theory.specs.Formula.{Formula, size}
@@ -117,7 +114,8 @@ module _ {B : Type 0} where
           (kind first : ℕ → ℕ) (value : ℕ → B) (kinds : (i : ℕ) → kind i ≡ getD bytes (i * width) 0)
           (firsts : (i : ℕ) → first i ≡ getD bytes (i * width + 1) 0)
           (values : (i e : ℕ) (b : B) → take width (drop (i * width) bytes) ≡ encode (output-node e b) → value i ≡ b) where
-        byte-of : (i k : ℕ) (n : Node B) (ns : List (Node B)) → drop (i * width) bytes ≡ encode-all encode (n ∷ ns) → k < width → getD bytes (i * width + k) 0 ≡ getD (encode n) k 0
+        byte-of : (i k : ℕ) (n : Node B) (ns : List (Node B)) → drop (i * width) bytes ≡ encode-all encode (n ∷ ns) → k < width → getD bytes
+            (i * width + k) 0 ≡ getD (encode n) k 0
         byte-of i k n ns e h =
             sym (getD-drop (i * width) bytes k 0)
             ∙ ap (λ l. getD l k 0) e

@@ -1,7 +1,5 @@
 -- 7's walk over the kinds, one node after the other.
--- Assumes nothing.
-use mathlib.Core.Path.{_≡_, _∙_, ap}
-use mathlib.Core.Option.{none, some}
+use mathlib.Core.{Path.{_≡_, _∙_, ap}, Option.{none, some}}
 use Prim.Native.Nat.{ℕ, zero, suc, _+_, _-_, _≤_, _<_}
 use native.Mathlib.Omega.{arith}
 use Rattle.formulas.specs.RuleReading.{Kind, kind-T, kind-X, kind-G, kind-O, kind-A, kind-V, unknown-kind, kind-of, awaited, end-fault}

@@ -1,7 +1,5 @@
 -- What the fields of a node say, kind by kind.
--- Assumes nothing.
-use mathlib.Core.Path.{_≡_, refl}
-use mathlib.Core.Bool.{Bool, true, false, _&&_}
+use mathlib.Core.{Path.{_≡_, refl}, Bool.{Bool, true, false, _&&_}}
 use Prim.Native.Nat.{ℕ, zero, suc, _≤_, _<_}
 use native.Mathlib.Omega.{arith}
 use lib.Dec.{eqb}

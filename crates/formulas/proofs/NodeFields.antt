@@ -1,24 +1,12 @@
 -- The test of a node's fields decides whether they are those of a node that fits, for any values and any test of theirs.
--- Assumes nothing.
-use mathlib.Core.Path.{_≡_, refl, sym, _∙_, ap, ap₂}
-use mathlib.Core.Bool.{Bool, true, false, _&&_}
+use mathlib.Core.{Path.{_≡_, refl, sym, _∙_, ap, ap₂}, Logic.{_⊎_, inl, inr}, Bool.{Bool, true, false, _&&_}}
 use Prim.Native.Nat.{ℕ, zero, suc}
 use native.Mathlib.Omega.{arith}
 use lib.Dec.{eqb, ltb}
 use borrow.Author.Tests.{eqb-true, ltb-true, lt-ltb}
 use Rattle.theory.specs.PrefixCode.{Node, truth-node, variable-node, transition-node, output-node, conjunction-node, greatest-node}
-use Rattle.formulas.specs.NodeBytes.{kind-number, first-field}
-use Rattle.formulas.specs.RuleConditions.{NodeFits}
+use Rattle.formulas.specs.{NodeBytes.{kind-number, first-field, value-field}, RuleConditions.{NodeFits}}
 use Rattle.formulas.specs.RuleReading.{kind-of, fields-fit, node-of}
-
--- The value of a node, 0 where it has none.
-abbrev pub value-field : Node ℕ → ℕ
-value-field truth-node = 0
-value-field (variable-node n) = 0
-value-field (transition-node e) = 0
-value-field (output-node e v) = v
-value-field conjunction-node = 0
-value-field greatest-node = 0
 
 -- A node with these three fields.
 pub record HasFields (n : Node ℕ) (k a v : ℕ) : Type 0 where
@@ -78,3 +66,12 @@ module _ (events : ℕ) (In : ℕ → Type 0) (fits : ℕ → Bool) where
       there (output-node e v) f = ap₂ _&&_ (lt-ltb e events (f .0)) (outside v (f .1))
       there conjunction-node f = refl
       there greatest-node f = refl
+
+  -- The value of a node that fits is a value, or 0 where it is unused.
+  pub field-value : (n : Node ℕ) → NodeFits events In n → In (value-field n) ⊎ (value-field n ≡ 0)
+  field-value truth-node f = inr refl
+  field-value (variable-node n) f = inr refl
+  field-value (transition-node e) f = inr refl
+  field-value (output-node e v) f = inl (f .1)
+  field-value conjunction-node f = inr refl
+  field-value greatest-node f = inr refl

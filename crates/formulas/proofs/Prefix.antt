@@ -1,16 +1,13 @@
 -- Formulas in prefix order: the nodes of a formula are those of no other, and nodes begin a formula or are begun by one.
--- Assumes nothing.
-use mathlib.Core.Path.{_≡_, refl, sym, _∙_, ap, ap₂, subst}
-use mathlib.Core.Option.{Option, none, some}
-use mathlib.Core.List.{List, [], _∷_, _++_, append-assoc, append-nil}
+use mathlib.Core.{Path.{_≡_, refl, sym, _∙_, ap, ap₂, subst}, Option.{Option, none, some}, List.{List, [], _∷_, _++_, append-assoc, append-nil}}
 use Prim.Native.Nat.{ℕ, zero, suc, _+_}
 use native.Mathlib.Omega.{arith}
-use lib.ListN.{length, drop, replicate, length-append, length-replicate}
-use lib.Seq.{drop-at}
+use lib.{ListN.{length, drop, replicate, length-append, length-replicate}, Seq.{drop-at}}
 use Rattle.theory.specs.Formula.{Formula, truth, variable, transition, output, conjunction, greatest, size}
 use Rattle.theory.specs.PrefixCode.{Node, truth-node, variable-node, transition-node, output-node, conjunction-node, greatest-node, nodes}
 use Rattle.formulas.specs.NodeBytes.{kind-number}
-use Rattle.formulas.specs.RuleReading.{Kind, kind-T, kind-X, kind-G, kind-O, kind-A, kind-V, unknown-kind, kind-of, awaited, end-fault, node-of, nodes-from, with-parts, formulas, first-formula, formula-read}
+use Rattle.formulas.specs.RuleReading.{Kind, kind-T, kind-X, kind-G, kind-O, kind-A, kind-V, unknown-kind, kind-of, awaited, end-fault, node-of}
+use Rattle.formulas.specs.RuleReading.{nodes-from, with-parts, formulas, first-formula, formula-read}
 
 module _ {B : Type 0} where
   pub length-nodes : (φ : Formula B) → length (nodes φ) ≡ size φ

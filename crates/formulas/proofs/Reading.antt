@@ -1,15 +1,11 @@
 -- Nodes reached through accessors are the nodes of a formula exactly if the formula reads there.
--- Assumes nothing.
-use mathlib.Core.Path.{_≡_, refl, sym, _∙_, ap, ap₂}
-use mathlib.Core.List.{List, [], _∷_, _++_, append-assoc, append-nil}
+use mathlib.Core.{Path.{_≡_, refl, sym, _∙_, ap, ap₂}, List.{List, [], _∷_, _++_, append-assoc, append-nil}}
 use Prim.Native.Nat.{ℕ, zero, suc, _+_, _≤_, _<_}
 use native.Mathlib.Omega.{arith}
 use lib.ListN.{length}
 use Rattle.theory.specs.Formula.{Formula, truth, variable, transition, output, conjunction, greatest, size}
 use Rattle.theory.specs.PrefixCode.{Node, truth-node, variable-node, transition-node, output-node, conjunction-node, greatest-node, nodes}
-use Rattle.formulas.specs.NodeBytes.{kind-number}
-use Rattle.formulas.specs.NodeReading.{Reads}
-use Rattle.formulas.specs.RuleReading.{kind-of, node-of, nodes-from}
+use Rattle.formulas.specs.{NodeBytes.{kind-number}, NodeReading.{Reads}, RuleReading.{kind-of, node-of, nodes-from}}
 use Rattle.formulas.proofs.Prefix.{length-nodes, nodes-unique, length-from}
 
 module _ {B : Type 0} where
@@ -161,8 +157,10 @@ module _ {B : Type 0} where
         let n : node-of (kind-of (kind i)) (first i) (value i) ≡ greatest-node = cc in
         let r : from left (suc i) ≡ nodes φ ++ ns = cc in
         let w = nodes-read φ left (suc i) ns (λ j l u. h j (omega arith) (omega arith)) r in
-        let z : i + suc (size φ) ≡ suc i + size φ = omega arith in
-        ((kind-is (kind i) (first i) (value i) (h i (omega arith) (omega arith)) greatest-node n, w .0), (w .1 .0, omega (arith, w .1 .1), ap (from (w .1 .0)) z ∙ w .1 .2))
+        let z : i + suc (size φ) ≡ suc i + size φ = omega arith in (
+          (kind-is (kind i) (first i) (value i) (h i (omega arith) (omega arith)) greatest-node n, w .0),
+          (w .1 .0, omega (arith, w .1 .1), ap (from (w .1 .0)) z ∙ w .1 .2),
+        )
 
     -- Nodes that are exactly a formula's.
     pub whole-read :

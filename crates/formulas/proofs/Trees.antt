@@ -1,12 +1,9 @@
 -- The loop of 6 and 7: every node is tested, and those up to the end of the first formula are counted.
--- Assumes nothing.
-use mathlib.Core.Path.{_≡_, refl, sym, _∙_, ap}
-use mathlib.Core.Bool.{Bool, false}
+use mathlib.Core.{Path.{_≡_, refl, sym, _∙_, ap}, Bool.{Bool, false}}
 use Prim.Native.Nat.{ℕ, _+_, _-_, _≤_, _<_}
 use native.Mathlib.Omega.{arith}
 use Rattle.formulas.specs.RuleReading.{lowest-from, kind-of, awaited, end-fault}
-use Rattle.formulas.proofs.Search.{lowest-next}
-use Rattle.formulas.proofs.Ends.{awaited-few, end-step}
+use Rattle.formulas.proofs.{Search.{lowest-next}, Ends.{awaited-few, end-step}}
 
 -- Before node i: the search from i on and the walk from `used` on find what those from 0 on do.
 module _ (test : ℕ → Bool) (kind : ℕ → ℕ) (count : ℕ) where

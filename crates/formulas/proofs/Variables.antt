@@ -1,20 +1,17 @@
 -- The lowest variable at fault: what the search finds is the lowest place where 8's or 9's sentence holds.
--- Assumes nothing.
-use mathlib.Core.Path.{_≡_, refl, sym, _∙_, ap, subst}
-use mathlib.Core.Logic.{_⊎_, inl, inr}
-use mathlib.Core.Bool.{Bool, true, false, cond, not}
-use mathlib.Core.Option.{Option, none, some}
+use mathlib.Core.{Path.{_≡_, refl, sym, _∙_, ap, subst}, Logic.{_⊎_, inl, inr}, Bool.{Bool, true, false, cond, not}, Option.{Option, none, some}}
 use mathlib.Core.List.{List, [], _∷_}
 use Prim.Native.Nat.{ℕ, zero, suc, _+_, _≤_, _<_}
 use native.Mathlib.Omega.{arith}
-use lib.Dec.{ltb}
-use lib.ListN.{length}
+use lib.{Dec.{ltb}, ListN.{length}}
 use borrow.Author.Tests.{le-ltb, ltb-true, ltb-false, not-true}
 use Rattle.theory.specs.Formula.{Formula, truth, variable, transition, output, conjunction, greatest, size, FreeBelow, OpenPosition, ClosedPosition}
 use Rattle.theory.specs.PrefixCode.{Stands}
-use Rattle.theory.specs.PrefixCode.Stands.{root as stands-root, part-of-transition as stands-transition, left-part as stands-left, right-part as stands-right, part-of-greatest as stands-greatest}
+use Rattle.theory.specs.PrefixCode.Stands.{root as stands-root, part-of-transition as stands-transition, left-part as stands-left, right-part as stands-right}
+use Rattle.theory.specs.PrefixCode.Stands.{part-of-greatest as stands-greatest}
 use Rattle.refusal.specs.Refusal.{Lowest}
-use Rattle.formulas.specs.RuleConditions.Placed.{root as placed-root, part-of-transition as placed-transition, left-part as placed-left, right-part as placed-right, part-of-greatest as placed-greatest}
+use Rattle.formulas.specs.RuleConditions.Placed.{root as placed-root, part-of-transition as placed-transition, left-part as placed-left}
+use Rattle.formulas.specs.RuleConditions.Placed.{right-part as placed-right, part-of-greatest as placed-greatest}
 use Rattle.formulas.specs.RuleConditions.{Position, open-to-variable, closed-to-variable, Placed, Unbound, InClosedPosition}
 use Rattle.formulas.specs.RuleReading.{first-of, lowest-variable, unbound-below, closed-there, lowest-unbound, lowest-closed}
 

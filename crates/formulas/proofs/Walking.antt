@@ -1,19 +1,12 @@
 -- One step of a walk that notes the lowest variable at fault, for each kind of node.
--- Assumes nothing.
-use mathlib.Core.Path.{_≡_, refl, sym, _∙_, subst}
-use mathlib.Core.Bool.{Bool, cond}
-use mathlib.Core.Option.{Option, none, some}
-use mathlib.Core.List.{List}
+use mathlib.Core.{Path.{_≡_, refl, sym, _∙_, subst}, Bool.{Bool, cond}, Option.{Option, none, some}, List.{List}}
 use Prim.Native.Nat.{ℕ, suc, _+_, _-_, _≤_, _<_}
-use native.Mathlib.Numerals.{add-one}
-use native.Mathlib.Omega.{arith}
-use lib.ListN.{length, getD, set, length-set}
-use lib.Seq.{getD-set-same, getD-set-other}
+use native.Mathlib.{Numerals.{add-one}, Omega.{arith}}
+use lib.{ListN.{length, getD, set, length-set}, Seq.{getD-set-same, getD-set-other}}
+use Rattle.limits.specs.Limits.{node-limit}
 use Rattle.theory.specs.Formula.{Formula, truth, variable, transition, output, conjunction, greatest, size}
-use Rattle.formulas.specs.NodeReading.{Reads}
-use Rattle.formulas.specs.RuleConditions.{Position, open-to-variable, closed-to-variable}
-use Rattle.formulas.specs.RuleReading.{first-of, lowest-variable, unbound-below, closed-there}
-use Rattle.formulas.specs.NodeWalks.{Noted, Keeps, Judged, Scanned}
+use Rattle.formulas.specs.{NodeReading.{Reads}, RuleConditions.{Position, open-to-variable, closed-to-variable}}
+use Rattle.formulas.specs.{RuleReading.{first-of, lowest-variable, unbound-below, closed-there}, NodeWalks.{Noted, Keeps, Judged, Scanned}}
 
 pub size-positive : {B : Type 0} (φ : Formula B) → 0 < size φ
 size-positive truth = omega arith
@@ -30,13 +23,13 @@ keeps-none n none w = w
 keeps-none n (some i) w = w
 
 -- A node is found where nothing is noted.
-pub keeps-here : (n at : ℕ) → n ≡ 256 → at < 256 → Keeps (some at) n at
+pub keeps-here : (n at : ℕ) → n ≡ node-limit → at < node-limit → Keeps (some at) n at
 unfolding Keeps first-of Noted
 keeps-here n at e h none w = (refl, h)
 keeps-here n at e h (some i) w = absurd (omega (arith, w .0, w .1))
 
 -- A node is found where an earlier one is noted.
-pub keeps-earlier : (n at : ℕ) → ¬ (n ≡ 256) → Keeps (some at) n n
+pub keeps-earlier : (n at : ℕ) → ¬ (n ≡ node-limit) → Keeps (some at) n n
 unfolding Keeps first-of Noted
 keeps-earlier n at e none w = absurd (e w)
 keeps-earlier n at e (some i) w = w

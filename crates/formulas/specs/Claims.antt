@@ -1,100 +1,84 @@
 -- What is claimed of rules in bytes (document 01, "Rules", refusals 5 to 9): each is a proposition, inhabited in proofs/.
--- Assumes nothing.
 use mathlib.Core.Path.{_≡_}
 use mathlib.Core.Logic.{_↔_}
 use mathlib.Core.Bool.{true}
-use mathlib.Core.Option.{Option, none}
-use mathlib.Core.List.{List, [], _∷_}
+use mathlib.Core.Option.{none}
+use mathlib.Core.List.{List}
 use Prim.Native.Nat.{ℕ, _*_, _≤_}
-use lib.Dec.{ltb}
 use lib.ListN.{length}
 use Rattle.theory.specs.Formula.{Formula, size, Accepted}
-use Rattle.theory.specs.PrefixCode.{Node}
-use Rattle.theory.specs.ValueSets.{Below}
-use Rattle.refusal.specs.Refusal.{First, InOrder}
-use Rattle.refusal.specs.RefusalClaims.{AllFunctional}
-use Rattle.refusal.specs.declared.Refusal.{Refusal}
-use Rattle.formulas.specs.NodeBytes.{NodeCode, encode-formula, three-bytes}
+use Rattle.values.specs.declared.ValueKind.{ValueKind}
+use Rattle.values.specs.ValueKind.{ValueIn}
+use Rattle.limits.specs.Limits.{node-limit}
+use Rattle.refusal.specs.Refusal.{Condition, Judged}
+use Rattle.formulas.specs.NodeBytes.{NodeCode, encode-formula, node-width, node-bytes}
 use Rattle.formulas.specs.RuleConditions.{rule-conditions, NodeAtFault}
 use Rattle.formulas.specs.NodeReading.{Reads}
 use Rattle.formulas.specs.NodeWalks.{field}
 use Rattle.formulas.specs.NodeArrays.{decoded}
-use Rattle.formulas.specs.RuleRefusal.{node-width, node-limit, count-fits, fields-refusal, kind-at, first-at, second-at, rule-refusal, formula-of}
+use Rattle.formulas.specs.RuleRefusal.{count-fits, fields-refusal, kind-at, first-at, value-at, rule-refusal, formula-of}
+use Rattle.values.specs.ValueTests.{value-fits}
 
--- Three bytes a node is a way to write nodes in bytes: equal bytes are of equal nodes.
-abbrev pub ThreeBytesClaim : Type 0
-ThreeBytesClaim = NodeCode node-width three-bytes
+-- With values of either kind, nodes are written in bytes so that equal bytes are of equal nodes.
+abbrev pub NodeCodeClaim : Type 0
+NodeCodeClaim = (kind : ValueKind) → NodeCode (node-width kind) (node-bytes kind)
 
--- However nodes lie in bytes, each of 5 to 9 gives at most one refusal.
-abbrev pub FunctionalClaim : Type 1
-FunctionalClaim =
-    (B : Type 0) (width : ℕ) (encode : Node B → List ℕ) → NodeCode width encode → (limit events : ℕ) (In : B → Type 0) (bytes : List ℕ)
-    → AllFunctional (rule-conditions width encode limit events In bytes)
+-- The conditions of a rule with values of a kind.
+abbrev pub byte-conditions : ℕ → ValueKind → List ℕ → List Condition
+byte-conditions events kind bytes = rule-conditions (node-width kind) (node-bytes kind) node-limit events (ValueIn kind) bytes
 
--- They give refusals of these numbers, and stand in document 01's order.
-abbrev pub InOrderClaim : Type 1
-InOrderClaim =
-    (B : Type 0) (width : ℕ) (encode : Node B → List ℕ) (limit events : ℕ) (In : B → Type 0) (bytes : List ℕ)
-    → InOrder (5 ∷ 6 ∷ 7 ∷ 8 ∷ 9 ∷ []) (rule-conditions width encode limit events In bytes)
-
--- The conditions of a rule in three-byte nodes.
-abbrev pub Refuses : ℕ → ℕ → List ℕ → Option Refusal → Type 0
-Refuses events values bytes = First (rule-conditions node-width three-bytes node-limit events (Below values) bytes)
-
--- The computed answer is the first refusal that is met, or none; and there is no other answer.
+-- A rule is judged as document 01 asks.
 abbrev pub RuleRefusalClaim : Type 0
-RuleRefusalClaim = (events values : ℕ) (bytes : List ℕ) → Refuses events values bytes (rule-refusal events values bytes)
-
-abbrev pub OnlyRefusalClaim : Type 0
-OnlyRefusalClaim =
-    (events values : ℕ) (bytes : List ℕ) (answer : Option Refusal) → Refuses events values bytes answer → answer ≡ rule-refusal events values bytes
+RuleRefusalClaim = (events : ℕ) (kind : ValueKind) (bytes : List ℕ) → Judged (byte-conditions events kind bytes) (rule-refusal events kind bytes)
 
 -- Bytes are accepted exactly if they are the prefix code of a closed formula of the grammar, within the set-up and the limit.
-pub record AcceptedFormula (events values : ℕ) (bytes : List ℕ) (φ : Formula ℕ) : Type 0 where
-  pub written : bytes ≡ encode-formula three-bytes φ
-  pub accepted : Accepted node-limit events (Below values) φ
+pub record AcceptedFormula (events : ℕ) (kind : ValueKind) (bytes : List ℕ) (φ : Formula ℕ) : Type 0 where
+  pub written : bytes ≡ encode-formula (node-bytes kind) φ
+  pub accepted : Accepted node-limit events (ValueIn kind) φ
 
 abbrev pub AcceptedClaim : Type 0
 AcceptedClaim =
-    (events values : ℕ) (bytes : List ℕ)
-    → (rule-refusal events values bytes ≡ none) ↔ ((φ : Formula ℕ) × AcceptedFormula events values bytes φ)
+    (events : ℕ) (kind : ValueKind) (bytes : List ℕ)
+    → (rule-refusal events kind bytes ≡ none) ↔ ((φ : Formula ℕ) × AcceptedFormula events kind bytes φ)
 
 -- Bytes are the code of one formula at most, and that one is `formula-of`.
 abbrev pub FormulaOfClaim : Type 0
-FormulaOfClaim = (bytes : List ℕ) (φ : Formula ℕ) → bytes ≡ encode-formula three-bytes φ → φ ≡ formula-of bytes
+FormulaOfClaim = (kind : ValueKind) (bytes : List ℕ) (φ : Formula ℕ) → bytes ≡ encode-formula (node-bytes kind) φ → φ ≡ formula-of kind bytes
 
 -- So accepted bytes are those of `formula-of`, which is accepted: what later promises speak of.
 abbrev pub AcceptedFormulaClaim : Type 0
 AcceptedFormulaClaim =
-    (events values : ℕ) (bytes : List ℕ) → rule-refusal events values bytes ≡ none → AcceptedFormula events values bytes (formula-of bytes)
+    (events : ℕ) (kind : ValueKind) (bytes : List ℕ) → rule-refusal events kind bytes ≡ none → AcceptedFormula events kind bytes (formula-of kind bytes)
 
 -- Its nodes are those of the decoded fields, through which walks reach them.
-pub record DecodedReads (bytes : List ℕ) (φ : Formula ℕ) : Type 0 where
-  pub counted : decoded bytes .count ≡ size φ
-  pub reads : Reads (field (decoded bytes .kinds)) (field (decoded bytes .firsts)) (field (decoded bytes .values)) 0 φ
+pub record DecodedReads (kind : ValueKind) (bytes : List ℕ) (φ : Formula ℕ) : Type 0 where
+  pub counted : decoded kind bytes .count ≡ size φ
+  pub reads : Reads (field (decoded kind bytes .kinds)) (field (decoded kind bytes .firsts)) (field (decoded kind bytes .values)) 0 φ
 
 abbrev pub DecodedClaim : Type 0
-DecodedClaim = (bytes : List ℕ) (φ : Formula ℕ) → bytes ≡ encode-formula three-bytes φ → size φ ≤ node-limit → DecodedReads bytes φ
+DecodedClaim = (kind : ValueKind) (bytes : List ℕ) (φ : Formula ℕ) → bytes ≡ encode-formula (node-bytes kind) φ → size φ ≤ node-limit → DecodedReads kind
+    bytes φ
 
 -- They are judged as the bytes are, where 5 lets the number of bytes through.
 abbrev pub DecodedRefusalClaim : Type 0
 DecodedRefusalClaim =
-    (events values : ℕ) (bytes : List ℕ) → count-fits node-width node-limit (length bytes) ≡ true
-    → fields-refusal (field (decoded bytes .kinds)) (field (decoded bytes .firsts)) (field (decoded bytes .values)) (decoded bytes .count) (λ v. ltb v values) events
-    ≡ rule-refusal events values bytes
+    (events : ℕ) (kind : ValueKind) (bytes : List ℕ) → count-fits (node-width kind) node-limit (length bytes) ≡ true
+    → fields-refusal (field (decoded kind bytes .kinds)) (field (decoded kind bytes .firsts)) (field (decoded kind bytes .values))
+    (decoded kind bytes .count) (value-fits kind) events
+    ≡ rule-refusal events kind bytes
 
 -- Bytes are the code of a formula exactly if it reads through the accessors, up to the last node, and no node is at fault in itself.
 abbrev pub ReadsClaim : Type 0
 ReadsClaim =
-    (bytes : List ℕ) (φ : Formula ℕ) → bytes ≡ encode-formula three-bytes φ
-    → Reads (kind-at bytes) (first-at bytes) (second-at bytes) 0 φ × (length bytes ≡ size φ * node-width)
+    (kind : ValueKind) (bytes : List ℕ) (φ : Formula ℕ) → bytes ≡ encode-formula (node-bytes kind) φ
+    → Reads (kind-at kind bytes) (first-at kind bytes) (value-at kind bytes) 0 φ × (length bytes ≡ size φ * node-width kind)
 
 abbrev pub ReadsBackClaim : Type 0
 ReadsBackClaim =
-    (events values : ℕ) (bytes : List ℕ) (φ : Formula ℕ) → Reads (kind-at bytes) (first-at bytes) (second-at bytes) 0 φ
-    → length bytes ≡ size φ * node-width
-    → ((i : ℕ) → ¬ NodeAtFault node-width three-bytes node-limit events (Below values) bytes i)
-    → bytes ≡ encode-formula three-bytes φ
+    (events : ℕ) (kind : ValueKind) (bytes : List ℕ) (φ : Formula ℕ) → Reads (kind-at kind bytes) (first-at kind bytes) (value-at kind bytes) 0 φ
+    → length bytes ≡ size φ * node-width kind
+    → ((i : ℕ) → ¬ NodeAtFault (node-width kind) (node-bytes kind) bytes events (ValueIn kind) i)
+    → bytes ≡ encode-formula (node-bytes kind) φ
 
 -- At most one formula reads at a node.
 abbrev pub ReadsUniqueClaim : Type 1

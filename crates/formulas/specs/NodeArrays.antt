@@ -1,12 +1,14 @@
--- The fields of nodes as lists of fixed length, one for each field: what three-byte nodes decode to.
--- Assumes nothing.
+-- The fields of nodes as lists of fixed length, one for each field: what nodes decode to.
 use mathlib.Core.Bool.{cond}
 use mathlib.Core.List.{List, [], _∷_}
 use Prim.Native.Nat.{ℕ, zero, suc, _/_, min}
 use lib.Dec.{ltb}
 use lib.ListN.{length}
+use Rattle.values.specs.declared.ValueKind.{ValueKind}
+use Rattle.formulas.specs.NodeBytes.{node-width}
 use Rattle.formulas.specs.declared.Nodes.{Nodes}
-use Rattle.formulas.specs.RuleRefusal.{node-limit, node-width, kind-at, first-at, second-at}
+use Rattle.formulas.specs.RuleRefusal.{kind-at, first-at, value-at}
+use Rattle.limits.specs.Limits.{node-limit}
 
 -- The values of f from i on, `left` of them, with 0 from `count` on.
 unfoldable pub padded : (ℕ → ℕ) → ℕ → ℕ → ℕ → List ℕ
@@ -14,15 +16,15 @@ padded f count zero i = []
 padded f count (suc left) i = cond (ltb i count) (f i) 0 ∷ padded f count left (suc i)
 
 -- How many nodes are decoded.
-unfoldable pub decoded-count : List ℕ → ℕ
-decoded-count bytes = min node-limit (length bytes / node-width)
+unfoldable pub decoded-count : ValueKind → List ℕ → ℕ
+decoded-count kind bytes = min node-limit (length bytes / node-width kind)
 
 -- The fields of these nodes, and 0 beyond.
-unfoldable pub decoded : List ℕ → Nodes
-decoded bytes =
+unfoldable pub decoded : ValueKind → List ℕ → Nodes
+decoded kind bytes =
     record {
-      count = decoded-count bytes;
-      kinds = padded (kind-at bytes) (decoded-count bytes) node-limit 0;
-      firsts = padded (first-at bytes) (decoded-count bytes) node-limit 0;
-      values = padded (second-at bytes) (decoded-count bytes) node-limit 0;
+      count = decoded-count kind bytes;
+      kinds = padded (kind-at kind bytes) (decoded-count kind bytes) node-limit 0;
+      firsts = padded (first-at kind bytes) (decoded-count kind bytes) node-limit 0;
+      values = padded (value-at kind bytes) (decoded-count kind bytes) node-limit 0;
     }

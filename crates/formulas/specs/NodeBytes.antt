@@ -1,10 +1,12 @@
 -- Nodes in bytes (document 01, "Rules"), and formulas in prefix order.
--- Assumes nothing.
 use mathlib.Core.Path.{_≡_}
 use mathlib.Core.List.{List, [], _∷_, _++_}
 use Prim.Native.Nat.{ℕ, _<_}
 use lib.ListN.{length, getD}
 use Rattle.theory.specs.Formula.{Formula}
+use Rattle.values.specs.declared.ValueKind.{ValueKind}
+use Rattle.values.specs.declared.ValueKind.the-variants.{Numbered, Register}
+use Rattle.values.specs.ValueBytes.{value-bytes}
 use Rattle.theory.specs.PrefixCode.{Node, truth-node, variable-node, transition-node, output-node, conjunction-node, greatest-node, nodes}
 
 module _ {B : Type 0} where
@@ -44,11 +46,23 @@ module _ {B : Type 0} where
     abbrev pub encode-formula : Formula B → List ℕ
     encode-formula φ = encode-all (nodes φ)
 
--- A node is three bytes: kind, first, second; an unused field is 0.
+-- The value of an O; 0 where it is unused.
+abbrev pub value-field : Node ℕ → ℕ
+value-field truth-node = 0
+value-field (variable-node n) = 0
+value-field (transition-node e) = 0
+value-field (output-node e v) = v
+value-field conjunction-node = 0
+value-field greatest-node = 0
+
+-- A node is three bytes where values are numbers, six where they are registers' masks: kind, first, value; an unused field is 0.
+abbrev pub node-width : ValueKind → ℕ
+node-width (Numbered n) = 3
+node-width (Register lines) = 6
+
+abbrev pub node-bytes : ValueKind → Node ℕ → List ℕ
+node-bytes kind n = kind-number n ∷ first-field n ∷ value-bytes kind (value-field n)
+
+-- The three bytes where values are numbers.
 abbrev pub three-bytes : Node ℕ → List ℕ
-three-bytes truth-node = 0 ∷ 0 ∷ 0 ∷ []
-three-bytes (variable-node n) = 1 ∷ n ∷ 0 ∷ []
-three-bytes (transition-node e) = 2 ∷ e ∷ 0 ∷ []
-three-bytes (output-node e v) = 3 ∷ e ∷ v ∷ []
-three-bytes conjunction-node = 4 ∷ 0 ∷ 0 ∷ []
-three-bytes greatest-node = 5 ∷ 0 ∷ 0 ∷ []
+three-bytes n = kind-number n ∷ first-field n ∷ value-field n ∷ []

@@ -1,6 +1,5 @@
 -- A formula's nodes reached through accessors: kind, first field and value of each node number. What walks over nodes are proved
 -- against, however the nodes lie in bytes.
--- Assumes nothing.
 use mathlib.Core.Path.{_≡_}
 use Prim.Native.Nat.{ℕ, suc, _+_}
 use Rattle.theory.specs.Formula.{Formula, truth, variable, transition, output, conjunction, greatest, size}

@@ -1,5 +1,4 @@
 -- What a walk over nodes promises: its answer for every formula whose nodes stand there.
--- Assumes nothing.
 use mathlib.Core.Path.{_≡_}
 use mathlib.Core.List.{List}
 use mathlib.Core.Option.{Option, none, some}
@@ -11,7 +10,8 @@ use Rattle.refusal.specs.declared.Judgement.{Judgement}
 use Rattle.formulas.specs.NodeReading.{Reads}
 use Rattle.formulas.specs.RuleConditions.{Position}
 use Rattle.formulas.specs.RuleReading.{first-of, lowest-unbound, lowest-closed}
-use Rattle.formulas.specs.RuleRefusal.{node-limit, variables-refusal}
+use Rattle.formulas.specs.RuleRefusal.{variables-refusal}
+use Rattle.limits.specs.Limits.{node-limit}
 
 -- A note: the number of a node, or the limit, which is above every node's, where nothing is noted.
 unfoldable pub Noted : Option ℕ → ℕ → Type 0

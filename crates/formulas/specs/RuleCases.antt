@@ -1,6 +1,5 @@
 -- Rules with two events and four values, and what 5 to 9 answer: those of document 01's marked cases that they decide, and some where
 -- the order of the refusals decides.
--- Assumes nothing.
 use mathlib.Core.Path.{_≡_}
 use mathlib.Core.Option.{Option, none, some}
 use mathlib.Core.List.{List, [], _∷_}
@@ -8,7 +7,9 @@ use Prim.Native.Nat.{ℕ}
 use Rattle.theory.specs.PrefixCode.{Node, truth-node, variable-node, transition-node, output-node, conjunction-node, greatest-node}
 use Rattle.refusal.specs.declared.Refusal.{Refusal}
 use Rattle.refusal.specs.declared.Refusal.the-variants.{Plain, At}
-use Rattle.formulas.specs.NodeBytes.{encode-all, three-bytes}
+use Rattle.values.specs.declared.ValueKind.{ValueKind}
+use Rattle.values.specs.declared.ValueKind.the-variants.{Numbered, Register}
+use Rattle.formulas.specs.NodeBytes.{encode-all, three-bytes, node-bytes}
 use Rattle.formulas.specs.RuleRefusal.{rule-refusal}
 
 pub record RuleCase : Type 0 where
@@ -29,7 +30,8 @@ rule-cases =
     -- 6: V X0
     ∷ rule-of (greatest-node ∷ variable-node 0 ∷ []) (some (At 9 1))
     -- 7: V G0 V A X1 G0 X0
-    ∷ rule-of (greatest-node ∷ transition-node 0 ∷ greatest-node ∷ conjunction-node ∷ variable-node 1 ∷ transition-node 0 ∷ variable-node 0 ∷ []) (some (At 9 4))
+    ∷ rule-of (greatest-node ∷ transition-node 0 ∷ greatest-node ∷ conjunction-node ∷ variable-node 1 ∷ transition-node 0 ∷ variable-node 0 ∷ [])
+    (some (At 9 4))
     -- 8: A T
     ∷ rule-of (conjunction-node ∷ truth-node ∷ []) (some (At 7 2))
     -- 9: T T
@@ -48,9 +50,34 @@ rule-cases =
     ∷ record { rule = 1 ∷ 0 ∷ 1 ∷ []; answer = some (At 6 0) }
     ∷ []
 
-unfoldable pub CasesHold : List RuleCase → Type 0
-CasesHold [] = Unit
-CasesHold (c ∷ cs) = (rule-refusal 2 4 (c .rule) ≡ c .answer) × CasesHold cs
+-- Rules with two events and registers of two lines.
+abbrev pub register-cases : List RuleCase
+register-cases =
+    -- 4: V A G1 O1.1.2 G1 X0
+    record {
+      rule =
+          encode-all (node-bytes (Register 2))
+          (greatest-node ∷ conjunction-node ∷ transition-node 1 ∷ output-node 1 131073 ∷ transition-node 1 ∷ variable-node 0 ∷ []);
+      answer = none;
+    }
+    -- O1.3.3: every bit of two lines
+    ∷ record { rule = 3 ∷ 1 ∷ 3 ∷ 0 ∷ 3 ∷ 0 ∷ []; answer = none }
+    -- O1.4.0 and O1.0.256: a bit at the line count, and one above it in the high byte of the high mask
+    ∷ record { rule = 3 ∷ 1 ∷ 4 ∷ 0 ∷ 0 ∷ 0 ∷ []; answer = some (At 6 0) }
+    ∷ record { rule = 3 ∷ 1 ∷ 0 ∷ 0 ∷ 0 ∷ 1 ∷ []; answer = some (At 6 0) }
+    -- T with a mask that is not 0
+    ∷ record { rule = 4 ∷ 0 ∷ 0 ∷ 0 ∷ 0 ∷ 0 ∷ 0 ∷ 0 ∷ 0 ∷ 0 ∷ 0 ∷ 1 ∷ []; answer = some (At 6 1) }
+    -- three bytes are no whole node
+    ∷ record { rule = 0 ∷ 0 ∷ 0 ∷ []; answer = some (Plain 5) }
+    -- V X0, and A T
+    ∷ record { rule = 5 ∷ 0 ∷ 0 ∷ 0 ∷ 0 ∷ 0 ∷ 1 ∷ 0 ∷ 0 ∷ 0 ∷ 0 ∷ 0 ∷ []; answer = some (At 9 1) }
+    ∷ record { rule = 4 ∷ 0 ∷ 0 ∷ 0 ∷ 0 ∷ 0 ∷ 0 ∷ 0 ∷ 0 ∷ 0 ∷ 0 ∷ 0 ∷ []; answer = some (At 7 2) }
+    ∷ []
 
-abbrev pub RuleCasesClaim : Type 0
-RuleCasesClaim = CasesHold rule-cases
+unfoldable pub CasesHold : ValueKind → List RuleCase → Type 0
+CasesHold kind [] = Unit
+CasesHold kind (c ∷ cs) = (rule-refusal 2 kind (c .rule) ≡ c .answer) × CasesHold kind cs
+
+pub record RuleCasesClaim : Type 0 where
+  pub numbered : CasesHold (Numbered 4) rule-cases
+  pub register : CasesHold (Register 2) register-cases

@@ -1,15 +1,12 @@
 -- Refusals 5 to 9 (document 01, "Who can cause a refusal", rule writer), for any way in which nodes lie in bytes.
--- Assumes nothing.
 use mathlib.Core.Path.{_≡_}
 use mathlib.Core.Logic.{_⊎_}
 use mathlib.Core.List.{List, [], _∷_, _++_}
 use Prim.Native.Nat.{ℕ, zero, suc, _+_, _*_, _/_, _%_, _≤_, _<_}
 use lib.ListN.{length, take, drop}
 use Rattle.theory.specs.Formula.{Formula, variable, transition, conjunction, greatest, size}
-use Rattle.theory.specs.PrefixCode.{Node, truth-node, variable-node, transition-node, output-node, conjunction-node, greatest-node, nodes, Stands}
+use Rattle.theory.specs.PrefixCode.{Node, truth-node, variable-node, transition-node, output-node, conjunction-node, greatest-node, Stands}
 use Rattle.refusal.specs.Refusal.{Condition, plain, at-lowest}
-use Rattle.refusal.specs.declared.Refusal.{Refusal}
-use Rattle.refusal.specs.declared.Refusal.the-variants.{At}
 use Rattle.formulas.specs.NodeBytes.{encode-all, encode-formula}
 
 -- The grammar's two kinds of position (source 000, definition 3).
@@ -51,37 +48,38 @@ node-count width bytes = length bytes / width
 abbrev pub node-at : ℕ → List ℕ → ℕ → List ℕ
 node-at width bytes i = take width (drop (i * width) bytes)
 
-module _ {B : Type 0} (width : ℕ) (encode : Node B → List ℕ) (limit events : ℕ) (In : B → Type 0) (bytes : List ℕ) where
-  -- 5: no nodes, over the limit, or bytes left over after the last whole node.
-  abbrev pub CountAtFault : Type 0
-  CountAtFault = ¬ ((length bytes % width ≡ 0) × (0 < node-count width bytes) × (node-count width bytes ≤ limit))
+-- 5: no nodes, over the limit, or bytes left over after the last whole node.
+abbrev pub CountAtFault : ℕ → ℕ → List ℕ → Type 0
+CountAtFault width limit bytes = ¬ ((length bytes % width ≡ 0) × (0 < node-count width bytes) × (node-count width bytes ≤ limit))
 
+module _ {B : Type 0} (width : ℕ) (encode : Node B → List ℕ) (bytes : List ℕ) where
   -- 6: unknown kind, event or value too large, unused field not 0: the bytes of node i are those of no node that fits.
-  abbrev pub NodeAtFault : ℕ → Type 0
-  NodeAtFault i = (i < node-count width bytes) × ((n : Node B) → node-at width bytes i ≡ encode n → ¬ NodeFits events In n)
+  abbrev pub NodeAtFault : ℕ → (B → Type 0) → ℕ → Type 0
+  NodeAtFault events In i = (i < node-count width bytes) × ((n : Node B) → node-at width bytes i ≡ encode n → ¬ NodeFits events In n)
 
   -- 7: the nodes run out: they begin the nodes of a formula and stop short of its end; place = node count.
-  abbrev pub RunOut : Refusal → Type 0
-  RunOut r =
+  abbrev pub RunOut : ℕ → Type 0
+  RunOut p =
       (φ : Formula B) × (n : Node B) × (ns : List (Node B)) × (bytes ++ encode-all encode (n ∷ ns) ≡ encode-formula encode φ)
-      × (r ≡ At 7 (node-count width bytes))
+      × (p ≡ node-count width bytes)
 
+module _ {B : Type 0} (encode : Node B → List ℕ) (bytes : List ℕ) where
   -- 7: nodes are left over after a whole formula; place = first of them.
-  abbrev pub LeftOver : Refusal → Type 0
-  LeftOver r =
-      (φ : Formula B) × (n : Node B) × (ns : List (Node B)) × (bytes ≡ encode-formula encode φ ++ encode-all encode (n ∷ ns))
-      × (r ≡ At 7 (size φ))
+  abbrev pub LeftOver : ℕ → Type 0
+  LeftOver p =
+      (φ : Formula B) × (n : Node B) × (ns : List (Node B)) × (bytes ≡ encode-formula encode φ ++ encode-all encode (n ∷ ns)) × (p ≡ size φ)
 
-  -- 8 and 9 speak of the formula whose bytes these are.
-  abbrev pub OfFormula : (Formula B → Condition) → Condition
-  OfFormula C r = (φ : Formula B) × (bytes ≡ encode-formula encode φ) × C φ r
+  -- 8, 9 and 10 speak of the formula whose bytes these are.
+  abbrev pub OfFormula : (Formula B → Type 0) → Type 0
+  OfFormula Met = (φ : Formula B) × (bytes ≡ encode-formula encode φ) × Met φ
 
-  -- The conditions, in order.
-  abbrev pub rule-conditions : List Condition
-  rule-conditions =
-      plain 5 CountAtFault
-      ∷ at-lowest 6 NodeAtFault
-      ∷ (λ r. RunOut r ⊎ LeftOver r)
-      ∷ OfFormula (λ φ. at-lowest 8 (Unbound φ))
-      ∷ OfFormula (λ φ. at-lowest 9 (InClosedPosition φ))
-      ∷ []
+-- The conditions, in order.
+abbrev pub rule-conditions :
+    {B : Type 0} (width : ℕ) (encode : Node B → List ℕ) (limit events : ℕ) (In : B → Type 0) (bytes : List ℕ) → List Condition
+rule-conditions width encode limit events In bytes =
+    plain 5 (CountAtFault width limit bytes)
+    ∷ at-lowest 6 (NodeAtFault width encode bytes events In)
+    ∷ at-lowest 7 (λ p. RunOut width encode bytes p ⊎ LeftOver encode bytes p)
+    ∷ at-lowest 8 (λ i. OfFormula encode bytes (λ φ. Unbound φ i))
+    ∷ at-lowest 9 (λ i. OfFormula encode bytes (λ φ. InClosedPosition φ i))
+    ∷ []

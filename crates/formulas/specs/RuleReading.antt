@@ -1,6 +1,5 @@
 -- Computing twins of RuleConditions, in parts: what is read from a node's fields, where nodes run out or are left over, the
 -- formula whose nodes these are, and the lowest variable at fault. Nodes are reached through accessors, as in NodeReading.
--- Assumes nothing.
 use mathlib.Core.Bool.{Bool, true, false, cond, not, _&&_}
 use mathlib.Core.Option.{Option, none, some}
 use mathlib.Core.List.{List, [], _∷_}

@@ -1,6 +1,5 @@
 -- Which of refusals 5 to 9 a rule in bytes meets, computed: the twin of `First rule-conditions`. Each is answered over the whole
 -- input before the next.
--- Assumes nothing.
 use mathlib.Core.Bool.{Bool, not, _&&_}
 use mathlib.Core.Option.{Option}
 use mathlib.Core.List.{List}
@@ -10,15 +9,13 @@ use lib.ListN.{length, getD}
 use Rattle.theory.specs.Formula.{Formula}
 use Rattle.refusal.specs.Refusal.{or-else, plain-unless, at-found}
 use Rattle.refusal.specs.declared.Refusal.{Refusal}
+use Rattle.values.specs.declared.ValueKind.{ValueKind}
+use Rattle.limits.specs.Limits.{node-limit}
+use Rattle.formulas.specs.NodeBytes.{node-width}
 use Rattle.formulas.specs.RuleConditions.{closed-to-variable}
 use Rattle.formulas.specs.RuleReading.{lowest-from, kind-of, fields-fit, end-fault, formula-read, lowest-unbound, lowest-closed}
-
--- At most so many nodes, and the bytes of each.
-abbrev pub node-limit : ℕ
-node-limit = 256
-
-abbrev pub node-width : ℕ
-node-width = 3
+use Rattle.values.specs.ValueTests.{value-fits}
+use Rattle.values.specs.ValueReading.{value-from}
 
 -- Of 5: so many bytes are 1 to `limit` whole nodes.
 unfoldable pub count-fits : ℕ → ℕ → ℕ → Bool
@@ -50,23 +47,23 @@ module _ (kind first value : ℕ → ℕ) (count : ℕ) where
     unfoldable pub fields-refusal : Option Refusal
     fields-refusal = or-else (plain-unless (ltb 0 count && leb count node-limit) 5) nodes-refusal
 
--- The fields of node i, in nodes of three bytes.
-module _ (bytes : List ℕ) where
+-- The fields of node i, in the bytes that nodes have with values of a kind.
+module _ (kind : ValueKind) (bytes : List ℕ) where
   abbrev pub kind-at : ℕ → ℕ
-  kind-at i = getD bytes (i * node-width) 0
+  kind-at i = getD bytes (i * node-width kind) 0
 
   abbrev pub first-at : ℕ → ℕ
-  first-at i = getD bytes (i * node-width + 1) 0
+  first-at i = getD bytes (i * node-width kind + 1) 0
 
-  abbrev pub second-at : ℕ → ℕ
-  second-at i = getD bytes (i * node-width + 2) 0
+  abbrev pub value-at : ℕ → ℕ
+  value-at i = value-from kind bytes (i * node-width kind + 2)
 
--- 5 to 9 for a set-up's counts of events and values, and nodes of three bytes.
-unfoldable pub rule-refusal : ℕ → ℕ → List ℕ → Option Refusal
-rule-refusal events values bytes =
-    or-else (plain-unless (count-fits node-width node-limit (length bytes)) 5)
-    (nodes-refusal (kind-at bytes) (first-at bytes) (second-at bytes) (length bytes / node-width) (λ v. ltb v values) events)
+-- 5 to 9 for a set-up's count of events and kind of values.
+unfoldable pub rule-refusal : ℕ → ValueKind → List ℕ → Option Refusal
+rule-refusal events kind bytes =
+    or-else (plain-unless (count-fits (node-width kind) node-limit (length bytes)) 5)
+    (nodes-refusal (kind-at kind bytes) (first-at kind bytes) (value-at kind bytes) (length bytes / node-width kind) (value-fits kind) events)
 
 -- The formula that accepted bytes are.
-unfoldable pub formula-of : List ℕ → Formula ℕ
-formula-of bytes = formula-read (kind-at bytes) (first-at bytes) (second-at bytes) (length bytes / node-width)
+unfoldable pub formula-of : ValueKind → List ℕ → Formula ℕ
+formula-of kind bytes = formula-read (kind-at kind bytes) (first-at kind bytes) (value-at kind bytes) (length bytes / node-width kind)

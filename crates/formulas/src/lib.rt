@@ -3,14 +3,15 @@ ghost use mathlib.Core.Path.{_≡_};
 ghost use Prim.Native.Nat.{_+_, _/_, _≤_, _<_, min};
 ghost use mathlib.Core.Bool.{cond};
 ghost use mathlib.Core.Option.{none, some};
-ghost use lib.Dec.{ltb};
+ghost use Rattle.formulas.specs.NodeBytes.{node-width};
 ghost use lib.ListN.{length};
 ghost use Rattle.refusal.specs.Refusal.{judgement};
 ghost use Rattle.formulas.specs.RuleConditions.{open-to-variable, closed-to-variable};
 ghost use Rattle.formulas.specs.RuleReading.{kind-of, fields-fit, awaited, unbound-below};
-ghost use Rattle.formulas.specs.RuleRefusal.{node-width, node-limit, count-fits, tree-refusal, fields-refusal, rule-refusal};
+ghost use Rattle.formulas.specs.RuleRefusal.{count-fits, tree-refusal, fields-refusal, rule-refusal};
 ghost use Rattle.formulas.specs.NodeWalks.{Keeps, Scanned, VariablesJudged, field};
 ghost use Rattle.formulas.specs.NodeArrays.{decoded};
+use limits::NODE_LIMIT;
 use refusal::CLOSED_VARIABLE;
 use refusal::Judgement;
 use refusal::NODE_COUNT;
@@ -18,6 +19,11 @@ use refusal::NODE_FIELDS;
 use refusal::NODE_TREE;
 use refusal::Refusal;
 use refusal::UNBOUND_VARIABLE;
+use values::ValueKind;
+use values::value_fits;
+use values::value_from;
+ghost use Rattle.values.specs.ValueTests.{value-fits};
+ghost use Rattle.limits.specs.Limits.{node-limit};
 
 // The kinds of node.
 pub const TRUTH: u8 = 0;
@@ -31,12 +37,6 @@ pub const OUTPUT: u8 = 3;
 pub const CONJUNCTION: u8 = 4;
 
 pub const GREATEST: u8 = 5;
-
-// At most so many nodes.
-pub const NODE_LIMIT: usize = 256;
-
-// The bytes of a node.
-pub const NODE_WIDTH: usize = 3;
 
 // The fields of nodes, however they lie in bytes: the first `count` of each array.
 pub struct Nodes {
@@ -52,18 +52,23 @@ fn wide(x: u8) -> usize
     x as usize
 }
 
-fn value_of(x: u8) -> u32
-    ensures { λ r. ⌜ r ≡ x ⌝ }
+// The bytes of a node, with values of a kind.
+pub fn node_width(kind: ValueKind) -> usize
+    ensures { λ r. ⌜ (r ≡ node-width kind) × (1 < r) × (r ≤ 6) ⌝ }
 {
-    x as u32
+    match kind {
+        ValueKind::Numbered(_) => 3,
+        ValueKind::Register(_) => 6,
+    }
 }
 
 // 5: so many bytes are 1 to 256 whole nodes.
-pub fn count_fits(n: usize) -> bool
-    ensures { λ r. ⌜ r ≡ count-fits node-width node-limit n ⌝ }
+pub fn count_fits(kind: ValueKind, n: usize) -> bool
+    ensures { λ r. ⌜ r ≡ count-fits (node-width kind) node-limit n ⌝ }
 {
-    if n % NODE_WIDTH == 0 {
-        let count = n / NODE_WIDTH;
+    let width = node_width(kind);
+    if n % width == 0 {
+        let count = n / width;
         if 0 < count {
             return count <= NODE_LIMIT;
         }
@@ -72,10 +77,11 @@ pub fn count_fits(n: usize) -> bool
 }
 
 // The whole nodes of these bytes, at most 256 of them.
-fn node_count(n: usize) -> usize
-    ensures { λ r. ⌜ r ≡ min node-limit (n / node-width) ⌝ }
+fn node_count(n: usize, width: usize) -> usize
+    requires { ⌜ 1 < width ⌝ }
+    ensures { λ r. ⌜ r ≡ min node-limit (n / width) ⌝ }
 {
-    let count = n / NODE_WIDTH;
+    let count = n / width;
     if count < NODE_LIMIT {
         count
     } else {
@@ -84,19 +90,22 @@ fn node_count(n: usize) -> usize
 }
 
 // The fields of the first 256 nodes; those beyond the node count are 0.
-pub fn decode(bytes: &[u8]) -> Nodes
-    ensures { λ r. ⌜ r ≡ decoded (now (bytes .entry)) ⌝ }
+pub fn decode(kind: ValueKind, bytes: &[u8]) -> Nodes
+    ensures { λ r. ⌜ r ≡ decoded kind (now (bytes .entry)) ⌝ }
 {
-    let count = node_count(bytes.len());
+    let width = node_width(kind);
+    let count = node_count(bytes.len(), width);
     let mut kinds = [0u8; NODE_LIMIT];
     let mut firsts = [0u8; NODE_LIMIT];
     let mut values = [0u32; NODE_LIMIT];
     let mut i: usize = 0;
+    let mut at: usize = 0;
     while i < count {
-        kinds[i] = bytes[i * NODE_WIDTH];
-        firsts[i] = bytes[i * NODE_WIDTH + 1];
-        values[i] = value_of(bytes[i * NODE_WIDTH + 2]);
+        kinds[i] = bytes[at];
+        firsts[i] = bytes[at + 1];
+        values[i] = value_from(kind, bytes, at + 2);
         i += 1;
+        at += width;
     }
     Nodes {
         count,
@@ -125,15 +134,9 @@ fn fields_fit(events: usize, kind: u8, first: u8, value: u32, fits: bool) -> boo
     first == 0 && value == 0
 }
 
-fn value_fits(value: u32, values: usize) -> bool
-    ensures { λ r. ⌜ r ≡ ltb value values ⌝ }
-{
-    (value as usize) < values
-}
-
 // How many parts are awaited after a node of this kind, where so many others were awaited beside it.
 fn awaited(kind: u8, others: usize) -> usize
-    requires { ⌜ others ≤ 256 ⌝ }
+    requires { ⌜ others ≤ node-limit ⌝ }
     ensures { λ r. ⌜ r ≡ awaited (kind-of kind) others ⌝ }
 {
     if kind == TRANSITION {
@@ -151,26 +154,27 @@ fn awaited(kind: u8, others: usize) -> usize
 // 6, then 7: the fields of every node fit, and the nodes are those of one formula. `used` counts the nodes up to its end.
 fn check_fields(
     events: usize,
-    limit: usize,
+    kind: ValueKind,
     kinds: &[u8; NODE_LIMIT],
     firsts: &[u8; NODE_LIMIT],
     values: &[u32; NODE_LIMIT],
     count: usize,
 ) -> Judgement
-    requires { ⌜ count ≤ 256 ⌝ }
-    ensures { λ r. ⌜ r ≡ judgement (tree-refusal (field (now (kinds .entry))) (field (now (firsts .entry))) (field (now (values .entry))) count (λ v. ltb v limit) events) ⌝ }
+    requires { ⌜ count ≤ node-limit ⌝ }
+    ensures { λ r. ⌜ r ≡ judgement (tree-refusal (field (now (kinds .entry))) (field (now (firsts .entry))) (field (now (values .entry))) count
+        (value-fits kind) events) ⌝ }
 {
     let mut parts: usize = 1;
     let mut used: usize = 0;
     let mut i: usize = 0;
     while i < count {
-        let kind = kinds[i];
+        let node = kinds[i];
         let v = values[i];
-        if !fields_fit(events, kind, firsts[i], v, value_fits(v, limit)) {
+        if !fields_fit(events, node, firsts[i], v, value_fits(kind, v)) {
             return Judgement::Refused(Refusal::At(NODE_FIELDS, i));
         }
         if 1 <= parts {
-            parts = awaited(kind, parts - 1);
+            parts = awaited(node, parts - 1);
             used += 1;
         }
         i += 1;
@@ -193,7 +197,7 @@ fn unbound(first: u8, depth: usize) -> bool
 
 // What is noted after a node: the node itself where it is the first at fault.
 fn noted(before: usize, fault: bool, at: usize) -> usize
-    requires { ⌜ at < 256 ⌝ }
+    requires { ⌜ at < node-limit ⌝ }
     ensures { λ r. ⌜ Keeps (cond fault (some at) none) before r ⌝ }
 {
     if fault {
@@ -214,8 +218,9 @@ fn closed_position(
     depth: usize,
     faults: &mut [usize; 2],
 ) -> usize
-    requires { ⌜ (at + left ≤ 256) × (depth ≤ at) × (length (now faults) ≡ 2) ⌝ }
-    ensures { λ r. ⌜ Scanned (field (now (kinds .entry))) (field (now (firsts .entry))) depth closed-to-variable at left (now (faults .entry)) (now (faults .exit)) r ⌝ }
+    requires { ⌜ (at + left ≤ node-limit) × (depth ≤ at) × (length (now faults) ≡ 2) ⌝ }
+    ensures { λ r. ⌜ Scanned (field (now (kinds .entry))) (field (now (firsts .entry))) depth closed-to-variable at left (now (faults .entry))
+        (now (faults .exit)) r ⌝ }
 {
     if left == 0 {
         return at;
@@ -248,8 +253,9 @@ fn open_position(
     depth: usize,
     faults: &mut [usize; 2],
 ) -> usize
-    requires { ⌜ (at + left ≤ 256) × (depth ≤ at) × (length (now faults) ≡ 2) ⌝ }
-    ensures { λ r. ⌜ Scanned (field (now (kinds .entry))) (field (now (firsts .entry))) depth open-to-variable at left (now (faults .entry)) (now (faults .exit)) r ⌝ }
+    requires { ⌜ (at + left ≤ node-limit) × (depth ≤ at) × (length (now faults) ≡ 2) ⌝ }
+    ensures { λ r. ⌜ Scanned (field (now (kinds .entry))) (field (now (firsts .entry))) depth open-to-variable at left (now (faults .entry))
+        (now (faults .exit)) r ⌝ }
 {
     if left == 0 {
         return at;
@@ -274,7 +280,7 @@ fn open_position(
 
 // 8, then 9: every variable has its binder, and no variable is in a closed position.
 fn check_variables(kinds: &[u8; NODE_LIMIT], firsts: &[u8; NODE_LIMIT], count: usize) -> Judgement
-    requires { ⌜ count ≤ 256 ⌝ }
+    requires { ⌜ count ≤ node-limit ⌝ }
     ensures { λ r. ⌜ VariablesJudged (field (now (kinds .entry))) (field (now (firsts .entry))) count r ⌝ }
 {
     let mut faults = [NODE_LIMIT; 2];
@@ -290,16 +296,17 @@ fn check_variables(kinds: &[u8; NODE_LIMIT], firsts: &[u8; NODE_LIMIT], count: u
     Judgement::Accepted
 }
 
-// 5 to 9 for decoded nodes, the first `count` of each array, with the set-up's counts of events and values.
+// 5 to 9 for decoded nodes, the first `count` of each array, with the set-up's count of events and kind of values.
 pub fn check_nodes<'a>(
     events: usize,
-    limit: usize,
+    kind: ValueKind,
     kinds: &'a [u8; NODE_LIMIT],
     firsts: &'a [u8; NODE_LIMIT],
     values: &'a [u32; NODE_LIMIT],
     count: usize,
 ) -> Judgement
-    ensures { λ r. ⌜ r ≡ judgement (fields-refusal (field (now (kinds .entry))) (field (now (firsts .entry))) (field (now (values .entry))) count (λ v. ltb v limit) events) ⌝ }
+    ensures { λ r. ⌜ r ≡ judgement (fields-refusal (field (now (kinds .entry))) (field (now (firsts .entry))) (field (now (values .entry))) count
+        (value-fits kind) events) ⌝ }
 {
     if count == 0 {
         return Judgement::Refused(Refusal::Plain(NODE_COUNT));
@@ -307,24 +314,24 @@ pub fn check_nodes<'a>(
     if NODE_LIMIT < count {
         return Judgement::Refused(Refusal::Plain(NODE_COUNT));
     }
-    let judged = check_fields(events, limit, kinds, firsts, values, count);
+    let judged = check_fields(events, kind, kinds, firsts, values, count);
     if let Judgement::Refused(_) = judged {
         return judged;
     }
     check_variables(kinds, firsts, count)
 }
 
-// 5 to 9 for a rule in bytes, with the set-up's counts of events and values.
-pub fn check_rule(events: usize, values: usize, bytes: &[u8]) -> Judgement
-    ensures { λ r. ⌜ r ≡ judgement (rule-refusal events values (now (bytes .entry))) ⌝ }
+// 5 to 9 for a rule in bytes, with the set-up's count of events and kind of values.
+pub fn check_rule(events: usize, kind: ValueKind, bytes: &[u8]) -> Judgement
+    ensures { λ r. ⌜ r ≡ judgement (rule-refusal events kind (now (bytes .entry))) ⌝ }
 {
-    if !count_fits(bytes.len()) {
+    if !count_fits(kind, bytes.len()) {
         return Judgement::Refused(Refusal::Plain(NODE_COUNT));
     }
-    let nodes = decode(bytes);
+    let nodes = decode(kind, bytes);
     check_nodes(
         events,
-        values,
+        kind,
         &nodes.kinds,
         &nodes.firsts,
         &nodes.values,

@@ -1,15 +1,10 @@
 -- Laws of entries in bytes, for every encoding: joining, comparing, reading back.
--- Assumes nothing.
-use mathlib.Core.Path.{_≡_, refl, sym, _∙_, ap}
-use mathlib.Core.List.{List, _++_, append-assoc, append-nil}
+use mathlib.Core.{Path.{_≡_, refl, sym, _∙_, ap}, List.{List, _++_, append-assoc, append-nil}}
 use Prim.Native.Nat.{ℕ, zero, suc, _+_, _*_, _-_, _/_, _%_, _≤_, _<_}
-use native.Mathlib.Nat.{add-zero, add-suc, suc-add, zero-add}
-use native.Mathlib.Omega.{arith}
-use lib.ListN.{length, getD, take, drop, length-append, take-append-drop, drop-of-length-le, List·getD-append}
-use lib.Seq.{drop-drop, getD-append-add}
+use native.Mathlib.{Nat.{add-zero, add-suc, suc-add, zero-add}, Omega.{arith}}
+use lib.{ListN.{length, getD, take, drop, length-append, take-append-drop, drop-of-length-le, List·getD-append}, Seq.{drop-drop, getD-append-add}}
 use Rattle.theory.specs.MealyMachine.{Machine}
-use Rattle.machines.specs.TableBytes.{row-bytes, rows-bytes, table-bytes, entries}
-use Rattle.machines.specs.StoredEntries.{entries-bytes}
+use Rattle.machines.specs.{TableBytes.{row-bytes, rows-bytes, table-bytes, entries}, StoredEntries.{entries-bytes}}
 use Rattle.machines.specs.Claims.{Agree, TableLengthClaim, SameBytesClaim}
 use Rattle.machines.proofs.EntryIndex.{index-state, index-event}
 

@@ -1,11 +1,8 @@
 -- Entry l × events + e: which numbers it goes through, and l and e from it.
--- Assumes nothing.
-use mathlib.Core.Path.{_≡_, _∙_, ap, subst}
-use mathlib.Core.Logic.{_⊎_, inl, inr}
+use mathlib.Core.{Path.{_≡_, _∙_, ap, subst}, Logic.{_⊎_, inl, inr}}
 use Prim.Native.Nat.{ℕ, _+_, _*_, _/_, _%_, _<_}
 use native.Mathlib.Nat.{add-zero, mul-le-mul-right, eq-zero-or-pos, mul-add-div-right, mul-add-mod-self-right}
-use native.Mathlib.Nat.{div-eq-of-lt, mod-eq-of-lt, div-lt-iff-lt-mul, mod-lt, div-add-mod'}
-use native.Mathlib.Omega.{arith}
+use native.Mathlib.{Nat.{div-eq-of-lt, mod-eq-of-lt, div-lt-iff-lt-mul, mod-lt, div-add-mod'}, Omega.{arith}}
 
 pub index-below : (events n l e : ℕ) → l < n → e < events → l * events + e < n * events
 index-below events n l e hl he = omega (arith, mul-le-mul-right events hl)

@@ -1,5 +1,3 @@
--- Tests of every number below a bound.
-pub mod AllBelow
 -- Tests of a product by remainder and quotient.
 pub mod Products
 -- Entry l × events + e of a table.

@@ -1,10 +1,7 @@
 -- A number is a product exactly if it leaves no remainder and has the other factor as its quotient.
--- Assumes nothing.
-use mathlib.Core.Path.{_≡_, refl, sym, _∙_, ap}
-use mathlib.Core.Bool.{Bool, true, false}
+use mathlib.Core.{Path.{_≡_, refl, sym, _∙_, ap}, Bool.{Bool, true, false}}
 use Prim.Native.Nat.{ℕ, _+_, _*_, _/_, _%_, _<_}
-use native.Mathlib.Nat.{mul-mod-left, mul-div-cancel, div-add-mod', mul-zero}
-use native.Mathlib.Omega.{arith}
+use native.Mathlib.{Nat.{mul-mod-left, mul-div-cancel, div-add-mod', mul-zero}, Omega.{arith}}
 use borrow.Author.Tests.{eqb-true, eqb-false, eq-eqb, ne-eqb}
 use lib.Dec.{eqb}
 

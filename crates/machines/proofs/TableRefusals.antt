@@ -1,24 +1,20 @@
 -- The tests of refusal 11 decide the printed condition; an accepted table is a machine.
--- Assumes nothing.
-use mathlib.Core.Path.{_≡_, sym, _∙_, ap}
-use mathlib.Core.Bool.{Bool, true, false≢true}
-use mathlib.Core.Option.{none}
-use mathlib.Core.List.{List, [], _∷_}
+use mathlib.Core.{Path.{_≡_, refl, sym, _∙_, ap}, Bool.{Bool, true, false≢true}, Option.{none}, List.{List, [], _∷_}}
 use Prim.Native.Nat.{ℕ, _+_, _*_, _<_}
 use native.Mathlib.Omega.{arith}
 use borrow.Author.Tests.{ltb-true, leb-true, eqb-true, lt-ltb, le-leb, eq-eqb}
-use lib.ListN.{length, getD}
-use lib.Dec.{leb, ltb, eqb}
-use Rattle.theory.specs.ValueSets.{Below}
-use Rattle.refusal.specs.Refusal.{First, plain-unless}
-use Rattle.refusal.proofs.Refusals.{plain-first, plain-none}
-use Rattle.machines.specs.TableBytes.{table-bytes, two-bytes, entries, machine-of, TableInOrder, table-condition}
+use lib.{ListN.{length}, Dec.{leb, ltb, eqb}}
+use Rattle.values.specs.declared.ValueKind.{ValueKind}
+use Rattle.values.specs.{ValueKind.{ValueIn}, ValueTests.{value-fits}}
+use Rattle.values.proofs.ValueKinds.{fits-value, value-fitting}
+use Rattle.refusal.specs.Refusal.{First, plain-unless, has-place, order, part-of, condition-numbers, right-places}
+use Rattle.refusal.proofs.Refusals.{plain-first, plain-none, judged}
+use Rattle.machines.specs.TableBytes.{table-bytes, entry-width, entry-bytes, entry-value, entry-next, entries, machine-of, TableInOrder, table-condition}
 use Rattle.machines.specs.TableRefusal.{table-test, entry-test, table-refusal}
 use Rattle.machines.specs.Claims.{TableRefusalClaim, AcceptedTableClaim, TableAcceptedClaim}
-use Rattle.machines.proofs.AllBelow.{and-both, and-left, and-right, all-below-each, all-below-all}
-use Rattle.machines.proofs.EntryIndex.{index-below, every-entry}
-use Rattle.machines.proofs.EntryBytes.{table-length}
-use Rattle.machines.proofs.TableRoundTrip.{two-bytes-length, read-back, write-back}
+use Rattle.theory.proofs.ValueSets.{and-both, and-left, and-right, every-at, every-of}
+use Rattle.machines.proofs.{EntryIndex.{index-below, every-entry}, EntryBytes.{table-length}}
+use Rattle.machines.proofs.TableRoundTrip.{entry-length, read-back, write-back}
 
 -- Entries of any width, read by number, and a test that decides whether an entry is in order.
 module _ {B : Type 0} (width limit events : ℕ) (In : B → Type 0) (states start : ℕ) (bytes : List ℕ)
@@ -33,7 +29,7 @@ module _ {B : Type 0} (width limit events : ℕ) (In : B → Type 0) (states sta
       let rest1 = and-right (ltb 0 states) _ holds in
       let rest2 = and-right (leb states limit) _ rest1 in
       let rest3 = and-right (ltb start states) _ rest2 in
-      let each = all-below-each (states * events) test (and-right (eqb (length bytes) (states * events * width)) _ rest3) in
+      let each = every-at (states * events) test (and-right (eqb (length bytes) (states * events * width)) _ rest3) in
       record {
         some-states = ltb-true 0 states (and-left (ltb 0 states) _ holds);
         few-states = leb-true states limit (and-left (leb states limit) _ rest1);
@@ -48,11 +44,11 @@ module _ {B : Type 0} (width limit events : ℕ) (In : B → Type 0) (states sta
       → table-test width limit events test states start bytes ≡ true
   unfolding table-test
   in-order-tested ok =
-      and-both (ltb 0 states) _ (lt-ltb 0 states (ok .some-states))
-      (and-both (leb states limit) _ (le-leb states limit (ok .few-states))
-      (and-both (ltb start states) _ (lt-ltb start states (ok .start-in))
-      (and-both (eqb (length bytes) (states * events * width)) _ (eq-eqb (length bytes) (states * events * width) (ok .entry-count))
-      (all-below-all (states * events) test
+      and-both (lt-ltb 0 states (ok .some-states))
+      (and-both (le-leb states limit (ok .few-states))
+      (and-both (lt-ltb start states (ok .start-in))
+      (and-both (eq-eqb (length bytes) (states * events * width) (ok .entry-count))
+      (every-of (states * events) test
       (every-entry (λ i. test i ≡ true) events states
       (λ l e hl he. complete (l * events + e) (ok .values-in l e hl he) (ok .nexts-in l e hl he)))))))
 
@@ -64,66 +60,74 @@ module _ {B : Type 0} (width limit events : ℕ) (In : B → Type 0) (states sta
       (table-test width limit events test states start bytes)
       (λ fails ok. false≢true (sym fails ∙ in-order-tested ok)) (λ holds no. no (tested-in-order holds))
 
--- Entries of two bytes.
-module _ (values states : ℕ) (bytes : List ℕ) (i : ℕ) where
-  entry-sound : entry-test values states bytes i ≡ true → (getD bytes (i * 2) 0 < values) × (getD bytes (i * 2 + 1) 0 < states)
+-- Entries with values of a kind.
+module _ (kind : ValueKind) (states : ℕ) (bytes : List ℕ) (i : ℕ) where
+  entry-sound : entry-test kind states bytes i ≡ true → ValueIn kind (entry-value kind bytes i) × (entry-next kind bytes i < states)
   unfolding entry-test
   entry-sound holds =
-      let value-test = ltb (getD bytes (i * 2) 0) values in
-      (ltb-true _ values (and-left value-test _ holds), ltb-true _ states (and-right value-test _ holds))
+      let value-test = value-fits kind (entry-value kind bytes i) in
+      (fits-value kind _ (and-left value-test _ holds), ltb-true _ states (and-right value-test _ holds))
 
-  entry-complete : getD bytes (i * 2) 0 < values → getD bytes (i * 2 + 1) 0 < states → entry-test values states bytes i ≡ true
+  entry-complete : ValueIn kind (entry-value kind bytes i) → entry-next kind bytes i < states → entry-test kind states bytes i ≡ true
   unfolding entry-test
-  entry-complete v t = and-both _ _ (lt-ltb _ _ v) (lt-ltb _ _ t)
+  entry-complete v t = and-both (value-fitting kind _ v) (lt-ltb _ _ t)
 
-module _ (limit events values states start : ℕ) (bytes : List ℕ) where
+module _ (limit events : ℕ) (kind : ValueKind) (states start : ℕ) (bytes : List ℕ) where
   pub none-in-order :
-      table-refusal limit events values states start bytes ≡ none
-      → TableInOrder 2 limit events (Below values) states start bytes (machine-of events bytes)
+      table-refusal limit events kind states start bytes ≡ none
+      → TableInOrder (entry-width kind) limit events (ValueIn kind) states start bytes (machine-of kind events bytes)
   unfolding table-refusal
   none-in-order accepted =
-      tested-in-order 2 limit events (Below values) states start bytes
-      (λ i. getD bytes (i * 2) 0) (λ i. getD bytes (i * 2 + 1) 0) (entry-test values states bytes)
-      (entry-sound values states bytes) (entry-complete values states bytes) (plain-none _ 11 accepted)
+      tested-in-order (entry-width kind) limit events (ValueIn kind) states start bytes
+      (entry-value kind bytes) (entry-next kind bytes) (entry-test kind states bytes)
+      (entry-sound kind states bytes) (entry-complete kind states bytes) (plain-none _ 11 accepted)
 
   pub in-order-none :
-      TableInOrder 2 limit events (Below values) states start bytes (machine-of events bytes)
-      → table-refusal limit events values states start bytes ≡ none
+      TableInOrder (entry-width kind) limit events (ValueIn kind) states start bytes (machine-of kind events bytes)
+      → table-refusal limit events kind states start bytes ≡ none
   unfolding table-refusal plain-unless
   in-order-none ok =
       ap (λ test. plain-unless test 11)
-      (in-order-tested 2 limit events (Below values) states start bytes
-      (λ i. getD bytes (i * 2) 0) (λ i. getD bytes (i * 2 + 1) 0) (entry-test values states bytes)
-      (entry-sound values states bytes) (entry-complete values states bytes) ok)
+      (in-order-tested (entry-width kind) limit events (ValueIn kind) states start bytes
+      (entry-value kind bytes) (entry-next kind bytes) (entry-test kind states bytes)
+      (entry-sound kind states bytes) (entry-complete kind states bytes) ok)
 
 pub table-accepted : TableAcceptedClaim
-table-accepted limit events values states start m runs few start-in =
-    let back = read-back events states m in
-    in-order-none limit events values states start (table-bytes two-bytes events m states)
+table-accepted limit events kind states start m runs few start-in =
+    let back = read-back kind events states m in
+    in-order-none limit events kind states start (table-bytes (entry-bytes kind) events m states)
     record {
       some-states = omega arith;
       few-states = few;
-      entry-count = table-length _ two-bytes 2 two-bytes-length events m states;
+      entry-count = table-length _ (entry-bytes kind) (entry-width kind) (entry-length kind) events m states;
       start-in = start-in;
       values-in = λ l e hl he. rw (back .values-agree l e hl he) (runs .value-in l hl e he);
       nexts-in = λ l e hl he. rw (back .nexts-agree l e hl he) (runs .next-in l hl e he);
     }
 
 pub accepted-table : AcceptedTableClaim
-accepted-table limit events values states start bytes accepted =
-    let ok = none-in-order limit events values states start bytes accepted in
+accepted-table limit events kind states start bytes accepted =
+    let ok = none-in-order limit events kind states start bytes accepted in
     record {
       runs = record {
         value-in = λ l hl e he. ok .values-in l e hl he;
         next-in = λ l hl e he. ok .nexts-in l e hl he;
       };
       start-in = ok .start-in;
-      bytes-of = write-back events states bytes (ok .entry-count);
+      bytes-of = write-back kind events states bytes (ok .entry-count)
+          (λ i h. every-entry (λ j. ValueIn kind (entry-value kind bytes j)) events states (ok .values-in) i h);
     }
 
-pub table-refusal-first : TableRefusalClaim
+pub table-refusal-first :
+    (limit events : ℕ) (kind : ValueKind) (states start : ℕ) (bytes : List ℕ)
+    → First (table-condition (entry-width kind) limit events (ValueIn kind) states start bytes (machine-of kind events bytes) ∷ [])
+    (table-refusal limit events kind states start bytes)
 unfolding table-refusal
-table-refusal-first limit events values states start bytes =
-    table-first 2 limit events (Below values) states start bytes
-    (λ i. getD bytes (i * 2) 0) (λ i. getD bytes (i * 2 + 1) 0) (entry-test values states bytes)
-    (entry-sound values states bytes) (entry-complete values states bytes)
+table-refusal-first limit events kind states start bytes =
+    table-first (entry-width kind) limit events (ValueIn kind) states start bytes
+    (entry-value kind bytes) (entry-next kind bytes) (entry-test kind states bytes)
+    (entry-sound kind states bytes) (entry-complete kind states bytes)
+
+pub table-judged : TableRefusalClaim
+unfolding condition-numbers right-places part-of order has-place
+table-judged limit events kind states start bytes = judged _ _ (table-refusal-first limit events kind states start bytes) refl refl

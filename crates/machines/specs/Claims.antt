@@ -1,35 +1,36 @@
 -- What is claimed of tables in bytes: refusal 11 is exactly the printed condition, and bytes and machines are read back as each
 -- other.
--- Assumes nothing.
 use mathlib.Core.Path.{_≡_}
 use mathlib.Core.Option.{none}
 use mathlib.Core.List.{List, [], _∷_}
 use Prim.Native.Nat.{ℕ, _*_, _/_, _%_, _≤_, _<_}
 use lib.ListN.{length, getD}
 use Rattle.theory.specs.MealyMachine.{Machine, Runs, States}
-use Rattle.theory.specs.ValueSets.{Below}
-use Rattle.refusal.specs.Refusal.{First}
-use Rattle.machines.specs.TableBytes.{table-bytes, two-bytes, machine-of, table-condition}
+use Rattle.values.specs.declared.ValueKind.{ValueKind}
+use Rattle.values.specs.declared.ValueKind.the-variants.{Numbered, Register}
+use Rattle.values.specs.ValueKind.{ValueIn}
+use Rattle.refusal.specs.Refusal.{Judged}
+use Rattle.machines.specs.TableBytes.{table-bytes, entry-width, entry-bytes, entry-value, machine-of, table-condition}
 use Rattle.machines.specs.TableRefusal.{table-refusal}
-use Rattle.machines.specs.StoredEntries.{stored}
+use Rattle.machines.specs.StoredEntries.{kept-bytes, stored}
 
--- The answer is 11 where the table is not in order, and none where it is.
+-- A table handed in is judged as document 01 asks.
 abbrev pub TableRefusalClaim : Type 0
 TableRefusalClaim =
-    (limit events values states start : ℕ) (bytes : List ℕ)
-    → First (table-condition 2 limit events (Below values) states start bytes (machine-of events bytes) ∷ [])
-    (table-refusal limit events values states start bytes)
+    (limit events : ℕ) (kind : ValueKind) (states start : ℕ) (bytes : List ℕ)
+    → Judged (table-condition (entry-width kind) limit events (ValueIn kind) states start bytes (machine-of kind events bytes) ∷ [])
+    (table-refusal limit events kind states start bytes)
 
 -- An accepted table is a machine with a start among its states, and its bytes are that machine's.
-pub record AcceptedTable (events values states start : ℕ) (bytes : List ℕ) : Type 0 where
-  pub runs : Runs events (Below values) (States states) (machine-of events bytes)
+pub record AcceptedTable (events : ℕ) (kind : ValueKind) (states start : ℕ) (bytes : List ℕ) : Type 0 where
+  pub runs : Runs events (ValueIn kind) (States states) (machine-of kind events bytes)
   pub start-in : start < states
-  pub bytes-of : table-bytes two-bytes events (machine-of events bytes) states ≡ bytes
+  pub bytes-of : table-bytes (entry-bytes kind) events (machine-of kind events bytes) states ≡ bytes
 
 abbrev pub AcceptedTableClaim : Type 0
 AcceptedTableClaim =
-    (limit events values states start : ℕ) (bytes : List ℕ)
-    → table-refusal limit events values states start bytes ≡ none → AcceptedTable events values states start bytes
+    (limit events : ℕ) (kind : ValueKind) (states start : ℕ) (bytes : List ℕ)
+    → table-refusal limit events kind states start bytes ≡ none → AcceptedTable events kind states start bytes
 
 -- Two machines have the same entries for n states.
 pub record Agree {B : Type 0} (events n : ℕ) (m k : Machine ℕ B) : Type 0 where
@@ -50,26 +51,31 @@ SameBytesClaim =
 
 -- A machine's bytes are read as that machine.
 abbrev pub ReadBackClaim : Type 0
-ReadBackClaim = (events n : ℕ) (m : Machine ℕ ℕ) → Agree events n (machine-of events (table-bytes two-bytes events m n)) m
+ReadBackClaim = (kind : ValueKind) (events n : ℕ) (m : Machine ℕ ℕ) → Agree events n (machine-of kind events (table-bytes (entry-bytes kind) events m n)) m
 
--- Bytes of a table's length are those of the machine that they are read as.
+-- Bytes of a table's length are those of the machine that they are read as, where it has values of the kind.
 abbrev pub WriteBackClaim : Type 0
 WriteBackClaim =
-    (events n : ℕ) (bytes : List ℕ)
-    → length bytes ≡ n * events * 2 → table-bytes two-bytes events (machine-of events bytes) n ≡ bytes
+    (kind : ValueKind) (events n : ℕ) (bytes : List ℕ)
+    → length bytes ≡ n * events * entry-width kind
+    → ((i : ℕ) → i < n * events → ValueIn kind (entry-value kind bytes i)) → table-bytes (entry-bytes kind) events (machine-of kind events bytes) n ≡ bytes
 
 -- The bytes of a machine of 1 to `limit` states are accepted.
 abbrev pub TableAcceptedClaim : Type 0
 TableAcceptedClaim =
-    (limit events values states start : ℕ) (m : Machine ℕ ℕ)
-    → Runs events (Below values) (States states) m → states ≤ limit → start < states
-    → table-refusal limit events values states start (table-bytes two-bytes events m states) ≡ none
+    (limit events : ℕ) (kind : ValueKind) (states start : ℕ) (m : Machine ℕ ℕ)
+    → Runs events (ValueIn kind) (States states) m → states ≤ limit → start < states
+    → table-refusal limit events kind states start (table-bytes (entry-bytes kind) events m states) ≡ none
 
--- Flat arrays that hold a machine's entries, its values below 256, are stored as its table.
+-- Flat arrays that hold a machine's entries, numbers below 256 or masks, are stored as its table.
+abbrev pub OfBytes : ValueKind → ℕ → Type 0
+OfBytes (Numbered n) v = v < 256
+OfBytes (Register lines) v = Unit {0}
+
 abbrev pub StoredTableClaim : Type 0
 StoredTableClaim =
-    (events n : ℕ) (m : Machine ℕ ℕ) (values nexts : List ℕ)
+    (kind : ValueKind) (events n : ℕ) (m : Machine ℕ ℕ) (values nexts : List ℕ)
     → ((i : ℕ) → i < n * events → getD values i 0 ≡ m .value (i / events) (i % events))
     → ((i : ℕ) → i < n * events → getD nexts i 0 ≡ m .next (i / events) (i % events))
-    → ((i : ℕ) → i < n * events → getD values i 0 < 256)
-    → stored values nexts (n * events) ≡ table-bytes two-bytes events m n
+    → ((i : ℕ) → i < n * events → OfBytes kind (getD values i 0))
+    → stored (kept-bytes kind) values nexts (n * events) ≡ table-bytes (entry-bytes kind) events m n

@@ -1,12 +1,15 @@
 -- Entries stored to a lent buffer (document 01, "Table of a rule", and refusal 13: "What lies after an output keeps its
 -- contents").
--- Assumes nothing.
 use mathlib.Core.Bool.{Bool, _&&_, cond}
-use mathlib.Core.List.{List, [], _++_}
+use mathlib.Core.List.{List, [], _∷_, _++_}
 use Prim.Native.Nat.{ℕ, zero, suc, _*_, _%_}
 use lib.ListN.{length, getD}
 use lib.Dec.{leb}
 use Rattle.refusal.specs.LentBuffers.{put}
+use Rattle.theory.specs.ValueSets.{unpack}
+use Rattle.values.specs.declared.ValueKind.{ValueKind}
+use Rattle.values.specs.declared.ValueKind.the-variants.{Numbered, Register}
+use Rattle.values.specs.ValueBytes.{mask-bytes}
 use Rattle.machines.specs.TableBytes.{two-bytes}
 
 -- The bytes of c entries from entry i on, where entries are numbered by state, then event.
@@ -15,18 +18,26 @@ module _ {B : Type 0} (encode : B → ℕ → List ℕ) (value-at : ℕ → B) (
   entries-bytes zero i = []
   entries-bytes (suc c) i = encode (value-at i) (next-at i) ++ entries-bytes c (suc i)
 
--- The low byte of a value and the next state.
+-- What is stored of a value of 32 bits: the low byte of a number, or both masks; and the next state.
 abbrev pub low-bytes : ℕ → ℕ → List ℕ
 low-bytes v t = two-bytes (v % 256) t
 
+abbrev pub five-bytes : ℕ → ℕ → List ℕ
+five-bytes v t = mask-bytes (unpack v .low) ++ (mask-bytes (unpack v .high) ++ (t ∷ []))
+
+abbrev pub kept-bytes : ValueKind → ℕ → ℕ → List ℕ
+kept-bytes (Numbered n) = low-bytes
+kept-bytes (Register lines) = five-bytes
+
 -- The bytes of the first `count` entries of two flat arrays.
-unfoldable pub stored : List ℕ → List ℕ → ℕ → List ℕ
-stored values nexts count = entries-bytes low-bytes (λ i. getD values i 0) (λ i. getD nexts i 0) count 0
+unfoldable pub stored : (ℕ → ℕ → List ℕ) → List ℕ → List ℕ → ℕ → List ℕ
+stored encode values nexts count = entries-bytes encode (λ i. getD values i 0) (λ i. getD nexts i 0) count 0
 
 -- Both arrays have `count` entries and the buffer has room for their bytes.
-unfoldable pub storable : List ℕ → List ℕ → ℕ → List ℕ → Bool
-storable values nexts count old = leb count (length values) && (leb count (length nexts) && leb (count * 2) (length old))
+unfoldable pub storable : ℕ → List ℕ → List ℕ → ℕ → List ℕ → Bool
+storable width values nexts count old = leb count (length values) && (leb count (length nexts) && leb (count * width) (length old))
 
 -- The buffer after a store; where something is too short, as it was.
-unfoldable pub after-store : List ℕ → List ℕ → ℕ → List ℕ → List ℕ
-after-store values nexts count old = cond (storable values nexts count old) (put (stored values nexts count) old) old
+unfoldable pub after-store : ℕ → (ℕ → ℕ → List ℕ) → List ℕ → List ℕ → ℕ → List ℕ → List ℕ
+after-store width encode values nexts count old =
+    cond (storable width values nexts count old) (put (stored encode values nexts count) old) old

@@ -1,11 +1,14 @@
 -- Tables in bytes (document 01, "Table of a rule": a table entry is a value and a next state, ordered by state, then event).
--- Assumes nothing.
 use mathlib.Core.Path.{_≡_}
 use mathlib.Core.List.{List, [], _∷_, _++_}
 use Prim.Native.Nat.{ℕ, zero, suc, _+_, _*_, _≤_, _<_}
 use lib.ListN.{length, getD}
 use Rattle.theory.specs.MealyMachine.{Machine}
+use Rattle.values.specs.declared.ValueKind.{ValueKind}
+use Rattle.values.specs.declared.ValueKind.the-variants.{Numbered, Register}
+use Rattle.values.specs.ValueBytes.{value-width, value-bytes}
 use Rattle.refusal.specs.Refusal.{Condition, plain}
+use Rattle.values.specs.ValueReading.{value-from}
 
 -- The entries of one state from event e on, c events in all; then the states from l on, n states in all. `encode b t` is how an
 -- entry with value b and next state t lies in bytes.
@@ -22,7 +25,15 @@ module _ {B : Type 0} (encode : B → ℕ → List ℕ) (events : ℕ) (m : Mach
   abbrev pub table-bytes : ℕ → List ℕ
   table-bytes n = rows-bytes n zero
 
--- One byte for the value and one for the next state.
+-- The bytes of the value, and one for the next state: two where values are numbers, five where they are registers' masks.
+abbrev pub entry-width : ValueKind → ℕ
+entry-width (Numbered n) = 2
+entry-width (Register lines) = 5
+
+abbrev pub entry-bytes : ValueKind → ℕ → ℕ → List ℕ
+entry-bytes kind v t = value-bytes kind v ++ (t ∷ [])
+
+-- The two bytes where values are numbers.
 abbrev pub two-bytes : ℕ → ℕ → List ℕ
 two-bytes b t = b ∷ t ∷ []
 
@@ -32,9 +43,16 @@ abbrev pub entries : {B : Type 0} → ℕ → (ℕ → B) → (ℕ → ℕ) → 
 entries events value-at next-at =
     record { value = λ l e. value-at (l * events + e); next = λ l e. next-at (l * events + e) }
 
--- The machine of lent bytes, two an entry.
-abbrev pub machine-of : ℕ → List ℕ → Machine ℕ ℕ
-machine-of events bytes = entries events (λ i. getD bytes (i * 2) 0) (λ i. getD bytes (i * 2 + 1) 0)
+-- The value and the next state of entry i.
+abbrev pub entry-value : ValueKind → List ℕ → ℕ → ℕ
+entry-value kind bytes i = value-from kind bytes (i * entry-width kind)
+
+abbrev pub entry-next : ValueKind → List ℕ → ℕ → ℕ
+entry-next kind bytes i = getD bytes (i * entry-width kind + value-width kind) 0
+
+-- The machine of lent bytes, with values of a kind.
+abbrev pub machine-of : ValueKind → ℕ → List ℕ → Machine ℕ ℕ
+machine-of kind events bytes = entries events (entry-value kind bytes) (entry-next kind bytes)
 
 -- 11, for a device or any other table handed in: states not 1 to the limit, entry count not states × events, start, value or next
 -- state too large. A byte count that is no multiple of an entry's bytes is a wrong entry count.

@@ -1,30 +1,28 @@
 -- Refusal 11 computed by tests (document 01, "Who can cause a refusal"). The sentence is `table-condition`; the tests decide it.
--- Assumes nothing.
-use mathlib.Core.Bool.{Bool, true, _&&_}
+use mathlib.Core.Bool.{Bool, _&&_}
 use mathlib.Core.Option.{Option}
 use mathlib.Core.List.{List}
-use Prim.Native.Nat.{ℕ, zero, suc, _+_, _*_}
-use lib.ListN.{length, getD}
+use Prim.Native.Nat.{ℕ, _*_}
+use lib.ListN.{length}
 use lib.Dec.{leb, ltb, eqb}
+use Rattle.theory.specs.ValueSetClaims.{every}
 use Rattle.refusal.specs.declared.Refusal.{Refusal}
 use Rattle.refusal.specs.Refusal.{plain-unless}
-
--- A test holds of every number below n.
-unfoldable pub all-below : ℕ → (ℕ → Bool) → Bool
-all-below zero test = true
-all-below (suc n) test = all-below n test && test n
+use Rattle.values.specs.declared.ValueKind.{ValueKind}
+use Rattle.machines.specs.TableBytes.{entry-width, entry-value, entry-next}
+use Rattle.values.specs.ValueTests.{value-fits}
 
 -- A table handed in is in order; `test i` tests entry i.
 unfoldable pub table-test : ℕ → ℕ → ℕ → (ℕ → Bool) → ℕ → ℕ → List ℕ → Bool
 table-test width limit events test states start bytes =
     ltb 0 states && (leb states limit && (ltb start states
-    && (eqb (length bytes) (states * events * width) && all-below (states * events) test)))
+    && (eqb (length bytes) (states * events * width) && every (states * events) test)))
 
--- Entry i of two bytes has a value below `values` and a next state below `states`.
-unfoldable pub entry-test : ℕ → ℕ → List ℕ → ℕ → Bool
-entry-test values states bytes i = ltb (getD bytes (i * 2) 0) values && ltb (getD bytes (i * 2 + 1) 0) states
+-- Entry i has a value of the kind and a next state below `states`.
+unfoldable pub entry-test : ValueKind → ℕ → List ℕ → ℕ → Bool
+entry-test kind states bytes i = value-fits kind (entry-value kind bytes i) && ltb (entry-next kind bytes i) states
 
--- Refusal 11 or none, for a table of two bytes an entry.
-unfoldable pub table-refusal : ℕ → ℕ → ℕ → ℕ → ℕ → List ℕ → Option Refusal
-table-refusal limit events values states start bytes =
-    plain-unless (table-test 2 limit events (entry-test values states bytes) states start bytes) 11
+-- Refusal 11 or none, for a table with values of a kind.
+unfoldable pub table-refusal : ℕ → ℕ → ValueKind → ℕ → ℕ → List ℕ → Option Refusal
+table-refusal limit events kind states start bytes =
+    plain-unless (table-test (entry-width kind) limit events (entry-test kind states bytes) states start bytes) 11

@@ -1,12 +1,10 @@
 -- `closed_position` and `open_position` meet their contracts: one step of the walk for each kind of node. The measure is the number of
 -- nodes left.
--- Assumes nothing.
 use Rattle.formulas.specs.NodeWalks.{Keeps}
 use lib.ListN.{getD}
-use mathlib.Core.Option.{none, some}
-use mathlib.Core.Bool.{cond}
-use mathlib.Core.Path.{subst}
-use Rattle.formulas.proofs.Walking.{scanned-none, scanned-leaf, scanned-closed-variable, scanned-open-variable, scanned-transition, scanned-greatest, scanned-conjunction}
+use mathlib.Core.{Option.{none, some}, Bool.{cond}, Path.{subst}}
+use Rattle.formulas.proofs.Walking.{scanned-none, scanned-leaf, scanned-closed-variable, scanned-open-variable, scanned-transition, scanned-greatest}
+use Rattle.formulas.proofs.Walking.{scanned-conjunction}
 use borrow.Author.Needs.{needs}
 use Prim.Native.Nat.{ℕ, _<_}
 use borrow.Fn.Kinds.{In}
@@ -68,30 +66,6 @@ closed-position-returns : (t : ℕ) → closed-position-lts.Need-returns (
 ) (closed-position-at t) closed-position.Post
 closed-position-returns t c = scanned-none _ _ _ _ _ _ _ (c .if1 .taken) (search needs)
 
-closed-position-element-copy-out-kind : (t : ℕ) → closed-position-lts.Need-element-copy-out-kind (
-  unbound-reads.Asked,
-  unbound-reads.Learnt,
-  noted-reads.Asked,
-  noted-reads.Learnt,
-  open-position-below t,
-  open-position.Post,
-  closed-position-below t,
-  closed-position.Post,
-) (closed-position-at t) closed-position.Post
-closed-position-element-copy-out-kind t c = search needs
-
-closed-position-element-copy-out-noted : (t : ℕ) → closed-position-lts.Need-element-copy-out-noted (
-  unbound-reads.Asked,
-  unbound-reads.Learnt,
-  noted-reads.Asked,
-  noted-reads.Learnt,
-  open-position-below t,
-  open-position.Post,
-  closed-position-below t,
-  closed-position.Post,
-) (closed-position-at t) closed-position.Post
-closed-position-element-copy-out-noted t c = search needs
-
 closed-position-element-copy-out-unbound :
     (t : ℕ) → closed-position-lts.Need-element-copy-out-unbound (
       unbound-reads.Asked,
@@ -104,42 +78,6 @@ closed-position-element-copy-out-unbound :
       closed-position.Post,
     ) (closed-position-at t) closed-position.Post
 closed-position-element-copy-out-unbound t c = search needs
-
-closed-position-unbound-requires : (t : ℕ) → closed-position-lts.Need-unbound-requires (
-  unbound-reads.Asked,
-  unbound-reads.Learnt,
-  noted-reads.Asked,
-  noted-reads.Learnt,
-  open-position-below t,
-  open-position.Post,
-  closed-position-below t,
-  closed-position.Post,
-) (closed-position-at t) closed-position.Post
-closed-position-unbound-requires t c κs = search needs
-
-closed-position-noted-requires : (t : ℕ) → closed-position-lts.Need-noted-requires (
-  unbound-reads.Asked,
-  unbound-reads.Learnt,
-  noted-reads.Asked,
-  noted-reads.Learnt,
-  open-position-below t,
-  open-position.Post,
-  closed-position-below t,
-  closed-position.Post,
-) (closed-position-at t) closed-position.Post
-closed-position-noted-requires t c κs = search needs
-
-closed-position-element-write-faults : (t : ℕ) → closed-position-lts.Need-element-write-faults (
-  unbound-reads.Asked,
-  unbound-reads.Learnt,
-  noted-reads.Asked,
-  noted-reads.Learnt,
-  open-position-below t,
-  open-position.Post,
-  closed-position-below t,
-  closed-position.Post,
-) (closed-position-at t) closed-position.Post
-closed-position-element-write-faults t c = search needs
 
 closed-position-element-copy-out-noted-2 :
     (t : ℕ) → closed-position-lts.Need-element-copy-out-noted-2 (
@@ -154,42 +92,6 @@ closed-position-element-copy-out-noted-2 :
     ) (closed-position-at t) closed-position.Post
 closed-position-element-copy-out-noted-2 t c = search needs
 
-closed-position-noted-requires-2 : (t : ℕ) → closed-position-lts.Need-noted-requires-2 (
-  unbound-reads.Asked,
-  unbound-reads.Learnt,
-  noted-reads.Asked,
-  noted-reads.Learnt,
-  open-position-below t,
-  open-position.Post,
-  closed-position-below t,
-  closed-position.Post,
-) (closed-position-at t) closed-position.Post
-closed-position-noted-requires-2 t c κs = search needs
-
-closed-position-element-write-faults-2 : (t : ℕ) → closed-position-lts.Need-element-write-faults-2 (
-  unbound-reads.Asked,
-  unbound-reads.Learnt,
-  noted-reads.Asked,
-  noted-reads.Learnt,
-  open-position-below t,
-  open-position.Post,
-  closed-position-below t,
-  closed-position.Post,
-) (closed-position-at t) closed-position.Post
-closed-position-element-write-faults-2 t c = search needs
-
-closed-position-add-result : (t : ℕ) → closed-position-lts.Need-add-result (
-  unbound-reads.Asked,
-  unbound-reads.Learnt,
-  noted-reads.Asked,
-  noted-reads.Learnt,
-  open-position-below t,
-  open-position.Post,
-  closed-position-below t,
-  closed-position.Post,
-) (closed-position-at t) closed-position.Post
-closed-position-add-result t c = search needs
-
 closed-position-returns-2 : (t : ℕ) → closed-position-lts.Need-returns-2 (
   unbound-reads.Asked,
   unbound-reads.Learnt,
@@ -201,43 +103,10 @@ closed-position-returns-2 : (t : ℕ) → closed-position-lts.Need-returns-2 (
   closed-position.Post,
 ) (closed-position-at t) closed-position.Post
 closed-position-returns-2 t c = let a = c .before .before .before .before .before .before .before .before .before .args in
-    scanned-closed-variable _ _ _ _ _ _ (c .before .before .before .before .before .before .before .before .if1 .left) (search needs) (c .before .before .before .before .before .before .if2 .taken) _ _ (subst (λ x. Keeps (cond x (some (a .at)) none) (getD (a .faults .now) 0 0) (c .before .before .noted .result)) (c .before .before .before .unbound .ensures) (c .before .before .noted .ensures)) (c .noted2 .ensures)
-
-closed-position-add-open-position : (t : ℕ) → closed-position-lts.Need-add-open-position (
-  unbound-reads.Asked,
-  unbound-reads.Learnt,
-  noted-reads.Asked,
-  noted-reads.Learnt,
-  open-position-below t,
-  open-position.Post,
-  closed-position-below t,
-  closed-position.Post,
-) (closed-position-at t) closed-position.Post
-closed-position-add-open-position t c = search needs
-
-closed-position-sub-open-position : (t : ℕ) → closed-position-lts.Need-sub-open-position (
-  unbound-reads.Asked,
-  unbound-reads.Learnt,
-  noted-reads.Asked,
-  noted-reads.Learnt,
-  open-position-below t,
-  open-position.Post,
-  closed-position-below t,
-  closed-position.Post,
-) (closed-position-at t) closed-position.Post
-closed-position-sub-open-position t c = search needs
-
-closed-position-open-position-requires : (t : ℕ) → closed-position-lts.Need-open-position-requires (
-  unbound-reads.Asked,
-  unbound-reads.Learnt,
-  noted-reads.Asked,
-  noted-reads.Learnt,
-  open-position-below t,
-  open-position.Post,
-  closed-position-below t,
-  closed-position.Post,
-) (closed-position-at t) closed-position.Post
-closed-position-open-position-requires t c κs = search needs
+    scanned-closed-variable _ _ _ _ _ _ (c .before .before .before .before .before .before .before .before .if1 .left) (search needs)
+    (c .before .before .before .before .before .before .if2 .taken) _ _
+    (subst (λ x. Keeps (cond x (some (a .at)) none) (getD (a .faults .now) 0 0) (c .before .before .noted .result))
+    (c .before .before .before .unbound .ensures) (c .before .before .noted .ensures)) (c .noted2 .ensures)
 
 closed-position-returns-3 : (t : ℕ) → closed-position-lts.Need-returns-3 (
   unbound-reads.Asked,
@@ -249,31 +118,8 @@ closed-position-returns-3 : (t : ℕ) → closed-position-lts.Need-returns-3 (
   closed-position-below t,
   closed-position.Post,
 ) (closed-position-at t) closed-position.Post
-closed-position-returns-3 t c = scanned-transition _ _ _ _ _ _ _ _ _ (c .before .before .before .before .before .if1 .left) (c .before .before .if3 .taken) (c .open-position .ensures)
-
-closed-position-add-closed-position : (t : ℕ) → closed-position-lts.Need-add-closed-position (
-  unbound-reads.Asked,
-  unbound-reads.Learnt,
-  noted-reads.Asked,
-  noted-reads.Learnt,
-  open-position-below t,
-  open-position.Post,
-  closed-position-below t,
-  closed-position.Post,
-) (closed-position-at t) closed-position.Post
-closed-position-add-closed-position t c = search needs
-
-closed-position-sub-closed-position : (t : ℕ) → closed-position-lts.Need-sub-closed-position (
-  unbound-reads.Asked,
-  unbound-reads.Learnt,
-  noted-reads.Asked,
-  noted-reads.Learnt,
-  open-position-below t,
-  open-position.Post,
-  closed-position-below t,
-  closed-position.Post,
-) (closed-position-at t) closed-position.Post
-closed-position-sub-closed-position t c = search needs
+closed-position-returns-3 t c = scanned-transition _ _ _ _ _ _ _ _ _ (c .before .before .before .before .before .if1 .left) (c .before .before .if3 .taken)
+    (c .open-position .ensures)
 
 closed-position-closed-position-requires :
     (t : ℕ) → closed-position-lts.Need-closed-position-requires (
@@ -287,30 +133,6 @@ closed-position-closed-position-requires :
       closed-position.Post,
     ) (closed-position-at t) closed-position.Post
 closed-position-closed-position-requires t c κs = search needs
-
-closed-position-add-closed-position-2 : (t : ℕ) → closed-position-lts.Need-add-closed-position-2 (
-  unbound-reads.Asked,
-  unbound-reads.Learnt,
-  noted-reads.Asked,
-  noted-reads.Learnt,
-  open-position-below t,
-  open-position.Post,
-  closed-position-below t,
-  closed-position.Post,
-) (closed-position-at t) closed-position.Post
-closed-position-add-closed-position-2 t c = search needs
-
-closed-position-sub-closed-position-2 : (t : ℕ) → closed-position-lts.Need-sub-closed-position-2 (
-  unbound-reads.Asked,
-  unbound-reads.Learnt,
-  noted-reads.Asked,
-  noted-reads.Learnt,
-  open-position-below t,
-  open-position.Post,
-  closed-position-below t,
-  closed-position.Post,
-) (closed-position-at t) closed-position.Post
-closed-position-sub-closed-position-2 t c = search needs
 
 closed-position-closed-position-requires-2 :
     (t : ℕ) → closed-position-lts.Need-closed-position-requires-2 (
@@ -335,43 +157,9 @@ closed-position-returns-4 : (t : ℕ) → closed-position-lts.Need-returns-4 (
   closed-position-below t,
   closed-position.Post,
 ) (closed-position-at t) closed-position.Post
-closed-position-returns-4 t c = scanned-conjunction _ _ _ _ _ _ _ _ _ (c .before .before .closed-position .result) _ (c .before .before .before .before .before .before .before .before .if1 .left) (c .before .before .before .before .if4 .taken) (c .before .before .closed-position .ensures) (c .closed-position2 .ensures)
-
-closed-position-add-closed-position-3 : (t : ℕ) → closed-position-lts.Need-add-closed-position-3 (
-  unbound-reads.Asked,
-  unbound-reads.Learnt,
-  noted-reads.Asked,
-  noted-reads.Learnt,
-  open-position-below t,
-  open-position.Post,
-  closed-position-below t,
-  closed-position.Post,
-) (closed-position-at t) closed-position.Post
-closed-position-add-closed-position-3 t c = search needs
-
-closed-position-sub-closed-position-3 : (t : ℕ) → closed-position-lts.Need-sub-closed-position-3 (
-  unbound-reads.Asked,
-  unbound-reads.Learnt,
-  noted-reads.Asked,
-  noted-reads.Learnt,
-  open-position-below t,
-  open-position.Post,
-  closed-position-below t,
-  closed-position.Post,
-) (closed-position-at t) closed-position.Post
-closed-position-sub-closed-position-3 t c = search needs
-
-closed-position-add-closed-position-4 : (t : ℕ) → closed-position-lts.Need-add-closed-position-4 (
-  unbound-reads.Asked,
-  unbound-reads.Learnt,
-  noted-reads.Asked,
-  noted-reads.Learnt,
-  open-position-below t,
-  open-position.Post,
-  closed-position-below t,
-  closed-position.Post,
-) (closed-position-at t) closed-position.Post
-closed-position-add-closed-position-4 t c = search needs
+closed-position-returns-4 t c = scanned-conjunction _ _ _ _ _ _ _ _ _ (c .before .before .closed-position .result) _
+    (c .before .before .before .before .before .before .before .before .if1 .left) (c .before .before .before .before .if4 .taken)
+    (c .before .before .closed-position .ensures) (c .closed-position2 .ensures)
 
 closed-position-closed-position-requires-3 :
     (t : ℕ) → closed-position-lts.Need-closed-position-requires-3 (
@@ -396,19 +184,8 @@ closed-position-returns-5 : (t : ℕ) → closed-position-lts.Need-returns-5 (
   closed-position-below t,
   closed-position.Post,
 ) (closed-position-at t) closed-position.Post
-closed-position-returns-5 t c = scanned-greatest _ _ _ _ _ _ _ _ _ (c .before .before .before .before .before .before .before .if1 .left) (c .before .before .if5 .taken) (c .closed-position3 .ensures)
-
-closed-position-add-result-2 : (t : ℕ) → closed-position-lts.Need-add-result-2 (
-  unbound-reads.Asked,
-  unbound-reads.Learnt,
-  noted-reads.Asked,
-  noted-reads.Learnt,
-  open-position-below t,
-  open-position.Post,
-  closed-position-below t,
-  closed-position.Post,
-) (closed-position-at t) closed-position.Post
-closed-position-add-result-2 t c = search needs
+closed-position-returns-5 t c = scanned-greatest _ _ _ _ _ _ _ _ _ (c .before .before .before .before .before .before .before .if1 .left)
+    (c .before .before .if5 .taken) (c .closed-position3 .ensures)
 
 closed-position-returns-6 : (t : ℕ) → closed-position-lts.Need-returns-6 (
   unbound-reads.Asked,
@@ -420,7 +197,8 @@ closed-position-returns-6 : (t : ℕ) → closed-position-lts.Need-returns-6 (
   closed-position-below t,
   closed-position.Post,
 ) (closed-position-at t) closed-position.Post
-closed-position-returns-6 t c = scanned-leaf _ _ _ _ _ _ _ (c .before .before .before .before .before .if1 .left) (search needs) (c .before .before .before .if2 .left) (c .before .before .if3 .left) (c .before .if4 .left) (c .if5 .left)
+closed-position-returns-6 t c = scanned-leaf _ _ _ _ _ _ _ (c .before .before .before .before .before .if1 .left) (search needs)
+    (c .before .before .before .if2 .left) (c .before .before .if3 .left) (c .before .if4 .left) (c .if5 .left)
 
 open-position-returns : (t : ℕ) → open-position-lts.Need-returns (
   unbound-reads.Asked,
@@ -434,90 +212,6 @@ open-position-returns : (t : ℕ) → open-position-lts.Need-returns (
 ) (open-position-at t) open-position.Post
 open-position-returns t c = scanned-none _ _ _ _ _ _ _ (c .if1 .taken) (search needs)
 
-open-position-element-copy-out-kind : (t : ℕ) → open-position-lts.Need-element-copy-out-kind (
-  unbound-reads.Asked,
-  unbound-reads.Learnt,
-  noted-reads.Asked,
-  noted-reads.Learnt,
-  open-position-below t,
-  open-position.Post,
-  closed-position-below t,
-  closed-position.Post,
-) (open-position-at t) open-position.Post
-open-position-element-copy-out-kind t c = search needs
-
-open-position-element-copy-out-noted : (t : ℕ) → open-position-lts.Need-element-copy-out-noted (
-  unbound-reads.Asked,
-  unbound-reads.Learnt,
-  noted-reads.Asked,
-  noted-reads.Learnt,
-  open-position-below t,
-  open-position.Post,
-  closed-position-below t,
-  closed-position.Post,
-) (open-position-at t) open-position.Post
-open-position-element-copy-out-noted t c = search needs
-
-open-position-element-copy-out-unbound : (t : ℕ) → open-position-lts.Need-element-copy-out-unbound (
-  unbound-reads.Asked,
-  unbound-reads.Learnt,
-  noted-reads.Asked,
-  noted-reads.Learnt,
-  open-position-below t,
-  open-position.Post,
-  closed-position-below t,
-  closed-position.Post,
-) (open-position-at t) open-position.Post
-open-position-element-copy-out-unbound t c = search needs
-
-open-position-unbound-requires : (t : ℕ) → open-position-lts.Need-unbound-requires (
-  unbound-reads.Asked,
-  unbound-reads.Learnt,
-  noted-reads.Asked,
-  noted-reads.Learnt,
-  open-position-below t,
-  open-position.Post,
-  closed-position-below t,
-  closed-position.Post,
-) (open-position-at t) open-position.Post
-open-position-unbound-requires t c κs = search needs
-
-open-position-noted-requires : (t : ℕ) → open-position-lts.Need-noted-requires (
-  unbound-reads.Asked,
-  unbound-reads.Learnt,
-  noted-reads.Asked,
-  noted-reads.Learnt,
-  open-position-below t,
-  open-position.Post,
-  closed-position-below t,
-  closed-position.Post,
-) (open-position-at t) open-position.Post
-open-position-noted-requires t c κs = search needs
-
-open-position-element-write-faults : (t : ℕ) → open-position-lts.Need-element-write-faults (
-  unbound-reads.Asked,
-  unbound-reads.Learnt,
-  noted-reads.Asked,
-  noted-reads.Learnt,
-  open-position-below t,
-  open-position.Post,
-  closed-position-below t,
-  closed-position.Post,
-) (open-position-at t) open-position.Post
-open-position-element-write-faults t c = search needs
-
-open-position-add-result : (t : ℕ) → open-position-lts.Need-add-result (
-  unbound-reads.Asked,
-  unbound-reads.Learnt,
-  noted-reads.Asked,
-  noted-reads.Learnt,
-  open-position-below t,
-  open-position.Post,
-  closed-position-below t,
-  closed-position.Post,
-) (open-position-at t) open-position.Post
-open-position-add-result t c = search needs
-
 open-position-returns-2 : (t : ℕ) → open-position-lts.Need-returns-2 (
   unbound-reads.Asked,
   unbound-reads.Learnt,
@@ -529,43 +223,9 @@ open-position-returns-2 : (t : ℕ) → open-position-lts.Need-returns-2 (
   closed-position.Post,
 ) (open-position-at t) open-position.Post
 open-position-returns-2 t c = let a = c .before .before .before .before .before .before .before .args in
-    scanned-open-variable _ _ _ _ _ _ (c .before .before .before .before .before .before .if1 .left) (search needs) (c .before .before .before .before .if2 .taken) _ (subst (λ x. Keeps (cond x (some (a .at)) none) (getD (a .faults .now) 0 0) (c .noted .result)) (c .before .unbound .ensures) (c .noted .ensures))
-
-open-position-add-open-position : (t : ℕ) → open-position-lts.Need-add-open-position (
-  unbound-reads.Asked,
-  unbound-reads.Learnt,
-  noted-reads.Asked,
-  noted-reads.Learnt,
-  open-position-below t,
-  open-position.Post,
-  closed-position-below t,
-  closed-position.Post,
-) (open-position-at t) open-position.Post
-open-position-add-open-position t c = search needs
-
-open-position-sub-open-position : (t : ℕ) → open-position-lts.Need-sub-open-position (
-  unbound-reads.Asked,
-  unbound-reads.Learnt,
-  noted-reads.Asked,
-  noted-reads.Learnt,
-  open-position-below t,
-  open-position.Post,
-  closed-position-below t,
-  closed-position.Post,
-) (open-position-at t) open-position.Post
-open-position-sub-open-position t c = search needs
-
-open-position-open-position-requires : (t : ℕ) → open-position-lts.Need-open-position-requires (
-  unbound-reads.Asked,
-  unbound-reads.Learnt,
-  noted-reads.Asked,
-  noted-reads.Learnt,
-  open-position-below t,
-  open-position.Post,
-  closed-position-below t,
-  closed-position.Post,
-) (open-position-at t) open-position.Post
-open-position-open-position-requires t c κs = search needs
+    scanned-open-variable _ _ _ _ _ _ (c .before .before .before .before .before .before .if1 .left) (search needs)
+    (c .before .before .before .before .if2 .taken) _ (subst (λ x. Keeps (cond x (some (a .at)) none) (getD (a .faults .now) 0 0) (c .noted .result))
+    (c .before .unbound .ensures) (c .noted .ensures))
 
 open-position-returns-3 : (t : ℕ) → open-position-lts.Need-returns-3 (
   unbound-reads.Asked,
@@ -577,79 +237,8 @@ open-position-returns-3 : (t : ℕ) → open-position-lts.Need-returns-3 (
   closed-position-below t,
   closed-position.Post,
 ) (open-position-at t) open-position.Post
-open-position-returns-3 t c = scanned-transition _ _ _ _ _ _ _ _ _ (c .before .before .before .before .before .if1 .left) (c .before .before .if3 .taken) (c .open-position .ensures)
-
-open-position-add-open-position-2 : (t : ℕ) → open-position-lts.Need-add-open-position-2 (
-  unbound-reads.Asked,
-  unbound-reads.Learnt,
-  noted-reads.Asked,
-  noted-reads.Learnt,
-  open-position-below t,
-  open-position.Post,
-  closed-position-below t,
-  closed-position.Post,
-) (open-position-at t) open-position.Post
-open-position-add-open-position-2 t c = search needs
-
-open-position-sub-open-position-2 : (t : ℕ) → open-position-lts.Need-sub-open-position-2 (
-  unbound-reads.Asked,
-  unbound-reads.Learnt,
-  noted-reads.Asked,
-  noted-reads.Learnt,
-  open-position-below t,
-  open-position.Post,
-  closed-position-below t,
-  closed-position.Post,
-) (open-position-at t) open-position.Post
-open-position-sub-open-position-2 t c = search needs
-
-open-position-open-position-requires-2 : (t : ℕ) → open-position-lts.Need-open-position-requires-2 (
-  unbound-reads.Asked,
-  unbound-reads.Learnt,
-  noted-reads.Asked,
-  noted-reads.Learnt,
-  open-position-below t,
-  open-position.Post,
-  closed-position-below t,
-  closed-position.Post,
-) (open-position-at t) open-position.Post
-open-position-open-position-requires-2 t c κs = search needs
-
-open-position-add-open-position-3 : (t : ℕ) → open-position-lts.Need-add-open-position-3 (
-  unbound-reads.Asked,
-  unbound-reads.Learnt,
-  noted-reads.Asked,
-  noted-reads.Learnt,
-  open-position-below t,
-  open-position.Post,
-  closed-position-below t,
-  closed-position.Post,
-) (open-position-at t) open-position.Post
-open-position-add-open-position-3 t c = search needs
-
-open-position-sub-open-position-3 : (t : ℕ) → open-position-lts.Need-sub-open-position-3 (
-  unbound-reads.Asked,
-  unbound-reads.Learnt,
-  noted-reads.Asked,
-  noted-reads.Learnt,
-  open-position-below t,
-  open-position.Post,
-  closed-position-below t,
-  closed-position.Post,
-) (open-position-at t) open-position.Post
-open-position-sub-open-position-3 t c = search needs
-
-open-position-open-position-requires-3 : (t : ℕ) → open-position-lts.Need-open-position-requires-3 (
-  unbound-reads.Asked,
-  unbound-reads.Learnt,
-  noted-reads.Asked,
-  noted-reads.Learnt,
-  open-position-below t,
-  open-position.Post,
-  closed-position-below t,
-  closed-position.Post,
-) (open-position-at t) open-position.Post
-open-position-open-position-requires-3 t c κs = search needs
+open-position-returns-3 t c = scanned-transition _ _ _ _ _ _ _ _ _ (c .before .before .before .before .before .if1 .left) (c .before .before .if3 .taken)
+    (c .open-position .ensures)
 
 open-position-returns-4 : (t : ℕ) → open-position-lts.Need-returns-4 (
   unbound-reads.Asked,
@@ -661,55 +250,9 @@ open-position-returns-4 : (t : ℕ) → open-position-lts.Need-returns-4 (
   closed-position-below t,
   closed-position.Post,
 ) (open-position-at t) open-position.Post
-open-position-returns-4 t c = scanned-conjunction _ _ _ _ _ _ _ _ _ (c .before .before .open-position2 .result) _ (c .before .before .before .before .before .before .before .before .if1 .left) (c .before .before .before .before .if4 .taken) (c .before .before .open-position2 .ensures) (c .open-position3 .ensures)
-
-open-position-add-closed-position : (t : ℕ) → open-position-lts.Need-add-closed-position (
-  unbound-reads.Asked,
-  unbound-reads.Learnt,
-  noted-reads.Asked,
-  noted-reads.Learnt,
-  open-position-below t,
-  open-position.Post,
-  closed-position-below t,
-  closed-position.Post,
-) (open-position-at t) open-position.Post
-open-position-add-closed-position t c = search needs
-
-open-position-sub-closed-position : (t : ℕ) → open-position-lts.Need-sub-closed-position (
-  unbound-reads.Asked,
-  unbound-reads.Learnt,
-  noted-reads.Asked,
-  noted-reads.Learnt,
-  open-position-below t,
-  open-position.Post,
-  closed-position-below t,
-  closed-position.Post,
-) (open-position-at t) open-position.Post
-open-position-sub-closed-position t c = search needs
-
-open-position-add-closed-position-2 : (t : ℕ) → open-position-lts.Need-add-closed-position-2 (
-  unbound-reads.Asked,
-  unbound-reads.Learnt,
-  noted-reads.Asked,
-  noted-reads.Learnt,
-  open-position-below t,
-  open-position.Post,
-  closed-position-below t,
-  closed-position.Post,
-) (open-position-at t) open-position.Post
-open-position-add-closed-position-2 t c = search needs
-
-open-position-closed-position-requires : (t : ℕ) → open-position-lts.Need-closed-position-requires (
-  unbound-reads.Asked,
-  unbound-reads.Learnt,
-  noted-reads.Asked,
-  noted-reads.Learnt,
-  open-position-below t,
-  open-position.Post,
-  closed-position-below t,
-  closed-position.Post,
-) (open-position-at t) open-position.Post
-open-position-closed-position-requires t c κs = search needs
+open-position-returns-4 t c = scanned-conjunction _ _ _ _ _ _ _ _ _ (c .before .before .open-position2 .result) _
+    (c .before .before .before .before .before .before .before .before .if1 .left) (c .before .before .before .before .if4 .taken)
+    (c .before .before .open-position2 .ensures) (c .open-position3 .ensures)
 
 open-position-returns-5 : (t : ℕ) → open-position-lts.Need-returns-5 (
   unbound-reads.Asked,
@@ -721,19 +264,8 @@ open-position-returns-5 : (t : ℕ) → open-position-lts.Need-returns-5 (
   closed-position-below t,
   closed-position.Post,
 ) (open-position-at t) open-position.Post
-open-position-returns-5 t c = scanned-greatest _ _ _ _ _ _ _ _ _ (c .before .before .before .before .before .before .before .if1 .left) (c .before .before .if5 .taken) (c .closed-position .ensures)
-
-open-position-add-result-2 : (t : ℕ) → open-position-lts.Need-add-result-2 (
-  unbound-reads.Asked,
-  unbound-reads.Learnt,
-  noted-reads.Asked,
-  noted-reads.Learnt,
-  open-position-below t,
-  open-position.Post,
-  closed-position-below t,
-  closed-position.Post,
-) (open-position-at t) open-position.Post
-open-position-add-result-2 t c = search needs
+open-position-returns-5 t c = scanned-greatest _ _ _ _ _ _ _ _ _ (c .before .before .before .before .before .before .before .if1 .left)
+    (c .before .before .if5 .taken) (c .closed-position .ensures)
 
 open-position-returns-6 : (t : ℕ) → open-position-lts.Need-returns-6 (
   unbound-reads.Asked,
@@ -745,7 +277,8 @@ open-position-returns-6 : (t : ℕ) → open-position-lts.Need-returns-6 (
   closed-position-below t,
   closed-position.Post,
 ) (open-position-at t) open-position.Post
-open-position-returns-6 t c = scanned-leaf _ _ _ _ _ _ _ (c .before .before .before .before .before .if1 .left) (search needs) (c .before .before .before .if2 .left) (c .before .before .if3 .left) (c .before .if4 .left) (c .if5 .left)
+open-position-returns-6 t c = scanned-leaf _ _ _ _ _ _ _ (c .before .before .before .before .before .if1 .left) (search needs)
+    (c .before .before .before .if2 .left) (c .before .before .if3 .left) (c .before .if4 .left) (c .if5 .left)
 
 pub +closed-position+open-position-spec : {M : Type 1} → statement M
 +closed-position+open-position-spec =
@@ -762,34 +295,34 @@ pub +closed-position+open-position-spec : {M : Type 1} → statement M
     (closed-position-at t)
     closed-position.Post
     (closed-position-returns t)
-    (closed-position-element-copy-out-kind t)
-    (closed-position-element-copy-out-noted t)
+    (λ c. search needs)
+    (λ c. search needs)
     (closed-position-element-copy-out-unbound t)
-    (closed-position-unbound-requires t)
-    (closed-position-noted-requires t)
-    (closed-position-element-write-faults t)
+    (λ c κs. search needs)
+    (λ c κs. search needs)
+    (λ c. search needs)
     (closed-position-element-copy-out-noted-2 t)
-    (closed-position-noted-requires-2 t)
-    (closed-position-element-write-faults-2 t)
-    (closed-position-add-result t)
+    (λ c κs. search needs)
+    (λ c. search needs)
+    (λ c. search needs)
     (closed-position-returns-2 t)
-    (closed-position-add-open-position t)
-    (closed-position-sub-open-position t)
-    (closed-position-open-position-requires t)
+    (λ c. search needs)
+    (λ c. search needs)
+    (λ c κs. search needs)
     (closed-position-returns-3 t)
-    (closed-position-add-closed-position t)
-    (closed-position-sub-closed-position t)
+    (λ c. search needs)
+    (λ c. search needs)
     (closed-position-closed-position-requires t)
-    (closed-position-add-closed-position-2 t)
-    (closed-position-sub-closed-position-2 t)
+    (λ c. search needs)
+    (λ c. search needs)
     (closed-position-closed-position-requires-2 t)
     (closed-position-returns-4 t)
-    (closed-position-add-closed-position-3 t)
-    (closed-position-sub-closed-position-3 t)
-    (closed-position-add-closed-position-4 t)
+    (λ c. search needs)
+    (λ c. search needs)
+    (λ c. search needs)
     (closed-position-closed-position-requires-3 t)
     (closed-position-returns-5 t)
-    (closed-position-add-result-2 t)
+    (λ c. search needs)
     (closed-position-returns-6 t))
     λ t. open-position-lts.spec (
       unbound-reads.Asked,
@@ -804,29 +337,29 @@ pub +closed-position+open-position-spec : {M : Type 1} → statement M
     (open-position-at t)
     open-position.Post
     (open-position-returns t)
-    (open-position-element-copy-out-kind t)
-    (open-position-element-copy-out-noted t)
-    (open-position-element-copy-out-unbound t)
-    (open-position-unbound-requires t)
-    (open-position-noted-requires t)
-    (open-position-element-write-faults t)
-    (open-position-add-result t)
+    (λ c. search needs)
+    (λ c. search needs)
+    (λ c. search needs)
+    (λ c κs. search needs)
+    (λ c κs. search needs)
+    (λ c. search needs)
+    (λ c. search needs)
     (open-position-returns-2 t)
-    (open-position-add-open-position t)
-    (open-position-sub-open-position t)
-    (open-position-open-position-requires t)
+    (λ c. search needs)
+    (λ c. search needs)
+    (λ c κs. search needs)
     (open-position-returns-3 t)
-    (open-position-add-open-position-2 t)
-    (open-position-sub-open-position-2 t)
-    (open-position-open-position-requires-2 t)
-    (open-position-add-open-position-3 t)
-    (open-position-sub-open-position-3 t)
-    (open-position-open-position-requires-3 t)
+    (λ c. search needs)
+    (λ c. search needs)
+    (λ c κs. search needs)
+    (λ c. search needs)
+    (λ c. search needs)
+    (λ c κs. search needs)
     (open-position-returns-4 t)
-    (open-position-add-closed-position t)
-    (open-position-sub-closed-position t)
-    (open-position-add-closed-position-2 t)
-    (open-position-closed-position-requires t)
+    (λ c. search needs)
+    (λ c. search needs)
+    (λ c. search needs)
+    (λ c κs. search needs)
     (open-position-returns-5 t)
-    (open-position-add-result-2 t)
+    (λ c. search needs)
     (open-position-returns-6 t)

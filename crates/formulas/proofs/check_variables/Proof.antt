@@ -1,5 +1,4 @@
 -- `check_variables` meets its contract: 8's note is looked at before 9's.
--- Assumes nothing.
 use Rattle.formulas.proofs.Answers.{kept-place, kept-clear, answer-unbound, answer-closed}
 use Rattle.formulas.specs.NodeWalks.{Judged, VariablesJudged}
 use Rattle.refusal.specs.Refusal.{at-found, judgement}
@@ -9,40 +8,25 @@ use borrow.Author.Needs.{needs}
 use Rattle.formulas.proofs.check_variables.Statement.{statement}
 use Rattle.formulas.proofs.check_variables.Tie as tie
 
-closed-position-requires : tie.Need-closed-position-requires
-closed-position-requires c κs = search needs
-
-array-read-p : tie.Need-array-read-p
-array-read-p c = search needs
-
 returns : tie.Need-returns
 unfolding VariablesJudged Judged judgement
 returns c = λ value φ d e.
     let w = c .before .closed-position .ensures in
     sym (ap judgement (answer-unbound φ _ (kept-place _ _ (w .unbound value φ d (omega (arith, e)) .1) (c .if1 .taken))))
 
-array-read-q : tie.Need-array-read-q
-array-read-q c = search needs
-
 returns-2 : tie.Need-returns-2
 unfolding VariablesJudged Judged judgement at-found
 returns-2 c = λ value φ d e.
     let w = c .before .before .closed-position .ensures in
-    sym (ap judgement (answer-closed φ (kept-clear _ _ (w .unbound value φ d (omega (arith, e)) .1) (c .before .if1 .left)) ∙ ap (λ o. at-found o 9) (kept-place _ _ (w .closed value φ d (omega (arith, e)) .1) (c .if2 .taken))))
+    sym (ap judgement (answer-closed φ (kept-clear _ _ (w .unbound value φ d (omega (arith, e)) .1) (c .before .if1 .left)) ∙ ap (λ o. at-found o 9)
+    (kept-place _ _ (w .closed value φ d (omega (arith, e)) .1) (c .if2 .taken))))
 
 returns-3 : tie.Need-returns-3
 unfolding VariablesJudged Judged judgement at-found
 returns-3 c = λ value φ d e.
     let w = c .before .before .closed-position .ensures in
-    sym (ap judgement (answer-closed φ (kept-clear _ _ (w .unbound value φ d (omega (arith, e)) .1) (c .before .if1 .left)) ∙ ap (λ o. at-found o 9) (kept-clear _ _ (w .closed value φ d (omega (arith, e)) .1) (c .if2 .left))))
+    sym (ap judgement (answer-closed φ (kept-clear _ _ (w .unbound value φ d (omega (arith, e)) .1) (c .before .if1 .left)) ∙ ap (λ o. at-found o 9)
+    (kept-clear _ _ (w .closed value φ d (omega (arith, e)) .1) (c .if2 .left))))
 
 pub check-variables-spec : {M : Type 1} → statement M
-check-variables-spec =
-    tie.close
-    (tie.spec
-    closed-position-requires
-    array-read-p
-    returns
-    array-read-q
-    returns-2
-    returns-3)
+check-variables-spec = tie.close (tie.spec (λ c κs. search needs) (λ c. search needs) returns (λ c. search needs) returns-2 returns-3)

@@ -1,30 +1,29 @@
--- `decode` meets its contract. The loop's invariant: the arrays are filled in up to i.
--- Assumes nothing.
+-- `decode` meets its contract. The loop's invariant: the arrays are filled in up to i, and node i starts at `at`.
+use Rattle.limits.specs.Limits.{node-limit}
 use Rattle.formulas.specs.declared.Nodes.{Nodes}
-use Prim.Native.Nat.{ℕ, _-_, _≤_}
-use mathlib.Core.Path.{_≡_, sym, _∙_, ap, ap₂}
-use mathlib.Core.List.{List}
-use native.Mathlib.Omega.{arith}
-use lib.ListN.{set}
-use Rattle.formulas.specs.RuleRefusal.{kind-at, first-at, second-at}
-use Rattle.formulas.specs.NodeArrays.{padded, decoded-count, decoded}
-use Rattle.formulas.proofs.Padding.{padded-none, padded-more}
+use Prim.Native.Nat.{ℕ, _+_, _*_, _-_, _/_, _≤_, min}
+use mathlib.Core.{Path.{_≡_, sym, _∙_, ap, ap₂}, List.{List}}
+use native.Mathlib.{Nat.{zero-mul}, Omega.{arith}}
+use lib.ListN.{length, set, getD}
+use Rattle.formulas.specs.{NodeBytes.{node-width}, RuleRefusal.{kind-at, first-at, value-at}, NodeArrays.{padded, decoded-count, decoded}}
+use Rattle.formulas.proofs.{Padding.{padded-none, padded-more}, NodeCodes.{decoded-within, next-node}}
 use borrow.Author.Needs.{needs}
 use Rattle.formulas.proofs.decode.Statement.{statement}
 use Rattle.formulas.proofs.decode.Tie as tie
+use Rattle.values.specs.ValueReading.{value-from}
 
 abbrev Inv-loop : tie.InvT-loop
-Inv-loop bytes count kinds₀ firsts₀ values₀ i₀ kinds firsts values i =
-    (i ≤ count)
-    × (kinds ≡ padded (kind-at bytes) i 256 0)
-    × (firsts ≡ padded (first-at bytes) i 256 0)
-    × (values ≡ padded (second-at bytes) i 256 0)
+Inv-loop kind bytes width count kinds₀ firsts₀ values₀ i₀ at₀ kinds firsts values i at =
+    (width ≡ node-width kind)
+    × (count ≡ min node-limit (length bytes / node-width kind))
+    × (i ≤ count)
+    × (at ≡ i * node-width kind)
+    × (kinds ≡ padded (kind-at kind bytes) i node-limit 0)
+    × (firsts ≡ padded (first-at kind bytes) i node-limit 0)
+    × (values ≡ padded (value-at kind bytes) i node-limit 0)
 
 abbrev μ-loop : tie.MeasureT-loop
-μ-loop bytes count kinds₀ firsts₀ values₀ i₀ kinds firsts values i = count - i
-
-node-count-requires : tie.Need-node-count-requires Inv-loop μ-loop
-node-count-requires c κs = search needs
+μ-loop kind bytes width count kinds₀ firsts₀ values₀ i₀ at₀ kinds firsts values i at = count - i
 
 same :
     {m n : ℕ} {k k2 f f2 v v2 : List ℕ} → m ≡ n → k ≡ k2 → f ≡ f2 → v ≡ v2
@@ -33,100 +32,81 @@ same a b c d = cc
 
 loop-holds : tie.Need-loop-holds Inv-loop μ-loop
 loop-holds c =
-    let b = c .before .before .args .bytes .now in
-    (omega arith, sym (padded-none (kind-at b) 256 0), sym (padded-none (first-at b) 256 0), sym (padded-none (second-at b) 256 0))
-
-mul-kinds : tie.Need-mul-kinds Inv-loop μ-loop
-mul-kinds c = search needs
+    let a = c .before .before .before .args in
+    let k = a .kind in
+    let b = a .bytes .now in
+    let w = c .before .node-width .ensures .0 in (
+      w,
+      c .node-count .ensures ∙ ap (λ x. min node-limit (length b / x)) w,
+      omega arith,
+      sym (zero-mul (node-width k)),
+      sym (padded-none (kind-at k b) node-limit 0),
+      sym (padded-none (first-at k b) node-limit 0),
+      sym (padded-none (value-at k b) node-limit 0),
+    )
 
 shared-slice-read-kinds : tie.Need-shared-slice-read-kinds Inv-loop μ-loop
-shared-slice-read-kinds c = search needs
-
-array-write-kinds : tie.Need-array-write-kinds Inv-loop μ-loop
-array-write-kinds c = search needs
-
-mul-firsts : tie.Need-mul-firsts Inv-loop μ-loop
-mul-firsts c = search needs
+shared-slice-read-kinds c =
+    let a = c .before .before .before .before .before .before .args in
+    let l = c .before .before .loop in
+    omega (arith, l .inv .3, decoded-within (a .kind) (length (a .bytes .now)) (l .i) (omega (arith, l .inv .1)))
 
 add-firsts : tie.Need-add-firsts Inv-loop μ-loop
-add-firsts c = search needs
+add-firsts c =
+    let a = c .before .before .before .before .before .before .args in
+    let l = c .before .before .loop in
+    omega (arith, l .inv .3, decoded-within (a .kind) (length (a .bytes .now)) (l .i) (omega (arith, l .inv .1)))
 
 shared-slice-read-firsts : tie.Need-shared-slice-read-firsts Inv-loop μ-loop
-shared-slice-read-firsts c = search needs
+shared-slice-read-firsts c =
+    let a = c .before .before .before .before .before .before .before .args in
+    let l = c .before .before .before .loop in
+    omega (arith, l .inv .3, decoded-within (a .kind) (length (a .bytes .now)) (l .i) (omega (arith, l .inv .1)))
 
-array-write-firsts : tie.Need-array-write-firsts Inv-loop μ-loop
-array-write-firsts c = search needs
+add-value-from : tie.Need-add-value-from Inv-loop μ-loop
+add-value-from c =
+    let a = c .before .before .before .before .before .before .before .args in
+    let l = c .before .before .before .loop in
+    omega (arith, l .inv .3, decoded-within (a .kind) (length (a .bytes .now)) (l .i) (omega (arith, l .inv .1)))
 
-mul-value : tie.Need-mul-value-of Inv-loop μ-loop
-mul-value c = search needs
-
-add-value : tie.Need-add-value-of Inv-loop μ-loop
-add-value c = search needs
-
-shared-slice-read-value : tie.Need-shared-slice-read-value-of Inv-loop μ-loop
-shared-slice-read-value c = search needs
-
-value-of-requires : tie.Need-value-of-requires Inv-loop μ-loop
-value-of-requires c κs = search needs
-
-mul-values : tie.Need-mul-values Inv-loop μ-loop
-mul-values c = search needs
-
-array-write-values : tie.Need-array-write-values Inv-loop μ-loop
-array-write-values c = search needs
-
-add-i : tie.Need-add-i Inv-loop μ-loop
-add-i c = search needs
-
-loop-less : tie.Need-loop-less Inv-loop μ-loop
-loop-less c = search needs
+add-at : tie.Need-add-at Inv-loop μ-loop
+add-at c =
+    let a = c .before .before .before .before .before .before .before .before .args in
+    let l = c .before .before .before .before .loop in
+    omega (arith, l .inv .3, decoded-within (a .kind) (length (a .bytes .now)) (l .i) (omega (arith, l .inv .1)))
 
 loop-again : tie.Need-loop-again Inv-loop μ-loop
 loop-again c =
-    let b = c .before .before .before .before .before .before .before .before .args .bytes .now in
-    let i = c .before .before .before .before .before .loop .i in
-    let v = c .before .before .before .before .before .loop .inv in (
+    let a = c .before .before .before .before .before .before .before .before .args in
+    let k = a .kind in
+    let b = a .bytes .now in
+    let i = c .before .before .before .before .loop .i in
+    let v = c .before .before .before .before .loop .inv in (
+      v .0,
+      v .1,
       omega arith,
-      ap (λ l. set l i (kind-at b i)) (v .1) ∙ padded-more (kind-at b) 256 i (omega (arith, c .before .before .before .before .before .before .node-count .ensures)),
-      ap (λ l. set l i (first-at b i)) (v .2) ∙ padded-more (first-at b) 256 i (omega (arith, c .before .before .before .before .before .before .node-count .ensures)),
-      ap₂ (λ l x. set l i x) (v .3) (c .value-of .ensures) ∙ padded-more (second-at b) 256 i (omega (arith, c .before .before .before .before .before .before .node-count .ensures)),
+      omega (arith, v .0, v .3, next-node k i),
+      ap₂ (λ l x. set l i (getD b x 0)) (v .4) (v .3) ∙ padded-more (kind-at k b) node-limit i (omega (arith, v .1)),
+      ap₂ (λ l x. set l i (getD b (x + 1) 0)) (v .5) (v .3) ∙ padded-more (first-at k b) node-limit i (omega (arith, v .1)),
+      ap₂ (λ l x. set l i x) (v .6) (c .value-from .ensures ∙ ap (λ x. value-from k b (x + 2)) (v .3)) ∙ padded-more (value-at k b) node-limit i
+          (omega (arith, v .1)),
     )
 
 returns : tie.Need-returns Inv-loop μ-loop
 unfolding decoded decoded-count
 returns c =
-    let b = c .before .before .before .before .args .bytes .now in
+    let a = c .before .before .before .before .before .args in
+    let k = a .kind in
+    let b = a .bytes .now in
     let v = c .before .loop .inv in
-    let e : c .before .loop .i ≡ decoded-count b = omega (arith, c .before .before .node-count .ensures) in
-    let n : c .before .before .node-count .result ≡ decoded-count b = c .before .before .node-count .ensures in
+    let e : c .before .loop .i ≡ decoded-count k b = omega (arith, v .1) in
     same
-    n
-    (v .1 ∙ ap (λ x. padded (kind-at b) x 256 0) e)
-    (v .2 ∙ ap (λ x. padded (first-at b) x 256 0) e)
-    (v .3 ∙ ap (λ x. padded (second-at b) x 256 0) e)
+    (v .1)
+    (v .4 ∙ ap (λ x. padded (kind-at k b) x node-limit 0) e)
+    (v .5 ∙ ap (λ x. padded (first-at k b) x node-limit 0) e)
+    (v .6 ∙ ap (λ x. padded (value-at k b) x node-limit 0) e)
 
 pub decode-spec : {M : Type 1} → statement M
-decode-spec =
-    tie.close
-    (tie.spec
-    Inv-loop
-    μ-loop
-    node-count-requires
-    loop-holds
-    mul-kinds
-    shared-slice-read-kinds
-    array-write-kinds
-    mul-firsts
-    add-firsts
-    shared-slice-read-firsts
-    array-write-firsts
-    mul-value
-    add-value
-    shared-slice-read-value
-    value-of-requires
-    mul-values
-    array-write-values
-    add-i
-    loop-less
-    loop-again
-    returns)
+decode-spec = tie.close (tie.spec Inv-loop μ-loop (λ c κs. search needs) (λ c κs. search needs) loop-holds shared-slice-read-kinds (λ c. search needs)
+    add-firsts shared-slice-read-firsts (λ c. search needs) add-value-from (λ c κs. search needs) (λ c. search needs) (λ c. search needs)
+    (λ c. search needs) add-at (λ c. search needs) loop-again returns)

@@ -1,5 +1,4 @@
 -- `noted` meets its contract: a note is set once.
--- Assumes nothing.
 use Rattle.formulas.proofs.Walking.{keeps-none, keeps-here, keeps-earlier}
 use Rattle.formulas.proofs.noted.Statement.{statement}
 use Rattle.formulas.proofs.noted.Tie as tie

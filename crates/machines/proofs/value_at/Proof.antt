@@ -1,31 +1,13 @@
--- `machines::value_at` meets its contract: byte 2i is in the slice exactly if i is below half its length, rounded up.
--- Assumes nothing.
-use mathlib.Core.Path.{sym}
-use Prim.Native.Nat.{_*_}
-use native.Mathlib.Omega.{arith}
+-- `machines::value_at` meets its contract, kind by kind.
 use borrow.Author.Needs.{needs}
-use lib.ListN.{List·getD-eq-default}
 use Rattle.machines.proofs.value_at.Statement.{statement}
 use Rattle.machines.proofs.value_at.Tie as tie
 
-sub-if1 : tie.Need-sub-if1
-sub-if1 c = search needs
-
-mul-result : tie.Need-mul-result
-mul-result c = search needs
-
-shared-slice-read-result : tie.Need-shared-slice-read-result
-shared-slice-read-result c = search needs
-
-cast-result : tie.Need-cast-result
-cast-result c = omega (arith, c .shared-slice-known .given (c .before .before .args .i * 2))
-
 returns : tie.Need-returns
-returns c = search needs
+returns c = rw (c .before .enum-told .given .1) (c .number-at .ensures)
 
 returns-2 : tie.Need-returns-2
-returns-2 c = sym (List·getD-eq-default (c .before .args .bytes .now) 0 {n = c .before .args .i * 2} (omega arith))
+returns-2 c = rw (c .before .before .kind .given .1) (c .masks-at .ensures)
 
 pub value-at-spec : {M : Type 1} → statement M
-value-at-spec =
-    tie.close (tie.spec sub-if1 mul-result shared-slice-read-result cast-result returns returns-2)
+value-at-spec = tie.close (tie.spec (λ c. search needs) (λ c κs. search needs) (λ c. search needs) (λ c κs. search needs) returns returns-2)
