@@ -1,16 +1,12 @@
 -- One step of the walk that binds, for each kind of node.
--- Assumes nothing.
-use mathlib.Core.Path.{_≡_, sym, _∙_, ap, subst}
-use mathlib.Core.List.{List, _∷_}
+use mathlib.Core.{Path.{_≡_, sym, _∙_, ap, subst}, List.{List, _∷_}}
 use Prim.Native.Nat.{ℕ, zero, suc, _+_, _-_, _≤_, _<_}
-use native.Mathlib.Numerals.{add-one}
-use native.Mathlib.Omega.{arith}
+use native.Mathlib.{Numerals.{add-one}, Omega.{arith}}
 use lib.ListN.{getD}
 use Rattle.theory.specs.Formula.{Formula, truth, variable, transition, output, conjunction, greatest, size}
 use Rattle.formulas.specs.NodeWalks.{field}
 use Rattle.formulas.proofs.Walking.{size-positive}
-use Rattle.synthesis.specs.NodeWalks.{Ends, Binds}
-use Rattle.synthesis.specs.Binding.{AllBound}
+use Rattle.synthesis.specs.{NodeWalks.{Ends, Binds}, Binding.{AllBound}}
 use Rattle.synthesis.proofs.NodeWalks.{reads-at, binds-at}
 
 -- Only the nodes of the formula matter.

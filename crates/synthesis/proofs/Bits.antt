@@ -1,18 +1,11 @@
 -- Single bits of numbers: of a union, of a power of two, that they determine the number, and the first and the last that are set.
--- Assumes nothing.
-use mathlib.Core.Path.{_≡_, refl, sym, ap, ap₂, _∙_, subst}
-use mathlib.Core.Bool.{false, _||_}
-use mathlib.Core.Logic.{_⊎_, inl, inr}
+use mathlib.Core.{Path.{_≡_, refl, sym, ap, ap₂, _∙_, subst}, Bool.{false, _||_}, Logic.{_⊎_, inl, inr}}
 use Prim.Native.Nat.{ℕ, zero, suc, _+_, _-_, _*_, _/_, _%_, _^_, _≤_, _<_, max}
-use native.Mathlib.Nat.{mod-lt, zero-lt-suc, lt-of-le-of-lt, lt-trans, le-of-suc-le-suc, max-le, div-self, div-eq-of-lt, div-one, one-mul, add-comm, div-add-mod', zero-div, div-lt-iff-lt-mul, pow-suc}
-use native.Mathlib.Decide.{decLt}
-use native.Mathlib.Omega.{arith}
+use native.Mathlib.Nat.{mod-lt, zero-lt-suc, lt-of-le-of-lt, lt-trans, le-of-suc-le-suc, max-le, div-self, div-eq-of-lt, div-one, one-mul, add-comm}
+use native.Mathlib.{Nat.{div-add-mod', zero-div, div-lt-iff-lt-mul, pow-suc}, Decide.{decLt}, Omega.{arith}}
 use borrow.Author.Tests.{eq-eqb, ne-eqb, eqb-true}
-use lib.Bits.{bitOr, or-step, or-shr, shifted-even}
-use lib.Pow.{pow-add, shl-shr, shr-shr, shr-le, pow-pos, pow-lt, field, mod-mod-pow}
-use lib.Count.{trailingZeros, under, leadingZeros, leading-length}
-use lib.Dec.{eqb, lit<}
-use lib.Arith.{digits-div, digits-mod}
+use lib.{Bits.{bitOr, or-step, or-shr, shifted-even}, Pow.{pow-add, shl-shr, shr-shr, shr-le, pow-pos, pow-lt, field, mod-mod-pow}}
+use lib.{Count.{trailingZeros, under, leadingZeros, leading-length}, Dec.{eqb, lit<}, Arith.{digits-div, digits-mod}}
 use Rattle.synthesis.specs.NodeWords.{bit-at, FirstBit, LastBit}
 
 pub bit-small : (a k : ℕ) → bit-at a k < 2

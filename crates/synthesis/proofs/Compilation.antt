@@ -1,42 +1,30 @@
 -- The answers of the compilers, case by case.
--- Assumes nothing.
-use mathlib.Core.Path.{_≡_, refl, sym, _∙_, ap, ap₂, subst}
-use mathlib.Core.Bool.{Bool, true, false, _&&_, cond, and-false, false≢true}
-use mathlib.Core.List.{List}
+use mathlib.Core.{Path.{_≡_, refl, sym, _∙_, ap, ap₂, subst}, Bool.{Bool, true, false, _&&_, cond, and-false, false≢true}, List.{List}}
 use mathlib.Core.Option.{Option, none, some}
 use Prim.Native.Nat.{ℕ, zero, suc, _+_, _*_, _/_, _%_, _≤_, _<_}
-use native.Mathlib.Decide.{decLt}
-use native.Mathlib.Omega.{arith}
+use native.Mathlib.{Decide.{decLt}, Omega.{arith}}
 use borrow.Author.Tests.{lt-ltb, le-ltb, le-leb, lt-leb, leb-true}
-use lib.Dec.{ltb, leb}
-use lib.ListN.{length, getD, replicate, length-replicate, getD-replicate}
-use lib.Seq.{ext-getD}
+use lib.{Dec.{ltb, leb}, ListN.{length, getD, replicate, length-replicate, getD-replicate}, Seq.{ext-getD}}
 use Rattle.theory.specs.Formula.{size}
-use Rattle.theory.specs.ValueSets.{Below}
 use Rattle.theory.proofs.Claims.{grammar}
-use Rattle.refusal.specs.declared.Refusal.{Refusal}
+use Rattle.refusal.specs.declared.{Refusal.{Refusal}, Counted.{Counted}, Judgement.{Judgement}}
 use Rattle.refusal.specs.declared.Refusal.the-variants.{Plain}
-use Rattle.refusal.specs.declared.Counted.{Counted}
 use Rattle.refusal.specs.declared.Counted.the-variants.{Count, Refused}
-use Rattle.refusal.specs.declared.Judgement.{Judgement}
 use Rattle.refusal.specs.declared.Judgement.the-variants.{Refused as RefusedJudgement}
 use Rattle.refusal.specs.Refusal.{or-else, plain-unless, judgement, counted}
 use Rattle.refusal.proofs.Refusals.{or-else-none, or-else-assoc, plain-none, counted-refused}
 use Rattle.values.specs.declared.ValueKind.{ValueKind}
-use Rattle.values.specs.ValueKind.{meetOf}
-use Rattle.values.specs.Setup.{events-test, event-limit}
-use Rattle.formulas.specs.NodeArrays.{padded, decoded}
-use Rattle.formulas.specs.RuleRefusal.{count-fits, fields-refusal, rule-refusal, formula-of}
+use Rattle.values.specs.{ValueKind.{ValueIn, meetOf}, ValueTests.{value-fits}, SetupTests.{events-test}}
+use Rattle.formulas.specs.{NodeBytes.{node-width}, NodeArrays.{padded, decoded}, RuleRefusal.{count-fits, fields-refusal, rule-refusal, formula-of}}
 use Rattle.formulas.specs.NodeWalks.{field}
 use Rattle.formulas.specs.declared.Nodes.{Nodes}
-use Rattle.formulas.proofs.Padding.{padded-length, padded-none}
-use Rattle.formulas.proofs.Decoding.{decoded-limit, decoded-refusal, rule-misfit}
+use Rattle.formulas.proofs.{Padding.{padded-length, padded-none}, Decoding.{decoded-limit, decoded-refusal, rule-misfit}}
 use Rattle.formulas.proofs.RuleClaims.{accepted-formula-of, decoded-reads}
 use Rattle.synthesis.specs.declared.Compiled.{Compiled}
-use Rattle.synthesis.specs.Exploring.{Unchanged}
-use Rattle.synthesis.specs.TableEntries.{EntriesTo}
-use Rattle.synthesis.specs.MadeTable.{Tabled, Tables}
-use Rattle.synthesis.specs.Compilation.{value-count, rule-states, rule-table, rule-table-refusal, compile-rule-refusal, entry-count, flat, refused, compiled-within, compiled, Made}
+use Rattle.synthesis.specs.{Exploring.{Unchanged}, TableEntries.{EntriesTo}, MadeTable.{Tabled, Tables}}
+use Rattle.synthesis.specs.Compilation.{rule-states, rule-table, rule-table-refusal, compile-rule-refusal, entry-count, flat, refused, compiled-within}
+use Rattle.synthesis.specs.Compilation.{compiled, Made}
+use Rattle.limits.specs.Limits.{event-limit, state-limit, entry-limit, node-limit}
 
 -- Entries and zeros after them.
 padded-at :
@@ -130,36 +118,37 @@ bytes-fit t later h = sym (ap (λ b. judgement (or-else (plain-unless b 5) later
 
 -- The nodes of a rule are judged as its bytes are.
 judged-nodes :
-    (events values : ℕ) (rule : List ℕ) (nodes : Nodes) → nodes ≡ decoded rule →
-    or-else (plain-unless (count-fits 3 256 (length rule)) 5)
-    (fields-refusal (field (nodes .kinds)) (field (nodes .firsts)) (field (nodes .values)) (nodes .count) (λ v. ltb v values) events)
-    ≡ rule-refusal events values rule
+    (events : ℕ) (kind : ValueKind) (rule : List ℕ) (nodes : Nodes) → nodes ≡ decoded kind rule →
+    or-else (plain-unless (count-fits (node-width kind) node-limit (length rule)) 5)
+    (fields-refusal (field (nodes .kinds)) (field (nodes .firsts)) (field (nodes .values)) (nodes .count) (value-fits kind) events)
+    ≡ rule-refusal events kind rule
 unfolding or-else plain-unless
-judged-nodes events values rule nodes d =
-    ap (λ n. or-else (plain-unless (count-fits 3 256 (length rule)) 5) (judged-of n)) d ∙ go (count-fits 3 256 (length rule)) refl
+judged-nodes events kind rule nodes d =
+    ap (λ n. or-else (plain-unless (count-fits (node-width kind) node-limit (length rule)) 5) (judged-of n)) d ∙ go
+    (count-fits (node-width kind) node-limit (length rule)) refl
   where
     judged-of : Nodes → Option Refusal
-    judged-of n = fields-refusal (field (n .kinds)) (field (n .firsts)) (field (n .values)) (n .count) (λ v. ltb v values) events
+    judged-of n = fields-refusal (field (n .kinds)) (field (n .firsts)) (field (n .values)) (n .count) (value-fits kind) events
 
     go :
-        (b : Bool) → count-fits 3 256 (length rule) ≡ b →
-        or-else (plain-unless (count-fits 3 256 (length rule)) 5) (judged-of (decoded rule)) ≡ rule-refusal events values rule
-    go true e = ap (λ b. or-else (plain-unless b 5) (judged-of (decoded rule))) e ∙ decoded-refusal events values rule e
-    go false e = ap (λ b. or-else (plain-unless b 5) (judged-of (decoded rule))) e ∙ sym (rule-misfit events values rule e)
+        (b : Bool) → count-fits (node-width kind) node-limit (length rule) ≡ b →
+        or-else (plain-unless (count-fits (node-width kind) node-limit (length rule)) 5) (judged-of (decoded kind rule)) ≡ rule-refusal events kind rule
+    go true e = ap (λ b. or-else (plain-unless b 5) (judged-of (decoded kind rule))) e ∙ decoded-refusal events kind rule e
+    go false e = ap (λ b. or-else (plain-unless b 5) (judged-of (decoded kind rule))) e ∙ sym (rule-misfit events kind rule e)
 
 pub judged-bytes :
-    (kind : ValueKind) (events : ℕ) (rule : List ℕ) (nodes : Nodes) → nodes ≡ decoded rule → (o : Option Refusal) →
+    (kind : ValueKind) (events : ℕ) (rule : List ℕ) (nodes : Nodes) → nodes ≡ decoded kind rule → (o : Option Refusal) →
     or-else (plain-unless (events-test events) 1)
-    (or-else (plain-unless (count-fits 3 256 (length rule)) 5)
-    (fields-refusal (field (nodes .kinds)) (field (nodes .firsts)) (field (nodes .values)) (nodes .count) (λ v. ltb v (value-count kind)) events))
+    (or-else (plain-unless (count-fits (node-width kind) node-limit (length rule)) 5)
+    (fields-refusal (field (nodes .kinds)) (field (nodes .firsts)) (field (nodes .values)) (nodes .count) (value-fits kind) events))
     ≡ o →
-    or-else (plain-unless (events-test events) 1) (rule-refusal events (value-count kind) rule) ≡ o
+    or-else (plain-unless (events-test events) 1) (rule-refusal events kind rule) ≡ o
 judged-bytes kind events rule nodes d o e =
-    sym (ap (or-else (plain-unless (events-test events) 1)) (judged-nodes events (value-count kind) rule nodes d)) ∙ e
+    sym (ap (or-else (plain-unless (events-test events) 1)) (judged-nodes events kind rule nodes d)) ∙ e
 
 module _ (limit : ℕ) (kind : ValueKind) (events top : ℕ) (table rule : List ℕ) where
   abbrev judged : Option Refusal
-  judged = or-else (plain-unless (events-test events) 1) (rule-refusal events (value-count kind) rule)
+  judged = or-else (plain-unless (events-test events) 1) (rule-refusal events kind rule)
 
   abbrev states : ℕ
   states = rule-states kind events top table rule limit
@@ -167,7 +156,7 @@ module _ (limit : ℕ) (kind : ValueKind) (events top : ℕ) (table rule : List 
   refusal-is : compile-rule-refusal kind events top table rule limit ≡ or-else judged (plain-unless (leb states limit) 10)
   unfolding compile-rule-refusal rule-table-refusal
   refusal-is =
-      or-else-assoc (plain-unless (events-test events) 1) (rule-refusal events (value-count kind) rule)
+      or-else-assoc (plain-unless (events-test events) 1) (rule-refusal events kind rule)
       (plain-unless (leb states limit) 10)
 
   -- By the refusal.
@@ -175,8 +164,8 @@ module _ (limit : ℕ) (kind : ValueKind) (events top : ℕ) (table rule : List 
   answer r =
       record {
         verdict = counted r states;
-        values = flat (rule-table kind events top table rule limit .value) events (entry-count r (states * events)) 1024;
-        nexts = flat (rule-table kind events top table rule limit .next) events (entry-count r (states * events)) 1024;
+        values = flat (rule-table kind events top table rule limit .value) events (entry-count r (states * events)) entry-limit;
+        nexts = flat (rule-table kind events top table rule limit .next) events (entry-count r (states * events)) entry-limit;
       }
 
   answer-is : compiled-within limit kind events top table rule ≡ answer (or-else judged (plain-unless (leb states limit) 10))
@@ -187,8 +176,8 @@ module _ (limit : ℕ) (kind : ValueKind) (events top : ℕ) (table rule : List 
   unfolding counted entry-count refused
   answer-refused r =
       ap₂ (λ v n. record { verdict = Refused r; values = v; nexts = n })
-      (flat-none (rule-table kind events top table rule limit .value) events 1024)
-      (flat-none (rule-table kind events top table rule limit .next) events 1024)
+      (flat-none (rule-table kind events top table rule limit .value) events entry-limit)
+      (flat-none (rule-table kind events top table rule limit .next) events entry-limit)
 
   pub within-refused : (r : Refusal) → judged ≡ some r → refused r ≡ compiled-within limit kind events top table rule
   unfolding or-else
@@ -205,24 +194,24 @@ module _ (limit : ℕ) (kind : ValueKind) (events top : ℕ) (table rule : List 
 
   module _ (e : judged ≡ none) where
     pub few : events ≤ event-limit
-    few = few-events events (plain-none (events-test events) 1 (or-else-none (plain-unless (events-test events) 1) (rule-refusal events (value-count kind) rule) e .0))
+    few = few-events events (plain-none (events-test events) 1 (or-else-none (plain-unless (events-test events) 1) (rule-refusal events kind rule) e .0))
 
-    rule-accepted : rule-refusal events (value-count kind) rule ≡ none
-    rule-accepted = or-else-none (plain-unless (events-test events) 1) (rule-refusal events (value-count kind) rule) e .1
+    rule-accepted : rule-refusal events kind rule ≡ none
+    rule-accepted = or-else-none (plain-unless (events-test events) 1) (rule-refusal events kind rule) e .1
 
     open-answer : compiled-within limit kind events top table rule ≡ answer (plain-unless (leb states limit) 10)
     unfolding or-else
     open-answer = answer-is ∙ ap (λ j. answer (or-else j (plain-unless (leb states limit) 10))) e
 
     module _ (values nexts : List ℕ) (n : ℕ)
-        (t : Tables (decoded rule .kinds) (decoded rule .firsts) (decoded rule .values) (decoded rule .count) (meetOf kind table) top events
-        limit (replicate 1024 0) (replicate 1024 0) values nexts n) where
-      tabled : Tabled (meetOf kind table) top (formula-of rule) events limit (replicate 1024 0) (replicate 1024 0) values nexts n
+        (t : Tables (decoded kind rule .kinds) (decoded kind rule .firsts) (decoded kind rule .values) (decoded kind rule .count) (meetOf kind table) top events
+        limit (replicate entry-limit 0) (replicate entry-limit 0) values nexts n) where
+      tabled : Tabled (meetOf kind table) top (formula-of kind rule) events limit (replicate entry-limit 0) (replicate entry-limit 0) values nexts n
       tabled =
-          let a = accepted-formula-of events (value-count kind) rule rule-accepted in
-          let d = decoded-reads rule (formula-of rule) (a .written) (a .accepted .within) in
-          let w = grammar ℕ 256 events (Below (value-count kind)) (formula-of rule) (a .accepted) in
-          t (formula-of rule) (d .reads) (sym (d .counted)) (w .closed) (w .guarded)
+          let a = accepted-formula-of events kind rule rule-accepted in
+          let d = decoded-reads kind rule (formula-of kind rule) (a .written) (a .accepted .within) in
+          let w = grammar ℕ node-limit events (ValueIn kind) (formula-of kind rule) (a .accepted) in
+          t (formula-of kind rule) (d .reads) (sym (d .counted)) (w .closed) (w .guarded)
 
       pub within-many : limit < n → refused (Plain 10) ≡ compiled-within limit kind events top table rule
       unfolding plain-unless
@@ -233,7 +222,7 @@ module _ (limit : ℕ) (kind : ValueKind) (events top : ℕ) (table rule : List 
           ∙ answer-refused (Plain 10))
 
       pub within-table :
-          n ≤ limit → length values ≡ 1024 → length nexts ≡ 1024 →
+          n ≤ limit → length values ≡ entry-limit → length nexts ≡ entry-limit →
           record { verdict = Count n; values = values; nexts = nexts } ≡ compiled-within limit kind events top table rule
       unfolding plain-unless counted entry-count
       within-table h v x =
@@ -243,15 +232,15 @@ module _ (limit : ℕ) (kind : ValueKind) (events top : ℕ) (table rule : List 
           sym
           (open-answer
           ∙ ap (λ b. answer (plain-unless b 10)) few-states
-          ∙ ap (λ y. made y (flat (rule-table kind events top table rule limit .value) events (states * events) 1024)
-          (flat (rule-table kind events top table rule limit .next) events (states * events) 1024)) s
+          ∙ ap (λ y. made y (flat (rule-table kind events top table rule limit .value) events (states * events) entry-limit)
+          (flat (rule-table kind events top table rule limit .next) events (states * events) entry-limit)) s
           ∙ ap₂ (made n)
-          (sym (flat-is (rule-table kind events top table rule limit .value) events (states * events) 1024 values v
+          (sym (flat-is (rule-table kind events top table rule limit .value) events (states * events) entry-limit values v
           (subst (λ y. EntriesTo (rule-table kind events top table rule limit .value) events y values) k (tabled .values-are h))
-          (subst (λ y. Unchanged y (replicate 1024 0) values) k (tabled .values-after h))))
-          (sym (flat-is (rule-table kind events top table rule limit .next) events (states * events) 1024 nexts x
+          (subst (λ y. Unchanged y (replicate entry-limit 0) values) k (tabled .values-after h))))
+          (sym (flat-is (rule-table kind events top table rule limit .next) events (states * events) entry-limit nexts x
           (subst (λ y. EntriesTo (rule-table kind events top table rule limit .next) events y nexts) k (tabled .nexts-are h))
-          (subst (λ y. Unchanged y (replicate 1024 0) nexts) k (tabled .nexts-after h)))))
+          (subst (λ y. Unchanged y (replicate entry-limit 0) nexts) k (tabled .nexts-after h)))))
         where
           made : ℕ → List ℕ → List ℕ → Compiled
           made y a b = record { verdict = Count y; values = a; nexts = b }
@@ -259,33 +248,33 @@ module _ (limit : ℕ) (kind : ValueKind) (events top : ℕ) (table rule : List 
 -- The decoded nodes, of those that were decoded so, and arrays of zeros.
 tables-of :
     (limit : ℕ) (kind : ValueKind) (events top : ℕ) (table rule : List ℕ) (nodes : Nodes) (values₀ nexts₀ values nexts : List ℕ) (n : ℕ) →
-    nodes ≡ decoded rule → values₀ ≡ replicate 1024 0 → nexts₀ ≡ replicate 1024 0 →
+    nodes ≡ decoded kind rule → values₀ ≡ replicate entry-limit 0 → nexts₀ ≡ replicate entry-limit 0 →
     Tables (nodes .kinds) (nodes .firsts) (nodes .values) (nodes .count) (meetOf kind table) top events limit values₀ nexts₀ values nexts n →
-    Tables (decoded rule .kinds) (decoded rule .firsts) (decoded rule .values) (decoded rule .count) (meetOf kind table) top events limit
-    (replicate 1024 0) (replicate 1024 0) values nexts n
+    Tables (decoded kind rule .kinds) (decoded kind rule .firsts) (decoded kind rule .values) (decoded kind rule .count) (meetOf kind table) top events limit
+    (replicate entry-limit 0) (replicate entry-limit 0) values nexts n
 tables-of limit kind events top table rule nodes values₀ nexts₀ values nexts n e u v t =
-    subst (λ d. made d (replicate 1024 0) (replicate 1024 0)) e
-    (subst (λ x. made nodes x (replicate 1024 0)) u (subst (made nodes values₀) v t))
+    subst (λ d. made d (replicate entry-limit 0) (replicate entry-limit 0)) e
+    (subst (λ x. made nodes x (replicate entry-limit 0)) u (subst (made nodes values₀) v t))
   where
     made : Nodes → List ℕ → List ℕ → Type 0
     made d x y = Tables (d .kinds) (d .firsts) (d .values) (d .count) (meetOf kind table) top events limit x y values nexts n
 
-pub zeros-sized : (l : List ℕ) → l ≡ replicate 1024 0 → length l ≡ 1024
-zeros-sized l e = ap length e ∙ length-replicate {A = ℕ} 1024 0
+pub zeros-sized : (l : List ℕ) → l ≡ replicate entry-limit 0 → length l ≡ entry-limit
+zeros-sized l e = ap length e ∙ length-replicate {A = ℕ} entry-limit 0
 
-pub few-nodes : (rule : List ℕ) (nodes : Nodes) → nodes ≡ decoded rule → nodes .count ≤ 256
-few-nodes rule nodes e = subst (λ d. d .count ≤ 256) (sym e) (decoded-limit rule)
+pub few-nodes : (kind : ValueKind) (rule : List ℕ) (nodes : Nodes) → nodes ≡ decoded kind rule → nodes .count ≤ node-limit
+few-nodes kind rule nodes e = subst (λ d. d .count ≤ node-limit) (sym e) (decoded-limit kind rule)
 
 -- What is left in the arrays, by the answer as a value; and the value of what is left.
 pub made-refused :
-    (c : Compiled) (r : Refusal) (values nexts : List ℕ) → length values ≡ 1024 → length nexts ≡ 1024 → refused r ≡ c →
+    (c : Compiled) (r : Refusal) (values nexts : List ℕ) → length values ≡ entry-limit → length nexts ≡ entry-limit → refused r ≡ c →
     Made c (Refused r) values nexts
 unfolding refused
 made-refused c r values nexts u v e =
     record { sized = (u, v); answer = ap (λ d. d .verdict) e; entries = λ n q. let z : _≡_ {A = ℕ} 0 1 = cc in absurd (omega arith) }
 
 pub made-table :
-    (c : Compiled) (n : ℕ) (values nexts : List ℕ) → length values ≡ 1024 → length nexts ≡ 1024 →
+    (c : Compiled) (n : ℕ) (values nexts : List ℕ) → length values ≡ entry-limit → length nexts ≡ entry-limit →
     record { verdict = Count n; values = values; nexts = nexts } ≡ c → Made c (Count n) values nexts
 made-table c n values nexts u v e =
     record { sized = (u, v); answer = ap (λ d. d .verdict) e; entries = λ m q. (ap (λ d. d .values) e, ap (λ d. d .nexts) e) }
@@ -302,26 +291,28 @@ made-value c verdict n values nexts m e =
 -- At document 01's limit.
 module _ (kind : ValueKind) (events top : ℕ) (table rule : List ℕ) where
   pub compiled-refused :
-      (r : Refusal) → or-else (plain-unless (events-test events) 1) (rule-refusal events (value-count kind) rule) ≡ some r →
+      (r : Refusal) → or-else (plain-unless (events-test events) 1) (rule-refusal events kind rule) ≡ some r →
       refused r ≡ compiled kind events top table rule
   unfolding compiled
-  compiled-refused r e = within-refused 64 kind events top table rule r e
+  compiled-refused r e = within-refused state-limit kind events top table rule r e
 
   pub compiled-answer : (r : Refusal) → compiled kind events top table rule .verdict ≡ Refused r → refused r ≡ compiled kind events top table rule
   unfolding compiled
-  compiled-answer r e = within-answer 64 kind events top table rule r e
+  compiled-answer r e = within-answer state-limit kind events top table rule r e
 
-  module _ (e : or-else (plain-unless (events-test events) 1) (rule-refusal events (value-count kind) rule) ≡ none)
-      (nodes : Nodes) (d : nodes ≡ decoded rule) (values₀ nexts₀ values nexts : List ℕ) (u : values₀ ≡ replicate 1024 0)
-      (w : nexts₀ ≡ replicate 1024 0) (n : ℕ)
+  module _ (e : or-else (plain-unless (events-test events) 1) (rule-refusal events kind rule) ≡ none)
+      (nodes : Nodes) (d : nodes ≡ decoded kind rule) (values₀ nexts₀ values nexts : List ℕ) (u : values₀ ≡ replicate entry-limit 0)
+      (w : nexts₀ ≡ replicate entry-limit 0) (n : ℕ)
       (t : Tables (nodes .kinds) (nodes .firsts) (nodes .values) (nodes .count) (meetOf kind table) top events
-      64 values₀ nexts₀ values nexts n) where
-    pub compiled-many : 64 < n → refused (Plain 10) ≡ compiled kind events top table rule
+      state-limit values₀ nexts₀ values nexts n) where
+    pub compiled-many : state-limit < n → refused (Plain 10) ≡ compiled kind events top table rule
     unfolding compiled
-    compiled-many h = within-many 64 kind events top table rule e values nexts n (tables-of 64 kind events top table rule nodes values₀ nexts₀ values nexts n d u w t) h
+    compiled-many h = within-many state-limit kind events top table rule e values nexts n
+        (tables-of state-limit kind events top table rule nodes values₀ nexts₀ values nexts n d u w t) h
 
     pub compiled-table :
-        n ≤ 64 → length values ≡ 1024 → length nexts ≡ 1024 →
+        n ≤ state-limit → length values ≡ entry-limit → length nexts ≡ entry-limit →
         record { verdict = Count n; values = values; nexts = nexts } ≡ compiled kind events top table rule
     unfolding compiled
-    compiled-table h v x = within-table 64 kind events top table rule e values nexts n (tables-of 64 kind events top table rule nodes values₀ nexts₀ values nexts n d u w t) h v x
+    compiled-table h v x = within-table state-limit kind events top table rule e values nexts n
+        (tables-of state-limit kind events top table rule nodes values₀ nexts₀ values nexts n d u w t) h v x

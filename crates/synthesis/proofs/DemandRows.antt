@@ -1,38 +1,29 @@
 -- Rows of demands: what a step of the walk that gathers makes of them, for each kind of node, and one more formula of the loop.
--- Assumes nothing.
-use mathlib.Core.Path.{_≡_, refl, sym, _∙_, ap, ap₂, subst}
-use mathlib.Core.List.{List, [], _∷_, map}
+use mathlib.Core.{Path.{_≡_, refl, sym, _∙_, ap, ap₂, subst}, List.{List, [], _∷_, map}}
 use Prim.Native.Nat.{ℕ, suc, _+_, _*_, _-_, _/_, _%_, _^_, _≤_, _<_}
-use native.Mathlib.Decide.{decLt, ℕ-discrete}
-use native.Mathlib.Numerals.{add-one}
-use native.Mathlib.Omega.{arith}
-use lib.Bits.{bitOr}
-use lib.ListN.{length, getD, set, length-set}
-use lib.Seq.{getD-set-other}
-use Rattle.theory.specs.Formula.{Formula, truth, variable, transition, output, conjunction, greatest, size, GuardedIn}
-use Rattle.theory.specs.Demands.{NodeSet}
+use native.Mathlib.{Decide.{decLt, ℕ-discrete}, Numerals.{add-one}, Omega.{arith}}
+use lib.{Bits.{bitOr}, ListN.{length, getD, set, length-set}, Seq.{getD-set-other}}
+use Rattle.limits.specs.Limits.{node-limit}
+use Rattle.theory.specs.{Formula.{Formula, truth, variable, transition, output, conjunction, greatest, size, GuardedIn}, Demands.{NodeSet}}
 use Rattle.theory.specs.DemandSets.{empty, union, only, demands}
 use Rattle.theory.proofs.NodeSets.{empty-union, swap-at, demands-swap}
-use Rattle.formulas.specs.NodeReading.{Reads}
-use Rattle.formulas.specs.NodeWalks.{field}
+use Rattle.formulas.specs.{NodeReading.{Reads}, NodeWalks.{field}}
 use Rattle.formulas.proofs.Walking.{size-positive}
-use Rattle.synthesis.specs.NodeWords.{row, WordsTo}
-use Rattle.synthesis.specs.NodeWalks.{Ends}
+use Rattle.synthesis.specs.{NodeWords.{row-words, row, WordsTo}, NodeWalks.{Ends}}
 use Rattle.synthesis.specs.DemandRows.{RowStored, AllBelow, UnguardedRows, Gathers, Gathered, RowsAt, RowsTo}
-use Rattle.synthesis.proofs.NodeWords.{set-insert, set-else}
-use Rattle.synthesis.proofs.NodeSetLaws.{binder-map}
+use Rattle.synthesis.proofs.{NodeWords.{set-insert, set-else}, NodeSetLaws.{binder-map}}
 use Rattle.synthesis.proofs.NodeWalks.{reads-at, binds-at, end-none, end-greatest, end-conjunction}
 
 -- Four words stored for a node.
 pub row-stored :
-    (f : ℕ → ℕ) (i : ℕ) (before after : List ℕ) (D : NodeSet) → length before ≡ 1028 → WordsTo f (i * 4) 4 before after →
+    (f : ℕ → ℕ) (i : ℕ) (before after : List ℕ) (D : NodeSet) → length before ≡ row-words → WordsTo f (i * 4) 4 before after →
     row after i ≡ D → RowStored before after i D
 row-stored f i before after D n s e =
     record { sized = s .sized ∙ n; here = e; others = λ j d. set-else before after i j (s .below) (s .above) d }
 
 -- A node inserted into its own row.
 pub row-inserted :
-    (i v : ℕ) (before l : List ℕ) → i < 256 → v ≡ 2 ^ (i % 64) → RowStored before l i empty →
+    (i v : ℕ) (before l : List ℕ) → i < node-limit → v ≡ 2 ^ (i % 64) → RowStored before l i empty →
     RowStored before (set l (i * 4 + i / 64) (bitOr (getD l (i * 4 + i / 64) 0) v)) i (only i)
 row-inserted i v before l h e old =
     let at : ℕ = i * 4 + i / 64 in
@@ -110,7 +101,7 @@ module _ (kinds b : List ℕ) (at left : ℕ) where
   abbrev kind-at : ℕ
   kind-at = field kinds at
 
-  pub gathered-none : left ≡ 0 → (rows : List ℕ) → length rows ≡ 1028 → Gathered kinds b at left rows rows at
+  pub gathered-none : left ≡ 0 → (rows : List ℕ) → length rows ≡ row-words → Gathered kinds b at left rows rows at
   gathered-none e rows n =
       record {
         low = omega arith;

@@ -1,21 +1,13 @@
 -- The loops over states: what one more candidate, one more entry and one more state do to what is kept.
--- Assumes nothing.
-use mathlib.Core.Path.{_≡_, refl, sym, _∙_, ap, ap₂, subst}
-use mathlib.Core.Bool.{Bool, true, false, _||_, cond, or-true}
-use mathlib.Core.List.{List, [], _∷_, _++_}
+use mathlib.Core.{Path.{_≡_, refl, sym, _∙_, ap, ap₂, subst}, Bool.{Bool, true, false, _||_, cond, or-true}, List.{List, [], _∷_, _++_}}
 use Prim.Native.Nat.{ℕ, zero, suc, _+_, _*_, _-_, _/_, _%_, _≤_, _<_}
-use native.Mathlib.Nat.{zero-mul, add-mul}
-use native.Mathlib.Decide.{decLt, ℕ-discrete}
-use native.Mathlib.Numerals.{add-one}
-use native.Mathlib.Omega.{arith}
+use native.Mathlib.{Nat.{zero-mul, add-mul}, Decide.{decLt, ℕ-discrete}, Numerals.{add-one}, Omega.{arith}}
 use borrow.Author.Tests.{lt-ltb, le-ltb}
-use lib.Arith.{digits-div, digits-mod}
-use lib.Dec.{T}
-use lib.ListN.{length, getD, set, length-append, List·getD-append}
+use lib.{Arith.{digits-div, digits-mod}, Dec.{T}, ListN.{length, getD, set, length-append, List·getD-append}}
 use lib.Seq.{getD-append-seam, getD-set-same, getD-set-other}
+use Rattle.limits.specs.Limits.{node-limit}
 use Rattle.theory.specs.Exploration.{reached, has-state, add, add-events, explore, index, bits, same-bits}
-use Rattle.theory.proofs.BitSets.{same-bits-iff}
-use Rattle.theory.proofs.Exploration.{add-grows}
+use Rattle.theory.proofs.{BitSets.{same-bits-iff}, Exploration.{add-grows}}
 use Rattle.synthesis.specs.NodeWords.{set-at, bits-at, Stored}
 use Rattle.synthesis.specs.Exploring.{stepped, next-bits, Found, state-of, events-to, Entry, Kept, Expanded, sequences}
 use Rattle.synthesis.proofs.NodeWords.{member-bits-at, stored-there, stored-else, bits-of}
@@ -41,7 +33,7 @@ pub step-bits :
     bits-at from 0 ≡ next-bits kinds firsts rows n (bits-at states base) e
 unfolding bits-at next-bits
 step-bits kinds firsts rows states from n base e h =
-    ap (bits 256 0) (h ∙ ap (λ D. stepped kinds firsts rows n D e) (sym (member-bits-at states base)))
+    ap (bits node-limit 0) (h ∙ ap (λ D. stepped kinds firsts rows n D e) (sym (member-bits-at states base)))
 
 module _ (next : List Bool → ℕ → List Bool) (start : List Bool) where
   abbrev Seqs : Type 0

@@ -1,29 +1,16 @@
 -- From what the walks and loops answer to the formula's table.
--- Assumes nothing.
-use mathlib.Core.Path.{_≡_, refl, sym, _∙_, ap, ap₂, subst, fun-ext}
-use mathlib.Core.Bool.{Bool}
-use mathlib.Core.List.{List, []}
-use Prim.Native.Nat.{ℕ, _*_, _-_, _/_, _%_, _<_, _≤_}
+use mathlib.Core.{Path.{_≡_, refl, sym, _∙_, ap, ap₂, subst, fun-ext}, Bool.{Bool}, List.{List, []}}
+use Prim.Native.Nat.{ℕ, _*_, _/_, _%_, _<_, _≤_}
 use native.Mathlib.Omega.{arith}
 use lib.ListN.{length}
-use Rattle.theory.specs.Formula.{Formula, size, Closed, Guarded}
-use Rattle.theory.specs.MealyMachine.{Machine}
-use Rattle.theory.specs.Demands.{value-of-set}
+use Rattle.limits.specs.Limits.{node-limit}
+use Rattle.theory.specs.{Formula.{Formula, size, Closed, Guarded}, MealyMachine.{Machine}, Demands.{value-of-set}}
 use Rattle.theory.specs.Exploration.{explored, numbered, member, bits, same-bits, bit-machine, first-bits}
-use Rattle.formulas.specs.NodeReading.{Reads}
-use Rattle.synthesis.specs.NodeWords.{set-at, bits-at}
-use Rattle.formulas.specs.NodeWalks.{field}
-use Rattle.synthesis.specs.NodeWalks.{Binds}
-use Rattle.synthesis.specs.Binding.{AllBound}
-use Rattle.synthesis.specs.DemandRows.{RowsTo}
-use Rattle.synthesis.specs.Exploring.{next-bits, Unchanged, Kept, Counted, sequences}
-use Rattle.synthesis.specs.TableEntries.{state-value, EntriesTo}
-use Rattle.synthesis.specs.FormulaTable.{formula-states, formula-table}
-use Rattle.synthesis.specs.MadeTable.{Tabled, Tables}
-use Rattle.synthesis.proofs.NodeWords.{member-bits-at}
-use Rattle.synthesis.proofs.DemandRows.{unguarded-row}
-use Rattle.synthesis.proofs.Stepping.{stepped-moved}
-use Rattle.synthesis.proofs.TableEntries.{value-from}
+use Rattle.formulas.specs.{NodeReading.{Reads}, NodeWalks.{field}}
+use Rattle.synthesis.specs.{NodeWords.{set-at, bits-at}, NodeWalks.{Binds}, Binding.{AllBound}, DemandRows.{RowsTo}}
+use Rattle.synthesis.specs.{Exploring.{next-bits, Unchanged, Kept, Counted, sequences}, TableEntries.{state-value, EntriesTo}}
+use Rattle.synthesis.specs.{FormulaTable.{formula-states, formula-table}, MadeTable.{Tabled, Tables}}
+use Rattle.synthesis.proofs.{NodeWords.{member-bits-at}, DemandRows.{unguarded-row}, Stepping.{stepped-moved}, TableEntries.{value-from}}
 
 -- What the parts of the code answer, for some count of nodes.
 pub record Parts (kinds firsts fields stack b rows states : List ℕ) (meet : ℕ → ℕ → ℕ) (top events limit n : ℕ)
@@ -51,26 +38,26 @@ module _ (kinds firsts fields stack b rows states : List ℕ) (meet : ℕ → �
   abbrev start : List Bool
   start = bits-at rows 0
 
-  next-is : next ≡ bit-machine 256 meet top φ .next
+  next-is : next ≡ bit-machine node-limit meet top φ .next
   unfolding next-bits
   next-is =
       fun-ext λ L. fun-ext λ e.
-      ap (bits 256 0) (stepped-moved kinds firsts b rows (field fields) φ (p .filled) d guarded binds (member L) e)
+      ap (bits node-limit 0) (stepped-moved kinds firsts b rows (field fields) φ (p .filled) d guarded binds (member L) e)
 
-  start-is : start ≡ first-bits 256 meet top φ
+  start-is : start ≡ first-bits node-limit meet top φ
   unfolding bits-at
   start-is =
-      ap (bits 256 0)
+      ap (bits node-limit 0)
       (unguarded-row rows [] 0 φ (p .filled .root (field firsts) (field fields) φ [] d (omega arith) guarded binds tt))
 
   abbrev m : Machine (List Bool) ℕ
-  m = record { value = bit-machine 256 meet top φ .value; next = next }
+  m = record { value = bit-machine node-limit meet top φ .value; next = next }
 
   table-is : numbered same-bits m start (sequences next start events limit) ≡ formula-table meet top φ events limit
   unfolding sequences formula-table
   table-is =
       ap₂ (λ (h : List Bool → ℕ → List Bool) (x : List Bool).
-      numbered same-bits (record { value = bit-machine 256 meet top φ .value; next = h }) x (explored same-bits h x events limit))
+      numbered same-bits (record { value = bit-machine node-limit meet top φ .value; next = h }) x (explored same-bits h x events limit))
       next-is start-is
 
   length-is : length (sequences next start events limit) ≡ formula-states meet top φ events limit

@@ -1,34 +1,21 @@
 -- The rows that the compiler keeps are the nodes' demands, and every next state is a union of them (document 02, F-3).
--- Assumes nothing.
-use mathlib.Core.Path.{_≡_, refl, _∙_, ap, ap₂, subst, subst⁻¹}
-use mathlib.Core.Logic.{_↔_}
-use mathlib.Core.Option.{none}
-use mathlib.Core.List.{List, [], _∷_, map}
+use mathlib.Core.{Path.{_≡_, refl, _∙_, ap, ap₂, subst, subst⁻¹}, Logic.{_↔_}, Option.{none}, List.{List, [], _∷_, map}}
 use Prim.Native.Nat.{ℕ, suc, _+_, _≤_}
 use native.Mathlib.Omega.{arith}
 use lib.Dec.{T}
-use Rattle.theory.specs.ValueSets.{Below}
+use Rattle.limits.specs.Limits.{node-limit}
+use Rattle.values.specs.ValueKind.{ValueIn}
 use Rattle.theory.specs.Formula.{Formula, transition, greatest, size, Guarded}
-use Rattle.theory.specs.PrefixCode.{Stands, root, part-of-transition, left-part, right-part, part-of-greatest}
-use Rattle.theory.specs.Demands.{NodeSet, Demands}
+use Rattle.theory.specs.{PrefixCode.{Stands, root, part-of-transition, left-part, right-part, part-of-greatest}, Demands.{NodeSet, Demands}}
 use Rattle.theory.specs.DemandSets.{demands, moved}
-use Rattle.theory.proofs.Binders.{binder-demands}
-use Rattle.theory.proofs.Demands.{demands-iff, is-next-set}
-use Rattle.theory.proofs.Claims.{grammar}
-use Rattle.formulas.specs.NodeArrays.{decoded}
-use Rattle.formulas.specs.NodeReading.{Reads}
-use Rattle.formulas.specs.NodeWalks.{field}
-use Rattle.formulas.specs.RuleRefusal.{rule-refusal, formula-of}
+use Rattle.theory.proofs.{Binders.{binder-demands}, Demands.{demands-iff, is-next-set}, Claims.{grammar}}
+use Rattle.values.specs.declared.ValueKind.{ValueKind}
+use Rattle.formulas.specs.{NodeArrays.{decoded}, NodeReading.{Reads}, NodeWalks.{field}, RuleRefusal.{rule-refusal, formula-of}}
 use Rattle.formulas.specs.Claims.{AcceptedFormula}
 use Rattle.formulas.proofs.RuleClaims.{accepted-formula-of, decoded-reads}
-use Rattle.synthesis.specs.NodeWords.{row}
-use Rattle.synthesis.specs.NodeWalks.{Binds}
-use Rattle.synthesis.specs.Binding.{AllBound}
-use Rattle.synthesis.specs.DemandRows.{AllBelow, UnguardedRows, RowsTo}
-use Rattle.synthesis.specs.Exploring.{stepped}
-use Rattle.synthesis.specs.KeptDemands.{KeptRows, KeptDemandsClaim, KeptUnionClaim}
-use Rattle.synthesis.proofs.DemandRows.{below-later, unguarded-row}
-use Rattle.synthesis.proofs.Stepping.{stepped-moved}
+use Rattle.synthesis.specs.{NodeWords.{row}, NodeWalks.{Binds}, Binding.{AllBound}, DemandRows.{AllBelow, UnguardedRows, RowsTo}}
+use Rattle.synthesis.specs.{Exploring.{stepped}, KeptDemands.{KeptRows, KeptDemandsClaim, KeptUnionClaim}}
+use Rattle.synthesis.proofs.{DemandRows.{below-later, unguarded-row}, Stepping.{stepped-moved}}
 
 module _ (kinds firsts b rows : List ℕ) (value : ℕ → ℕ) (φ : Formula ℕ) (filled : RowsTo kinds b (size φ) rows (size φ))
     (read : Reads (field kinds) (field firsts) value 0 φ) (guarded : Guarded φ) (bound : Binds (field b) [] 0 φ) where
@@ -60,7 +47,8 @@ module _ (kinds firsts b rows : List ℕ) (value : ℕ → ℕ) (φ : Formula �
         guards = p .guards;
         binds = p .binds;
         below = o;
-        rows-there = filled .parts i (omega (arith, p .fits)) (p .reads .0) (field firsts) value ψ bs (p .reads .2) (omega (arith, p .fits)) (p .guards) (p .binds) o;
+        rows-there = filled .parts i (omega (arith, p .fits)) (p .reads .0) (field firsts) value ψ bs (p .reads .2) (omega (arith, p .fits)) (p .guards)
+            (p .binds) o;
       }
   part (left-part {i = i} {bs = bs} s) =
       let p = part s in
@@ -120,45 +108,45 @@ module _ (kinds firsts b rows : List ℕ) (value : ℕ → ℕ) (φ : Formula �
       )
 
 -- The nodes of a rule that 5 to 9 let through.
-module _ (events values : ℕ) (rule stack binders rows : List ℕ) (ok : rule-refusal events values rule ≡ none)
-    (k : KeptRows rule stack binders rows) where
+module _ (events : ℕ) (kind : ValueKind) (rule stack binders rows : List ℕ) (ok : rule-refusal events kind rule ≡ none)
+    (k : KeptRows kind rule stack binders rows) where
   abbrev φ₀ : Formula ℕ
-  φ₀ = formula-of rule
+  φ₀ = formula-of kind rule
 
-  abbrev there : AcceptedFormula events values rule φ₀
-  there = accepted-formula-of events values rule ok
+  abbrev there : AcceptedFormula events kind rule φ₀
+  there = accepted-formula-of events kind rule ok
 
-  counted : decoded rule .count ≡ size φ₀
-  counted = decoded-reads rule φ₀ (there .written) (there .accepted .within) .counted
+  counted : decoded kind rule .count ≡ size φ₀
+  counted = decoded-reads kind rule φ₀ (there .written) (there .accepted .within) .counted
 
-  reads₀ : Reads (field (decoded rule .kinds)) (field (decoded rule .firsts)) (field (decoded rule .values)) 0 φ₀
-  reads₀ = decoded-reads rule φ₀ (there .written) (there .accepted .within) .reads
+  reads₀ : Reads (field (decoded kind rule .kinds)) (field (decoded kind rule .firsts)) (field (decoded kind rule .values)) 0 φ₀
+  reads₀ = decoded-reads kind rule φ₀ (there .written) (there .accepted .within) .reads
 
   guarded₀ : Guarded φ₀
-  guarded₀ = grammar ℕ 256 events (Below values) φ₀ (there .accepted) .guarded
+  guarded₀ = grammar ℕ node-limit events (ValueIn kind) φ₀ (there .accepted) .guarded
 
-  filled₀ : RowsTo (decoded rule .kinds) binders (size φ₀) rows (size φ₀)
-  filled₀ = subst (λ n. RowsTo (decoded rule .kinds) binders n rows n) counted (k .filled)
+  filled₀ : RowsTo (decoded kind rule .kinds) binders (size φ₀) rows (size φ₀)
+  filled₀ = subst (λ n. RowsTo (decoded kind rule .kinds) binders n rows n) counted (k .filled)
 
   binds₀ : Binds (field binders) [] 0 φ₀
   unfolding AllBound
   binds₀ =
-      k .bound (field (decoded rule .values)) φ₀ [] reads₀ (omega (arith, counted)) (there .accepted .closed)
+      k .bound (field (decoded kind rule .values)) φ₀ [] reads₀ (omega (arith, counted)) (there .accepted .closed)
       (record { deep = refl; at = λ k h. absurd (omega arith) })
 
   kept₀ : (i : ℕ) (bs : List ℕ) (ψ : Formula ℕ) → Stands φ₀ i bs ψ → (d : ℕ) → T (row rows i d) ↔ Demands φ₀ i d
   kept₀ i bs ψ s d =
-      kept (decoded rule .kinds) (decoded rule .firsts) binders rows (field (decoded rule .values)) φ₀ filled₀ reads₀ guarded₀ binds₀ s d
+      kept (decoded kind rule .kinds) (decoded kind rule .firsts) binders rows (field (decoded kind rule .values)) φ₀ filled₀ reads₀ guarded₀ binds₀ s d
 
 pub kept-demands : KeptDemandsClaim
-kept-demands events values rule stack binders rows ok k = kept₀ events values rule stack binders rows ok k
+kept-demands events kind rule stack binders rows ok k = kept₀ events kind rule stack binders rows ok k
 
 pub kept-union : KeptUnionClaim
-kept-union events values rule stack binders rows ok k D e d =
+kept-union events kind rule stack binders rows ok k D e d =
     subst⁻¹
-    (λ n. T (stepped (decoded rule .kinds) (decoded rule .firsts) rows n D e d)
-    ↔ ((i : ℕ) × (bs : List ℕ) × (ψ : Formula ℕ) × T (D i) × Stands (formula-of rule) i bs (transition e ψ) × T (row rows (suc i) d)))
-    (counted events values rule stack binders rows ok k)
-    (united (decoded rule .kinds) (decoded rule .firsts) binders rows (field (decoded rule .values)) (formula-of rule)
-    (filled₀ events values rule stack binders rows ok k) (reads₀ events values rule stack binders rows ok k)
-    (guarded₀ events values rule stack binders rows ok k) (binds₀ events values rule stack binders rows ok k) D e d)
+    (λ n. T (stepped (decoded kind rule .kinds) (decoded kind rule .firsts) rows n D e d)
+    ↔ ((i : ℕ) × (bs : List ℕ) × (ψ : Formula ℕ) × T (D i) × Stands (formula-of kind rule) i bs (transition e ψ) × T (row rows (suc i) d)))
+    (counted events kind rule stack binders rows ok k)
+    (united (decoded kind rule .kinds) (decoded kind rule .firsts) binders rows (field (decoded kind rule .values)) (formula-of kind rule)
+    (filled₀ events kind rule stack binders rows ok k) (reads₀ events kind rule stack binders rows ok k)
+    (guarded₀ events kind rule stack binders rows ok k) (binds₀ events kind rule stack binders rows ok k) D e d)

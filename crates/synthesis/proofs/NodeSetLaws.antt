@@ -1,13 +1,9 @@
 -- Laws of sets of nodes, beside the theory's.
--- Assumes nothing.
-use mathlib.Core.Path.{_≡_, refl, fun-ext}
-use mathlib.Core.Bool.{or-assoc}
-use mathlib.Core.List.{List, [], _∷_, map}
+use mathlib.Core.{Path.{_≡_, refl, fun-ext}, Bool.{or-assoc}, List.{List, [], _∷_, map}}
 use Prim.Native.Nat.{ℕ, zero, suc, _<_}
 use native.Mathlib.Omega.{arith}
 use lib.ListN.{length, getD}
-use Rattle.theory.specs.Demands.{NodeSet}
-use Rattle.theory.specs.DemandSets.{union, binder-set}
+use Rattle.theory.specs.{Demands.{NodeSet}, DemandSets.{union, binder-set}}
 
 pub union-assoc : (C D E : NodeSet) → union (union C D) E ≡ union C (union D E)
 unfolding union

@@ -1,17 +1,11 @@
 -- One step of a walk over nodes, for each kind of node.
--- Assumes nothing.
-use mathlib.Core.Path.{_≡_, refl, sym, subst}
-use mathlib.Core.List.{List}
+use mathlib.Core.{Path.{_≡_, refl, sym, subst}, List.{List}}
 use Prim.Native.Nat.{ℕ, suc, _+_, _-_, _<_}
-use native.Mathlib.Decide.{ℕ-discrete}
-use native.Mathlib.Numerals.{add-one}
-use native.Mathlib.Omega.{arith}
-use lib.ListN.{length, getD, set}
-use lib.Seq.{getD-set-same, getD-set-other}
+use native.Mathlib.{Decide.{ℕ-discrete}, Numerals.{add-one}, Omega.{arith}}
+use lib.{ListN.{length, getD, set}, Seq.{getD-set-same, getD-set-other}}
 use Rattle.theory.specs.Formula.{Formula, truth, variable, transition, output, conjunction, greatest, size}
-use Rattle.formulas.specs.NodeReading.{Reads}
+use Rattle.formulas.specs.{NodeReading.{Reads}, NodeWalks.{field}}
 use Rattle.formulas.proofs.Walking.{size-positive}
-use Rattle.formulas.specs.NodeWalks.{field}
 use Rattle.synthesis.specs.NodeWalks.{Ends, Walked, EndsFrom, EndsHere, Binds}
 
 pub reads-at :
@@ -109,7 +103,8 @@ module _ (kinds ends : List ℕ) (at : ℕ) where
       record {
         low = omega (arith, w .low, v .low);
         high = omega (arith, w .high, v .high);
-        end = end-conjunction kinds at (total - at) next-end (getD ends next-end 0) (w .end) (subst (λ n. Ends kinds next-end n (getD ends next-end 0)) e (v .end)) g;
+        end = end-conjunction kinds at (total - at) next-end (getD ends next-end 0) (w .end)
+            (subst (λ n. Ends kinds next-end n (getD ends next-end 0)) e (v .end)) g;
       }
 
 -- At a transition of the nodes that are left.

@@ -1,44 +1,34 @@
 -- Sets of nodes in words: what a store, an inserted node and a union make of them, and that equal sets have equal words.
--- Assumes nothing.
-use mathlib.Core.Path.{_≡_, refl, sym, _∙_, ap, ap₂, fun-ext}
-use mathlib.Core.Bool.{true, false, _||_, _&&_, or-false}
-use mathlib.Core.List.{List}
+use mathlib.Core.{Path.{_≡_, refl, sym, _∙_, ap, ap₂, fun-ext}, Bool.{true, false, _||_, _&&_, or-false}, List.{List}}
 use Prim.Native.Nat.{ℕ, _+_, _*_, _-_, _/_, _%_, _^_, _≤_, _<_}
-use native.Mathlib.Nat.{div-add-mod'}
-use native.Mathlib.Decide.{decLt, ℕ-discrete}
-use native.Mathlib.Omega.{arith}
-use borrow.Author.Count.{below-more}
-use borrow.Author.Tests.{lt-ltb, le-ltb, eq-eqb, ne-eqb}
-use lib.Arith.{digits-div, digits-mod}
-use lib.Bits.{bitOr}
-use lib.Dec.{eqb}
-use lib.ListN.{length, getD, set, length-set}
-use lib.Seq.{getD-set-same, getD-set-other}
-use Rattle.theory.specs.DemandSets.{empty, union, only}
-use Rattle.theory.specs.Exploration.{member, bits}
+use native.Mathlib.{Nat.{div-add-mod'}, Decide.{decLt, ℕ-discrete}, Omega.{arith}}
+use borrow.Author.{Count.{below-more}, Tests.{lt-ltb, le-ltb, eq-eqb, ne-eqb}}
+use lib.{Arith.{digits-div, digits-mod}, Bits.{bitOr}, Dec.{eqb}, ListN.{length, getD, set, length-set}, Seq.{getD-set-same, getD-set-other}}
+use Rattle.limits.specs.Limits.{node-limit}
+use Rattle.theory.specs.{DemandSets.{empty, union, only}, Exploration.{member, bits}}
 use Rattle.theory.proofs.BitSets.{member-bits}
 use Rattle.synthesis.specs.NodeWords.{bit-at, set-at, row, bits-at, WordsTo, Stored, FirstBit, LastBit}
 use Rattle.synthesis.proofs.Bits.{or-bit, power-bit, zero-bit, same-number}
 
-pub in-words : (l : List ℕ) (b j : ℕ) → j < 256 → set-at l b j ≡ eqb (bit-at (getD l (b + j / 64) 0) (j % 64)) 1
+pub in-words : (l : List ℕ) (b j : ℕ) → j < node-limit → set-at l b j ≡ eqb (bit-at (getD l (b + j / 64) 0) (j % 64)) 1
 unfolding set-at
-in-words l b j h = ap (λ t. t && eqb (bit-at (getD l (b + j / 64) 0) (j % 64)) 1) (lt-ltb j 256 h)
+in-words l b j h = ap (λ t. t && eqb (bit-at (getD l (b + j / 64) 0) (j % 64)) 1) (lt-ltb j node-limit h)
 
-pub past-words : (l : List ℕ) (b j : ℕ) → 256 ≤ j → set-at l b j ≡ false
+pub past-words : (l : List ℕ) (b j : ℕ) → node-limit ≤ j → set-at l b j ≡ false
 unfolding set-at
-past-words l b j h = ap (λ t. t && eqb (bit-at (getD l (b + j / 64) 0) (j % 64)) 1) (le-ltb j 256 h)
+past-words l b j h = ap (λ t. t && eqb (bit-at (getD l (b + j / 64) 0) (j % 64)) 1) (le-ltb j node-limit h)
 
 -- A node's bit is set in its word.
 pub set-insert :
-    (l : List ℕ) (b k : ℕ) → k < 256 → b + 4 ≤ length l →
+    (l : List ℕ) (b k : ℕ) → k < node-limit → b + 4 ≤ length l →
     set-at (set l (b + k / 64) (bitOr (getD l (b + k / 64) 0) (2 ^ (k % 64)))) b ≡ union (set-at l b) (only k)
 unfolding union only
-set-insert l b k h n = fun-ext λ j. go j (decLt j 256)
+set-insert l b k h n = fun-ext λ j. go j (decLt j node-limit)
   where
     l′ : List ℕ
     l′ = set l (b + k / 64) (bitOr (getD l (b + k / 64) 0) (2 ^ (k % 64)))
 
-    inside : (j : ℕ) → j < 256 → Dec (j / 64 ≡ k / 64) → set-at l′ b j ≡ set-at l b j || eqb k j
+    inside : (j : ℕ) → j < node-limit → Dec (j / 64 ≡ k / 64) → set-at l′ b j ≡ set-at l b j || eqb k j
     inside j u (yes e) =
         let z : b + j / 64 ≡ b + k / 64 = omega (arith, e) in
         in-words l′ b j u
@@ -63,7 +53,7 @@ set-insert l b k h n = fun-ext λ j. go j (decLt j 256)
         ∙ sym (or-false (set-at l b j))
         ∙ ap (λ t. set-at l b j || t) (sym (ne-eqb k j (λ q. e (ap (λ x. x / 64) (sym q)))))
 
-    go : (j : ℕ) → Dec (j < 256) → set-at l′ b j ≡ set-at l b j || eqb k j
+    go : (j : ℕ) → Dec (j < node-limit) → set-at l′ b j ≡ set-at l b j || eqb k j
     go j (yes u) = inside j u (ℕ-discrete (j / 64) (k / 64))
     go j (no u) =
         past-words l′ b j (omega arith)
@@ -75,9 +65,9 @@ pub set-unite :
     ((w : ℕ) → w < 4 → getD after (to + w) 0 ≡ bitOr (getD before (from + w) 0) (getD rows (base + w) 0)) →
     set-at after to ≡ union (set-at before from) (set-at rows base)
 unfolding union
-set-unite after before rows to from base f = fun-ext λ j. go j (decLt j 256)
+set-unite after before rows to from base f = fun-ext λ j. go j (decLt j node-limit)
   where
-    go : (j : ℕ) → Dec (j < 256) → set-at after to j ≡ set-at before from j || set-at rows base j
+    go : (j : ℕ) → Dec (j < node-limit) → set-at after to j ≡ set-at before from j || set-at rows base j
     go j (yes u) =
         in-words after to j u
         ∙ ap (λ x. eqb (bit-at x (j % 64)) 1) (f (j / 64) (omega arith))
@@ -90,9 +80,9 @@ set-unite after before rows to from base f = fun-ext λ j. go j (decLt j 256)
 -- Equal words, equal sets.
 pub set-same :
     (l m : List ℕ) (b c : ℕ) → ((w : ℕ) → w < 4 → getD l (b + w) 0 ≡ getD m (c + w) 0) → set-at l b ≡ set-at m c
-set-same l m b c f = fun-ext λ j. go j (decLt j 256)
+set-same l m b c f = fun-ext λ j. go j (decLt j node-limit)
   where
-    go : (j : ℕ) → Dec (j < 256) → set-at l b j ≡ set-at m c j
+    go : (j : ℕ) → Dec (j < node-limit) → set-at l b j ≡ set-at m c j
     go j (yes u) =
         in-words l b j u ∙ ap (λ x. eqb (bit-at x (j % 64)) 1) (f (j / 64) (omega arith)) ∙ sym (in-words m c j u)
     go j (no u) = past-words l b j (omega arith) ∙ sym (past-words m c j (omega arith))
@@ -100,16 +90,16 @@ set-same l m b c f = fun-ext λ j. go j (decLt j 256)
 -- Words of zeros are the empty set.
 pub no-words : (l : List ℕ) (base : ℕ) → ((w : ℕ) → w < 4 → getD l (base + w) 0 ≡ 0) → set-at l base ≡ empty
 unfolding empty
-no-words l base f = fun-ext λ j. go j (decLt j 256)
+no-words l base f = fun-ext λ j. go j (decLt j node-limit)
   where
-    go : (j : ℕ) → Dec (j < 256) → set-at l base j ≡ false
+    go : (j : ℕ) → Dec (j < node-limit) → set-at l base j ≡ false
     go j (yes u) =
         in-words l base j u ∙ ap (λ x. eqb (bit-at x (j % 64)) 1) (f (j / 64) (omega arith)) ∙ zero-bit (j % 64)
     go j (no u) = past-words l base j (omega arith)
 
 -- A node of the word that node k is in: k stands at k % 64 in it, and j at i.
 in-word :
-    (l : List ℕ) (b k j i v : ℕ) → k < 256 → j ≡ k / 64 * 64 + i → i < 64 → bit-at (getD l (b + k / 64) 0) i ≡ v →
+    (l : List ℕ) (b k j i v : ℕ) → k < node-limit → j ≡ k / 64 * 64 + i → i < 64 → bit-at (getD l (b + k / 64) 0) i ≡ v →
     set-at l b j ≡ eqb v 1
 in-word l b k j i v h e u q =
     let d : j / 64 ≡ k / 64 = omega arith in
@@ -119,7 +109,7 @@ in-word l b k j i v h e u q =
     ∙ ap (λ x. eqb x 1) q
 
 -- From node k on: the first set bit of its word.
-module _ (l : List ℕ) (b k bit : ℕ) (small : k < 256) (found : FirstBit (getD l (b + k / 64) 0) (k % 64) bit) where
+module _ (l : List ℕ) (b k bit : ℕ) (small : k < node-limit) (found : FirstBit (getD l (b + k / 64) 0) (k % 64) bit) where
   word-before : (j : ℕ) → k ≤ j → j < k / 64 * 64 + bit → set-at l b j ≡ false
   word-before j h u =
       in-word l b k j (j % 64) 0 small (omega (arith, found .high)) (omega arith)
@@ -139,7 +129,7 @@ module _ (l : List ℕ) (b k bit : ℕ) (small : k < 256) (found : FirstBit (get
   word-here h = in-word l b k (k / 64 * 64 + bit) bit 1 small refl h (found .here h)
 
 -- Down from node k: the last set bit of its word.
-module _ (l : List ℕ) (b k bit : ℕ) (small : k < 256) (found : LastBit (getD l (b + k / 64) 0) (k % 64) bit) where
+module _ (l : List ℕ) (b k bit : ℕ) (small : k < node-limit) (found : LastBit (getD l (b + k / 64) 0) (k % 64) bit) where
   word-after : (j : ℕ) → k / 64 * 64 + bit ≤ j → j ≤ k → set-at l b j ≡ false
   word-after j h u =
       in-word l b k j (j % 64) 0 small (omega arith) (omega arith) (found .after (j % 64) (omega arith) (omega arith))
@@ -150,7 +140,7 @@ module _ (l : List ℕ) (b k bit : ℕ) (small : k < 256) (found : LastBit (getD
 
 -- The nodes from it on are not in the set, where those from `node` on are not.
 pub word-left :
-    (l : List ℕ) (b node bit end : ℕ) → 0 < node → node ≤ 256 → LastBit (getD l (b + (node - 1) / 64) 0) ((node - 1) % 64) bit →
+    (l : List ℕ) (b node bit end : ℕ) → 0 < node → node ≤ node-limit → LastBit (getD l (b + (node - 1) / 64) 0) ((node - 1) % 64) bit →
     ((j : ℕ) → node ≤ j → j < end → set-at l b j ≡ false) →
     (j : ℕ) → (node - 1) / 64 * 64 + bit ≤ j → j < end → set-at l b j ≡ false
 word-left l b node bit end some small found f j h u = go (decLt j node)
@@ -212,12 +202,12 @@ stored-else before after from i j h d = set-else before after i j (h .below) (h 
 -- The members of the bits are the set's.
 pub member-bits-at : (words : List ℕ) (base : ℕ) → member (bits-at words base) ≡ set-at words base
 unfolding bits-at
-member-bits-at words base = member-bits 256 (set-at words base) (λ j h. past-words words base j h)
+member-bits-at words base = member-bits node-limit (set-at words base) (λ j h. past-words words base j h)
 
 -- Equal sets, equal bits; equal bits, equal words.
 pub bits-of : (l m : List ℕ) (b c : ℕ) → set-at l b ≡ set-at m c → bits-at l b ≡ bits-at m c
 unfolding bits-at
-bits-of l m b c e = ap (bits 256 0) e
+bits-of l m b c e = ap (bits node-limit 0) e
 
 pub bits-words :
     (l m : List ℕ) (b c : ℕ) → bits-at l b ≡ bits-at m c → (w : ℕ) → w < 4 → getD l (b + w) 0 < 2 ^ 64 →

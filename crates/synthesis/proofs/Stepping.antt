@@ -1,22 +1,14 @@
 -- The next set, node by node from the rows, is the next set of the formula's machine.
--- Assumes nothing.
-use mathlib.Core.Path.{_≡_, refl, sym, _∙_, ap, ap₂, subst, fun-ext}
-use mathlib.Core.Bool.{Bool, true, false, _||_, _&&_, cond, or-false, or-assoc, and-false}
+use mathlib.Core.{Path.{_≡_, refl, sym, _∙_, ap, ap₂, subst, fun-ext}, Bool.{Bool, true, false, _||_, _&&_, cond, or-false, or-assoc, and-false}}
 use mathlib.Core.List.{List, [], _∷_, map}
 use Prim.Native.Nat.{ℕ, zero, suc, _+_, _-_, _≤_, _<_}
-use native.Mathlib.Numerals.{add-one}
-use native.Mathlib.Decide.{ℕ-discrete}
-use native.Mathlib.Omega.{arith}
+use native.Mathlib.{Numerals.{add-one}, Decide.{ℕ-discrete}, Omega.{arith}}
 use borrow.Author.Tests.{eq-eqb, ne-eqb}
 use lib.Dec.{eqb}
-use Rattle.theory.specs.Formula.{Formula, truth, variable, transition, output, conjunction, greatest, size, Guarded}
-use Rattle.theory.specs.Demands.{NodeSet}
+use Rattle.theory.specs.{Formula.{Formula, truth, variable, transition, output, conjunction, greatest, size, Guarded}, Demands.{NodeSet}}
 use Rattle.theory.specs.DemandSets.{empty, union, demands, moved}
-use Rattle.formulas.specs.NodeReading.{Reads}
-use Rattle.synthesis.specs.NodeWords.{row, United}
-use Rattle.formulas.specs.NodeWalks.{field}
-use Rattle.synthesis.specs.NodeWalks.{Binds}
-use Rattle.synthesis.specs.DemandRows.{AllBelow, UnguardedRows, RowsTo}
+use Rattle.formulas.specs.{NodeReading.{Reads}, NodeWalks.{field}}
+use Rattle.synthesis.specs.{NodeWords.{row, United}, NodeWalks.{Binds}, DemandRows.{AllBelow, UnguardedRows, RowsTo}}
 use Rattle.synthesis.specs.Exploring.{some-in, for-event, brings, stepped, Passed}
 use Rattle.synthesis.proofs.DemandRows.{below-later, unguarded-row}
 

@@ -1,25 +1,13 @@
 -- The value of a set, node by node, is the value of the set in the formula; the row of a state.
--- Assumes nothing.
-use mathlib.Core.Path.{_≡_, refl, sym, _∙_, ap, ap₂, subst}
-use mathlib.Core.Bool.{Bool, true, false, _&&_, cond, and-false}
-use mathlib.Core.List.{List, [], _∷_, _++_}
+use mathlib.Core.{Path.{_≡_, refl, sym, _∙_, ap, ap₂, subst}, Bool.{Bool, true, false, _&&_, cond, and-false}, List.{List, [], _∷_, _++_}}
 use Prim.Native.Nat.{ℕ, zero, suc, _+_, _*_, _-_, _/_, _%_, _≤_, _<_}
-use native.Mathlib.Decide.{ℕ-discrete}
-use native.Mathlib.Nat.{not-suc-le-zero}
-use native.Mathlib.Numerals.{add-one}
-use native.Mathlib.Omega.{arith}
-use lib.Arith.{digits-div, digits-mod}
+use native.Mathlib.{Decide.{ℕ-discrete}, Nat.{not-suc-le-zero}, Numerals.{add-one}, Omega.{arith}}
+use lib.{Arith.{digits-div, digits-mod}, Dec.{eqb, ltb}, ListN.{length, getD, set, length-set}, Seq.{getD-set-same, getD-set-other}}
 use borrow.Author.Tests.{eq-eqb, ne-eqb, ltb-true, ltb-false}
-use lib.Dec.{eqb, ltb}
-use lib.ListN.{length, getD, set, length-set}
-use lib.Seq.{getD-set-same, getD-set-other}
-use Rattle.theory.specs.Formula.{Formula, truth, variable, transition, output, conjunction, greatest, size}
-use Rattle.theory.specs.PrefixCode.{Node, nodes}
+use Rattle.theory.specs.{Formula.{Formula, truth, variable, transition, output, conjunction, greatest, size}, PrefixCode.{Node, nodes}}
 use Rattle.theory.specs.Demands.{NodeSet, outputs, meet-all, value-of-set}
-use Rattle.formulas.specs.NodeReading.{Reads}
-use Rattle.formulas.specs.NodeWalks.{field}
-use Rattle.synthesis.specs.Exploring.{for-event}
-use Rattle.synthesis.specs.TableEntries.{meet-from, EntriesTo, RowTo, OpenRow, Met}
+use Rattle.formulas.specs.{NodeReading.{Reads}, NodeWalks.{field}}
+use Rattle.synthesis.specs.{Exploring.{for-event}, TableEntries.{meet-from, EntriesTo, RowTo, OpenRow, Met}}
 use Rattle.synthesis.proofs.Stepping.{other-kind, same-kind}
 
 module _ (meet : ℕ → ℕ → ℕ) (top : ℕ) (kinds firsts values : List ℕ) (D : NodeSet) (e : ℕ) where

@@ -1,9 +1,9 @@
 -- The walk that gives each variable node its binder's node (document 01, "Table of a rule": X demands what its binder does).
--- Assumes nothing.
 use mathlib.Core.Path.{_≡_}
 use mathlib.Core.List.{List}
 use Prim.Native.Nat.{ℕ, _+_, _-_, _≤_, _<_}
 use lib.ListN.{length, getD}
+use Rattle.limits.specs.Limits.{node-limit}
 use Rattle.theory.specs.Formula.{Formula, size, FreeBelow}
 use Rattle.formulas.specs.NodeReading.{Reads}
 use Rattle.formulas.specs.NodeWalks.{field}
@@ -24,7 +24,7 @@ pub record Bound (kinds firsts : List ℕ) (at left depth : ℕ) (stack b stack�
   pub low : at ≤ r
   pub high : r ≤ at + left
   pub end : Ends kinds at left r
-  pub sizes : (length stack′ ≡ 256) × (length b′ ≡ 256)
+  pub sizes : (length stack′ ≡ node-limit) × (length b′ ≡ node-limit)
   pub below : (k : ℕ) → k < depth → getD stack′ k 0 ≡ getD stack k 0
   pub earlier : (i : ℕ) → i < at → getD b′ i 0 ≡ getD b i 0
   pub bound : AllBound kinds firsts at left depth stack b′

@@ -1,5 +1,4 @@
 -- What the two compilers answer: the computing twins of the conditions and claims in `Claims`.
--- Assumes nothing.
 use mathlib.Core.Path.{_≡_}
 use mathlib.Core.List.{List}
 use mathlib.Core.Option.{Option, none, some}
@@ -13,39 +12,28 @@ use Rattle.refusal.specs.declared.Counted.the-variants.{Count, Refused}
 use Rattle.refusal.specs.Refusal.{or-else, plain-unless, counted}
 use Rattle.refusal.specs.LentBuffers.{put-unless}
 use Rattle.values.specs.declared.ValueKind.{ValueKind}
-use Rattle.values.specs.declared.ValueKind.the-variants.{Numbered, Register}
 use Rattle.values.specs.ValueKind.{meetOf}
-use Rattle.values.specs.Setup.{Setup, events-test, setup-refusal}
+use Rattle.values.specs.Setup.{Setup, setup-top}
 use Rattle.formulas.specs.RuleRefusal.{rule-refusal, formula-of}
 use Rattle.formulas.specs.NodeArrays.{padded}
-use Rattle.machines.specs.TableBytes.{table-bytes, two-bytes}
+use Rattle.machines.specs.TableBytes.{table-bytes, entry-width, entry-bytes}
 use Rattle.synthesis.specs.declared.Compiled.{Compiled}
 use Rattle.synthesis.specs.FormulaTable.{formula-states, formula-table}
-
--- At most so many states, and the entries of so many states and events.
-abbrev pub state-limit : ℕ
-state-limit = 64
-
-abbrev pub entry-limit : ℕ
-entry-limit = 1024
-
--- The values that a rule may name: those of a numbered set are below its count, those of a register are numbers of 32 bits.
-unfoldable pub value-count : ValueKind → ℕ
-value-count (Numbered n) = n
-value-count Register = 4294967296
+use Rattle.values.specs.SetupTests.{events-test, setup-refusal}
+use Rattle.limits.specs.Limits.{entry-limit, state-limit}
 
 -- The rule in these bytes, over values of a kind with a meet table and top.
 module _ (kind : ValueKind) (events top : ℕ) (table rule : List ℕ) where
   -- Its count of states and its table, for a limit of states.
   abbrev pub rule-states : ℕ → ℕ
-  rule-states limit = formula-states (meetOf kind table) top (formula-of rule) events limit
+  rule-states limit = formula-states (meetOf kind table) top (formula-of kind rule) events limit
 
   abbrev pub rule-table : ℕ → Machine ℕ ℕ
-  rule-table limit = formula-table (meetOf kind table) top (formula-of rule) events limit
+  rule-table limit = formula-table (meetOf kind table) top (formula-of kind rule) events limit
 
   -- 5 to 10.
   unfoldable pub rule-table-refusal : ℕ → Option Refusal
-  rule-table-refusal limit = or-else (rule-refusal events (value-count kind) rule) (plain-unless (leb (rule-states limit) limit) 10)
+  rule-table-refusal limit = or-else (rule-refusal events kind rule) (plain-unless (leb (rule-states limit) limit) 10)
 
   -- 1, then 5 to 10.
   unfoldable pub compile-rule-refusal : ℕ → Option Refusal
@@ -89,21 +77,21 @@ pub record Made (c : Compiled) (verdict : Counted) (values nexts : List ℕ) : T
   pub answer : verdict ≡ c .verdict
   pub entries : (n : ℕ) → verdict ≡ Count n → (values ≡ c .values) × (nexts ≡ c .nexts)
 
--- The answer of `compile` for a set-up, a rule and what the lent buffer held.
+-- The answer of `compile` for a set-up of either kind, a rule and what the lent buffer held.
 module _ (limit : ℕ) (s : Setup) (rule old : List ℕ) where
   abbrev pub setup-states : ℕ
-  setup-states = rule-states (Numbered (s .values)) (s .events) (s .top) (s .meet) rule limit
+  setup-states = rule-states (s .kind) (s .events) (setup-top s) (s .meet) rule limit
 
   abbrev pub setup-table : Machine ℕ ℕ
-  setup-table = rule-table (Numbered (s .values)) (s .events) (s .top) (s .meet) rule limit
+  setup-table = rule-table (s .kind) (s .events) (setup-top s) (s .meet) rule limit
 
-  -- 1 to 3, 5 to 10, 13.
+  -- 1 to 3, or 1 and 20; 5 to 10; 13.
   unfoldable pub compile-refusal : Option Refusal
   compile-refusal =
       or-else (setup-refusal s)
-      (or-else (rule-table-refusal (Numbered (s .values)) (s .events) (s .top) (s .meet) rule limit)
-      (plain-unless (leb (setup-states * s .events * 2) (length old)) 13))
+      (or-else (rule-table-refusal (s .kind) (s .events) (setup-top s) (s .meet) rule limit)
+      (plain-unless (leb (setup-states * s .events * entry-width (s .kind)) (length old)) 13))
 
   -- The buffer afterwards: the table's bytes, and what lies after them as it was; beside a refusal all as it was.
   unfoldable pub compile-contents : List ℕ
-  compile-contents = put-unless compile-refusal (table-bytes two-bytes (s .events) setup-table setup-states) old
+  compile-contents = put-unless compile-refusal (table-bytes (entry-bytes (s .kind)) (s .events) setup-table setup-states) old

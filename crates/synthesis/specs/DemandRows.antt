@@ -1,5 +1,4 @@
 -- Each node's demands, kept in rows (document 01, "Table of a rule": "the demands of a node").
--- Assumes nothing.
 use mathlib.Core.Path.{_≡_}
 use mathlib.Core.List.{List, [], _∷_, map}
 use Prim.Native.Nat.{ℕ, suc, _+_, _≤_, _<_}
@@ -9,12 +8,12 @@ use Rattle.theory.specs.Demands.{NodeSet}
 use Rattle.theory.specs.DemandSets.{demands}
 use Rattle.formulas.specs.NodeReading.{Reads}
 use Rattle.formulas.specs.NodeWalks.{field}
-use Rattle.synthesis.specs.NodeWords.{row}
+use Rattle.synthesis.specs.NodeWords.{row-words, row}
 use Rattle.synthesis.specs.NodeWalks.{Ends, Binds}
 
 -- The row of one node is D, and the others are as before.
 pub record RowStored (before after : List ℕ) (at : ℕ) (D : NodeSet) : Type 0 where
-  pub sized : length after ≡ 1028
+  pub sized : length after ≡ row-words
   pub here : row after at ≡ D
   pub others : (j : ℕ) → ¬ (j ≡ at) → row after j ≡ row before j
 
@@ -44,7 +43,7 @@ pub record Gathered (kinds b : List ℕ) (at left : ℕ) (before after : List �
   pub low : at ≤ r
   pub high : r ≤ at + left
   pub end : Ends kinds at left r
-  pub sized : length after ≡ 1028
+  pub sized : length after ≡ row-words
   pub below : (j : ℕ) → j < at → row after j ≡ row before j
   pub beyond : (j : ℕ) → r ≤ j → row after j ≡ row before j
   pub rows : Gathers kinds b at left before after

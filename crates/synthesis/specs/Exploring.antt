@@ -1,12 +1,12 @@
 -- The machine of the rows, node by node, its sets as bits; and what the loops over states keep (document 01, "Table of a rule": the
 -- states reached, and the next state of each).
--- Assumes nothing.
 use mathlib.Core.Path.{_≡_}
 use mathlib.Core.Bool.{Bool, false, _&&_, _||_, cond}
 use mathlib.Core.List.{List, [], _∷_}
 use Prim.Native.Nat.{ℕ, zero, suc, _+_, _*_, _/_, _%_, _≤_, _<_}
 use lib.Dec.{eqb}
 use lib.ListN.{length, getD}
+use Rattle.limits.specs.Limits.{node-limit, set-words}
 use Rattle.theory.specs.Demands.{NodeSet}
 use Rattle.theory.specs.DemandSets.{union}
 use Rattle.theory.specs.Exploration.{reached, add, explored, index, member, bits, same-bits}
@@ -41,13 +41,13 @@ abbrev pub NextSets : List ℕ → List ℕ → List ℕ → ℕ → NodeSet →
 NextSets kinds firsts rows n D events sets = (e : ℕ) → e < events → row sets e ≡ stepped kinds firsts rows n D e
 
 unfoldable pub next-bits : List ℕ → List ℕ → List ℕ → ℕ → List Bool → ℕ → List Bool
-next-bits kinds firsts rows n L e = bits 256 0 (stepped kinds firsts rows n (member L) e)
+next-bits kinds firsts rows n L e = bits node-limit 0 (stepped kinds firsts rows n (member L) e)
 
 -- The first of n states that is the set, or n.
 pub record Found (states : List ℕ) (n : ℕ) (set : List ℕ) (r : ℕ) : Type 0 where
   pub low : r ≤ n
-  pub before : (j : ℕ) → j < r → bits-at states (j * 4) ≡ bits-at set 0 → ⊥
-  pub here : r < n → bits-at states (r * 4) ≡ bits-at set 0
+  pub before : (j : ℕ) → j < r → bits-at states (j * set-words) ≡ bits-at set 0 → ⊥
+  pub here : r < n → bits-at states (r * set-words) ≡ bits-at set 0
 
 -- From m on the array is as before.
 abbrev pub Unchanged : ℕ → List ℕ → List ℕ → Type 0
@@ -73,7 +73,7 @@ module _ (next : List Bool → ℕ → List Bool) (start : List Bool) where
     -- The n states kept are those of the sequences, and the first m entries have their numbers.
     pub record Kept (P : List (List ℕ)) (n m : ℕ) (states nexts : List ℕ) : Type 0 where
       pub count : length P ≡ n
-      pub state : (j : ℕ) → j < n → bits-at states (j * 4) ≡ state-of (getD P j [])
+      pub state : (j : ℕ) → j < n → bits-at states (j * set-words) ≡ state-of (getD P j [])
       pub entry : (x : ℕ) → x < m → Entry P n nexts x
 
     -- n is the length where at most `limit` states are kept, and above the limit where there are more.

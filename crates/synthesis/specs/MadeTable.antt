@@ -1,5 +1,4 @@
 -- What the making of a table from nodes answers (document 01, "Table of a rule").
--- Assumes nothing.
 use mathlib.Core.Path.{_≡_}
 use mathlib.Core.List.{List}
 use Prim.Native.Nat.{ℕ, suc, _*_, _≤_, _<_}

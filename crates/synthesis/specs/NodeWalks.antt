@@ -1,5 +1,4 @@
 -- What the walks over nodes answer, for every formula whose nodes stand there.
--- Assumes nothing.
 use mathlib.Core.Path.{_≡_}
 use mathlib.Core.List.{List, _∷_}
 use Prim.Native.Nat.{ℕ, suc, _+_, _-_, _≤_, _<_}

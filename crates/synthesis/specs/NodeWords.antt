@@ -1,14 +1,21 @@
 -- Sets of node numbers in words of 64 bits, four words a set.
--- Assumes nothing.
 use mathlib.Core.Path.{_≡_}
 use mathlib.Core.Bool.{Bool, true, false, _&&_}
 use mathlib.Core.List.{List}
 use Prim.Native.Nat.{ℕ, _+_, _-_, _*_, _/_, _%_, _^_, _≤_, _<_}
 use lib.Dec.{ltb, eqb}
 use lib.ListN.{length, getD}
+use Rattle.limits.specs.Limits.{event-limit, node-limit, set-words}
 use Rattle.theory.specs.Demands.{NodeSet}
 use Rattle.theory.specs.DemandSets.{union}
 use Rattle.theory.specs.Exploration.{bits}
+
+-- The words of a row for each node and of an empty one, and of a next set for each event.
+abbrev pub row-words : ℕ
+row-words = (node-limit + 1) * set-words
+
+abbrev pub next-words : ℕ
+next-words = event-limit * set-words
 
 -- Bit k of a number.
 unfoldable pub bit-at : ℕ → ℕ → ℕ
@@ -16,15 +23,15 @@ bit-at a k = a / 2 ^ k % 2
 
 -- The set of the four words from base on: node k is bit k % 64 of word k / 64.
 unfoldable pub set-at : List ℕ → ℕ → NodeSet
-set-at words base k = ltb k 256 && eqb (bit-at (getD words (base + k / 64) 0) (k % 64)) 1
+set-at words base k = ltb k node-limit && eqb (bit-at (getD words (base + k / 64) 0) (k % 64)) 1
 
 -- The set kept for number i.
 abbrev pub row : List ℕ → ℕ → NodeSet
-row rows i = set-at rows (i * 4)
+row rows i = set-at rows (i * set-words)
 
 -- The set from base on as a list of bits.
 unfoldable pub bits-at : List ℕ → ℕ → List Bool
-bits-at words base = bits 256 0 (set-at words base)
+bits-at words base = bits node-limit 0 (set-at words base)
 
 -- The first m words from base on are those of f, and all others are as before.
 pub record WordsTo (f : ℕ → ℕ) (base m : ℕ) (before after : List ℕ) : Type 0 where
@@ -35,7 +42,7 @@ pub record WordsTo (f : ℕ → ℕ) (base m : ℕ) (before after : List ℕ) : 
 
 -- The four words from base on are those of a set, and the others are as before.
 abbrev pub Stored : List ℕ → List ℕ → ℕ → List ℕ → Type 0
-Stored before after base set = WordsTo (λ w. getD set w 0) base 4 before after
+Stored before after base set = WordsTo (λ w. getD set w 0) base set-words before after
 
 -- Set i of the sets has the members of D too, and the others are as before.
 pub record United (before after : List ℕ) (i : ℕ) (D : NodeSet) : Type 0 where

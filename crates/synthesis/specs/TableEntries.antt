@@ -1,6 +1,5 @@
 -- The value of a set on an event, node by node, and entries by state and then event (document 01, "Table of a rule": "the meet of the
 -- O values for that event (top if none)").
--- Assumes nothing.
 use mathlib.Core.Path.{_≡_}
 use mathlib.Core.Bool.{_&&_, cond}
 use mathlib.Core.List.{List}

@@ -1,5 +1,6 @@
 // The demands of every node, worked out before the walk over states (document 01, "Table of a rule").
 // Nodes stand in prefix order: a node, then its parts; the nodes remaining are the falling number of each walk.
+use crate::node_sets::ROW_WORDS;
 use crate::node_sets::power;
 use crate::numbers::narrow;
 use crate::numbers::wide;
@@ -8,18 +9,21 @@ use formulas::GREATEST;
 use formulas::OUTPUT;
 use formulas::TRANSITION;
 use formulas::VARIABLE;
+use limits::NODE_LIMIT;
+use limits::SET_WORDS;
 ghost use mathlib.Core.Path.{_≡_};
 ghost use Prim.Native.Nat.{_+_, _<_, _≤_};
 ghost use lib.ListN.{length, getD};
 ghost use Rattle.theory.specs.DemandSets.{empty, only, union};
-ghost use Rattle.synthesis.specs.NodeWords.{row};
+ghost use Rattle.limits.specs.Limits.{node-limit};
+ghost use Rattle.synthesis.specs.NodeWords.{row-words, row};
 ghost use Rattle.synthesis.specs.NodeWalks.{EndsHere, EndsFrom};
 ghost use Rattle.synthesis.specs.Binding.{Bound};
 ghost use Rattle.synthesis.specs.DemandRows.{RowStored, Gathered, RowsTo};
 
 // The node after the formula at a node, those of the nodes behind it being known.
-fn end_of(kinds: &[u8; 256], ends: &[usize; 257], at: usize) -> usize
-    requires { ⌜ (at < 256) × (length (now kinds) ≡ 256) × (length (now ends) ≡ 257) × (getD (now ends) (at + 1) 0 ≤ 256) ⌝ }
+fn end_of(kinds: &[u8; NODE_LIMIT], ends: &[usize; NODE_LIMIT + 1], at: usize) -> usize
+    requires { ⌜ (at < node-limit) × (length (now kinds) ≡ node-limit) × (length (now ends) ≡ node-limit + 1) × (getD (now ends) (at + 1) 0 ≤ node-limit) ⌝ }
     ensures { λ r. ⌜ EndsHere (now (kinds .entry)) (now (ends .entry)) at r ⌝ }
 {
     let kind = kinds[at];
@@ -37,9 +41,9 @@ fn end_of(kinds: &[u8; 256], ends: &[usize; 257], at: usize) -> usize
 }
 
 // The node after the formula at each node, from the last node down.
-pub fn fill_ends(kinds: &[u8; 256], count: usize, ends: &mut [usize; 257])
-    requires { ⌜ (count ≤ 256) × (length (now kinds) ≡ 256) × (length (now ends) ≡ 257) ⌝ }
-    ensures { λ _. ⌜ (length (now (ends .exit)) ≡ 257) × EndsFrom (now (kinds .entry)) count (now (ends .exit)) 0 ⌝ }
+pub fn fill_ends(kinds: &[u8; NODE_LIMIT], count: usize, ends: &mut [usize; NODE_LIMIT + 1])
+    requires { ⌜ (count ≤ node-limit) × (length (now kinds) ≡ node-limit) × (length (now ends) ≡ node-limit + 1) ⌝ }
+    ensures { λ _. ⌜ (length (now (ends .exit)) ≡ node-limit + 1) × EndsFrom (now (kinds .entry)) count (now (ends .exit)) 0 ⌝ }
 {
     ends[count] = count;
     let mut i = count;
@@ -52,16 +56,17 @@ pub fn fill_ends(kinds: &[u8; 256], count: usize, ends: &mut [usize; 257])
 
 // Gives each variable of the formula at a node its binder's node. The stack has the binders around, the innermost last.
 pub fn bind(
-    kinds: &[u8; 256],
-    firsts: &[u8; 256],
+    kinds: &[u8; NODE_LIMIT],
+    firsts: &[u8; NODE_LIMIT],
     at: usize,
     left: usize,
     depth: usize,
-    stack: &mut [u8; 256],
-    binders: &mut [u8; 256],
+    stack: &mut [u8; NODE_LIMIT],
+    binders: &mut [u8; NODE_LIMIT],
 ) -> usize
-    requires { ⌜ (at + left ≤ 256) × (depth ≤ at) × (length (now kinds) ≡ 256) × (length (now firsts) ≡ 256) × (length (now stack) ≡ 256)
-        × (length (now binders) ≡ 256) ⌝ }
+    requires { ⌜ (at + left ≤ node-limit) × (depth ≤ at) × (length (now kinds) ≡ node-limit) × (length (now firsts) ≡ node-limit)
+        × (length (now stack) ≡ node-limit)
+        × (length (now binders) ≡ node-limit) ⌝ }
     ensures { λ r. ⌜ Bound (now (kinds .entry)) (now (firsts .entry)) at left depth (now (stack .entry)) (now (binders .entry))
         (now (stack .exit)) (now (binders .exit)) r ⌝ }
 {
@@ -99,8 +104,8 @@ pub fn bind(
 }
 
 // No demands at a node.
-fn store_none(rows: &mut [u64; 1028], at: usize)
-    requires { ⌜ (at < 256) × (length (now rows) ≡ 1028) ⌝ }
+fn store_none(rows: &mut [u64; ROW_WORDS], at: usize)
+    requires { ⌜ (at < node-limit) × (length (now rows) ≡ row-words) ⌝ }
     ensures { λ _. ⌜ RowStored (now (rows .entry)) (now (rows .exit)) at empty ⌝ }
 {
     let mut w: usize = 0;
@@ -111,19 +116,19 @@ fn store_none(rows: &mut [u64; 1028], at: usize)
 }
 
 // A node that demands itself.
-fn store_self(rows: &mut [u64; 1028], at: usize)
-    requires { ⌜ (at < 256) × (length (now rows) ≡ 1028) ⌝ }
+fn store_self(rows: &mut [u64; ROW_WORDS], at: usize)
+    requires { ⌜ (at < node-limit) × (length (now rows) ≡ row-words) ⌝ }
     ensures { λ _. ⌜ RowStored (now (rows .entry)) (now (rows .exit)) at (only at) ⌝ }
 {
     store_none(rows, at);
-    let word = at * 4 + at / 64;
+    let word = at * SET_WORDS + at / 64;
     let bit = power(at % 64);
     rows[word] = rows[word] | bit;
 }
 
 // A node that demands what two others do.
-fn store_union(rows: &mut [u64; 1028], at: usize, first: usize, second: usize)
-    requires { ⌜ (at < 256) × (first ≤ 256) × (second ≤ 256) × (length (now rows) ≡ 1028) ⌝ }
+fn store_union(rows: &mut [u64; ROW_WORDS], at: usize, first: usize, second: usize)
+    requires { ⌜ (at < node-limit) × (first ≤ node-limit) × (second ≤ node-limit) × (length (now rows) ≡ row-words) ⌝ }
     ensures { λ _. ⌜ RowStored (now (rows .entry)) (now (rows .exit)) at
         (union (row (now (rows .entry)) first) (row (now (rows .entry)) second)) ⌝ }
 {
@@ -135,8 +140,8 @@ fn store_union(rows: &mut [u64; 1028], at: usize, first: usize, second: usize)
 }
 
 // A node that demands what another does.
-fn store_copy(rows: &mut [u64; 1028], at: usize, from: usize)
-    requires { ⌜ (at < 256) × (from ≤ 256) × (length (now rows) ≡ 1028) ⌝ }
+fn store_copy(rows: &mut [u64; ROW_WORDS], at: usize, from: usize)
+    requires { ⌜ (at < node-limit) × (from ≤ node-limit) × (length (now rows) ≡ row-words) ⌝ }
     ensures { λ _. ⌜ RowStored (now (rows .entry)) (now (rows .exit)) at (row (now (rows .entry)) from) ⌝ }
 {
     store_union(rows, at, from, from);
@@ -144,15 +149,15 @@ fn store_copy(rows: &mut [u64; 1028], at: usize, from: usize)
 
 // Gives each node of the formula at a node its demands, except below its G nodes; the answer is the node after that formula.
 pub fn gather(
-    kinds: &[u8; 256],
-    binders: &[u8; 256],
-    ends: &[usize; 257],
+    kinds: &[u8; NODE_LIMIT],
+    binders: &[u8; NODE_LIMIT],
+    ends: &[usize; NODE_LIMIT + 1],
     at: usize,
     left: usize,
-    rows: &mut [u64; 1028],
+    rows: &mut [u64; ROW_WORDS],
 ) -> usize
-    requires { ⌜ (at + left ≤ 256) × (length (now kinds) ≡ 256) × (length (now binders) ≡ 256) × (length (now ends) ≡ 257)
-        × (length (now rows) ≡ 1028) × EndsFrom (now kinds) (at + left) (now ends) 0 ⌝ }
+    requires { ⌜ (at + left ≤ node-limit) × (length (now kinds) ≡ node-limit) × (length (now binders) ≡ node-limit) × (length (now ends) ≡ node-limit + 1)
+        × (length (now rows) ≡ row-words) × EndsFrom (now kinds) (at + left) (now ends) 0 ⌝ }
     ensures { λ r. ⌜ Gathered (now (kinds .entry)) (now (binders .entry)) at left (now (rows .entry)) (now (rows .exit)) r ⌝ }
 {
     if left == 0 {
@@ -190,15 +195,15 @@ pub fn gather(
 // Each node's row gets its demands: the root's formula, then the part of each G in rising order. A G lies between a variable and its
 // binder, so that the binder's row is there before.
 pub fn fill_rows(
-    kinds: &[u8; 256],
-    binders: &[u8; 256],
-    ends: &[usize; 257],
+    kinds: &[u8; NODE_LIMIT],
+    binders: &[u8; NODE_LIMIT],
+    ends: &[usize; NODE_LIMIT + 1],
     count: usize,
-    rows: &mut [u64; 1028],
+    rows: &mut [u64; ROW_WORDS],
 )
-    requires { ⌜ (count ≤ 256) × (length (now kinds) ≡ 256) × (length (now binders) ≡ 256) × (length (now ends) ≡ 257)
-        × (length (now rows) ≡ 1028) × EndsFrom (now kinds) count (now ends) 0 ⌝ }
-    ensures { λ _. ⌜ (length (now (rows .exit)) ≡ 1028)
+    requires { ⌜ (count ≤ node-limit) × (length (now kinds) ≡ node-limit) × (length (now binders) ≡ node-limit) × (length (now ends) ≡ node-limit + 1)
+        × (length (now rows) ≡ row-words) × EndsFrom (now kinds) count (now ends) 0 ⌝ }
+    ensures { λ _. ⌜ (length (now (rows .exit)) ≡ row-words)
         × RowsTo (now (kinds .entry)) (now (binders .entry)) count (now (rows .exit)) count ⌝ }
 {
     gather(kinds, binders, ends, 0, count, rows);

@@ -3,18 +3,21 @@ use crate::node_sets::after_last_member;
 use crate::numbers::entry_at;
 use crate::numbers::wide;
 use formulas::OUTPUT;
+use limits::NODE_LIMIT;
+use limits::SET_WORDS;
 use values::ValueKind;
 use values::meet_of;
 ghost use mathlib.Core.Path.{_≡_};
 ghost use Prim.Native.Nat.{_+_, _*_, _<_, _≤_};
 ghost use lib.ListN.{length};
 ghost use Rattle.values.specs.ValueKind.{meetOf};
+ghost use Rattle.limits.specs.Limits.{event-limit, node-limit, set-words};
 ghost use Rattle.synthesis.specs.Exploring.{Unchanged};
 ghost use Rattle.synthesis.specs.TableEntries.{state-value, EntriesTo, RowTo, OpenRow, Met};
 
 // Every event of a state gets top.
-fn open_row(top: u32, state: usize, events: usize, to: &mut [u32; 1024])
-    requires { ⌜ (state < 64) × (events ≤ 16) × (length (now to) ≡ 1024) ⌝ }
+fn open_row(top: u32, state: usize, events: usize, to: &mut [u32])
+    requires { ⌜ (state < 256) × (events ≤ event-limit) × (state * events + events ≤ length (now to)) ⌝ }
     ensures { λ _. ⌜ RowTo (λ e. top) events state events (now (to .entry)) (now (to .exit)) ⌝ }
 {
     let mut event: usize = 0;
@@ -29,16 +32,16 @@ fn open_row(top: u32, state: usize, events: usize, to: &mut [u32; 1024])
 fn meet_node(
     kind: ValueKind,
     meet: &[u8],
-    kinds: &[u8; 256],
-    firsts: &[u8; 256],
-    values: &[u32; 256],
+    kinds: &[u8; NODE_LIMIT],
+    firsts: &[u8; NODE_LIMIT],
+    values: &[u32; NODE_LIMIT],
     node: usize,
     state: usize,
     events: usize,
-    to: &mut [u32; 1024],
+    to: &mut [u32],
 )
-    requires { ⌜ (node < 256) × (state < 64) × (events ≤ 16) × (length (now kinds) ≡ 256) × (length (now firsts) ≡ 256)
-        × (length (now values) ≡ 256) × (length (now to) ≡ 1024) ⌝ }
+    requires { ⌜ (node < node-limit) × (state < 256) × (events ≤ event-limit) × (length (now kinds) ≡ node-limit) × (length (now firsts) ≡ node-limit)
+        × (length (now values) ≡ node-limit) × (state * events + events ≤ length (now to)) ⌝ }
     ensures { λ _. ⌜ Met (meetOf kind (now (meet .entry))) (now (kinds .entry)) (now (firsts .entry)) (now (values .entry)) events state node
         (now (to .entry)) (now (to .exit)) ⌝ }
 {
@@ -58,25 +61,27 @@ fn meet_row(
     kind: ValueKind,
     meet: &[u8],
     top: u32,
-    kinds: &[u8; 256],
-    firsts: &[u8; 256],
-    values: &[u32; 256],
+    kinds: &[u8; NODE_LIMIT],
+    firsts: &[u8; NODE_LIMIT],
+    values: &[u32; NODE_LIMIT],
     count: usize,
-    states: &[u64; 256],
+    states: &[u64],
     state: usize,
     events: usize,
-    to: &mut [u32; 1024],
+    to: &mut [u32],
 )
-    requires { ⌜ (count ≤ 256) × (state < 64) × (events ≤ 16) × (length (now kinds) ≡ 256) × (length (now firsts) ≡ 256)
-        × (length (now values) ≡ 256) × (length (now states) ≡ 256) × (length (now to) ≡ 1024) × OpenRow top events state (now to) ⌝ }
-    ensures { λ _. ⌜ RowTo (state-value (meetOf kind (now (meet .entry))) top (now (kinds .entry)) (now (firsts .entry)) (now (values .entry)) count (now (states .entry)) state)
+    requires { ⌜ (count ≤ node-limit) × (state < 256) × (events ≤ event-limit) × (length (now kinds) ≡ node-limit) × (length (now firsts) ≡ node-limit)
+        × (length (now values) ≡ node-limit) × (state * set-words + set-words ≤ length (now states)) × (state * events + events ≤ length (now to))
+        × OpenRow top events state (now to) ⌝ }
+    ensures { λ _. ⌜ RowTo (state-value (meetOf kind (now (meet .entry))) top (now (kinds .entry)) (now (firsts .entry)) (now (values .entry)) count
+        (now (states .entry)) state)
         events state events (now (to .entry)) (now (to .exit)) ⌝ }
 {
-    let mut node = after_last_member(states, state * 4, count);
+    let mut node = after_last_member(states, state * SET_WORDS, count);
     while 0 < node {
         let last = node - 1;
         meet_node(kind, meet, kinds, firsts, values, last, state, events, to);
-        node = after_last_member(states, state * 4, last);
+        node = after_last_member(states, state * SET_WORDS, last);
     }
 }
 
@@ -85,18 +90,19 @@ fn fill_row(
     kind: ValueKind,
     meet: &[u8],
     top: u32,
-    kinds: &[u8; 256],
-    firsts: &[u8; 256],
-    values: &[u32; 256],
+    kinds: &[u8; NODE_LIMIT],
+    firsts: &[u8; NODE_LIMIT],
+    values: &[u32; NODE_LIMIT],
     count: usize,
-    states: &[u64; 256],
+    states: &[u64],
     state: usize,
     events: usize,
-    to: &mut [u32; 1024],
+    to: &mut [u32],
 )
-    requires { ⌜ (count ≤ 256) × (state < 64) × (events ≤ 16) × (length (now kinds) ≡ 256) × (length (now firsts) ≡ 256)
-        × (length (now values) ≡ 256) × (length (now states) ≡ 256) × (length (now to) ≡ 1024) ⌝ }
-    ensures { λ _. ⌜ RowTo (state-value (meetOf kind (now (meet .entry))) top (now (kinds .entry)) (now (firsts .entry)) (now (values .entry)) count (now (states .entry)) state)
+    requires { ⌜ (count ≤ node-limit) × (state < 256) × (events ≤ event-limit) × (length (now kinds) ≡ node-limit) × (length (now firsts) ≡ node-limit)
+        × (length (now values) ≡ node-limit) × (state * set-words + set-words ≤ length (now states)) × (state * events + events ≤ length (now to)) ⌝ }
+    ensures { λ _. ⌜ RowTo (state-value (meetOf kind (now (meet .entry))) top (now (kinds .entry)) (now (firsts .entry)) (now (values .entry)) count
+        (now (states .entry)) state)
         events state events (now (to .entry)) (now (to .exit)) ⌝ }
 {
     open_row(top, state, events, to);
@@ -120,19 +126,20 @@ pub fn fill_values(
     kind: ValueKind,
     meet: &[u8],
     top: u32,
-    kinds: &[u8; 256],
-    firsts: &[u8; 256],
-    values: &[u32; 256],
+    kinds: &[u8; NODE_LIMIT],
+    firsts: &[u8; NODE_LIMIT],
+    values: &[u32; NODE_LIMIT],
     count: usize,
-    states: &[u64; 256],
+    states: &[u64],
     n: usize,
     events: usize,
-    to: &mut [u32; 1024],
+    to: &mut [u32],
 )
-    requires { ⌜ (count ≤ 256) × (n ≤ 64) × (events ≤ 16) × (length (now kinds) ≡ 256) × (length (now firsts) ≡ 256)
-        × (length (now values) ≡ 256) × (length (now states) ≡ 256) × (length (now to) ≡ 1024) ⌝ }
-    ensures { λ _. ⌜ (length (now (to .exit)) ≡ 1024) × Unchanged (n * events) (now (to .entry)) (now (to .exit))
-        × EntriesTo (state-value (meetOf kind (now (meet .entry))) top (now (kinds .entry)) (now (firsts .entry)) (now (values .entry)) count (now (states .entry)))
+    requires { ⌜ (count ≤ node-limit) × (n ≤ 256) × (events ≤ event-limit) × (length (now kinds) ≡ node-limit) × (length (now firsts) ≡ node-limit)
+        × (length (now values) ≡ node-limit) × (n * set-words ≤ length (now states)) × (n * events ≤ length (now to)) ⌝ }
+    ensures { λ _. ⌜ (length (now (to .exit)) ≡ length (now (to .entry))) × Unchanged (n * events) (now (to .entry)) (now (to .exit))
+        × EntriesTo (state-value (meetOf kind (now (meet .entry))) top (now (kinds .entry)) (now (firsts .entry)) (now (values .entry)) count
+        (now (states .entry)))
         events (n * events) (now (to .exit)) ⌝ }
 {
     let mut state: usize = 0;

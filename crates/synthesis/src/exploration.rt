@@ -1,4 +1,6 @@
 // The states that event sequences reach, in document 01's order ("Table of a rule"), and the next state of each on each event.
+use crate::node_sets::NEXT_WORDS;
+use crate::node_sets::ROW_WORDS;
 use crate::node_sets::copy_row;
 use crate::node_sets::next_member;
 use crate::node_sets::same;
@@ -8,28 +10,29 @@ use crate::numbers::entry_at;
 use crate::numbers::narrow;
 use crate::numbers::wide;
 use formulas::TRANSITION;
+use limits::NODE_LIMIT;
+use limits::SET_WORDS;
 ghost use mathlib.Core.Path.{_≡_};
 ghost use Prim.Native.Nat.{ℕ, _+_, _*_, _<_, _≤_};
 ghost use lib.ListN.{length};
 ghost use Rattle.theory.specs.DemandSets.{empty};
-ghost use Rattle.synthesis.specs.NodeWords.{set-at, row, bits-at};
+ghost use Rattle.limits.specs.Limits.{event-limit, node-limit, set-words};
+ghost use Rattle.synthesis.specs.NodeWords.{row-words, next-words, set-at, row, bits-at};
 ghost use Rattle.synthesis.specs.Exploring.{Passed, NextSets, next-bits, Found, Counted, Expanded, sequences, Unchanged};
-
-// The most states of a table.
-pub const STATE_LIMIT: usize = 64;
 
 // A node of a set is passed: where it is a G, the demands of its part come into the next set on its event.
 fn advance_node(
-    kinds: &[u8; 256],
-    firsts: &[u8; 256],
-    rows: &[u64; 1028],
+    kinds: &[u8; NODE_LIMIT],
+    firsts: &[u8; NODE_LIMIT],
+    rows: &[u64; ROW_WORDS],
     events: usize,
     node: usize,
-    sets: &mut [u64; 64],
+    sets: &mut [u64; NEXT_WORDS],
 )
-    requires { ⌜ (node < 256) × (events ≤ 16) × (length (now kinds) ≡ 256) × (length (now firsts) ≡ 256) × (length (now rows) ≡ 1028)
-        × (length (now sets) ≡ 64) ⌝ }
-    ensures { λ _. ⌜ (length (now (sets .exit)) ≡ 64)
+    requires { ⌜ (node < node-limit) × (events ≤ event-limit) × (length (now kinds) ≡ node-limit) × (length (now firsts) ≡ node-limit)
+        × (length (now rows) ≡ row-words)
+        × (length (now sets) ≡ next-words) ⌝ }
+    ensures { λ _. ⌜ (length (now (sets .exit)) ≡ next-words)
         × Passed (now (kinds .entry)) (now (firsts .entry)) (now (rows .entry)) events node (now (sets .entry)) (now (sets .exit)) ⌝ }
 {
     if kinds[node] != TRANSITION {
@@ -37,17 +40,17 @@ fn advance_node(
     }
     let event = wide(firsts[node]);
     if event < events {
-        unite_row(sets, event, rows, (node + 1) * 4);
+        unite_row(sets, event, rows, (node + 1) * SET_WORDS);
     }
 }
 
 // The first n sets are emptied.
-fn clear(sets: &mut [u64; 64], n: usize)
-    requires { ⌜ (n ≤ 16) × (length (now sets) ≡ 64) ⌝ }
-    ensures { λ _. ⌜ (length (now (sets .exit)) ≡ 64) × ((e : ℕ) → e < n → row (now (sets .exit)) e ≡ empty) ⌝ }
+fn clear(sets: &mut [u64; NEXT_WORDS], n: usize)
+    requires { ⌜ (n ≤ event-limit) × (length (now sets) ≡ next-words) ⌝ }
+    ensures { λ _. ⌜ (length (now (sets .exit)) ≡ next-words) × ((e : ℕ) → e < n → row (now (sets .exit)) e ≡ empty) ⌝ }
 {
     let mut w: usize = 0;
-    while w < n * 4 {
+    while w < n * SET_WORDS {
         sets[w] = 0;
         w += 1;
     }
@@ -55,18 +58,19 @@ fn clear(sets: &mut [u64; 64], n: usize)
 
 // The next sets of a state, one for each event: the demands of the parts of the set's G nodes for the event.
 fn advance(
-    kinds: &[u8; 256],
-    firsts: &[u8; 256],
+    kinds: &[u8; NODE_LIMIT],
+    firsts: &[u8; NODE_LIMIT],
     count: usize,
-    rows: &[u64; 1028],
-    states: &[u64; 256],
+    rows: &[u64; ROW_WORDS],
+    states: &[u64],
     base: usize,
     events: usize,
-    sets: &mut [u64; 64],
+    sets: &mut [u64; NEXT_WORDS],
 )
-    requires { ⌜ (count ≤ 256) × (base + 4 ≤ 256) × (events ≤ 16) × (length (now kinds) ≡ 256) × (length (now firsts) ≡ 256)
-        × (length (now rows) ≡ 1028) × (length (now states) ≡ 256) × (length (now sets) ≡ 64) ⌝ }
-    ensures { λ _. ⌜ (length (now (sets .exit)) ≡ 64)
+    requires { ⌜ (count ≤ node-limit) × (base + set-words ≤ length (now states)) × (events ≤ event-limit) × (length (now kinds) ≡ node-limit)
+        × (length (now firsts) ≡ node-limit)
+        × (length (now rows) ≡ row-words) × (length (now sets) ≡ next-words) ⌝ }
+    ensures { λ _. ⌜ (length (now (sets .exit)) ≡ next-words)
         × NextSets (now (kinds .entry)) (now (firsts .entry)) (now (rows .entry)) count (set-at (now (states .entry)) base) events (now (sets .exit)) ⌝ }
 {
     clear(sets, events);
@@ -78,13 +82,13 @@ fn advance(
 }
 
 // The first of n states that is the set, or n.
-fn find(states: &[u64; 256], n: usize, set: &[u64; 4]) -> usize
-    requires { ⌜ (n ≤ 64) × (length (now states) ≡ 256) × (length (now set) ≡ 4) ⌝ }
+fn find(states: &[u64], n: usize, set: &[u64; SET_WORDS]) -> usize
+    requires { ⌜ (n * set-words ≤ length (now states)) × (length (now set) ≡ set-words) ⌝ }
     ensures { λ r. ⌜ Found (now (states .entry)) n (now (set .entry)) r ⌝ }
 {
     let mut j: usize = 0;
     while j < n {
-        if same(states, j * 4, set) {
+        if same(states, j * SET_WORDS, set) {
             return j;
         }
         j += 1;
@@ -95,36 +99,48 @@ fn find(states: &[u64; 256], n: usize, set: &[u64; 4]) -> usize
 // The states that the events lead to from state i come after the n there are, and the entries of state i get their numbers;
 // the limit and one where there are more. The sets are room for the next sets.
 fn expand(
-    kinds: &[u8; 256],
-    firsts: &[u8; 256],
+    kinds: &[u8; NODE_LIMIT],
+    firsts: &[u8; NODE_LIMIT],
     count: usize,
-    rows: &[u64; 1028],
+    rows: &[u64; ROW_WORDS],
     events: usize,
+    limit: usize,
     i: usize,
     n: usize,
-    states: &mut [u64; 256],
-    nexts: &mut [u8; 1024],
-    sets: &mut [u64; 64],
+    states: &mut [u64],
+    nexts: &mut [u8],
+    sets: &mut [u64; NEXT_WORDS],
 ) -> usize
-    requires { ⌜ (count ≤ 256) × (i < n) × (n ≤ 64) × (events ≤ 16) × (length (now kinds) ≡ 256) × (length (now firsts) ≡ 256)
-        × (length (now rows) ≡ 1028) × (length (now states) ≡ 256) × (length (now nexts) ≡ 1024) × (length (now sets) ≡ 64) ⌝ }
-    ensures { λ r. ⌜ (length (now (states .exit)) ≡ 256) × (length (now (nexts .exit)) ≡ 1024) × (n ≤ r)
+    requires { ⌜ (count ≤ node-limit) × (i < n) × (n ≤ limit) × (limit ≤ 256) × (events ≤ event-limit) × (length (now kinds) ≡ node-limit)
+        × (length (now firsts) ≡ node-limit)
+        × (length (now rows) ≡ row-words) × (limit * set-words ≤ length (now states)) × (limit * events ≤ length (now nexts))
+        × (length (now sets) ≡ next-words) ⌝ }
+    ensures { λ r. ⌜ (length (now (states .exit)) ≡ length (now (states .entry))) × (length (now (nexts .exit)) ≡ length (now (nexts .entry))) × (n ≤ r)
         × Unchanged (i * events + events) (now (nexts .entry)) (now (nexts .exit))
-        × Expanded (next-bits (now (kinds .entry)) (now (firsts .entry)) (now (rows .entry)) count) events 64 i n
-        (now (states .entry)) (now (nexts .entry)) r (now (states .exit)) (now (nexts .exit)) × (length (now (sets .exit)) ≡ 64) ⌝ }
+        × Expanded (next-bits (now (kinds .entry)) (now (firsts .entry)) (now (rows .entry)) count) events limit i n
+        (now (states .entry)) (now (nexts .entry)) r (now (states .exit)) (now (nexts .exit)) × (length (now (sets .exit)) ≡ next-words) ⌝ }
 {
-    advance(kinds, firsts, count, rows, &*states, i * 4, events, sets);
+    advance(
+        kinds,
+        firsts,
+        count,
+        rows,
+        &*states,
+        i * SET_WORDS,
+        events,
+        sets,
+    );
     let mut k = n;
     let mut event: usize = 0;
     while event < events {
-        let mut set = [0u64; 4];
+        let mut set = [0u64; SET_WORDS];
         copy_row(&mut set, &*sets, event);
         let j = find(&*states, k, &set);
         if j == k {
-            if k == STATE_LIMIT {
-                return STATE_LIMIT + 1;
+            if k == limit {
+                return limit + 1;
             }
-            store(states, k * 4, &set);
+            store(states, k * SET_WORDS, &set);
             k += 1;
         }
         let at = entry_at(i, events, event);
@@ -135,12 +151,12 @@ fn expand(
 }
 
 // The first state: the demands of node 0.
-fn copy_first(states: &mut [u64; 256], rows: &[u64; 1028])
-    requires { ⌜ (length (now states) ≡ 256) × (length (now rows) ≡ 1028) ⌝ }
-    ensures { λ _. ⌜ (length (now (states .exit)) ≡ 256) × (bits-at (now (states .exit)) 0 ≡ bits-at (now (rows .entry)) 0) ⌝ }
+fn copy_first(states: &mut [u64], rows: &[u64; ROW_WORDS])
+    requires { ⌜ (set-words ≤ length (now states)) × (length (now rows) ≡ row-words) ⌝ }
+    ensures { λ _. ⌜ (length (now (states .exit)) ≡ length (now (states .entry))) × (bits-at (now (states .exit)) 0 ≡ bits-at (now (rows .entry)) 0) ⌝ }
 {
     let mut w: usize = 0;
-    while w < 4 {
+    while w < SET_WORDS {
         states[w] = rows[w];
         w += 1;
     }
@@ -149,24 +165,26 @@ fn copy_first(states: &mut [u64; 256], rows: &[u64; 1028])
 // The states that event sequences reach, in order, from the demands of node 0, and the numbers of the next states, by state and then event;
 // the limit and one where there are more.
 pub fn explore(
-    kinds: &[u8; 256],
-    firsts: &[u8; 256],
+    kinds: &[u8; NODE_LIMIT],
+    firsts: &[u8; NODE_LIMIT],
     count: usize,
-    rows: &[u64; 1028],
+    rows: &[u64; ROW_WORDS],
     events: usize,
-    states: &mut [u64; 256],
-    nexts: &mut [u8; 1024],
+    limit: usize,
+    states: &mut [u64],
+    nexts: &mut [u8],
 ) -> usize
-    requires { ⌜ (count ≤ 256) × (events ≤ 16) × (length (now kinds) ≡ 256) × (length (now firsts) ≡ 256) × (length (now rows) ≡ 1028)
-        × (length (now states) ≡ 256) × (length (now nexts) ≡ 1024) ⌝ }
-    ensures { λ r. ⌜ (length (now (states .exit)) ≡ 256) × (length (now (nexts .exit)) ≡ 1024)
-        × (r ≤ 64 → Unchanged (r * events) (now (nexts .entry)) (now (nexts .exit)))
-        × Counted (next-bits (now (kinds .entry)) (now (firsts .entry)) (now (rows .entry)) count) (bits-at (now (rows .entry)) 0) events 64
-        (sequences (next-bits (now (kinds .entry)) (now (firsts .entry)) (now (rows .entry)) count) (bits-at (now (rows .entry)) 0) events 64)
+    requires { ⌜ (0 < limit) × (limit ≤ 256) × (count ≤ node-limit) × (events ≤ event-limit) × (length (now kinds) ≡ node-limit)
+        × (length (now firsts) ≡ node-limit) × (length (now rows) ≡ row-words)
+        × (limit * set-words ≤ length (now states)) × (limit * events ≤ length (now nexts)) ⌝ }
+    ensures { λ r. ⌜ (length (now (states .exit)) ≡ length (now (states .entry))) × (length (now (nexts .exit)) ≡ length (now (nexts .entry)))
+        × (r ≤ limit → Unchanged (r * events) (now (nexts .entry)) (now (nexts .exit)))
+        × Counted (next-bits (now (kinds .entry)) (now (firsts .entry)) (now (rows .entry)) count) (bits-at (now (rows .entry)) 0) events limit
+        (sequences (next-bits (now (kinds .entry)) (now (firsts .entry)) (now (rows .entry)) count) (bits-at (now (rows .entry)) 0) events limit)
         r (r * events) (now (states .exit)) (now (nexts .exit)) ⌝ }
 {
     copy_first(states, rows);
-    let mut sets = [0u64; 64];
+    let mut sets = [0u64; NEXT_WORDS];
     let mut n: usize = 1;
     let mut i: usize = 0;
     while i < n {
@@ -176,14 +194,15 @@ pub fn explore(
             count,
             rows,
             events,
+            limit,
             i,
             n,
             states,
             nexts,
             &mut sets,
         );
-        if STATE_LIMIT < m {
-            return STATE_LIMIT + 1;
+        if limit < m {
+            return limit + 1;
         }
         n = m;
         i += 1;

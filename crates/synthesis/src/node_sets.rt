@@ -1,10 +1,19 @@
 // Sets of node numbers, four words of 64 bits a set.
 use crate::numbers::word;
+use limits::EVENT_LIMIT;
+use limits::NODE_LIMIT;
+use limits::SET_WORDS;
 ghost use mathlib.Core.Path.{_≡_};
 ghost use mathlib.Core.Bool.{true, false};
 ghost use Prim.Native.Nat.{_+_, _*_, _<_, _≤_, _^_};
 ghost use lib.ListN.{length};
-ghost use Rattle.synthesis.specs.NodeWords.{set-at, row, bits-at, Stored, United, FirstBit, LastBit, FirstMember, LastMember};
+ghost use Rattle.limits.specs.Limits.{event-limit, node-limit, set-words};
+ghost use Rattle.synthesis.specs.NodeWords.{row-words, next-words, set-at, row, bits-at, Stored, United, FirstBit, LastBit, FirstMember, LastMember};
+
+// The words of a row for each node and of an empty one; and of a next set for each event.
+pub const ROW_WORDS: usize = (NODE_LIMIT + 1) * SET_WORDS;
+
+pub const NEXT_WORDS: usize = EVENT_LIMIT * SET_WORDS;
 
 // 2 to the k-th.
 pub fn power(k: usize) -> u64
@@ -15,36 +24,36 @@ pub fn power(k: usize) -> u64
 }
 
 // The set from base on comes into set i of the sets.
-pub fn unite_row(sets: &mut [u64; 64], i: usize, rows: &[u64; 1028], base: usize)
-    requires { ⌜ (i < 16) × (base + 4 ≤ 1028) × (length (now sets) ≡ 64) × (length (now rows) ≡ 1028) ⌝ }
+pub fn unite_row(sets: &mut [u64; NEXT_WORDS], i: usize, rows: &[u64; ROW_WORDS], base: usize)
+    requires { ⌜ (i < event-limit) × (base + set-words ≤ row-words) × (length (now sets) ≡ next-words) × (length (now rows) ≡ row-words) ⌝ }
     ensures { λ _. ⌜ United (now (sets .entry)) (now (sets .exit)) i (set-at (now (rows .entry)) base) ⌝ }
 {
     let mut w: usize = 0;
-    while w < 4 {
-        sets[i * 4 + w] = sets[i * 4 + w] | rows[base + w];
+    while w < SET_WORDS {
+        sets[i * SET_WORDS + w] = sets[i * SET_WORDS + w] | rows[base + w];
         w += 1;
     }
 }
 
 // Set i of the sets is copied.
-pub fn copy_row(set: &mut [u64; 4], sets: &[u64; 64], i: usize)
-    requires { ⌜ (i < 16) × (length (now set) ≡ 4) × (length (now sets) ≡ 64) ⌝ }
-    ensures { λ _. ⌜ (length (now (set .exit)) ≡ 4) × (set-at (now (set .exit)) 0 ≡ row (now (sets .entry)) i) ⌝ }
+pub fn copy_row(set: &mut [u64; SET_WORDS], sets: &[u64; NEXT_WORDS], i: usize)
+    requires { ⌜ (i < event-limit) × (length (now set) ≡ set-words) × (length (now sets) ≡ next-words) ⌝ }
+    ensures { λ _. ⌜ (length (now (set .exit)) ≡ set-words) × (set-at (now (set .exit)) 0 ≡ row (now (sets .entry)) i) ⌝ }
 {
     let mut w: usize = 0;
-    while w < 4 {
-        set[w] = sets[i * 4 + w];
+    while w < SET_WORDS {
+        set[w] = sets[i * SET_WORDS + w];
         w += 1;
     }
 }
 
 // A set is stored from base on.
-pub fn store(states: &mut [u64; 256], base: usize, set: &[u64; 4])
-    requires { ⌜ (base + 4 ≤ 256) × (length (now states) ≡ 256) × (length (now set) ≡ 4) ⌝ }
+pub fn store(states: &mut [u64], base: usize, set: &[u64; SET_WORDS])
+    requires { ⌜ (base + set-words ≤ length (now states)) × (length (now set) ≡ set-words) ⌝ }
     ensures { λ _. ⌜ Stored (now (states .entry)) (now (states .exit)) base (now (set .entry)) ⌝ }
 {
     let mut i: usize = 0;
-    while i < 4 {
+    while i < SET_WORDS {
         states[base + i] = set[i];
         i += 1;
     }
@@ -63,8 +72,8 @@ fn first_bit(word: u64, k: usize) -> usize
 }
 
 // The first node from `from` on and below `end` that is in the set from base on, or `end`. A word is looked at once.
-pub fn next_member(states: &[u64; 256], base: usize, from: usize, end: usize) -> usize
-    requires { ⌜ (base + 4 ≤ 256) × (from ≤ end) × (end ≤ 256) × (length (now states) ≡ 256) ⌝ }
+pub fn next_member(states: &[u64], base: usize, from: usize, end: usize) -> usize
+    requires { ⌜ (base + set-words ≤ length (now states)) × (from ≤ end) × (end ≤ node-limit) ⌝ }
     ensures { λ r. ⌜ FirstMember (set-at (now (states .entry)) base) from end r ⌝ }
 {
     let mut node = from;
@@ -92,8 +101,8 @@ fn last_bit(word: u64, k: usize) -> usize
 }
 
 // The node after the last node below `end` that is in the set from base on, or 0. A word is looked at once.
-pub fn after_last_member(states: &[u64; 256], base: usize, end: usize) -> usize
-    requires { ⌜ (base + 4 ≤ 256) × (end ≤ 256) × (length (now states) ≡ 256) ⌝ }
+pub fn after_last_member(states: &[u64], base: usize, end: usize) -> usize
+    requires { ⌜ (base + set-words ≤ length (now states)) × (end ≤ node-limit) ⌝ }
     ensures { λ r. ⌜ LastMember (set-at (now (states .entry)) base) end r ⌝ }
 {
     let mut node = end;
@@ -109,13 +118,13 @@ pub fn after_last_member(states: &[u64; 256], base: usize, end: usize) -> usize
 }
 
 // Whether the set from base on is the given one.
-pub fn same(states: &[u64; 256], base: usize, set: &[u64; 4]) -> bool
-    requires { ⌜ (base + 4 ≤ 256) × (length (now states) ≡ 256) × (length (now set) ≡ 4) ⌝ }
+pub fn same(states: &[u64], base: usize, set: &[u64; SET_WORDS]) -> bool
+    requires { ⌜ (base + set-words ≤ length (now states)) × (length (now set) ≡ set-words) ⌝ }
     ensures { λ r. ⌜ (r ≡ true → bits-at (now (states .entry)) base ≡ bits-at (now (set .entry)) 0)
         × (r ≡ false → bits-at (now (states .entry)) base ≡ bits-at (now (set .entry)) 0 → ⊥) ⌝ }
 {
     let mut i: usize = 0;
-    while i < 4 {
+    while i < SET_WORDS {
         let a = word(states[base + i]);
         let b = word(set[i]);
         if a != b {

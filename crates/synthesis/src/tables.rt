@@ -3,44 +3,49 @@ use crate::demands::bind;
 use crate::demands::fill_ends;
 use crate::demands::fill_rows;
 use crate::entries::fill_values;
-use crate::exploration::STATE_LIMIT;
 use crate::exploration::explore;
+use crate::node_sets::ROW_WORDS;
+use limits::NODE_LIMIT;
 use values::ValueKind;
 ghost use mathlib.Core.Path.{_≡_};
-ghost use Prim.Native.Nat.{_≤_};
+ghost use Prim.Native.Nat.{_*_, _<_, _≤_};
+ghost use Rattle.limits.specs.Limits.{event-limit, node-limit, set-words};
 ghost use lib.ListN.{length};
 ghost use Rattle.values.specs.ValueKind.{meetOf};
 ghost use Rattle.synthesis.specs.MadeTable.{Tables};
 
-// The number of states, or the limit and one where there are more; the entries by state and then event.
+// The number of states, or the limit and one where there are more; the entries by state and then event. `states` is room for the
+// sets of nodes that states are.
 pub fn table_of<'a>(
     kind: ValueKind,
     meet: &[u8],
     top: u32,
-    kinds: &'a [u8; 256],
-    firsts: &'a [u8; 256],
-    fields: &'a [u32; 256],
+    kinds: &'a [u8; NODE_LIMIT],
+    firsts: &'a [u8; NODE_LIMIT],
+    fields: &'a [u32; NODE_LIMIT],
     count: usize,
     events: usize,
-    values: &mut [u32; 1024],
-    nexts: &mut [u8; 1024],
+    limit: usize,
+    states: &mut [u64],
+    values: &mut [u32],
+    nexts: &mut [u8],
 ) -> usize
-    requires { ⌜ (count ≤ 256) × (events ≤ 16) × (length (now kinds) ≡ 256) × (length (now firsts) ≡ 256) × (length (now fields) ≡ 256)
-        × (length (now values) ≡ 1024) × (length (now nexts) ≡ 1024) ⌝ }
-    ensures { λ r. ⌜ (length (now (values .exit)) ≡ 1024) × (length (now (nexts .exit)) ≡ 1024)
-        × Tables (now (kinds .entry)) (now (firsts .entry)) (now (fields .entry)) count (meetOf kind (now (meet .entry))) top events 64
+    requires { ⌜ (0 < limit) × (limit ≤ 256) × (count ≤ node-limit) × (events ≤ event-limit) × (length (now kinds) ≡ node-limit)
+        × (length (now firsts) ≡ node-limit) × (length (now fields) ≡ node-limit) × (limit * set-words ≤ length (now states))
+        × (limit * events ≤ length (now values)) × (limit * events ≤ length (now nexts)) ⌝ }
+    ensures { λ r. ⌜ (length (now (values .exit)) ≡ length (now (values .entry))) × (length (now (nexts .exit)) ≡ length (now (nexts .entry)))
+        × Tables (now (kinds .entry)) (now (firsts .entry)) (now (fields .entry)) count (meetOf kind (now (meet .entry))) top events limit
         (now (values .entry)) (now (nexts .entry)) (now (values .exit)) (now (nexts .exit)) r ⌝ }
 {
-    let mut stack = [0u8; 256];
-    let mut binders = [0u8; 256];
+    let mut stack = [0u8; NODE_LIMIT];
+    let mut binders = [0u8; NODE_LIMIT];
     bind(kinds, firsts, 0, count, 0, &mut stack, &mut binders);
-    let mut ends = [0usize; 257];
+    let mut ends = [0usize; NODE_LIMIT + 1];
     fill_ends(kinds, count, &mut ends);
-    let mut rows = [0u64; 1028];
+    let mut rows = [0u64; ROW_WORDS];
     fill_rows(kinds, &binders, &ends, count, &mut rows);
-    let mut states = [0u64; 256];
-    let n = explore(kinds, firsts, count, &rows, events, &mut states, nexts);
-    if STATE_LIMIT < n {
+    let n = explore(kinds, firsts, count, &rows, events, limit, states, nexts);
+    if limit < n {
         return n;
     }
     fill_values(
@@ -51,7 +56,7 @@ pub fn table_of<'a>(
         firsts,
         fields,
         count,
-        &states,
+        &*states,
         n,
         events,
         values,

@@ -1,5 +1,4 @@
 -- `compile_rule` meets its contract: what `make_table` leaves, as a value.
--- Assumes nothing.
 use mathlib.Core.Path.{sym, _∙_}
 use Rattle.synthesis.specs.Compilation.{compiled}
 use Rattle.synthesis.proofs.Compilation.{compiled-answer, made-value}
@@ -7,29 +6,18 @@ use borrow.Author.Needs.{needs}
 use Rattle.synthesis.proofs.compile_rule.Statement.{statement}
 use Rattle.synthesis.proofs.compile_rule.Tie as tie
 
-make-table-requires : tie.Need-make-table-requires
-make-table-requires c κs = search needs
-
-enum-known-verdict : tie.Need-enum-known-verdict
-enum-known-verdict c = search needs
-
-refused-requires : tie.Need-refused-requires
-refused-requires c κs = search needs
-
 returns : tie.Need-returns
 returns c =
-    let a = c .before .before .before .before .before .before .before .before .before .args in
-    c .refused .ensures ∙ compiled-answer (a .kind) (a .events) (a .top) (a .meet .now) (a .rule .now) _ (sym (c .before .before .before .before .make-table .ensures .answer) ∙ c .before .before .verdict .given .1)
-
-enum-told : tie.Need-enum-told
-enum-told c = search needs
+    let a = c .before .before .before .before .before .before .before .before .before .before .before .args in
+    c .refused .ensures ∙ compiled-answer (a .kind) (a .events) (a .top) (a .meet .now) (a .rule .now) _
+    (sym (c .before .before .before .before .before .before .make-table .ensures .answer) ∙ c .before .before .verdict .given .1)
 
 returns-2 : tie.Need-returns-2
 returns-2 c =
-    let a = c .before .before .before .before .before .before .before .args in
-    made-value (compiled (a .kind) (a .events) (a .top) (a .meet .now) (a .rule .now)) _ _ _ _ (c .before .before .make-table .ensures) (c .enum-told .given .1)
+    let a = c .before .before .before .before .before .before .before .before .before .args in
+    made-value (compiled (a .kind) (a .events) (a .top) (a .meet .now) (a .rule .now)) _ _ _ _ (c .before .before .before .before .make-table .ensures)
+    (c .enum-told .given .1)
 
 pub compile-rule-spec : {M : Type 1} → statement M
-compile-rule-spec =
-    tie.close
-    (tie.spec make-table-requires enum-known-verdict refused-requires returns enum-told returns-2)
+compile-rule-spec = tie.close (tie.spec (λ c. search needs) (λ c. search needs) (λ c κs. search needs) (λ c. search needs) (λ c κs. search needs)
+    returns (λ c. search needs) returns-2)

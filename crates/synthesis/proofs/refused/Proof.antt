@@ -1,5 +1,3 @@
--- `refused` meets its contract.
--- Assumes nothing.
 use mathlib.Core.Path.{refl}
 use Rattle.synthesis.specs.Compilation.{refused}
 use Rattle.synthesis.proofs.refused.Statement.{statement}

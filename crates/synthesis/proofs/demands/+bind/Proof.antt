@@ -1,11 +1,8 @@
 -- `bind` meets its contract. The nodes left fall.
--- Assumes nothing.
 use borrow.Author.Needs.{needs}
 use Prim.Native.Nat.{_-_, ℕ, _<_}
-use lib.Seq.{getD-set-same, getD-set-other}
-use lib.ListN.{getD, length, length-set}
-use mathlib.Core.Logic.{⊎-elim}
-use mathlib.Core.Path.{refl, _∙_, ap}
+use lib.{Seq.{getD-set-same, getD-set-other}, ListN.{getD, length, length-set}}
+use mathlib.Core.{Logic.{⊎-elim}, Path.{refl, _∙_, ap}}
 use native.Mathlib.Omega.{arith}
 use Rattle.synthesis.proofs.NodeWalks.{end-none, end-leaf, end-transition, end-greatest, end-conjunction}
 use Rattle.synthesis.proofs.Binding.{bound-none, bound-leaf, bound-variable, bound-transition, bound-greatest, bound-conjunction}
@@ -48,86 +45,6 @@ bind-returns t c =
       bound = bound-none (a .kinds .now) (a .firsts .now) _ _ _ _ (c .if1 .taken) _;
     }
 
-bind-element-copy-out-kind : (t : ℕ) → bind-lts.Need-element-copy-out-kind (
-  wide-reads.Asked,
-  wide-reads.Learnt,
-  bind-below t,
-  bind.Post,
-  narrow-reads.Asked,
-  narrow-reads.Learnt,
-) (bind-at t) bind.Post
-bind-element-copy-out-kind t c = search needs
-
-bind-element-copy-out-wide : (t : ℕ) → bind-lts.Need-element-copy-out-wide (
-  wide-reads.Asked,
-  wide-reads.Learnt,
-  bind-below t,
-  bind.Post,
-  narrow-reads.Asked,
-  narrow-reads.Learnt,
-) (bind-at t) bind.Post
-bind-element-copy-out-wide t c = search needs
-
-bind-wide-requires : (t : ℕ) → bind-lts.Need-wide-requires (
-  wide-reads.Asked,
-  wide-reads.Learnt,
-  bind-below t,
-  bind.Post,
-  narrow-reads.Asked,
-  narrow-reads.Learnt,
-) (bind-at t) bind.Post
-bind-wide-requires t c κs = search needs
-
-bind-sub-binders : (t : ℕ) → bind-lts.Need-sub-binders (
-  wide-reads.Asked,
-  wide-reads.Learnt,
-  bind-below t,
-  bind.Post,
-  narrow-reads.Asked,
-  narrow-reads.Learnt,
-) (bind-at t) bind.Post
-bind-sub-binders t c = search needs
-
-bind-sub-binders-2 : (t : ℕ) → bind-lts.Need-sub-binders-2 (
-  wide-reads.Asked,
-  wide-reads.Learnt,
-  bind-below t,
-  bind.Post,
-  narrow-reads.Asked,
-  narrow-reads.Learnt,
-) (bind-at t) bind.Post
-bind-sub-binders-2 t c = search needs
-
-bind-element-copy-out-binders : (t : ℕ) → bind-lts.Need-element-copy-out-binders (
-  wide-reads.Asked,
-  wide-reads.Learnt,
-  bind-below t,
-  bind.Post,
-  narrow-reads.Asked,
-  narrow-reads.Learnt,
-) (bind-at t) bind.Post
-bind-element-copy-out-binders t c = search needs
-
-bind-element-write-binders : (t : ℕ) → bind-lts.Need-element-write-binders (
-  wide-reads.Asked,
-  wide-reads.Learnt,
-  bind-below t,
-  bind.Post,
-  narrow-reads.Asked,
-  narrow-reads.Learnt,
-) (bind-at t) bind.Post
-bind-element-write-binders t c = search needs
-
-bind-add-result : (t : ℕ) → bind-lts.Need-add-result (
-  wide-reads.Asked,
-  wide-reads.Learnt,
-  bind-below t,
-  bind.Post,
-  narrow-reads.Asked,
-  narrow-reads.Learnt,
-) (bind-at t) bind.Post
-bind-add-result t c = search needs
-
 bind-returns-2 : (t : ℕ) → bind-lts.Need-returns-2 (
   wide-reads.Asked,
   wide-reads.Learnt,
@@ -145,42 +62,14 @@ bind-returns-2 t c =
       end = end-leaf (a .kinds .now) _ _ (λ e. omega (arith, e, k)) (λ e. omega (arith, e, k)) (λ e. omega (arith, e, k));
       sizes = (search needs, ⊎-elim (λ w. ap length (w .2) ∙ simp length-set (search needs)) (λ w. ap length (w .1) ∙ search needs) (c .if3 .came));
       below = λ k h. refl;
-      earlier = λ i h. ⊎-elim (λ w. ap (λ l. getD l i 0) (w .2) ∙ getD-set-other (a .binders .now) (a .at) i _ 0 (λ e. omega (arith, e))) (λ w. ap (λ l. getD l i 0) (w .1)) (c .if3 .came);
+      earlier = λ i h. ⊎-elim (λ w. ap (λ l. getD l i 0) (w .2) ∙ getD-set-other (a .binders .now) (a .at) i _ 0 (λ e. omega (arith, e)))
+          (λ w. ap (λ l. getD l i 0) (w .1)) (c .if3 .came);
       bound = bound-variable (a .kinds .now) (a .firsts .now) _ _ _ (a .stack .now) (c .if3 .binders) k (λ h. ⊎-elim
-          (λ w. ap (λ l. getD l (a .at) 0) (w .2) ∙ getD-set-same (a .binders .now) (a .at) _ 0 (search needs) ∙ ap (λ x. getD (a .stack .now) (a .depth - 1 - x) 0) (c .before .wide .ensures .0))
+          (λ w. ap (λ l. getD l (a .at) 0) (w .2) ∙ getD-set-same (a .binders .now) (a .at) _ 0 (search needs) ∙ ap
+          (λ x. getD (a .stack .now) (a .depth - 1 - x) 0) (c .before .wide .ensures .0))
           (λ w. absurd (omega (arith, w .0 .left, h, c .before .wide .ensures .0)))
           (c .if3 .came));
     }
-
-bind-add-bind : (t : ℕ) → bind-lts.Need-add-bind (
-  wide-reads.Asked,
-  wide-reads.Learnt,
-  bind-below t,
-  bind.Post,
-  narrow-reads.Asked,
-  narrow-reads.Learnt,
-) (bind-at t) bind.Post
-bind-add-bind t c = search needs
-
-bind-sub-bind : (t : ℕ) → bind-lts.Need-sub-bind (
-  wide-reads.Asked,
-  wide-reads.Learnt,
-  bind-below t,
-  bind.Post,
-  narrow-reads.Asked,
-  narrow-reads.Learnt,
-) (bind-at t) bind.Post
-bind-sub-bind t c = search needs
-
-bind-bind-requires : (t : ℕ) → bind-lts.Need-bind-requires (
-  wide-reads.Asked,
-  wide-reads.Learnt,
-  bind-below t,
-  bind.Post,
-  narrow-reads.Asked,
-  narrow-reads.Learnt,
-) (bind-at t) bind.Post
-bind-bind-requires t c κs = search needs
 
 bind-returns-3 : (t : ℕ) → bind-lts.Need-returns-3 (
   wide-reads.Asked,
@@ -204,66 +93,6 @@ bind-returns-3 t c =
       bound = bound-transition (a .kinds .now) (a .firsts .now) _ _ _ (a .stack .now) _ k (r .bound);
     }
 
-bind-add-bind-2 : (t : ℕ) → bind-lts.Need-add-bind-2 (
-  wide-reads.Asked,
-  wide-reads.Learnt,
-  bind-below t,
-  bind.Post,
-  narrow-reads.Asked,
-  narrow-reads.Learnt,
-) (bind-at t) bind.Post
-bind-add-bind-2 t c = search needs
-
-bind-sub-bind-2 : (t : ℕ) → bind-lts.Need-sub-bind-2 (
-  wide-reads.Asked,
-  wide-reads.Learnt,
-  bind-below t,
-  bind.Post,
-  narrow-reads.Asked,
-  narrow-reads.Learnt,
-) (bind-at t) bind.Post
-bind-sub-bind-2 t c = search needs
-
-bind-bind-requires-2 : (t : ℕ) → bind-lts.Need-bind-requires-2 (
-  wide-reads.Asked,
-  wide-reads.Learnt,
-  bind-below t,
-  bind.Post,
-  narrow-reads.Asked,
-  narrow-reads.Learnt,
-) (bind-at t) bind.Post
-bind-bind-requires-2 t c κs = search needs
-
-bind-add-bind-3 : (t : ℕ) → bind-lts.Need-add-bind-3 (
-  wide-reads.Asked,
-  wide-reads.Learnt,
-  bind-below t,
-  bind.Post,
-  narrow-reads.Asked,
-  narrow-reads.Learnt,
-) (bind-at t) bind.Post
-bind-add-bind-3 t c = search needs
-
-bind-sub-bind-3 : (t : ℕ) → bind-lts.Need-sub-bind-3 (
-  wide-reads.Asked,
-  wide-reads.Learnt,
-  bind-below t,
-  bind.Post,
-  narrow-reads.Asked,
-  narrow-reads.Learnt,
-) (bind-at t) bind.Post
-bind-sub-bind-3 t c = search needs
-
-bind-bind-requires-3 : (t : ℕ) → bind-lts.Need-bind-requires-3 (
-  wide-reads.Asked,
-  wide-reads.Learnt,
-  bind-below t,
-  bind.Post,
-  narrow-reads.Asked,
-  narrow-reads.Learnt,
-) (bind-at t) bind.Post
-bind-bind-requires-3 t c κs = search needs
-
 bind-returns-4 : (t : ℕ) → bind-lts.Need-returns-4 (
   wide-reads.Asked,
   wide-reads.Learnt,
@@ -284,58 +113,9 @@ bind-returns-4 t c =
       sizes = q .sizes;
       below = λ i h. q .below i h ∙ r .below i h;
       earlier = λ i h. q .earlier i (omega (arith, r .low)) ∙ r .earlier i (omega arith);
-      bound = bound-conjunction (a .kinds .now) (a .firsts .now) _ _ _ (a .stack .now) _ _ _ (c .before .before .before .bind2 .result) k (r .end) (r .bound) (r .below) (q .earlier) (q .bound);
+      bound = bound-conjunction (a .kinds .now) (a .firsts .now) _ _ _ (a .stack .now) _ _ _ (c .before .before .before .bind2 .result) k (r .end)
+          (r .bound) (r .below) (q .earlier) (q .bound);
     }
-
-bind-narrow-requires : (t : ℕ) → bind-lts.Need-narrow-requires (
-  wide-reads.Asked,
-  wide-reads.Learnt,
-  bind-below t,
-  bind.Post,
-  narrow-reads.Asked,
-  narrow-reads.Learnt,
-) (bind-at t) bind.Post
-bind-narrow-requires t c κs = search needs
-
-bind-element-write-stack : (t : ℕ) → bind-lts.Need-element-write-stack (
-  wide-reads.Asked,
-  wide-reads.Learnt,
-  bind-below t,
-  bind.Post,
-  narrow-reads.Asked,
-  narrow-reads.Learnt,
-) (bind-at t) bind.Post
-bind-element-write-stack t c = search needs
-
-bind-add-bind-4 : (t : ℕ) → bind-lts.Need-add-bind-4 (
-  wide-reads.Asked,
-  wide-reads.Learnt,
-  bind-below t,
-  bind.Post,
-  narrow-reads.Asked,
-  narrow-reads.Learnt,
-) (bind-at t) bind.Post
-bind-add-bind-4 t c = search needs
-
-bind-sub-bind-4 : (t : ℕ) → bind-lts.Need-sub-bind-4 (
-  wide-reads.Asked,
-  wide-reads.Learnt,
-  bind-below t,
-  bind.Post,
-  narrow-reads.Asked,
-  narrow-reads.Learnt,
-) (bind-at t) bind.Post
-bind-sub-bind-4 t c = search needs
-
-bind-add-bind-5 : (t : ℕ) → bind-lts.Need-add-bind-5 (
-  wide-reads.Asked,
-  wide-reads.Learnt,
-  bind-below t,
-  bind.Post,
-  narrow-reads.Asked,
-  narrow-reads.Learnt,
-) (bind-at t) bind.Post
-bind-add-bind-5 t c = search needs
 
 bind-bind-requires-4 : (t : ℕ) → bind-lts.Need-bind-requires-4 (
   wide-reads.Asked,
@@ -366,18 +146,10 @@ bind-returns-5 t c =
       sizes = r .sizes;
       below = λ i h. r .below i (omega arith) ∙ getD-set-other (a .stack .now) (a .depth) i _ 0 (λ e. omega (arith, e));
       earlier = λ i h. r .earlier i (omega arith);
-      bound = bound-greatest (a .kinds .now) (a .firsts .now) _ _ _ (a .stack .now) _ _ k (getD-set-same (a .stack .now) (a .depth) _ 0 (search needs) ∙ c .before .before .before .narrow .ensures) (λ i h. getD-set-other (a .stack .now) (a .depth) i _ 0 (λ e. omega (arith, e))) (r .bound);
+      bound = bound-greatest (a .kinds .now) (a .firsts .now) _ _ _ (a .stack .now) _ _ k
+          (getD-set-same (a .stack .now) (a .depth) _ 0 (search needs) ∙ c .before .before .before .narrow .ensures)
+          (λ i h. getD-set-other (a .stack .now) (a .depth) i _ 0 (λ e. omega (arith, e))) (r .bound);
     }
-
-bind-add-result-2 : (t : ℕ) → bind-lts.Need-add-result-2 (
-  wide-reads.Asked,
-  wide-reads.Learnt,
-  bind-below t,
-  bind.Post,
-  narrow-reads.Asked,
-  narrow-reads.Learnt,
-) (bind-at t) bind.Post
-bind-add-result-2 t c = search needs
 
 bind-returns-6 : (t : ℕ) → bind-lts.Need-returns-6 (
   wide-reads.Asked,
@@ -396,7 +168,8 @@ bind-returns-6 t c =
       sizes = search needs;
       below = λ k h. refl;
       earlier = λ i h. refl;
-      bound = bound-leaf (a .kinds .now) (a .firsts .now) _ _ _ _ _ (c .before .before .before .if2 .left) (c .before .before .if4 .left) (c .before .if5 .left) (c .if6 .left);
+      bound = bound-leaf (a .kinds .now) (a .firsts .now) _ _ _ _ _ (c .before .before .before .if2 .left) (c .before .before .if4 .left)
+          (c .before .if5 .left) (c .if6 .left);
     }
 
 pub +bind-spec : {M : Type 1} → statement M
@@ -411,32 +184,32 @@ pub +bind-spec : {M : Type 1} → statement M
     (bind-at t)
     bind.Post
     (bind-returns t)
-    (bind-element-copy-out-kind t)
-    (bind-element-copy-out-wide t)
-    (bind-wide-requires t)
-    (bind-sub-binders t)
-    (bind-sub-binders-2 t)
-    (bind-element-copy-out-binders t)
-    (bind-element-write-binders t)
-    (bind-add-result t)
+    (λ c. search needs)
+    (λ c. search needs)
+    (λ c κs. search needs)
+    (λ c. search needs)
+    (λ c. search needs)
+    (λ c. search needs)
+    (λ c. search needs)
+    (λ c. search needs)
     (bind-returns-2 t)
-    (bind-add-bind t)
-    (bind-sub-bind t)
-    (bind-bind-requires t)
+    (λ c. search needs)
+    (λ c. search needs)
+    (λ c κs. search needs)
     (bind-returns-3 t)
-    (bind-add-bind-2 t)
-    (bind-sub-bind-2 t)
-    (bind-bind-requires-2 t)
-    (bind-add-bind-3 t)
-    (bind-sub-bind-3 t)
-    (bind-bind-requires-3 t)
+    (λ c. search needs)
+    (λ c. search needs)
+    (λ c κs. search needs)
+    (λ c. search needs)
+    (λ c. search needs)
+    (λ c κs. search needs)
     (bind-returns-4 t)
-    (bind-narrow-requires t)
-    (bind-element-write-stack t)
-    (bind-add-bind-4 t)
-    (bind-sub-bind-4 t)
-    (bind-add-bind-5 t)
+    (λ c κs. search needs)
+    (λ c. search needs)
+    (λ c. search needs)
+    (λ c. search needs)
+    (λ c. search needs)
     (bind-bind-requires-4 t)
     (bind-returns-5 t)
-    (bind-add-result-2 t)
+    (λ c. search needs)
     (bind-returns-6 t)

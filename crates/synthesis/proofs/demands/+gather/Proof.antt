@@ -1,11 +1,10 @@
 -- `gather` meets its contract. The nodes left fall.
--- Assumes nothing.
 use mathlib.Core.Path.{refl, ap, subst}
 use native.Mathlib.Omega.{arith}
-use Rattle.synthesis.specs.NodeWords.{row}
-use Rattle.synthesis.specs.NodeWalks.{EndsFrom}
+use Rattle.synthesis.specs.{NodeWords.{row}, NodeWalks.{EndsFrom}}
 use Rattle.synthesis.proofs.NodeWalks.{end-leaf, transition-end}
-use Rattle.synthesis.proofs.DemandRows.{gathered-none, gathered-one, gathers-truth, gathers-variable, gathers-transition, gathers-output, gathered-greatest, gathered-conjunction}
+use Rattle.synthesis.proofs.DemandRows.{gathered-none, gathered-one, gathers-truth, gathers-variable, gathers-transition, gathers-output}
+use Rattle.synthesis.proofs.DemandRows.{gathered-greatest, gathered-conjunction}
 use borrow.Author.Needs.{needs}
 use Prim.Native.Nat.{ℕ, _<_}
 use borrow.Fn.Kinds.{In}
@@ -48,86 +47,6 @@ gather-returns t c =
     let a = c .before .args in
     gathered-none (a .kinds .now) (a .binders .now) _ _ (c .if1 .taken) _ (search needs)
 
-gather-element-copy-out-kind : (t : ℕ) → gather-lts.Need-element-copy-out-kind (
-  wide-reads.Asked,
-  wide-reads.Learnt,
-  store-copy-reads.Asked,
-  store-copy-reads.Learnt,
-  store-self-reads.Asked,
-  store-self-reads.Learnt,
-  gather-below t,
-  gather.Post,
-  store-union-reads.Asked,
-  store-union-reads.Learnt,
-  store-none-reads.Asked,
-  store-none-reads.Learnt,
-) (gather-at t) gather.Post
-gather-element-copy-out-kind t c = search needs
-
-gather-element-copy-out-wide : (t : ℕ) → gather-lts.Need-element-copy-out-wide (
-  wide-reads.Asked,
-  wide-reads.Learnt,
-  store-copy-reads.Asked,
-  store-copy-reads.Learnt,
-  store-self-reads.Asked,
-  store-self-reads.Learnt,
-  gather-below t,
-  gather.Post,
-  store-union-reads.Asked,
-  store-union-reads.Learnt,
-  store-none-reads.Asked,
-  store-none-reads.Learnt,
-) (gather-at t) gather.Post
-gather-element-copy-out-wide t c = search needs
-
-gather-wide-requires : (t : ℕ) → gather-lts.Need-wide-requires (
-  wide-reads.Asked,
-  wide-reads.Learnt,
-  store-copy-reads.Asked,
-  store-copy-reads.Learnt,
-  store-self-reads.Asked,
-  store-self-reads.Learnt,
-  gather-below t,
-  gather.Post,
-  store-union-reads.Asked,
-  store-union-reads.Learnt,
-  store-none-reads.Asked,
-  store-none-reads.Learnt,
-) (gather-at t) gather.Post
-gather-wide-requires t c κs = search needs
-
-gather-store-copy-requires : (t : ℕ) → gather-lts.Need-store-copy-requires (
-  wide-reads.Asked,
-  wide-reads.Learnt,
-  store-copy-reads.Asked,
-  store-copy-reads.Learnt,
-  store-self-reads.Asked,
-  store-self-reads.Learnt,
-  gather-below t,
-  gather.Post,
-  store-union-reads.Asked,
-  store-union-reads.Learnt,
-  store-none-reads.Asked,
-  store-none-reads.Learnt,
-) (gather-at t) gather.Post
-gather-store-copy-requires t c κs = search needs
-
-gather-add-result : (t : ℕ) → gather-lts.Need-add-result (
-  wide-reads.Asked,
-  wide-reads.Learnt,
-  store-copy-reads.Asked,
-  store-copy-reads.Learnt,
-  store-self-reads.Asked,
-  store-self-reads.Learnt,
-  gather-below t,
-  gather.Post,
-  store-union-reads.Asked,
-  store-union-reads.Learnt,
-  store-none-reads.Asked,
-  store-none-reads.Learnt,
-) (gather-at t) gather.Post
-gather-add-result t c = search needs
-
 gather-returns-2 : (t : ℕ) → gather-lts.Need-returns-2 (
   wide-reads.Asked,
   wide-reads.Learnt,
@@ -146,72 +65,9 @@ gather-returns-2 t c =
     let a = c .before .before .before .before .before .before .before .args in
     let k = c .before .before .before .before .if2 .taken in
     let s = c .store-copy .ensures in
-    gathered-one (a .kinds .now) (a .binders .now) _ _ _ _ _ s _ (search needs) (search needs) (end-leaf (a .kinds .now) _ _ (λ e. omega (arith, e, k)) (λ e. omega (arith, e, k)) (λ e. omega (arith, e, k)))
+    gathered-one (a .kinds .now) (a .binders .now) _ _ _ _ _ s _ (search needs) (search needs)
+    (end-leaf (a .kinds .now) _ _ (λ e. omega (arith, e, k)) (λ e. omega (arith, e, k)) (λ e. omega (arith, e, k)))
     (gathers-variable (a .kinds .now) (a .binders .now) _ _ _ _ _ s (ap (row (a .rows .now)) (c .before .before .wide .ensures .0)) k)
-
-gather-store-self-requires : (t : ℕ) → gather-lts.Need-store-self-requires (
-  wide-reads.Asked,
-  wide-reads.Learnt,
-  store-copy-reads.Asked,
-  store-copy-reads.Learnt,
-  store-self-reads.Asked,
-  store-self-reads.Learnt,
-  gather-below t,
-  gather.Post,
-  store-union-reads.Asked,
-  store-union-reads.Learnt,
-  store-none-reads.Asked,
-  store-none-reads.Learnt,
-) (gather-at t) gather.Post
-gather-store-self-requires t c κs = search needs
-
-gather-add-result-2 : (t : ℕ) → gather-lts.Need-add-result-2 (
-  wide-reads.Asked,
-  wide-reads.Learnt,
-  store-copy-reads.Asked,
-  store-copy-reads.Learnt,
-  store-self-reads.Asked,
-  store-self-reads.Learnt,
-  gather-below t,
-  gather.Post,
-  store-union-reads.Asked,
-  store-union-reads.Learnt,
-  store-none-reads.Asked,
-  store-none-reads.Learnt,
-) (gather-at t) gather.Post
-gather-add-result-2 t c = search needs
-
-gather-mul-result : (t : ℕ) → gather-lts.Need-mul-result (
-  wide-reads.Asked,
-  wide-reads.Learnt,
-  store-copy-reads.Asked,
-  store-copy-reads.Learnt,
-  store-self-reads.Asked,
-  store-self-reads.Learnt,
-  gather-below t,
-  gather.Post,
-  store-union-reads.Asked,
-  store-union-reads.Learnt,
-  store-none-reads.Asked,
-  store-none-reads.Learnt,
-) (gather-at t) gather.Post
-gather-mul-result t c = search needs
-
-gather-element-copy-out-result : (t : ℕ) → gather-lts.Need-element-copy-out-result (
-  wide-reads.Asked,
-  wide-reads.Learnt,
-  store-copy-reads.Asked,
-  store-copy-reads.Learnt,
-  store-self-reads.Asked,
-  store-self-reads.Learnt,
-  gather-below t,
-  gather.Post,
-  store-union-reads.Asked,
-  store-union-reads.Learnt,
-  store-none-reads.Asked,
-  store-none-reads.Learnt,
-) (gather-at t) gather.Post
-gather-element-copy-out-result t c = search needs
 
 gather-returns-3 : (t : ℕ) → gather-lts.Need-returns-3 (
   wide-reads.Asked,
@@ -233,39 +89,8 @@ gather-returns-3 t c =
     let k = c .before .before .before .if3 .taken in
     let s = c .before .store-self .ensures in
     let w = transition-end (a .kinds .now) (a .ends .now) (a .at) (a .left) (omega arith) (n .pre .1 .5) k in
-    gathered-one (a .kinds .now) (a .binders .now) _ _ _ _ _ s _ (w .0) (w .1 .high) (w .1 .end) (gathers-transition (a .kinds .now) (a .binders .now) _ _ _ _ _ s refl k)
-
-gather-store-self-requires-2 : (t : ℕ) → gather-lts.Need-store-self-requires-2 (
-  wide-reads.Asked,
-  wide-reads.Learnt,
-  store-copy-reads.Asked,
-  store-copy-reads.Learnt,
-  store-self-reads.Asked,
-  store-self-reads.Learnt,
-  gather-below t,
-  gather.Post,
-  store-union-reads.Asked,
-  store-union-reads.Learnt,
-  store-none-reads.Asked,
-  store-none-reads.Learnt,
-) (gather-at t) gather.Post
-gather-store-self-requires-2 t c κs = search needs
-
-gather-add-result-3 : (t : ℕ) → gather-lts.Need-add-result-3 (
-  wide-reads.Asked,
-  wide-reads.Learnt,
-  store-copy-reads.Asked,
-  store-copy-reads.Learnt,
-  store-self-reads.Asked,
-  store-self-reads.Learnt,
-  gather-below t,
-  gather.Post,
-  store-union-reads.Asked,
-  store-union-reads.Learnt,
-  store-none-reads.Asked,
-  store-none-reads.Learnt,
-) (gather-at t) gather.Post
-gather-add-result-3 t c = search needs
+    gathered-one (a .kinds .now) (a .binders .now) _ _ _ _ _ s _ (w .0) (w .1 .high) (w .1 .end)
+    (gathers-transition (a .kinds .now) (a .binders .now) _ _ _ _ _ s refl k)
 
 gather-returns-4 : (t : ℕ) → gather-lts.Need-returns-4 (
   wide-reads.Asked,
@@ -285,39 +110,9 @@ gather-returns-4 t c =
     let a = c .before .before .before .before .before .before .before .args in
     let k = c .before .before .if4 .taken in
     let s = c .store-self2 .ensures in
-    gathered-one (a .kinds .now) (a .binders .now) _ _ _ _ _ s _ (search needs) (search needs) (end-leaf (a .kinds .now) _ _ (λ e. omega (arith, e, k)) (λ e. omega (arith, e, k)) (λ e. omega (arith, e, k))) (gathers-output (a .kinds .now) (a .binders .now) _ _ _ _ _ s refl k)
-
-gather-add-gather : (t : ℕ) → gather-lts.Need-add-gather (
-  wide-reads.Asked,
-  wide-reads.Learnt,
-  store-copy-reads.Asked,
-  store-copy-reads.Learnt,
-  store-self-reads.Asked,
-  store-self-reads.Learnt,
-  gather-below t,
-  gather.Post,
-  store-union-reads.Asked,
-  store-union-reads.Learnt,
-  store-none-reads.Asked,
-  store-none-reads.Learnt,
-) (gather-at t) gather.Post
-gather-add-gather t c = search needs
-
-gather-sub-gather : (t : ℕ) → gather-lts.Need-sub-gather (
-  wide-reads.Asked,
-  wide-reads.Learnt,
-  store-copy-reads.Asked,
-  store-copy-reads.Learnt,
-  store-self-reads.Asked,
-  store-self-reads.Learnt,
-  gather-below t,
-  gather.Post,
-  store-union-reads.Asked,
-  store-union-reads.Learnt,
-  store-none-reads.Asked,
-  store-none-reads.Learnt,
-) (gather-at t) gather.Post
-gather-sub-gather t c = search needs
+    gathered-one (a .kinds .now) (a .binders .now) _ _ _ _ _ s _ (search needs) (search needs)
+    (end-leaf (a .kinds .now) _ _ (λ e. omega (arith, e, k)) (λ e. omega (arith, e, k)) (λ e. omega (arith, e, k)))
+    (gathers-output (a .kinds .now) (a .binders .now) _ _ _ _ _ s refl k)
 
 gather-gather-requires : (t : ℕ) → gather-lts.Need-gather-requires (
   wide-reads.Asked,
@@ -335,40 +130,18 @@ gather-gather-requires : (t : ℕ) → gather-lts.Need-gather-requires (
 ) (gather-at t) gather.Post
 gather-gather-requires t c κs =
     let n = c .before .before .before .before .before .before .before in
-    let a = n .args in
-    (search needs, (search needs, search needs, search needs, search needs, search needs, subst (λ m. EndsFrom (a .kinds .now) m (a .ends .now) 0) (omega arith) (n .pre .1 .5)))
-
-gather-add-gather-2 : (t : ℕ) → gather-lts.Need-add-gather-2 (
-  wide-reads.Asked,
-  wide-reads.Learnt,
-  store-copy-reads.Asked,
-  store-copy-reads.Learnt,
-  store-self-reads.Asked,
-  store-self-reads.Learnt,
-  gather-below t,
-  gather.Post,
-  store-union-reads.Asked,
-  store-union-reads.Learnt,
-  store-none-reads.Asked,
-  store-none-reads.Learnt,
-) (gather-at t) gather.Post
-gather-add-gather-2 t c = search needs
-
-gather-sub-gather-2 : (t : ℕ) → gather-lts.Need-sub-gather-2 (
-  wide-reads.Asked,
-  wide-reads.Learnt,
-  store-copy-reads.Asked,
-  store-copy-reads.Learnt,
-  store-self-reads.Asked,
-  store-self-reads.Learnt,
-  gather-below t,
-  gather.Post,
-  store-union-reads.Asked,
-  store-union-reads.Learnt,
-  store-none-reads.Asked,
-  store-none-reads.Learnt,
-) (gather-at t) gather.Post
-gather-sub-gather-2 t c = search needs
+    let a = n .args in (
+      search needs,
+      (
+        search needs,
+        search needs,
+        search needs,
+        search needs,
+        search needs,
+        subst (λ m. EndsFrom (a .kinds .now) m (a .ends .now) 0)
+            (omega arith) (n .pre .1 .5),
+      ),
+    )
 
 gather-gather-requires-2 : (t : ℕ) → gather-lts.Need-gather-requires-2 (
   wide-reads.Asked,
@@ -386,40 +159,18 @@ gather-gather-requires-2 : (t : ℕ) → gather-lts.Need-gather-requires-2 (
 ) (gather-at t) gather.Post
 gather-gather-requires-2 t c κs =
     let n = c .before .before .before .before .before .before .before .before .before in
-    let a = n .args in
-    (search needs, (search needs, search needs, search needs, search needs, c .before .gather .ensures .sized, subst (λ m. EndsFrom (a .kinds .now) m (a .ends .now) 0) (omega arith) (n .pre .1 .5)))
-
-gather-add-store-union : (t : ℕ) → gather-lts.Need-add-store-union (
-  wide-reads.Asked,
-  wide-reads.Learnt,
-  store-copy-reads.Asked,
-  store-copy-reads.Learnt,
-  store-self-reads.Asked,
-  store-self-reads.Learnt,
-  gather-below t,
-  gather.Post,
-  store-union-reads.Asked,
-  store-union-reads.Learnt,
-  store-none-reads.Asked,
-  store-none-reads.Learnt,
-) (gather-at t) gather.Post
-gather-add-store-union t c = search needs
-
-gather-store-union-requires : (t : ℕ) → gather-lts.Need-store-union-requires (
-  wide-reads.Asked,
-  wide-reads.Learnt,
-  store-copy-reads.Asked,
-  store-copy-reads.Learnt,
-  store-self-reads.Asked,
-  store-self-reads.Learnt,
-  gather-below t,
-  gather.Post,
-  store-union-reads.Asked,
-  store-union-reads.Learnt,
-  store-none-reads.Asked,
-  store-none-reads.Learnt,
-) (gather-at t) gather.Post
-gather-store-union-requires t c κs = search needs
+    let a = n .args in (
+      search needs,
+      (
+        search needs,
+        search needs,
+        search needs,
+        search needs,
+        c .before .gather .ensures .sized,
+        subst
+            (λ m. EndsFrom (a .kinds .now) m (a .ends .now) 0) (omega arith) (n .pre .1 .5),
+      ),
+    )
 
 gather-returns-5 : (t : ℕ) → gather-lts.Need-returns-5 (
   wide-reads.Asked,
@@ -437,39 +188,9 @@ gather-returns-5 : (t : ℕ) → gather-lts.Need-returns-5 (
 ) (gather-at t) gather.Post
 gather-returns-5 t c =
     let a = c .before .before .before .before .before .before .before .before .before .before .before .before .args in
-    gathered-conjunction (a .kinds .now) (a .binders .now) _ _ _ _ _ _ (c .before .before .before .before .gather .result) _ (c .before .before .before .before .gather .ensures) (c .before .before .gather2 .ensures) (c .store-union .ensures) (omega arith) (c .before .before .before .before .before .before .if5 .taken)
-
-gather-add-gather-3 : (t : ℕ) → gather-lts.Need-add-gather-3 (
-  wide-reads.Asked,
-  wide-reads.Learnt,
-  store-copy-reads.Asked,
-  store-copy-reads.Learnt,
-  store-self-reads.Asked,
-  store-self-reads.Learnt,
-  gather-below t,
-  gather.Post,
-  store-union-reads.Asked,
-  store-union-reads.Learnt,
-  store-none-reads.Asked,
-  store-none-reads.Learnt,
-) (gather-at t) gather.Post
-gather-add-gather-3 t c = search needs
-
-gather-sub-gather-3 : (t : ℕ) → gather-lts.Need-sub-gather-3 (
-  wide-reads.Asked,
-  wide-reads.Learnt,
-  store-copy-reads.Asked,
-  store-copy-reads.Learnt,
-  store-self-reads.Asked,
-  store-self-reads.Learnt,
-  gather-below t,
-  gather.Post,
-  store-union-reads.Asked,
-  store-union-reads.Learnt,
-  store-none-reads.Asked,
-  store-none-reads.Learnt,
-) (gather-at t) gather.Post
-gather-sub-gather-3 t c = search needs
+    gathered-conjunction (a .kinds .now) (a .binders .now) _ _ _ _ _ _ (c .before .before .before .before .gather .result) _
+    (c .before .before .before .before .gather .ensures) (c .before .before .gather2 .ensures) (c .store-union .ensures) (omega arith)
+    (c .before .before .before .before .before .before .if5 .taken)
 
 gather-gather-requires-3 : (t : ℕ) → gather-lts.Need-gather-requires-3 (
   wide-reads.Asked,
@@ -487,40 +208,18 @@ gather-gather-requires-3 : (t : ℕ) → gather-lts.Need-gather-requires-3 (
 ) (gather-at t) gather.Post
 gather-gather-requires-3 t c κs =
     let n = c .before .before .before .before .before .before .before .before in
-    let a = n .args in
-    (search needs, (search needs, search needs, search needs, search needs, search needs, subst (λ m. EndsFrom (a .kinds .now) m (a .ends .now) 0) (omega arith) (n .pre .1 .5)))
-
-gather-add-store-copy : (t : ℕ) → gather-lts.Need-add-store-copy (
-  wide-reads.Asked,
-  wide-reads.Learnt,
-  store-copy-reads.Asked,
-  store-copy-reads.Learnt,
-  store-self-reads.Asked,
-  store-self-reads.Learnt,
-  gather-below t,
-  gather.Post,
-  store-union-reads.Asked,
-  store-union-reads.Learnt,
-  store-none-reads.Asked,
-  store-none-reads.Learnt,
-) (gather-at t) gather.Post
-gather-add-store-copy t c = search needs
-
-gather-store-copy-requires-2 : (t : ℕ) → gather-lts.Need-store-copy-requires-2 (
-  wide-reads.Asked,
-  wide-reads.Learnt,
-  store-copy-reads.Asked,
-  store-copy-reads.Learnt,
-  store-self-reads.Asked,
-  store-self-reads.Learnt,
-  gather-below t,
-  gather.Post,
-  store-union-reads.Asked,
-  store-union-reads.Learnt,
-  store-none-reads.Asked,
-  store-none-reads.Learnt,
-) (gather-at t) gather.Post
-gather-store-copy-requires-2 t c κs = search needs
+    let a = n .args in (
+      search needs,
+      (
+        search needs,
+        search needs,
+        search needs,
+        search needs,
+        search needs,
+        subst (λ m. EndsFrom (a .kinds .now) m (a .ends .now) 0)
+            (omega arith) (n .pre .1 .5),
+      ),
+    )
 
 gather-returns-6 : (t : ℕ) → gather-lts.Need-returns-6 (
   wide-reads.Asked,
@@ -538,39 +237,8 @@ gather-returns-6 : (t : ℕ) → gather-lts.Need-returns-6 (
 ) (gather-at t) gather.Post
 gather-returns-6 t c =
     let a = c .before .before .before .before .before .before .before .before .before .before .before .args in
-    gathered-greatest (a .kinds .now) (a .binders .now) _ _ _ _ _ _ (c .before .before .gather3 .ensures) (c .store-copy2 .ensures) (omega arith) (c .before .before .before .before .if6 .taken)
-
-gather-store-none-requires : (t : ℕ) → gather-lts.Need-store-none-requires (
-  wide-reads.Asked,
-  wide-reads.Learnt,
-  store-copy-reads.Asked,
-  store-copy-reads.Learnt,
-  store-self-reads.Asked,
-  store-self-reads.Learnt,
-  gather-below t,
-  gather.Post,
-  store-union-reads.Asked,
-  store-union-reads.Learnt,
-  store-none-reads.Asked,
-  store-none-reads.Learnt,
-) (gather-at t) gather.Post
-gather-store-none-requires t c κs = search needs
-
-gather-add-result-4 : (t : ℕ) → gather-lts.Need-add-result-4 (
-  wide-reads.Asked,
-  wide-reads.Learnt,
-  store-copy-reads.Asked,
-  store-copy-reads.Learnt,
-  store-self-reads.Asked,
-  store-self-reads.Learnt,
-  gather-below t,
-  gather.Post,
-  store-union-reads.Asked,
-  store-union-reads.Learnt,
-  store-none-reads.Asked,
-  store-none-reads.Learnt,
-) (gather-at t) gather.Post
-gather-add-result-4 t c = search needs
+    gathered-greatest (a .kinds .now) (a .binders .now) _ _ _ _ _ _ (c .before .before .gather3 .ensures) (c .store-copy2 .ensures) (omega arith)
+    (c .before .before .before .before .if6 .taken)
 
 gather-returns-7 : (t : ℕ) → gather-lts.Need-returns-7 (
   wide-reads.Asked,
@@ -615,35 +283,35 @@ pub +gather-spec : {M : Type 1} → statement M
     (gather-at t)
     gather.Post
     (gather-returns t)
-    (gather-element-copy-out-kind t)
-    (gather-element-copy-out-wide t)
-    (gather-wide-requires t)
-    (gather-store-copy-requires t)
-    (gather-add-result t)
+    (λ c. search needs)
+    (λ c. search needs)
+    (λ c κs. search needs)
+    (λ c κs. search needs)
+    (λ c. search needs)
     (gather-returns-2 t)
-    (gather-store-self-requires t)
-    (gather-add-result-2 t)
-    (gather-mul-result t)
-    (gather-element-copy-out-result t)
+    (λ c κs. search needs)
+    (λ c. search needs)
+    (λ c. search needs)
+    (λ c. search needs)
     (gather-returns-3 t)
-    (gather-store-self-requires-2 t)
-    (gather-add-result-3 t)
+    (λ c κs. search needs)
+    (λ c. search needs)
     (gather-returns-4 t)
-    (gather-add-gather t)
-    (gather-sub-gather t)
+    (λ c. search needs)
+    (λ c. search needs)
     (gather-gather-requires t)
-    (gather-add-gather-2 t)
-    (gather-sub-gather-2 t)
+    (λ c. search needs)
+    (λ c. search needs)
     (gather-gather-requires-2 t)
-    (gather-add-store-union t)
-    (gather-store-union-requires t)
+    (λ c. search needs)
+    (λ c κs. search needs)
     (gather-returns-5 t)
-    (gather-add-gather-3 t)
-    (gather-sub-gather-3 t)
+    (λ c. search needs)
+    (λ c. search needs)
     (gather-gather-requires-3 t)
-    (gather-add-store-copy t)
-    (gather-store-copy-requires-2 t)
+    (λ c. search needs)
+    (λ c κs. search needs)
     (gather-returns-6 t)
-    (gather-store-none-requires t)
-    (gather-add-result-4 t)
+    (λ c κs. search needs)
+    (λ c. search needs)
     (gather-returns-7 t)

@@ -1,20 +1,17 @@
 -- `fill_rows` meets its contract. The loop's invariant: the rows of the root's formula and of the parts of the transitions passed have
 -- their demands.
--- Assumes nothing.
 use borrow.Author.Needs.{needs}
 use Prim.Native.Nat.{_≤_, _-_, _+_}
-use mathlib.Core.Path.{_≡_, sym, _∙_, ap, subst}
-use mathlib.Core.Logic.{⊎-elim}
+use mathlib.Core.{Path.{_≡_, sym, _∙_, ap, subst}, Logic.{⊎-elim}}
 use native.Mathlib.Omega.{arith}
 use lib.ListN.{length}
-use Rattle.synthesis.specs.NodeWalks.{EndsFrom}
-use Rattle.synthesis.specs.DemandRows.{RowsTo}
+use Rattle.synthesis.specs.{NodeWords.{row-words}, NodeWalks.{EndsFrom}, DemandRows.{RowsTo}}
 use Rattle.synthesis.proofs.DemandRows.{rows-root, rows-part, rows-other}
 use Rattle.synthesis.proofs.demands.fill_rows.Statement.{statement}
 use Rattle.synthesis.proofs.demands.fill_rows.Tie as tie
 
 abbrev Inv-loop : tie.InvT-loop
-Inv-loop kinds binders ends count rows₀ i₀ rows i = (i ≤ count) × (length rows ≡ 1028) × RowsTo kinds binders count rows i
+Inv-loop kinds binders ends count rows₀ i₀ rows i = (i ≤ count) × (length rows ≡ row-words) × RowsTo kinds binders count rows i
 
 abbrev μ-loop : tie.MeasureT-loop
 μ-loop kinds binders ends count rows₀ i₀ rows i = count - i
@@ -31,29 +28,11 @@ loop-holds c =
     let g = c .gather .ensures in
     (search needs, g .sized, rows-root (a .kinds .now) (a .binders .now) (a .count) _ _ _ g)
 
-element-copy-out-if1 : tie.Need-element-copy-out-if1 Inv-loop μ-loop
-element-copy-out-if1 c = search needs
-
-add-gather : tie.Need-add-gather Inv-loop μ-loop
-add-gather c = search needs
-
-sub-gather : tie.Need-sub-gather Inv-loop μ-loop
-sub-gather c = search needs
-
-sub-gather-2 : tie.Need-sub-gather-2 Inv-loop μ-loop
-sub-gather-2 c = search needs
-
 gather-requires-2 : tie.Need-gather-requires-2 Inv-loop μ-loop
 gather-requires-2 c κs =
     let n = c .before .before .before .before .before .before .before in
     let a = n .args in
     (search needs, search needs, search needs, search needs, search needs, subst (λ m. EndsFrom (a .kinds .now) m (a .ends .now) 0) (omega arith) (n .pre .5))
-
-add-i : tie.Need-add-i Inv-loop μ-loop
-add-i c = search needs
-
-loop-less : tie.Need-loop-less Inv-loop μ-loop
-loop-less c = search needs
 
 loop-again : tie.Need-loop-again Inv-loop μ-loop
 loop-again c =
@@ -82,19 +61,5 @@ returns c =
     (l .inv .1, subst (λ n. RowsTo (a .kinds .now) (a .binders .now) (a .count) (l .rows) n) e (l .inv .2))
 
 pub fill-rows-spec : {M : Type 1} → statement M
-fill-rows-spec =
-    tie.close
-    (tie.spec
-    Inv-loop
-    μ-loop
-    gather-requires
-    loop-holds
-    element-copy-out-if1
-    add-gather
-    sub-gather
-    sub-gather-2
-    gather-requires-2
-    add-i
-    loop-less
-    loop-again
-    returns)
+fill-rows-spec = tie.close (tie.spec Inv-loop μ-loop gather-requires loop-holds (λ c. search needs) (λ c. search needs) (λ c. search needs)
+    (λ c. search needs) gather-requires-2 (λ c. search needs) (λ c. search needs) loop-again returns)

@@ -1,14 +1,10 @@
 -- `store_copy` meets its contract: a set united with itself is the set.
--- Assumes nothing.
 use mathlib.Core.Path.{_∙_}
 use Rattle.theory.proofs.NodeSets.{union-same}
 use Rattle.synthesis.specs.NodeWords.{row}
 use borrow.Author.Needs.{needs}
 use Rattle.synthesis.proofs.demands.store_copy.Statement.{statement}
 use Rattle.synthesis.proofs.demands.store_copy.Tie as tie
-
-store-union-requires : tie.Need-store-union-requires
-store-union-requires c κs = search needs
 
 returns : tie.Need-returns
 returns c =
@@ -17,4 +13,4 @@ returns c =
     record { sized = x .sized; here = x .here ∙ union-same (row (a .rows .now) (a .from)); others = x .others }
 
 pub store-copy-spec : {M : Type 1} → statement M
-store-copy-spec = tie.close (tie.spec store-union-requires returns)
+store-copy-spec = tie.close (tie.spec (λ c κs. search needs) returns)

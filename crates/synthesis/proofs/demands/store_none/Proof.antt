@@ -1,42 +1,22 @@
 -- `store_none` meets its contract. The loop's invariant: the words passed are 0, all others as before.
--- Assumes nothing.
 use mathlib.Core.Path.{_≡_, refl, subst}
 use Prim.Native.Nat.{_≤_, _-_, _*_}
 use native.Mathlib.Omega.{arith}
 use lib.ListN.{length}
-use Rattle.synthesis.specs.NodeWords.{WordsTo}
-use Rattle.synthesis.proofs.NodeWords.{words-none, words-more, no-words}
-use Rattle.synthesis.proofs.DemandRows.{row-stored}
+use Rattle.synthesis.specs.NodeWords.{row-words, WordsTo}
+use Rattle.synthesis.proofs.{NodeWords.{words-none, words-more, no-words}, DemandRows.{row-stored}}
 use borrow.Author.Needs.{needs}
 use Rattle.synthesis.proofs.demands.store_none.Statement.{statement}
 use Rattle.synthesis.proofs.demands.store_none.Tie as tie
 
 abbrev Inv-loop : tie.InvT-loop
-Inv-loop rows₀ at w₀ rows w = (w ≤ 4) × (length rows ≡ 1028) × WordsTo (λ v. 0) (at * 4) w rows₀ rows
+Inv-loop rows₀ at w₀ rows w = (w ≤ 4) × (length rows ≡ row-words) × WordsTo (λ v. 0) (at * 4) w rows₀ rows
 
 abbrev μ-loop : tie.MeasureT-loop
 μ-loop rows₀ at w₀ rows w = 4 - w
 
 loop-holds : tie.Need-loop-holds Inv-loop μ-loop
 loop-holds c = (search needs, search needs, words-none (λ v. 0) (c .args .at * 4) (c .args .rows .now))
-
-mul-rows : tie.Need-mul-rows Inv-loop μ-loop
-mul-rows c = search needs
-
-add-rows : tie.Need-add-rows Inv-loop μ-loop
-add-rows c = search needs
-
-mul-rows-2 : tie.Need-mul-rows-2 Inv-loop μ-loop
-mul-rows-2 c = search needs
-
-element-write-rows : tie.Need-element-write-rows Inv-loop μ-loop
-element-write-rows c = search needs
-
-add-w : tie.Need-add-w Inv-loop μ-loop
-add-w c = search needs
-
-loop-less : tie.Need-loop-less Inv-loop μ-loop
-loop-less c = search needs
 
 loop-again : tie.Need-loop-again Inv-loop μ-loop
 loop-again c =
@@ -53,17 +33,5 @@ returns c =
     row-stored (λ v. 0) (a .at) (a .rows .now) (l .rows) _ (search needs) v (no-words (l .rows) (a .at * 4) (v .there))
 
 pub store-none-spec : {M : Type 1} → statement M
-store-none-spec =
-    tie.close
-    (tie.spec
-    Inv-loop
-    μ-loop
-    loop-holds
-    mul-rows
-    add-rows
-    mul-rows-2
-    element-write-rows
-    add-w
-    loop-less
-    loop-again
-    returns)
+store-none-spec = tie.close (tie.spec Inv-loop μ-loop loop-holds (λ c. search needs) (λ c. search needs) (λ c. search needs) (λ c. search needs)
+    (λ c. search needs) (λ c. search needs) loop-again returns)

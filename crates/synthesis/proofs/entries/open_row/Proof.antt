@@ -1,5 +1,4 @@
 -- `open_row` meets its contract. The loop's invariant: the entries of the events passed are top.
--- Assumes nothing.
 use mathlib.Core.Path.{_≡_, refl, subst}
 use Prim.Native.Nat.{ℕ, _-_, _≤_}
 use native.Mathlib.Omega.{arith}
@@ -18,43 +17,26 @@ abbrev μ-loop : tie.MeasureT-loop
 loop-holds : tie.Need-loop-holds Inv-loop μ-loop
 loop-holds c = (search needs, row-none _ _ _ _)
 
-entry-at-requires : tie.Need-entry-at-requires Inv-loop μ-loop
-entry-at-requires c κs = search needs
+slice-write-to : tie.Need-slice-write-to Inv-loop μ-loop
+slice-write-to c = omega (arith, c .entry-at .ensures, c .before .before .loop .inv .1 .sized, c .before .before .before .before .pre .2)
 
-mul-to : tie.Need-mul-to Inv-loop μ-loop
-mul-to c = search needs
-
-element-write-to : tie.Need-element-write-to Inv-loop μ-loop
-element-write-to c = omega (arith, c .entry-at .ensures .1, c .before .before .loop .inv .1 .sized, c .before .before .before .pre .2)
-
-add-event : tie.Need-add-event Inv-loop μ-loop
-add-event c = search needs
-
-loop-less : tie.Need-loop-less Inv-loop μ-loop
-loop-less c = search needs
+same-length : tie.Need-same-length Inv-loop μ-loop
+same-length c = c .before .loop .inv .1 .sized
 
 loop-again : tie.Need-loop-again Inv-loop μ-loop
-loop-again c = let a = c .before .before .before .args in
-    let l = c .before .before .loop in
-    (search needs, row-more _ (a .events) (a .state) (l .event) _ _ _ _ (c .before .loop-test .taken) (c .entry-at .ensures .0) (omega (arith, c .entry-at .ensures .1, l .inv .1 .sized, c .before .before .before .pre .2)) refl (l .inv .1))
+loop-again c = let a = c .before .before .before .before .args in
+    let l = c .before .before .loop in (
+      search needs,
+      row-more _ (a .events) (a .state) (l .event) _ _ _ _ (c .before .loop-test .taken) (c .entry-at .ensures)
+          (omega (arith, c .entry-at .ensures, l .inv .1 .sized, c .before .before .before .before .pre .2)) refl (l .inv .1),
+    )
 
 returns : tie.Need-returns Inv-loop μ-loop
-returns c = let a = c .before .before .args in
+returns c = let a = c .before .before .before .args in
     let l = c .before .loop in
     let e : l .event ≡ a .events = omega (arith, l .inv .0) in
     subst (λ (m : ℕ). RowTo (λ x. a .top) (a .events) (a .state) m (a .to .now) (l .to)) e (l .inv .1)
 
 pub open-row-spec : {M : Type 1} → statement M
-open-row-spec =
-    tie.close
-    (tie.spec
-    Inv-loop
-    μ-loop
-    loop-holds
-    entry-at-requires
-    mul-to
-    element-write-to
-    add-event
-    loop-less
-    loop-again
-    returns)
+open-row-spec = tie.close (tie.spec Inv-loop μ-loop loop-holds (λ c κs. search needs) (λ c. search needs) slice-write-to (λ c. search needs)
+    (λ c. search needs) loop-again same-length returns)

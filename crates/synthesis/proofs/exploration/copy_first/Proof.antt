@@ -1,43 +1,19 @@
 -- `copy_first` meets its contract. The loop's invariant: the words passed are copied.
--- Assumes nothing.
 use mathlib.Core.Path.{_≡_, sym, _∙_, ap}
 use Prim.Native.Nat.{ℕ, _≤_, _<_, _-_, _+_}
 use native.Mathlib.Omega.{arith}
-use borrow.Author.Count.{below-more}
-use lib.ListN.{length, getD}
-use lib.Seq.{getD-set-same, getD-set-other}
+use borrow.Author.{Count.{below-more}, Needs.{needs}}
+use lib.{ListN.{length, getD}, Seq.{getD-set-same, getD-set-other}}
 use Rattle.synthesis.proofs.NodeWords.{set-same, bits-of}
-use borrow.Author.Needs.{needs}
 use Rattle.synthesis.proofs.exploration.copy_first.Statement.{statement}
 use Rattle.synthesis.proofs.exploration.copy_first.Tie as tie
 
 abbrev Inv-loop : tie.InvT-loop
 Inv-loop states₀ rows w₀ states w =
-    (w ≤ 4) × (length states ≡ 256) × ((v : ℕ) → v < w → getD states v 0 ≡ getD rows v 0)
+    (w ≤ 4) × (length states ≡ length states₀) × ((v : ℕ) → v < w → getD states v 0 ≡ getD rows v 0)
 
 abbrev μ-loop : tie.MeasureT-loop
 μ-loop states₀ rows w₀ states w = 4 - w
-
-loop-holds : tie.Need-loop-holds Inv-loop μ-loop
-loop-holds c = search needs
-
-mul-states : tie.Need-mul-states Inv-loop μ-loop
-mul-states c = search needs
-
-element-copy-out-states : tie.Need-element-copy-out-states Inv-loop μ-loop
-element-copy-out-states c = search needs
-
-mul-states-2 : tie.Need-mul-states-2 Inv-loop μ-loop
-mul-states-2 c = search needs
-
-element-write-states : tie.Need-element-write-states Inv-loop μ-loop
-element-write-states c = search needs
-
-add-w : tie.Need-add-w Inv-loop μ-loop
-add-w c = search needs
-
-loop-less : tie.Need-loop-less Inv-loop μ-loop
-loop-less c = search needs
 
 loop-again : tie.Need-loop-again Inv-loop μ-loop
 loop-again c =
@@ -54,21 +30,12 @@ loop-again c =
 returns : tie.Need-returns Inv-loop μ-loop
 returns c =
     let l = c .before .loop .states in
-    let r = c .before .before .args .rows .now in
-    (search needs, bits-of l r 0 0 (set-same l r 0 0 (λ w h. let z : 0 + w ≡ w = omega arith in ap (λ x. getD l x 0) z ∙ c .before .loop .inv .2 w (omega arith) ∙ ap (λ x. getD r x 0) (sym z))))
+    let r = c .before .before .args .rows .now in (
+      search needs,
+      bits-of l r 0 0 (set-same l r 0 0 (λ w h. let z : 0 + w ≡ w = omega arith in ap (λ x. getD l x 0) z ∙ c .before .loop .inv .2 w
+          (omega arith) ∙ ap (λ x. getD r x 0) (sym z))),
+    )
 
 pub copy-first-spec : {M : Type 1} → statement M
-copy-first-spec =
-    tie.close
-    (tie.spec
-    Inv-loop
-    μ-loop
-    loop-holds
-    mul-states
-    element-copy-out-states
-    mul-states-2
-    element-write-states
-    add-w
-    loop-less
-    loop-again
-    returns)
+copy-first-spec = tie.close (tie.spec Inv-loop μ-loop (λ c. search needs) (λ c. search needs) (λ c. search needs) (λ c. search needs)
+    (λ c. search needs) (λ c. search needs) (λ c. search needs) loop-again (λ c. search needs) returns)

@@ -1,115 +1,93 @@
 -- `explore` meets its contract. The loop's invariant: the states kept and the entries are those of the sequences explored so far.
--- Assumes nothing.
 use borrow.Author.Needs.{needs}
 use Prim.Native.Nat.{_≤_, _-_, _*_}
 use mathlib.Core.Path.{_≡_, refl, _∙_, subst}
-use native.Mathlib.Nat.{add-mul}
-use native.Mathlib.Omega.{arith}
+use native.Mathlib.{Nat.{add-mul}, Omega.{arith}}
 use lib.ListN.{length}
-use Rattle.synthesis.specs.NodeWords.{bits-at}
-use Rattle.synthesis.specs.Exploring.{next-bits, Unchanged, Kept}
+use Rattle.synthesis.specs.{NodeWords.{next-words, bits-at}, Exploring.{next-bits, Unchanged, Kept}}
 use Rattle.synthesis.proofs.Exploring.{all-to, kept-start, row-kept, row-over, all-kept}
 use Rattle.synthesis.proofs.exploration.explore.Statement.{statement}
 use Rattle.synthesis.proofs.exploration.explore.Tie as tie
 
 abbrev Inv-loop : tie.InvT-loop
-Inv-loop kinds firsts count rows events states₀ nexts₀ sets₀ n₀ i₀ states nexts sets n i =
-    (i ≤ n) × (n ≤ 64) × (length states ≡ 256) × (length nexts ≡ 1024) × Unchanged (i * events) nexts₀ nexts
+Inv-loop kinds firsts count rows events limit states₀ nexts₀ sets₀ n₀ i₀ states nexts sets n i =
+    (i ≤ n) × (n ≤ limit) × (length states ≡ length states₀) × (length nexts ≡ length nexts₀) × Unchanged (i * events) nexts₀ nexts
     × Kept (next-bits kinds firsts rows count) (bits-at rows 0) events (all-to (next-bits kinds firsts rows count) rows events i)
-    n (i * events) states nexts × (length sets ≡ 64)
+    n (i * events) states nexts × (length sets ≡ next-words)
 
 abbrev μ-loop : tie.MeasureT-loop
-μ-loop kinds firsts count rows events states₀ nexts₀ sets₀ n₀ i₀ states nexts sets n i = 64 - i
-
-copy-first-requires : tie.Need-copy-first-requires Inv-loop μ-loop
-copy-first-requires c κs = search needs
+μ-loop kinds firsts count rows events limit states₀ nexts₀ sets₀ n₀ i₀ states nexts sets n i = limit - i
 
 loop-holds : tie.Need-loop-holds Inv-loop μ-loop
 loop-holds c =
-    let a = c .before .before .args in (
+    let a = c .before .before .before .before .before .before .args in (
       search needs,
       search needs,
       search needs,
       search needs,
       (λ x h. refl),
-      kept-start (next-bits (a .kinds .now) (a .firsts .now) (a .rows .now) (a .count)) (a .rows .now) (a .events) _ (a .nexts .now) (c .copy-first .ensures .1),
+      kept-start (next-bits (a .kinds .now) (a .firsts .now) (a .rows .now) (a .count)) (a .rows .now) (a .events) _ (a .nexts .now)
+          (c .before .before .copy-first .ensures .1),
       search needs,
     )
 
-expand-requires : tie.Need-expand-requires Inv-loop μ-loop
-expand-requires c κs = search needs
-
-add-result : tie.Need-add-result Inv-loop μ-loop
-add-result c = search needs
-
 returns : tie.Need-returns Inv-loop μ-loop
 returns c =
-    let a = c .before .before .before .before .before .before .before .before .before .args in
-    let l = c .before .before .before .before .before .before .loop in
+    let a = c .before .before .before .before .before .before .before .before .before .before .before .before .before .before .before .before .before .args in
+    let l = c .before .before .before .before .before .before .before .before .before .before .loop in
     let v = l .inv in
-    let x = c .before .expand .ensures in
+    let x = c .before .before .before .before .before .expand .ensures in
     let nb = next-bits (a .kinds .now) (a .firsts .now) (a .rows .now) (a .count) in (
-      x .0,
-      x .1,
+      x .0 ∙ v .2 ∙ c .before .before .before .before .before .before .before .before .before .before .before .before .before .copy-first .ensures .0,
+      x .1 ∙ v .3,
       (λ h. absurd (omega (arith, h))),
       record {
         at-most = search needs;
         all = λ h. absurd (omega (arith, h));
-        more = λ h. row-over nb (a .rows .now) (a .events) 64 (l .i) (l .n) (c .before .expand .result) (l .states) (l .nexts) _ _ (search needs) (v .5) (x .4) (omega (arith, c .if1 .taken, x .4 (bits-at (a .rows .now) 0) (all-to nb (a .rows .now) (a .events) (l .i)) (v .5) .at-most)) (search needs);
+        more = λ h. row-over nb (a .rows .now) (a .events) (a .limit) (l .i) (l .n) (c .before .before .before .before .before .expand .result) (l .states)
+            (l .nexts) _ _ (search needs) (v .5) (x .4) (omega (
+              arith,
+              c .if1 .taken,
+              x .4 (bits-at (a .rows .now) 0)
+                  (all-to nb (a .rows .now) (a .events) (l .i)) (v .5) .at-most,
+            )) (search needs);
       },
     )
 
-add-i : tie.Need-add-i Inv-loop μ-loop
-add-i c = search needs
-
-loop-less : tie.Need-loop-less Inv-loop μ-loop
-loop-less c = search needs
-
 loop-again : tie.Need-loop-again Inv-loop μ-loop
 loop-again c =
-    let a = c .before .before .before .before .before .before .before .before .before .args in
-    let l = c .before .before .before .before .before .before .loop in
+    let a = c .before .before .before .before .before .before .before .before .before .before .before .before .before .before .before .before .before .args in
+    let l = c .before .before .before .before .before .before .before .before .before .before .loop in
     let v = l .inv in
-    let x = c .before .expand .ensures in
+    let x = c .before .before .before .before .before .expand .ensures in
     let nb = next-bits (a .kinds .now) (a .firsts .now) (a .rows .now) (a .count) in (
       search needs,
       search needs,
-      x .0,
-      x .1,
+      x .0 ∙ v .2,
+      x .1 ∙ v .3,
       (λ y h. x .3 y (omega (arith, h, add-mul (l .i) 1 (a .events))) ∙ v .4 y (omega (arith, h, add-mul (l .i) 1 (a .events)))),
-      row-kept nb (a .rows .now) (a .events) 64 (l .i) (l .n) (c .before .expand .result) (l .states) (l .nexts) _ _ (search needs) (v .5) (x .4) (search needs),
+      row-kept nb (a .rows .now) (a .events) (a .limit) (l .i) (l .n) (c .before .before .before .before .before .expand .result) (l .states) (l .nexts) _
+          _ (search needs) (v .5) (x .4) (search needs),
       x .5,
     )
 
 returns-2 : tie.Need-returns-2 Inv-loop μ-loop
 returns-2 c =
-    let a = c .before .before .before .before .args in
+    let a = c .before .before .before .before .before .before .before .before .args in
     let l = c .before .loop in
     let v = l .inv in
     let q : l .n ≡ l .i = omega arith in
     let nb = next-bits (a .kinds .now) (a .firsts .now) (a .rows .now) (a .count) in (
-      v .2,
+      v .2 ∙ c .before .before .before .before .copy-first .ensures .0,
       v .3,
       (λ h y u. v .4 y (subst (λ z. z * a .events ≤ y) q u)),
       record {
         at-most = search needs;
-        all = λ h. all-kept nb (a .rows .now) (a .events) 64 (l .i) (l .n) (l .states) (l .nexts) q (search needs) (v .5);
+        all = λ h. all-kept nb (a .rows .now) (a .events) (a .limit) (l .i) (l .n) (l .states) (l .nexts) q (search needs) (v .5);
         more = λ h. absurd (omega (arith, h));
       },
     )
 
 pub explore-spec : {M : Type 1} → statement M
-explore-spec =
-    tie.close
-    (tie.spec
-    Inv-loop
-    μ-loop
-    copy-first-requires
-    loop-holds
-    expand-requires
-    add-result
-    returns
-    add-i
-    loop-less
-    loop-again
-    returns-2)
+explore-spec = tie.close (tie.spec Inv-loop μ-loop (λ c κs. search needs) loop-holds (λ c κs. search needs) (λ c. search needs) (λ c. search needs)
+    (λ c. search needs) returns (λ c. search needs) (λ c. search needs) loop-again (λ c. search needs) (λ c. search needs) returns-2)

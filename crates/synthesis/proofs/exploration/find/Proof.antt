@@ -1,10 +1,8 @@
 -- `find` meets its contract. The loop's invariant: no state passed is the set.
--- Assumes nothing.
-use borrow.Author.Needs.{needs}
+use borrow.Author.{Needs.{needs}, Count.{below-more}}
 use Prim.Native.Nat.{ℕ, _≤_, _<_, _-_, _*_}
 use mathlib.Core.Path.{_≡_}
 use native.Mathlib.Omega.{arith}
-use borrow.Author.Count.{below-more}
 use Rattle.synthesis.specs.NodeWords.{bits-at}
 use Rattle.synthesis.proofs.exploration.find.Statement.{statement}
 use Rattle.synthesis.proofs.exploration.find.Tie as tie
@@ -15,15 +13,6 @@ Inv-loop states n set j₀ j = (j ≤ n) × ((w : ℕ) → w < j → bits-at sta
 abbrev μ-loop : tie.MeasureT-loop
 μ-loop states n set j₀ j = n - j
 
-loop-holds : tie.Need-loop-holds Inv-loop μ-loop
-loop-holds c = search needs
-
-mul-same : tie.Need-mul-same Inv-loop μ-loop
-mul-same c = search needs
-
-same-requires : tie.Need-same-requires Inv-loop μ-loop
-same-requires c κs = search needs
-
 returns : tie.Need-returns Inv-loop μ-loop
 returns c =
     record {
@@ -31,12 +20,6 @@ returns c =
       before = c .before .before .before .loop .inv .1;
       here = λ h. c .before .same .ensures .0 (c .if1 .taken);
     }
-
-add-j : tie.Need-add-j Inv-loop μ-loop
-add-j c = search needs
-
-loop-less : tie.Need-loop-less Inv-loop μ-loop
-loop-less c = search needs
 
 loop-again : tie.Need-loop-again Inv-loop μ-loop
 loop-again c = (search needs, below-more _ _ (c .before .before .before .loop .inv .1) (c .before .same .ensures .1 (c .if1 .left)))
@@ -50,16 +33,5 @@ returns-2 c =
     }
 
 pub find-spec : {M : Type 1} → statement M
-find-spec =
-    tie.close
-    (tie.spec
-    Inv-loop
-    μ-loop
-    loop-holds
-    mul-same
-    same-requires
-    returns
-    add-j
-    loop-less
-    loop-again
-    returns-2)
+find-spec = tie.close (tie.spec Inv-loop μ-loop (λ c. search needs) (λ c. search needs) (λ c κs. search needs) returns (λ c. search needs)
+    (λ c. search needs) loop-again returns-2)

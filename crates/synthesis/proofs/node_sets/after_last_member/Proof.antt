@@ -1,8 +1,6 @@
 -- `after_last_member` meets its contract. The loop's invariant: the nodes passed are not in the set.
--- Assumes nothing.
 use Prim.Native.Nat.{ℕ, _≤_, _<_, _-_}
-use mathlib.Core.Path.{_≡_}
-use mathlib.Core.Bool.{false}
+use mathlib.Core.{Path.{_≡_}, Bool.{false}}
 use native.Mathlib.Omega.{arith}
 use Rattle.synthesis.specs.NodeWords.{set-at}
 use Rattle.synthesis.proofs.NodeWords.{word-left, word-last}
@@ -19,30 +17,12 @@ abbrev μ-loop : tie.MeasureT-loop
 loop-holds : tie.Need-loop-holds Inv-loop μ-loop
 loop-holds c = (search needs, λ j u v. absurd (omega arith))
 
-sub-last : tie.Need-sub-last Inv-loop μ-loop
-sub-last c = search needs
-
-add-last-bit : tie.Need-add-last-bit Inv-loop μ-loop
-add-last-bit c = search needs
-
-mul-last-bit : tie.Need-mul-last-bit Inv-loop μ-loop
-mul-last-bit c = search needs
-
-element-copy-out-last-bit : tie.Need-element-copy-out-last-bit Inv-loop μ-loop
-element-copy-out-last-bit c = search needs
-
-last-bit-requires : tie.Need-last-bit-requires Inv-loop μ-loop
-last-bit-requires c κs = search needs
-
-mul-node : tie.Need-mul-node Inv-loop μ-loop
-mul-node c = search needs
-
 add-result : tie.Need-add-result Inv-loop μ-loop
 add-result c = omega (arith, c .before .last-bit .ensures .high)
 
 returns : tie.Need-returns Inv-loop μ-loop
 returns c =
-    let a = c .before .before .before .before .before .args in
+    let a = c .before .before .before .before .before .before .args in
     let l = c .before .before .before .before .loop in
     let f = c .before .last-bit in
     record {
@@ -56,11 +36,12 @@ loop-less c = omega (arith, c .before .before .before .loop-test .taken)
 
 loop-again : tie.Need-loop-again Inv-loop μ-loop
 loop-again c =
-    let a = c .before .before .before .before .before .args in
+    let a = c .before .before .before .before .before .before .args in
     let l = c .before .before .before .before .loop in
     let f = c .before .last-bit in (
       omega (arith, l .inv .0),
-      λ j u v. word-left (a .states .now) (a .base) (l .node) (f .result) (a .end) (omega arith) (omega arith) (f .ensures) (l .inv .1) j (omega (arith, u, c .if1 .left)) v,
+      λ j u v. word-left (a .states .now) (a .base) (l .node) (f .result) (a .end) (omega arith) (omega arith) (f .ensures) (l .inv .1) j
+          (omega (arith, u, c .if1 .left)) v,
     )
 
 returns-2 : tie.Need-returns-2 Inv-loop μ-loop
@@ -73,20 +54,5 @@ returns-2 c =
     }
 
 pub after-last-member-spec : {M : Type 1} → statement M
-after-last-member-spec =
-    tie.close
-    (tie.spec
-    Inv-loop
-    μ-loop
-    loop-holds
-    sub-last
-    add-last-bit
-    mul-last-bit
-    element-copy-out-last-bit
-    last-bit-requires
-    mul-node
-    add-result
-    returns
-    loop-less
-    loop-again
-    returns-2)
+after-last-member-spec = tie.close (tie.spec Inv-loop μ-loop loop-holds (λ c. search needs) (λ c. search needs) (λ c. search needs)
+    (λ c. search needs) (λ c κs. search needs) (λ c. search needs) add-result returns loop-less loop-again returns-2)

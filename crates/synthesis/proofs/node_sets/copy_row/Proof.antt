@@ -1,13 +1,10 @@
 -- `copy_row` meets its contract. The loop's invariant: the words passed are copied.
--- Assumes nothing.
 use Prim.Native.Nat.{ℕ, _≤_, _<_, _-_, _+_, _*_}
 use mathlib.Core.Path.{_≡_, _∙_, ap}
 use native.Mathlib.Omega.{arith}
-use borrow.Author.Count.{below-more}
-use lib.ListN.{length, getD}
-use lib.Seq.{getD-set-same, getD-set-other}
+use borrow.Author.{Count.{below-more}, Needs.{needs}}
+use lib.{ListN.{length, getD}, Seq.{getD-set-same, getD-set-other}}
 use Rattle.synthesis.proofs.NodeWords.{set-same}
-use borrow.Author.Needs.{needs}
 use Rattle.synthesis.proofs.node_sets.copy_row.Statement.{statement}
 use Rattle.synthesis.proofs.node_sets.copy_row.Tie as tie
 
@@ -17,33 +14,6 @@ Inv-loop set₀ sets i w₀ set w =
 
 abbrev μ-loop : tie.MeasureT-loop
 μ-loop set₀ sets i w₀ set w = 4 - w
-
-loop-holds : tie.Need-loop-holds Inv-loop μ-loop
-loop-holds c = search needs
-
-mul-set : tie.Need-mul-set Inv-loop μ-loop
-mul-set c = search needs
-
-add-set : tie.Need-add-set Inv-loop μ-loop
-add-set c = search needs
-
-mul-set-2 : tie.Need-mul-set-2 Inv-loop μ-loop
-mul-set-2 c = search needs
-
-element-copy-out-set : tie.Need-element-copy-out-set Inv-loop μ-loop
-element-copy-out-set c = search needs
-
-mul-set-3 : tie.Need-mul-set-3 Inv-loop μ-loop
-mul-set-3 c = search needs
-
-element-write-set : tie.Need-element-write-set Inv-loop μ-loop
-element-write-set c = search needs
-
-add-w : tie.Need-add-w Inv-loop μ-loop
-add-w c = search needs
-
-loop-less : tie.Need-loop-less Inv-loop μ-loop
-loop-less c = search needs
 
 loop-again : tie.Need-loop-again Inv-loop μ-loop
 loop-again c =
@@ -67,19 +37,5 @@ returns c =
     )
 
 pub copy-row-spec : {M : Type 1} → statement M
-copy-row-spec =
-    tie.close
-    (tie.spec
-    Inv-loop
-    μ-loop
-    loop-holds
-    mul-set
-    add-set
-    mul-set-2
-    element-copy-out-set
-    mul-set-3
-    element-write-set
-    add-w
-    loop-less
-    loop-again
-    returns)
+copy-row-spec = tie.close (tie.spec Inv-loop μ-loop (λ c. search needs) (λ c. search needs) (λ c. search needs) (λ c. search needs)
+    (λ c. search needs) (λ c. search needs) (λ c. search needs) (λ c. search needs) (λ c. search needs) loop-again returns)

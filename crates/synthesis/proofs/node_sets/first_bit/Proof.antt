@@ -1,5 +1,3 @@
--- `first_bit` meets its contract.
--- Assumes nothing.
 use Prim.Native.Nat.{_<_, _/_, _^_}
 use native.Mathlib.Omega.{arith}
 use lib.Count.{trailing-le}
@@ -7,9 +5,6 @@ use Rattle.synthesis.proofs.Bits.{first-none, first-some}
 use borrow.Author.Needs.{needs}
 use Rattle.synthesis.proofs.node_sets.first_bit.Statement.{statement}
 use Rattle.synthesis.proofs.node_sets.first_bit.Tie as tie
-
-shr-rest : tie.Need-shr-rest
-shr-rest c = search needs
 
 returns : tie.Need-returns
 returns c = first-none (c .before .args .word) (c .before .args .k) (c .before .pre) (c .if1 .taken)
@@ -27,4 +22,4 @@ returns-2 c =
     first-some (a .word) (a .k) h (c .if1 .left)
 
 pub first-bit-spec : {M : Type 1} → statement M
-first-bit-spec = tie.close (tie.spec shr-rest returns cast-result add-result returns-2)
+first-bit-spec = tie.close (tie.spec (λ c. search needs) returns cast-result add-result returns-2)

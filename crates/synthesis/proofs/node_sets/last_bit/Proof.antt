@@ -1,28 +1,16 @@
--- `last_bit` meets its contract.
--- Assumes nothing.
 use mathlib.Core.Path.{sym, subst}
 use Prim.Native.Nat.{_-_, _%_}
 use native.Mathlib.Omega.{arith}
-use lib.Count.{leadingZeros, leading-le}
-use lib.Pow.{pow-pos}
+use lib.{Count.{leadingZeros, leading-le}, Pow.{pow-pos}}
 use Rattle.synthesis.specs.NodeWords.{bit-at, LastBit}
 use Rattle.synthesis.proofs.Bits.{last-here, last-below}
 use borrow.Author.Needs.{needs}
 use Rattle.synthesis.proofs.node_sets.last_bit.Statement.{statement}
 use Rattle.synthesis.proofs.node_sets.last_bit.Tie as tie
 
-shr-if1 : tie.Need-shr-if1
-shr-if1 c = search needs
-
-add-result : tie.Need-add-result
-add-result c = search needs
-
 returns : tie.Need-returns
 unfolding bit-at
 returns c = last-here (c .before .args .word) (c .before .args .k) (c .if1 .taken)
-
-power-requires : tie.Need-power-requires
-power-requires c κs = search needs
 
 rem-low : tie.Need-rem-low
 rem-low c = omega (arith, pow-pos (c .before .before .args .k), c .power .ensures)
@@ -41,6 +29,4 @@ returns-2 c =
     (last-below (a .word) (a .k) (c .before .before .pre) (c .before .if1 .left))
 
 pub last-bit-spec : {M : Type 1} → statement M
-last-bit-spec =
-    tie.close
-    (tie.spec shr-if1 add-result returns power-requires rem-low cast-result sub-result returns-2)
+last-bit-spec = tie.close (tie.spec (λ c. search needs) (λ c. search needs) returns (λ c κs. search needs) rem-low cast-result sub-result returns-2)

@@ -1,8 +1,6 @@
 -- `next_member` meets its contract. The loop's invariant: the nodes passed are not in the set.
--- Assumes nothing.
 use Prim.Native.Nat.{ℕ, _≤_, _<_, _-_}
-use mathlib.Core.Path.{_≡_}
-use mathlib.Core.Bool.{false}
+use mathlib.Core.{Path.{_≡_}, Bool.{false}}
 use native.Mathlib.Omega.{arith}
 use Rattle.synthesis.specs.NodeWords.{set-at}
 use Rattle.synthesis.proofs.NodeWords.{word-passed, word-here}
@@ -20,45 +18,32 @@ abbrev μ-loop : tie.MeasureT-loop
 loop-holds : tie.Need-loop-holds Inv-loop μ-loop
 loop-holds c = (search needs, λ j u h v. absurd (omega arith))
 
-add-first-bit : tie.Need-add-first-bit Inv-loop μ-loop
-add-first-bit c = search needs
-
-mul-first-bit : tie.Need-mul-first-bit Inv-loop μ-loop
-mul-first-bit c = search needs
-
-element-copy-out-first-bit : tie.Need-element-copy-out-first-bit Inv-loop μ-loop
-element-copy-out-first-bit c = search needs
-
-first-bit-requires : tie.Need-first-bit-requires Inv-loop μ-loop
-first-bit-requires c κs = search needs
-
-mul-first : tie.Need-mul-first Inv-loop μ-loop
-mul-first c = search needs
-
 add-first : tie.Need-add-first Inv-loop μ-loop
 add-first c = omega (arith, c .first-bit .ensures .high)
 
 returns : tie.Need-returns Inv-loop μ-loop
 returns c =
-    let a = c .before .before .before .before .before .before .args in
+    let a = c .before .before .before .before .before .before .before .args in
     let l = c .before .before .before .before .before .loop in
     let f = c .before .before .first-bit in
     record {
       low = omega (arith, f .ensures .low, l .inv .0);
       high = search needs;
-      before = λ j h u. word-passed (a .states .now) (a .base) (l .node) (f .result) (omega arith) (f .ensures) (a .from) (a .end) (l .inv .1) j u h (omega arith);
+      before = λ j h u. word-passed (a .states .now) (a .base) (l .node) (f .result) (omega arith) (f .ensures) (a .from) (a .end) (l .inv .1) j u h
+          (omega arith);
       here = λ h. word-here (a .states .now) (a .base) (l .node) (f .result) (omega arith) (f .ensures) (c .before .if1 .taken);
     }
 
 returns-2 : tie.Need-returns-2 Inv-loop μ-loop
 returns-2 c =
-    let a = c .before .before .before .before .before .before .args in
+    let a = c .before .before .before .before .before .before .before .args in
     let l = c .before .before .before .before .before .loop in
     let f = c .before .before .first-bit in
     record {
       low = search needs;
       high = search needs;
-      before = λ j h u. word-passed (a .states .now) (a .base) (l .node) (f .result) (omega arith) (f .ensures) (a .from) (a .end) (l .inv .1) j (omega (arith, c .if2 .left)) h u;
+      before = λ j h u. word-passed (a .states .now) (a .base) (l .node) (f .result) (omega arith) (f .ensures) (a .from) (a .end) (l .inv .1) j
+          (omega (arith, c .if2 .left)) h u;
       here = λ h. absurd (omega arith);
     }
 
@@ -67,10 +52,13 @@ loop-less c = omega (arith, c .if1 .left, c .before .before .before .loop-test .
 
 loop-again : tie.Need-loop-again Inv-loop μ-loop
 loop-again c =
-    let a = c .before .before .before .before .before .args in
+    let a = c .before .before .before .before .before .before .args in
     let l = c .before .before .before .before .loop in
-    let f = c .before .first-bit in
-    (omega (arith, c .if1 .left, l .inv .0), word-passed (a .states .now) (a .base) (l .node) (f .result) (omega arith) (f .ensures) (a .from) (a .end) (l .inv .1))
+    let f = c .before .first-bit in (
+      omega (arith, c .if1 .left, l .inv .0),
+      word-passed (a .states .now) (a .base) (l .node) (f .result) (omega arith) (f .ensures) (a .from) (a .end)
+          (l .inv .1),
+    )
 
 returns-3 : tie.Need-returns-3 Inv-loop μ-loop
 returns-3 c =
@@ -83,20 +71,5 @@ returns-3 c =
     }
 
 pub next-member-spec : {M : Type 1} → statement M
-next-member-spec =
-    tie.close
-    (tie.spec
-    Inv-loop
-    μ-loop
-    loop-holds
-    add-first-bit
-    mul-first-bit
-    element-copy-out-first-bit
-    first-bit-requires
-    mul-first
-    add-first
-    returns
-    returns-2
-    loop-less
-    loop-again
-    returns-3)
+next-member-spec = tie.close (tie.spec Inv-loop μ-loop loop-holds (λ c. search needs) (λ c. search needs) (λ c. search needs) (λ c κs. search needs)
+    (λ c. search needs) add-first returns returns-2 loop-less loop-again returns-3)

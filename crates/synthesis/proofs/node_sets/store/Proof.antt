@@ -1,5 +1,4 @@
 -- `store` meets its contract. The loop's invariant: the words passed are stored, all others as before.
--- Assumes nothing.
 use Prim.Native.Nat.{ℕ, _≤_, _-_}
 use mathlib.Core.Path.{_≡_, refl, subst}
 use native.Mathlib.Omega.{arith}
@@ -11,7 +10,7 @@ use Rattle.synthesis.proofs.node_sets.store.Statement.{statement}
 use Rattle.synthesis.proofs.node_sets.store.Tie as tie
 
 abbrev Inv-loop : tie.InvT-loop
-Inv-loop states₀ base set i₀ states i = (i ≤ 4) × (length states ≡ 256) × WordsTo (λ w. getD set w 0) base i states₀ states
+Inv-loop states₀ base set i₀ states i = (i ≤ 4) × (length states ≡ length states₀) × WordsTo (λ w. getD set w 0) base i states₀ states
 
 abbrev μ-loop : tie.MeasureT-loop
 μ-loop states₀ base set i₀ states i = 4 - i
@@ -20,27 +19,6 @@ loop-holds : tie.Need-loop-holds Inv-loop μ-loop
 loop-holds c =
     let a = c .args in
     (search needs, search needs, words-none (λ w. getD (a .set .now) w 0) (a .base) (a .states .now))
-
-mul-states : tie.Need-mul-states Inv-loop μ-loop
-mul-states c = search needs
-
-element-copy-out-states : tie.Need-element-copy-out-states Inv-loop μ-loop
-element-copy-out-states c = search needs
-
-add-states : tie.Need-add-states Inv-loop μ-loop
-add-states c = search needs
-
-mul-states-2 : tie.Need-mul-states-2 Inv-loop μ-loop
-mul-states-2 c = search needs
-
-element-write-states : tie.Need-element-write-states Inv-loop μ-loop
-element-write-states c = search needs
-
-add-i : tie.Need-add-i Inv-loop μ-loop
-add-i c = search needs
-
-loop-less : tie.Need-loop-less Inv-loop μ-loop
-loop-less c = search needs
 
 loop-again : tie.Need-loop-again Inv-loop μ-loop
 loop-again c =
@@ -57,18 +35,5 @@ returns c =
     subst (λ x. WordsTo (λ w. getD (a .set .now) w 0) (a .base) x (a .states .now) (l .states)) q (l .inv .2)
 
 pub store-spec : {M : Type 1} → statement M
-store-spec =
-    tie.close
-    (tie.spec
-    Inv-loop
-    μ-loop
-    loop-holds
-    mul-states
-    element-copy-out-states
-    add-states
-    mul-states-2
-    element-write-states
-    add-i
-    loop-less
-    loop-again
-    returns)
+store-spec = tie.close (tie.spec Inv-loop μ-loop loop-holds (λ c. search needs) (λ c. search needs) (λ c. search needs) (λ c. search needs)
+    (λ c. search needs) (λ c. search needs) (λ c. search needs) loop-again (λ c. search needs) returns)

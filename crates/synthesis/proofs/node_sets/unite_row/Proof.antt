@@ -1,11 +1,8 @@
 -- `unite_row` meets its contract. The loop's invariant: the words passed are united, all others as before.
--- Assumes nothing.
 use Prim.Native.Nat.{ℕ, _≤_, _-_, _+_, _*_}
-use mathlib.Core.Path.{_≡_, ap, subst}
-use mathlib.Core.List.{List}
+use mathlib.Core.{Path.{_≡_, ap, subst}, List.{List}}
 use native.Mathlib.Omega.{arith}
-use lib.ListN.{length, getD}
-use lib.Bits.{bitOr}
+use lib.{ListN.{length, getD}, Bits.{bitOr}}
 use Rattle.synthesis.specs.NodeWords.{WordsTo}
 use Rattle.synthesis.proofs.NodeWords.{set-unite, set-else, words-none, words-more}
 use borrow.Author.Needs.{needs}
@@ -25,45 +22,6 @@ loop-holds : tie.Need-loop-holds Inv-loop μ-loop
 loop-holds c =
     let a = c .args in
     (search needs, search needs, words-none (united (a .sets .now) (a .i) (a .rows .now) (a .base)) (a .i * 4) (a .sets .now))
-
-mul-sets : tie.Need-mul-sets Inv-loop μ-loop
-mul-sets c = search needs
-
-add-sets : tie.Need-add-sets Inv-loop μ-loop
-add-sets c = search needs
-
-mul-sets-2 : tie.Need-mul-sets-2 Inv-loop μ-loop
-mul-sets-2 c = search needs
-
-element-copy-out-sets : tie.Need-element-copy-out-sets Inv-loop μ-loop
-element-copy-out-sets c = search needs
-
-add-sets-2 : tie.Need-add-sets-2 Inv-loop μ-loop
-add-sets-2 c = search needs
-
-mul-sets-3 : tie.Need-mul-sets-3 Inv-loop μ-loop
-mul-sets-3 c = search needs
-
-element-copy-out-sets-2 : tie.Need-element-copy-out-sets-2 Inv-loop μ-loop
-element-copy-out-sets-2 c = search needs
-
-mul-sets-4 : tie.Need-mul-sets-4 Inv-loop μ-loop
-mul-sets-4 c = search needs
-
-add-sets-3 : tie.Need-add-sets-3 Inv-loop μ-loop
-add-sets-3 c = search needs
-
-mul-sets-5 : tie.Need-mul-sets-5 Inv-loop μ-loop
-mul-sets-5 c = search needs
-
-element-write-sets : tie.Need-element-write-sets Inv-loop μ-loop
-element-write-sets c = search needs
-
-add-w : tie.Need-add-w Inv-loop μ-loop
-add-w c = search needs
-
-loop-less : tie.Need-loop-less Inv-loop μ-loop
-loop-less c = search needs
 
 loop-again : tie.Need-loop-again Inv-loop μ-loop
 loop-again c =
@@ -91,24 +49,6 @@ returns c =
     }
 
 pub unite-row-spec : {M : Type 1} → statement M
-unite-row-spec =
-    tie.close
-    (tie.spec
-    Inv-loop
-    μ-loop
-    loop-holds
-    mul-sets
-    add-sets
-    mul-sets-2
-    element-copy-out-sets
-    add-sets-2
-    mul-sets-3
-    element-copy-out-sets-2
-    mul-sets-4
-    add-sets-3
-    mul-sets-5
-    element-write-sets
-    add-w
-    loop-less
-    loop-again
-    returns)
+unite-row-spec = tie.close (tie.spec Inv-loop μ-loop loop-holds (λ c. search needs) (λ c. search needs) (λ c. search needs) (λ c. search needs)
+    (λ c. search needs) (λ c. search needs) (λ c. search needs) (λ c. search needs) (λ c. search needs) (λ c. search needs) (λ c. search needs)
+    (λ c. search needs) (λ c. search needs) loop-again returns)

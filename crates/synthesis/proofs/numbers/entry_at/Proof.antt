@@ -1,8 +1,5 @@
--- `entry_at` meets its contract.
--- Assumes nothing.
 use mathlib.Core.Path.{refl}
-use native.Mathlib.Nat.{mul-le-mul-left}
-use native.Mathlib.Omega.{arith}
+use native.Mathlib.{Nat.{mul-le-mul-left}, Omega.{arith}}
 use Rattle.synthesis.proofs.numbers.entry_at.Statement.{statement}
 use Rattle.synthesis.proofs.numbers.entry_at.Tie as tie
 
@@ -13,7 +10,7 @@ add-result : tie.Need-add-result
 add-result c = omega (arith, mul-le-mul-left (c .args .state) (c .pre .2), c .pre .0)
 
 returns : tie.Need-returns
-returns c = (refl, omega (arith, mul-le-mul-left (c .args .state) (c .pre .2), c .pre .0))
+returns c = refl
 
 pub entry-at-spec : {M : Type 1} → statement M
 entry-at-spec = tie.close (tie.spec mul-result add-result returns)
