@@ -1,67 +1,99 @@
 -- Nodes appended to a buffer one after the other, up to a limit.
--- Assumes nothing.
-use mathlib.Core.Path.{_≡_, refl, _∙_, ap}
-use mathlib.Core.List.{List, [], _∷_, _++_, append-assoc}
-use Prim.Native.Nat.{ℕ, suc, _+_, _*_, _≤_, _<_, min}
-use native.Mathlib.Omega.{arith}
-use lib.ListN.{length, take, set, length-set}
-use lib.Seq.{take-suc-set}
-use Rattle.characteristic.specs.NodeOutput.{Appends, HasRoom}
+use mathlib.Core.{Path.{_≡_, refl, sym, _∙_, ap, subst}, List.{List, [], _∷_, _++_, append-assoc, append-nil}}
+use Prim.Native.Nat.{ℕ, suc, _+_, _*_, _≤_, _<_}
+use native.Mathlib.{Nat.{mul-le-mul, mul-le-mul-right}, Omega.{arith}}
+use lib.{ListN.{length, getD, take, set, length-append, length-take}, Seq.{take-at, sets, length-sets, sets-eq}}
+use Rattle.theory.specs.PrefixCode.{Node}
+use Rattle.values.specs.declared.ValueKind.{ValueKind}
+use Rattle.values.specs.declared.ValueKind.the-variants.{Numbered, Register}
+use Rattle.values.specs.ValueBytes.{value-width, value-bytes}
+use Rattle.formulas.specs.NodeBytes.{encode-all, node-width, node-bytes}
+use Rattle.formulas.proofs.{Encoding.{encode-append}, NodeCodes.{node-code, next-node, width-is}}
+use Rattle.machines.specs.{TableBytes.{entry-value}, Claims.{OfBytes}}
+use Rattle.characteristic.specs.NodeOutput.{Appends, AppendsOne, HasRoom}
 
--- Nothing fits any more.
-pub nothing-fits :
-    {limit at : ℕ} (count : ℕ) (bytes l : List ℕ) → limit ≤ at → at ≤ limit + 1 → 0 < count
-    → Appends limit at count bytes l l (limit + 1)
-nothing-fits count bytes l full within some-count =
-    record { position = omega arith; contents = λ h. absurd (omega arith); same-length = refl }
+-- What is stored fits: 0, and what is read from bytes.
+pub zero-fits : (kind : ValueKind) → OfBytes kind 0
+zero-fits (Numbered n) = omega arith
+zero-fits (Register lines) = tt
 
--- One node.
-three-stored :
-    (l : List ℕ) (i k f v : ℕ) → suc (suc i) < length l
-    → take (suc (suc (suc i))) (set (set (set l i k) (suc i) f) (suc (suc i)) v) ≡ take i l ++ (k ∷ f ∷ v ∷ [])
-three-stored l i k f v room =
-    let one : suc i < length (set l i k) = rw length-set (omega arith) in
-    let two : suc (suc i) < length (set (set l i k) (suc i) f) = simp length-set (omega arith) in
-    take-suc-set (set (set l i k) (suc i) f) (suc (suc i)) v two
-    ∙ ap (λ x. x ++ (v ∷ [])) (take-suc-set (set l i k) (suc i) f one)
-    ∙ ap (λ x. (x ++ (f ∷ [])) ++ (v ∷ [])) (take-suc-set l i k (omega arith))
-    ∙ simp append-assoc
+pub read-fits : (kind : ValueKind) (bytes : List ℕ) (i : ℕ) → ((j : ℕ) → getD bytes j 0 < 256) → OfBytes kind (entry-value kind bytes i)
+read-fits (Numbered n) bytes i small = small (i * 2)
+read-fits (Register lines) bytes i small = tt
 
-pub one-node :
-    {limit at : ℕ} (l : List ℕ) (k f v : ℕ) → HasRoom limit at l → at < limit
-    → Appends limit at 1 (k ∷ f ∷ v ∷ []) l (set (set (set l (at * 3) k) (at * 3 + 1) f) (at * 3 + 2) v) (at + 1)
-one-node {limit} {at} l k f v h below =
-    let one : at * 3 + 1 ≡ suc (at * 3) = omega arith in
-    let two : at * 3 + 2 ≡ suc (suc (at * 3)) = omega arith in
-    let three : (at + 1) * 3 ≡ suc (suc (suc (at * 3))) = omega arith in
-    let room : suc (suc (at * 3)) < length l = omega arith in
-    record {
-      position = omega arith;
-      contents = λ le. rw (one, two, three) (three-stored l (at * 3) k f v room);
-      same-length = simp length-set;
-    }
+module _ (kind : ValueKind) {limit at : ℕ} where
+  -- Nothing fits any more.
+  pub nothing-fits :
+      (ns : List (Node ℕ)) (l : List ℕ) → limit ≤ at → at ≤ limit + 1 → 0 < length ns → Appends kind limit at ns l l (limit + 1)
+  nothing-fits ns l full within some-node =
+      record { position = omega arith; contents = λ h. absurd (omega arith); same-length = refl }
+
+  -- The place of a node, and those of its bytes.
+  pub node-place : (l : List ℕ) → HasRoom kind limit at l → at < limit → at * node-width kind + 2 + value-width kind ≤ length l
+  node-place l h below =
+      let same : suc at ≡ at + 1 = omega arith in
+      omega (arith, h .room, mul-le-mul-right (node-width kind) below, ap (λ n. n * node-width kind) same, next-node kind at, width-is kind)
+
+  pub stored-place :
+      (l : List ℕ) (w : ℕ) → HasRoom kind limit at l → at < limit → (w ≡ node-width kind) × (1 < w) × (w ≤ 6)
+      → (at * w < 1536) × (at * w + 2 + value-width kind ≤ length l)
+  stored-place l w h below (w-is, w-least, w-most) =
+      let few : at ≤ 255 = omega (arith, below, h .small-limit) in
+      let same : at * w ≡ at * node-width kind = ap (λ n. at * n) w-is in
+      (omega (arith, mul-le-mul few w-most), omega (arith, same, node-place l h below))
+
+  -- One node.
+  pub one-node :
+      (l : List ℕ) (tag first value place : ℕ) (after : List ℕ) → HasRoom kind limit at l → at < limit → place ≡ at * node-width kind
+      → after ≡ sets (set (set l place tag) (place + 1) first) (place + 2) (value-bytes kind value)
+      → AppendsOne kind limit at tag first value l after (at + 1)
+  one-node l tag first value place after h below place-is stored n tag-is first-is value-is =
+      record { position = omega arith; contents = λ fits. contents′; same-length = ap length whole ∙ length-sets l _ (node-bytes kind n) }
+    where
+      whole : after ≡ sets l (at * node-width kind) (node-bytes kind n)
+      whole =
+          let one : place + 1 ≡ suc (at * node-width kind) = omega (arith, place-is) in
+          let two : place + 2 ≡ suc (suc (at * node-width kind)) = omega (arith, place-is) in
+          stored ∙ cc (one, two, place-is, tag-is, first-is, value-is)
+
+      long : length (node-bytes kind n) ≡ node-width kind
+      long = node-code kind .length-is n
+
+      room : at * node-width kind + length (node-bytes kind n) ≤ length l
+      room = omega (arith, long, node-place l h below, width-is kind)
+
+      taken : length (take (at * node-width kind) l ++ node-bytes kind n) ≡ (at + 1) * node-width kind
+      taken =
+          length-append (take (at * node-width kind) l) (node-bytes kind n)
+          ∙ omega (arith, long, length-take (at * node-width kind) l, room, next-node kind at)
+
+      contents′ :
+          take ((at + 1) * node-width kind) after ≡ take (at * node-width kind) l ++ encode-all (node-bytes kind) (n ∷ [])
+      contents′ =
+          ap (take ((at + 1) * node-width kind))
+          (whole ∙ sets-eq (node-bytes kind n) l (at * node-width kind) room)
+          ∙ take-at (take (at * node-width kind) l ++ node-bytes kind n) _ ((at + 1) * node-width kind) taken
+          ∙ ap (λ b. take (at * node-width kind) l ++ b) (sym (append-nil (node-bytes kind n)))
 
 -- Some nodes and then more.
 pub both :
-    {limit at p r a b : ℕ} {xs ys before between after : List ℕ}
-    → Appends limit at a xs before between p → Appends limit p b ys between after r
-    → Appends limit at (a + b) (xs ++ ys) before after r
-both {limit} {at} {p} {r} {a} {b} {xs} {ys} {before} {between} {after} x y =
+    {kind : ValueKind} {limit at p r : ℕ} {xs ys : List (Node ℕ)} {before between after : List ℕ}
+    → Appends kind limit at xs before between p → Appends kind limit p ys between after r
+    → Appends kind limit at (xs ++ ys) before after r
+both {kind} {limit} {at} {p} {r} {xs} {ys} {before} {between} {after} x y =
     record {
-      position = omega (arith, x .position, y .position);
+      position = omega (arith, x .position, y .position, length-append xs ys);
       contents = λ h.
           let fits : p ≤ limit = omega (arith, x .position, y .position) in
-          y .contents h ∙ ap (λ l. l ++ ys) (x .contents fits) ∙ append-assoc (take (at * 3) before) xs ys;
+          y .contents h
+          ∙ ap (λ l. l ++ encode-all (node-bytes kind) ys) (x .contents fits)
+          ∙ append-assoc (take (at * node-width kind) before) (encode-all (node-bytes kind) xs) (encode-all (node-bytes kind) ys)
+          ∙ ap (λ l. take (at * node-width kind) before ++ l) (sym (encode-append (node-width kind) (node-bytes kind) (node-code kind) xs ys));
       same-length = y .same-length ∙ x .same-length;
     }
 
--- The same nodes counted and listed in another way.
-pub recounted :
-    {limit at a b r : ℕ} {xs ys before after : List ℕ} → a ≡ b → xs ≡ ys
-    → Appends limit at a xs before after r → Appends limit at b ys before after r
-recounted {limit} {at} {before = before} e d x =
-    record {
-      position = x .position ∙ ap (λ n. min (at + n) (limit + 1)) e;
-      contents = λ h. x .contents h ∙ ap (λ l. take (at * 3) before ++ l) d;
-      same-length = x .same-length;
-    }
+-- The same nodes.
+pub same-nodes :
+    {kind : ValueKind} {limit at r : ℕ} {xs ys : List (Node ℕ)} {before after : List ℕ} → xs ≡ ys
+    → Appends kind limit at xs before after r → Appends kind limit at ys before after r
+same-nodes {kind} {limit} {at} {r} {xs} {ys} {before} {after} e x = subst (λ ns. Appends kind limit at ns before after r) e x

@@ -1,14 +1,9 @@
 -- The path of open states in an array from states to depths.
--- Assumes nothing.
-use mathlib.Core.Path.{_≡_, refl, sym, _∙_, ap, subst, subst⁻¹}
-use mathlib.Core.Bool.{Bool, true, false}
-use mathlib.Core.List.{List, [], _∷_}
+use mathlib.Core.{Path.{_≡_, refl, sym, _∙_, ap, subst, subst⁻¹}, Bool.{Bool, true, false}, List.{List, [], _∷_}}
 use Prim.Native.Nat.{ℕ, zero, suc, _+_, _-_, _≤_, _<_}
 use native.Mathlib.Omega.{arith}
 use borrow.Author.Tests.{eqb-true, eqb-false}
-use lib.Dec.{eqb}
-use lib.ListN.{length, getD, set, replicate}
-use lib.Seq.{getD-set-same, getD-set-other}
+use lib.{Dec.{eqb}, ListN.{length, getD, set, replicate}, Seq.{getD-set-same, getD-set-other}}
 use Rattle.theory.specs.CharacteristicFormula.{OpenAt, here, above}
 use Rattle.characteristic.specs.NodeOutput.{OpenPath}
 

@@ -1,26 +1,22 @@
 -- The nodes listed in a buffer of the walk's own, judged by refusals 12 and 13, and copied to the front of the lent buffer.
--- Assumes nothing.
-use mathlib.Core.Path.{_≡_, refl, sym, _∙_, ap}
-use mathlib.Core.Option.{Option, none, some}
-use mathlib.Core.List.{List, []}
+use mathlib.Core.{Path.{_≡_, refl, sym, _∙_, ap, ap₂}, Option.{Option, none, some}, List.{List, [], _++_}}
 use Prim.Native.Nat.{ℕ, _+_, _*_, _≤_, _<_}
-use native.Mathlib.Numerals.{add-one}
-use native.Mathlib.Omega.{arith}
-use lib.ListN.{length, getD, take, set, replicate, length-take, length-replicate}
-use lib.Seq.{take-suc}
+use native.Mathlib.{Nat.{zero-mul, mul-le-mul}, Numerals.{add-one}, Omega.{arith}}
+use lib.{ListN.{length, getD, take, set, replicate, length-take, length-replicate}, Seq.{take-suc}}
 use borrow.Author.Tests.{le-leb, lt-leb}
-use Rattle.theory.specs.Formula.{Formula, size}
-use Rattle.theory.specs.CharacteristicFormula.{Writes}
+use Rattle.limits.specs.Limits.{node-limit}
+use Rattle.theory.specs.{Formula.{Formula, size}, CharacteristicFormula.{Writes}}
 use Rattle.refusal.specs.declared.Refusal.{Refusal}
 use Rattle.refusal.specs.declared.Refusal.the-variants.{Plain}
 use Rattle.refusal.specs.declared.Counted.the-variants.{Count, Refused}
-use Rattle.refusal.specs.Refusal.{or-else, plain-unless, counted}
-use Rattle.refusal.specs.LentBuffers.{put, put-unless}
-use Rattle.formulas.specs.NodeBytes.{encode-formula, three-bytes}
+use Rattle.refusal.specs.{Refusal.{or-else, plain-unless, counted}, LentBuffers.{put, put-unless}}
+use Rattle.values.specs.declared.ValueKind.{ValueKind}
+use Rattle.values.specs.declared.ValueKind.the-variants.{Numbered, Register}
+use Rattle.formulas.specs.NodeBytes.{encode-formula, node-width, node-bytes}
+use Rattle.formulas.proofs.Prefix.{length-nodes}
 use Rattle.machines.specs.TableBytes.{machine-of}
 use Rattle.machines.proofs.Stores.{put-snoc}
-use Rattle.characteristic.specs.RuleOfTable.{IsRuleOf, output-refusal}
-use Rattle.characteristic.specs.NodeOutput.{HasRoom, Ready, Walked, Listed, Answered}
+use Rattle.characteristic.specs.{RuleOfTable.{IsRuleOf, output-refusal}, NodeOutput.{HasRoom, Ready, Walked, Listed, Answered}}
 use Rattle.characteristic.proofs.OpenPath.{path-empty}
 
 -- ---- a copy, byte by byte
@@ -39,8 +35,8 @@ copy-more from old i inside room =
 
 -- ---- the walk from the start, with no state open
 pub start-ready :
-    {limit events start : ℕ} {to : List ℕ} (n : ℕ) → 256 ≤ n → HasRoom limit 0 to → events ≤ 256 → start < 256
-    → Ready limit events 0 start 0 (replicate n 0) to
+    {kind : ValueKind} {limit events start : ℕ} {to : List ℕ} (n : ℕ) → 256 ≤ n → HasRoom kind limit 0 to → events ≤ 256 → start < 256
+    → Ready kind limit events 0 start 0 (replicate n 0) to
 start-ready n long h few small =
     record {
       has-room = h;
@@ -53,25 +49,33 @@ start-ready n long h few small =
     }
 
 pub walk-listed :
-    {limit start r : ℕ} {table depths-after before after : List ℕ} (events n : ℕ)
-    → Walked (λ ps. Writes (machine-of events table) events ps start) limit 0 0 (replicate n 0) depths-after before after r
-    → Listed limit events start table before after r
+    {kind : ValueKind} {limit start r : ℕ} {table depths-after before after : List ℕ} (events n : ℕ)
+    → Walked kind limit (λ ps. Writes (machine-of kind events table) events ps start) 0 0 (replicate n 0) depths-after before after r
+    → Listed kind limit events start table before after r
 walk-listed events n w =
     record { same-length = w .same-length; cut-off = w .within; listed = w .written [] (path-empty n) }
 
+-- The bytes of a rule within the limit fit the buffer of the walk's own.
+pub rule-room : (kind : ValueKind) {to : List ℕ} → length to ≡ node-limit * 6 → HasRoom kind node-limit 0 to
+rule-room (Numbered n) e = record { room = omega (arith, e); small-limit = omega arith; at-within = omega arith }
+rule-room (Register lines) e = record { room = omega (arith, e); small-limit = omega arith; at-within = omega arith }
+
+pub rule-bytes : {count width : ℕ} → count ≤ node-limit → width ≤ 6 → count * width ≤ node-limit * 6
+rule-bytes few narrow = mul-le-mul few narrow
+
 -- ---- 12 and 13
-module _ (limit : ℕ) (φ : Formula ℕ) (room : ℕ) where
-  pub over-limit : limit < size φ → output-refusal limit φ room ≡ some (Plain 12)
+module _ (kind : ValueKind) (limit : ℕ) (φ : Formula ℕ) (room : ℕ) where
+  pub over-limit : limit < size φ → output-refusal kind limit φ room ≡ some (Plain 12)
   unfolding output-refusal or-else plain-unless
   over-limit h = rw (lt-leb (size φ) limit h)
 
-  pub over-room : size φ ≤ limit → room < size φ * 3 → output-refusal limit φ room ≡ some (Plain 13)
+  pub over-room : size φ ≤ limit → room < size φ * node-width kind → output-refusal kind limit φ room ≡ some (Plain 13)
   unfolding output-refusal or-else plain-unless
-  over-room h k = rw (le-leb (size φ) limit h, lt-leb (size φ * 3) room k)
+  over-room h k = rw (le-leb (size φ) limit h, lt-leb (size φ * node-width kind) room k)
 
-  pub fits-room : size φ ≤ limit → size φ * 3 ≤ room → output-refusal limit φ room ≡ none
+  pub fits-room : size φ ≤ limit → size φ * node-width kind ≤ room → output-refusal kind limit φ room ≡ none
   unfolding output-refusal or-else plain-unless
-  fits-room h k = rw (le-leb (size φ) limit h, le-leb (size φ * 3) room k)
+  fits-room h k = rw (le-leb (size φ) limit h, le-leb (size φ * node-width kind) room k)
 
 -- A refusal leaves the buffer.
 pub refused-answer :
@@ -86,43 +90,52 @@ accepted-answer :
 unfolding counted put-unless
 accepted-answer count output old e = (ap (λ o. counted o count) (sym e), ap (λ o. put-unless o output old) (sym e))
 
-module _ {limit events start count : ℕ} {table blank nodes old : List ℕ} (l : Listed limit events start table blank nodes count) where
-  pub too-many : limit < count → Answered limit events start table old old (Refused (Plain 12))
+module _ {kind : ValueKind} {limit events start count : ℕ} {table blank listed old : List ℕ} (l : Listed kind limit events start table blank listed count) where
+  pub too-many : limit < count → Answered kind limit events start table old old (Refused (Plain 12))
   too-many h = record { answer = λ φ w. both φ w .0; contents = λ φ w. both φ w .1 }
     where
       both :
-          (φ : Formula ℕ) → IsRuleOf events start table φ
-          → (Refused (Plain 12) ≡ counted (output-refusal limit φ (length old)) (size φ))
-          × (old ≡ put-unless (output-refusal limit φ (length old)) (encode-formula three-bytes φ) old)
+          (φ : Formula ℕ) → IsRuleOf events kind start table φ
+          → (Refused (Plain 12) ≡ counted (output-refusal kind limit φ (length old)) (size φ))
+          × (old ≡ put-unless (output-refusal kind limit φ (length old)) (encode-formula (node-bytes kind) φ) old)
       both φ w =
-          refused-answer (Plain 12) (size φ) (encode-formula three-bytes φ) old
-          (over-limit limit φ (length old) (omega (arith, l .listed φ w .position)))
+          refused-answer (Plain 12) (size φ) (encode-formula (node-bytes kind) φ) old
+          (over-limit kind limit φ (length old) (omega (arith, l .listed φ w .position, length-nodes φ)))
 
-  pub too-short : count ≤ limit → length old < count * 3 → Answered limit events start table old old (Refused (Plain 13))
-  too-short h k = record { answer = λ φ w. both φ w .0; contents = λ φ w. both φ w .1 }
+  pub too-short :
+      {width : ℕ} → width ≡ node-width kind → count ≤ limit → length old < count * width
+      → Answered kind limit events start table old old (Refused (Plain 13))
+  too-short {width} width-is h k = record { answer = λ φ w. both φ w .0; contents = λ φ w. both φ w .1 }
     where
       both :
-          (φ : Formula ℕ) → IsRuleOf events start table φ
-          → (Refused (Plain 13) ≡ counted (output-refusal limit φ (length old)) (size φ))
-          × (old ≡ put-unless (output-refusal limit φ (length old)) (encode-formula three-bytes φ) old)
+          (φ : Formula ℕ) → IsRuleOf events kind start table φ
+          → (Refused (Plain 13) ≡ counted (output-refusal kind limit φ (length old)) (size φ))
+          × (old ≡ put-unless (output-refusal kind limit φ (length old)) (encode-formula (node-bytes kind) φ) old)
       both φ w =
-          let x = l .listed φ w .position in
-          refused-answer (Plain 13) (size φ) (encode-formula three-bytes φ) old
-          (over-room limit φ (length old) (omega (arith, x)) (omega (arith, x)))
+          let same : count ≡ size φ = omega (arith, l .listed φ w .position, length-nodes φ) in
+          let bytes : count * width ≡ size φ * node-width kind = ap₂ _*_ same width-is in
+          refused-answer (Plain 13) (size φ) (encode-formula (node-bytes kind) φ) old
+          (over-room kind limit φ (length old) (omega (arith, same)) (omega (arith, bytes)))
 
   pub all-copied :
-      {after : List ℕ} → count ≤ limit → count * 3 ≤ length old → after ≡ put (take (count * 3) nodes) old
-      → Answered limit events start table old after (Count count)
-  all-copied {after} h k copied = record { answer = λ φ w. both φ w .0; contents = λ φ w. both φ w .1 }
+      {after : List ℕ} {width : ℕ} → width ≡ node-width kind → count ≤ limit → count * width ≤ length old → after ≡ put (take (count * width) listed) old
+      → Answered kind limit events start table old after (Count count)
+  all-copied {after} {width} width-is h k copied = record { answer = λ φ w. both φ w .0; contents = λ φ w. both φ w .1 }
     where
       both :
-          (φ : Formula ℕ) → IsRuleOf events start table φ
-          → (Count count ≡ counted (output-refusal limit φ (length old)) (size φ))
-          × (after ≡ put-unless (output-refusal limit φ (length old)) (encode-formula three-bytes φ) old)
+          (φ : Formula ℕ) → IsRuleOf events kind start table φ
+          → (Count count ≡ counted (output-refusal kind limit φ (length old)) (size φ))
+          × (after ≡ put-unless (output-refusal kind limit φ (length old)) (encode-formula (node-bytes kind) φ) old)
       both φ w =
-          let x = l .listed φ w .position in
-          let same : count ≡ size φ = omega (arith, x) in
+          let same : count ≡ size φ = omega (arith, l .listed φ w .position, length-nodes φ) in
+          let bytes : count * width ≡ size φ * node-width kind = ap₂ _*_ same width-is in
           let done =
-          accepted-answer (size φ) (encode-formula three-bytes φ) old
-          (fits-room limit φ (length old) (omega (arith, x)) (omega (arith, x))) in
-          (ap Count same ∙ done .0, copied ∙ ap (λ b. put b old) (l .listed φ w .contents h) ∙ done .1)
+          accepted-answer (size φ) (encode-formula (node-bytes kind) φ) old
+          (fits-room kind limit φ (length old) (omega (arith, same)) (omega (arith, bytes))) in (
+            ap Count same ∙ done .0,
+            copied
+                ∙ ap (λ n. put (take (count * n) listed) old) width-is
+                ∙ ap (λ b. put b old)
+                (l .listed φ w .contents h ∙ ap (λ n. take n blank ++ encode-formula (node-bytes kind) φ) (zero-mul (node-width kind)))
+                ∙ done .1,
+          )

@@ -1,107 +1,94 @@
 -- The rule of a state and the rows of a state, from the nodes that are appended for them; and what the walk yields, step by step.
--- Assumes nothing.
-use mathlib.Core.Path.{_≡_, refl, sym, _∙_, ap, subst}
-use mathlib.Core.List.{List, [], _∷_}
+use mathlib.Core.{Path.{_≡_, refl, sym, _∙_, ap, subst}, List.{List, [], _∷_}}
 use Prim.Native.Nat.{ℕ, zero, suc, _+_, _-_, _≤_, _<_}
 use native.Mathlib.Omega.{arith}
 use lib.ListN.{length, getD, set, length-set}
-use Rattle.theory.specs.Formula.{Formula, size}
-use Rattle.theory.specs.MealyMachine.{Machine}
-use Rattle.theory.specs.PrefixCode.{nodes, output-node, conjunction-node}
+use Rattle.theory.specs.{Formula.{Formula}, MealyMachine.{Machine}}
+use Rattle.theory.specs.PrefixCode.{Node, variable-node, transition-node, output-node, conjunction-node, greatest-node, nodes}
 use Rattle.theory.specs.CharacteristicFormula.{OpenAt, Writes, already-open, opened, Rows, last-row, row}
-use Rattle.theory.proofs.CharacteristicFormula.{open-one}
-use Rattle.theory.proofs.PrefixCode.{size-positive}
-use Rattle.formulas.specs.NodeBytes.{encode-formula, three-bytes}
-use Rattle.formulas.proofs.Encoding.{encode-append}
-use Rattle.formulas.proofs.ThreeBytes.{three-bytes-code}
+use Rattle.theory.proofs.{CharacteristicFormula.{open-one}, PrefixCode.{size-positive}}
+use Rattle.values.specs.declared.ValueKind.{ValueKind}
+use Rattle.formulas.proofs.Prefix.{length-nodes}
 use Rattle.characteristic.specs.NodeOutput.{Appends, HasRoom, OpenPath, Ready, Walked}
-use Rattle.characteristic.proofs.Appended.{nothing-fits, both, recounted}
-use Rattle.characteristic.proofs.OpenPath.{path-opened, depth-closed}
+use Rattle.characteristic.proofs.{Appended.{nothing-fits, both, same-nodes}, OpenPath.{path-opened, depth-closed}}
 
-module _ (m : Machine ℕ ℕ) (events limit : ℕ) where
+module _ (kind : ValueKind) (m : Machine ℕ ℕ) (events limit : ℕ) where
   -- The nodes of every formula that is written are appended.
   abbrev State : (at : ℕ) (path : List ℕ) (s : ℕ) (before after : List ℕ) (r : ℕ) → Type 0
   State at path s before after r =
-      (φ : Formula ℕ) → Writes m events path s φ → Appends limit at (size φ) (encode-formula three-bytes φ) before after r
+      (φ : Formula ℕ) → Writes m events path s φ → Appends kind limit at (nodes φ) before after r
 
   abbrev RowsFrom : (at : ℕ) (path : List ℕ) (s e : ℕ) (before after : List ℕ) (r : ℕ) → Type 0
   RowsFrom at path s e before after r =
-      (φ : Formula ℕ) → Rows m events path s e φ → Appends limit at (size φ) (encode-formula three-bytes φ) before after r
+      (φ : Formula ℕ) → Rows m events path s e φ → Appends kind limit at (nodes φ) before after r
 
-module _ (m : Machine ℕ ℕ) (events limit : ℕ) {at : ℕ} {path before : List ℕ} {s : ℕ} where
+module _ (kind : ValueKind) (m : Machine ℕ ℕ) (events limit : ℕ) {at : ℕ} {path before : List ℕ} {s : ℕ} where
   -- A state that is open on the path.
   pub open-state :
-      {after : List ℕ} {i r : ℕ} → OpenAt s path i → Appends limit at 1 (1 ∷ i ∷ 0 ∷ []) before after r
-      → State m events limit at path s before after r
-  open-state o x _ (already-open p) = recounted refl (ap (λ n. 1 ∷ n ∷ 0 ∷ []) (open-one o p)) x
+      {after : List ℕ} {i r : ℕ} → OpenAt s path i → Appends kind limit at (variable-node i ∷ []) before after r
+      → State kind m events limit at path s before after r
+  open-state o x _ (already-open p) = same-nodes (ap (λ n. variable-node n ∷ []) (open-one o p)) x
   open-state {i = i} o x _ (opened c rows) = absurd (c i o)
 
   -- A state that is not.
   pub new-state :
-      {between after : List ℕ} {part r : ℕ} → ((i : ℕ) → ¬ OpenAt s path i) → Appends limit at 1 (5 ∷ 0 ∷ 0 ∷ []) before between part
-      → RowsFrom m events limit part (s ∷ path) s zero between after r → State m events limit at path s before after r
+      {between after : List ℕ} {part r : ℕ} → ((i : ℕ) → ¬ OpenAt s path i) → Appends kind limit at (greatest-node ∷ []) before between part
+      → RowsFrom kind m events limit part (s ∷ path) s zero between after r → State kind m events limit at path s before after r
   new-state c x rest _ (already-open {i = i} o) = absurd (c i o)
-  new-state c x rest _ (opened {φ = φ} d rows) = recounted (omega arith) refl (both x (rest φ rows))
+  new-state c x rest _ (opened {φ = φ} d rows) = both x (rest φ rows)
 
-  module _ {e : ℕ} {one two : List ℕ} {part end : ℕ} (x : Appends limit at 2 (4 ∷ 0 ∷ 0 ∷ 2 ∷ e ∷ 0 ∷ []) before one part)
-      (y : State m events limit part path (m .next s e) one two end) where
+  module _ {e : ℕ} {one two : List ℕ} {part end : ℕ} (x : Appends kind limit at (conjunction-node ∷ transition-node e ∷ []) before one part)
+      (y : State kind m events limit part path (m .next s e) one two end) where
     -- The row of the last event.
     pub last-event :
-        {after : List ℕ} {r : ℕ} → e + 1 ≡ events → Appends limit end 1 (3 ∷ e ∷ m .value s e ∷ []) two after r
-        → RowsFrom m events limit at path s e before after r
-    last-event l z _ (last-row {φ = φ} h w) =
-        recounted (omega arith)
-        (ap (λ b. 4 ∷ 0 ∷ 0 ∷ 2 ∷ e ∷ 0 ∷ b) (sym (encode-append 3 three-bytes three-bytes-code (nodes φ) (output-node e (m .value s e) ∷ []))))
-        (both x (both (y φ w) z))
+        {after : List ℕ} {r : ℕ} → e + 1 ≡ events → Appends kind limit end (output-node e (m .value s e) ∷ []) two after r
+        → RowsFrom kind m events limit at path s e before after r
+    last-event l z _ (last-row {φ = φ} h w) = both x (both (y φ w) z)
     last-event l z _ (row h w rows) = absurd (omega arith)
 
     -- The row of another event, and those after it.
     pub another-event :
-        {three after : List ℕ} {rest r : ℕ} → ¬ (e + 1 ≡ events) → Appends limit end 2 (4 ∷ 0 ∷ 0 ∷ 3 ∷ e ∷ m .value s e ∷ []) two three rest
-        → RowsFrom m events limit rest path s (suc e) three after r → RowsFrom m events limit at path s e before after r
+        {three after : List ℕ} {rest r : ℕ} → ¬ (e + 1 ≡ events) → Appends kind limit end (conjunction-node ∷ output-node e (m .value s e) ∷ []) two three rest
+        → RowsFrom kind m events limit rest path s (suc e) three after r → RowsFrom kind m events limit at path s e before after r
     another-event l z more _ (last-row h w) = absurd (l (omega arith))
-    another-event l z more _ (row {φ = φ} {χ = χ} h w rows) =
-        recounted (omega arith)
-        (ap (λ b. 4 ∷ 0 ∷ 0 ∷ 2 ∷ e ∷ 0 ∷ b)
-        (sym (encode-append 3 three-bytes three-bytes-code (nodes φ) (conjunction-node ∷ output-node e (m .value s e) ∷ nodes χ))))
-        (both x (both (y φ w) (both z (more χ rows))))
+    another-event l z more _ (row {φ = φ} {χ = χ} h w rows) = both x (both (y φ w) (both z (more χ rows)))
 
 -- ---- what the walk yields
 -- No room for a node.
 pub walk-full :
-    (Of : List ℕ → Formula ℕ → Type 0) {limit at : ℕ} (depth : ℕ) (depths to : List ℕ) → limit ≤ at → at ≤ limit + 1
-    → Walked Of limit depth at depths depths to to (limit + 1)
-walk-full Of depth depths to full within =
+    (kind : ValueKind) (Of : List ℕ → Formula ℕ → Type 0) {limit at : ℕ} (depth : ℕ) (depths to : List ℕ) → limit ≤ at → at ≤ limit + 1
+    → Walked kind limit Of depth at depths depths to to (limit + 1)
+walk-full kind Of depth depths to full within =
     record {
       rises = within;
       within = omega arith;
       same-length = refl;
       same-depths = refl;
-      written = λ path o φ w. nothing-fits (size φ) _ to full within (size-positive φ);
+      written = λ path o φ w. nothing-fits kind (nodes φ) to full within (omega (arith, length-nodes φ, size-positive φ));
     }
 
-module _ (m : Machine ℕ ℕ) (events : ℕ) {limit at depth state : ℕ} {before : List ℕ} (depths : List ℕ) where
+module _ (kind : ValueKind) (m : Machine ℕ ℕ) (events : ℕ) {limit at depth state : ℕ} {before : List ℕ} (depths : List ℕ) where
   -- A state that is open on the path.
   pub walk-open :
       {after : List ℕ} {r : ℕ} → at ≤ limit + 1 → depth - getD depths state 0 < depth
-      → Appends limit at 1 (1 ∷ (depth - getD depths state 0) ∷ 0 ∷ []) before after r
-      → Walked (λ ps. Writes m events ps state) limit depth at depths depths before after r
+      → Appends kind limit at (variable-node (depth - getD depths state 0) ∷ []) before after r
+      → Walked kind limit (λ ps. Writes m events ps state) depth at depths depths before after r
   walk-open within inside x =
       record {
         rises = omega (arith, x .position);
         within = omega (arith, x .position);
         same-length = x .same-length;
         same-depths = refl;
-        written = λ path o. open-state m events limit (o .open-there state (omega arith)) x;
+        written = λ path o. open-state kind m events limit (o .open-there state (omega arith)) x;
       }
 
   -- A state that is not.
   pub walk-new :
-      {depths-rows between after : List ℕ} {part r : ℕ} → Ready limit events depth state at depths before
+      {depths-rows between after : List ℕ} {part r : ℕ} → Ready kind limit events depth state at depths before
       → depth ≤ depth - getD depths state 0
-      → Appends limit at 1 (5 ∷ 0 ∷ 0 ∷ []) before between part
-      → Walked (λ ps. Rows m events ps state 0) limit (depth + 1) part (set depths state (depth + 1)) depths-rows between after r
-      → Walked (λ ps. Writes m events ps state) limit depth at depths (set depths-rows state 0) before after r
+      → Appends kind limit at (greatest-node ∷ []) before between part
+      → Walked kind limit (λ ps. Rows m events ps state 0) (depth + 1) part (set depths state (depth + 1)) depths-rows between after r
+      → Walked kind limit (λ ps. Writes m events ps state) depth at depths (set depths-rows state 0) before after r
   walk-new h outside x y =
       let new : getD depths state 0 ≡ 0 = omega (arith, h .held .at-most state) in
       record {
@@ -110,21 +97,21 @@ module _ (m : Machine ℕ ℕ) (events : ℕ) {limit at depth state : ℕ} {befo
         same-length = y .same-length ∙ x .same-length;
         same-depths = ap (λ l. set l state 0) (y .same-depths) ∙ depth-closed depths state (depth + 1) new;
         written = λ path o.
-            new-state m events limit (o .not-open state new) x
+            new-state kind m events limit (o .not-open state new) x
             (y .written (state ∷ path) (path-opened state (omega (arith, h .small-state, h .depths-room)) o));
       }
 
-module _ (m : Machine ℕ ℕ) (events : ℕ) {limit at depth state event next value part end : ℕ} {depths depths-one before one two : List ℕ}
-    (within : at ≤ limit + 1) (x : Appends limit at 2 (4 ∷ 0 ∷ 0 ∷ 2 ∷ event ∷ 0 ∷ []) before one part)
-    (next-is : next ≡ m .next state event) (y : Walked (λ ps. Writes m events ps next) limit depth part depths depths-one one two end)
+module _ (kind : ValueKind) (m : Machine ℕ ℕ) (events : ℕ) {limit at depth state event next value part end : ℕ} {depths depths-one before one two : List ℕ}
+    (within : at ≤ limit + 1) (x : Appends kind limit at (conjunction-node ∷ transition-node event ∷ []) before one part)
+    (next-is : next ≡ m .next state event) (y : Walked kind limit (λ ps. Writes m events ps next) depth part depths depths-one one two end)
     (value-is : value ≡ m .value state event) where
-  part-written : (path : List ℕ) → OpenPath depth depths path → State m events limit part path (m .next state event) one two end
+  part-written : (path : List ℕ) → OpenPath depth depths path → State kind m events limit part path (m .next state event) one two end
   part-written path o φ w = y .written path o φ (subst (λ n. Writes m events path n φ) (sym next-is) w)
 
   -- The row of the last event.
   pub walk-last :
-      {after : List ℕ} {r : ℕ} → event + 1 ≡ events → Appends limit end 1 (3 ∷ event ∷ value ∷ []) two after r
-      → Walked (λ ps. Rows m events ps state event) limit depth at depths depths-one before after r
+      {after : List ℕ} {r : ℕ} → event + 1 ≡ events → Appends kind limit end (output-node event value ∷ []) two after r
+      → Walked kind limit (λ ps. Rows m events ps state event) depth at depths depths-one before after r
   walk-last l z =
       record {
         rises = omega (arith, x .position, y .rises, z .position);
@@ -132,15 +119,15 @@ module _ (m : Machine ℕ ℕ) (events : ℕ) {limit at depth state event next v
         same-length = z .same-length ∙ y .same-length ∙ x .same-length;
         same-depths = y .same-depths;
         written = λ path o.
-            last-event m events limit x (part-written path o) l (recounted refl (ap (λ v. 3 ∷ event ∷ v ∷ []) value-is) z);
+            last-event kind m events limit x (part-written path o) l (same-nodes (ap (λ v. output-node event v ∷ []) value-is) z);
       }
 
   -- The row of another event, and those after it.
   pub walk-more :
       {depths-after three after : List ℕ} {rest r : ℕ} → ¬ (event + 1 ≡ events)
-      → Appends limit end 2 (4 ∷ 0 ∷ 0 ∷ 3 ∷ event ∷ value ∷ []) two three rest
-      → Walked (λ ps. Rows m events ps state (event + 1)) limit depth rest depths-one depths-after three after r
-      → Walked (λ ps. Rows m events ps state event) limit depth at depths depths-after before after r
+      → Appends kind limit end (conjunction-node ∷ output-node event value ∷ []) two three rest
+      → Walked kind limit (λ ps. Rows m events ps state (event + 1)) depth rest depths-one depths-after three after r
+      → Walked kind limit (λ ps. Rows m events ps state event) depth at depths depths-after before after r
   walk-more l z more =
       let e : suc event ≡ event + 1 = omega arith in
       record {
@@ -149,24 +136,24 @@ module _ (m : Machine ℕ ℕ) (events : ℕ) {limit at depth state event next v
         same-length = more .same-length ∙ z .same-length ∙ y .same-length ∙ x .same-length;
         same-depths = more .same-depths ∙ y .same-depths;
         written = λ path o.
-            another-event m events limit x (part-written path o) l
-            (recounted refl (ap (λ v. 4 ∷ 0 ∷ 0 ∷ 3 ∷ event ∷ v ∷ []) value-is) z)
+            another-event kind m events limit x (part-written path o) l
+            (same-nodes (ap (λ v. conjunction-node ∷ output-node event v ∷ []) value-is) z)
             (λ χ rows. more .written path (subst (λ l. OpenPath depth l path) (sym (y .same-depths)) o) χ
             (subst (λ k. Rows m events path state k χ) e rows));
       }
 
 -- ---- what the next call asks, and that fewer nodes are left for it
 pub room-after :
-    {limit at count r : ℕ} {bytes before after : List ℕ} → HasRoom limit at before → Appends limit at count bytes before after r
-    → HasRoom limit r after
+    {kind : ValueKind} {limit at r : ℕ} {ns : List (Node ℕ)} {before after : List ℕ} → HasRoom kind limit at before
+    → Appends kind limit at ns before after r → HasRoom kind limit r after
 room-after h x =
     record { room = omega (arith, h .room, x .same-length); small-limit = h .small-limit; at-within = omega (arith, x .position) }
 
 -- With one state more open.
 pub ready-rows :
-    {limit events depth state at part : ℕ} {depths before after bytes : List ℕ} → Ready limit events depth state at depths before
-    → at < limit → Appends limit at 1 bytes before after part
-    → Ready limit events (depth + 1) state part (set depths state (depth + 1)) after
+    {kind : ValueKind} {limit events depth state at part : ℕ} {n : Node ℕ} {depths before after : List ℕ} → Ready kind limit events depth state at depths before
+    → at < limit → Appends kind limit at (n ∷ []) before after part
+    → Ready kind limit events (depth + 1) state part (set depths state (depth + 1)) after
 ready-rows {depth = depth} {state = state} {depths = depths} h below x =
     record {
       has-room = room-after (h .has-room) x;
@@ -180,8 +167,9 @@ ready-rows {depth = depth} {state = state} {depths = depths} h below x =
 
 -- For the part of a G, with the same states open.
 pub ready-part :
-    {limit events depth state next at part : ℕ} {depths before after bytes : List ℕ} → Ready limit events depth state at depths before
-    → next < 256 → Appends limit at 2 bytes before after part → Ready limit events depth next part depths after
+    {kind : ValueKind} {limit events depth state next at part : ℕ} {n k : Node ℕ} {depths before after : List ℕ} → Ready kind limit events depth state
+    at depths before
+    → next < 256 → Appends kind limit at (n ∷ k ∷ []) before after part → Ready kind limit events depth next part depths after
 ready-part h small x =
     record {
       has-room = room-after (h .has-room) x;
@@ -195,16 +183,16 @@ ready-part h small x =
 
 -- After that part.
 pub room-walked :
-    {Of : List ℕ → Formula ℕ → Type 0} {limit depth at r : ℕ} {depths depths-after before after : List ℕ} → HasRoom limit at before
-    → Walked Of limit depth at depths depths-after before after r → HasRoom limit r after
+    {kind : ValueKind} {Of : List ℕ → Formula ℕ → Type 0} {limit depth at r : ℕ} {depths depths-after before after : List ℕ}
+    → HasRoom kind limit at before → Walked kind limit Of depth at depths depths-after before after r → HasRoom kind limit r after
 room-walked h y = record { room = omega (arith, h .room, y .same-length); small-limit = h .small-limit; at-within = y .within }
 
-module _ {Of : List ℕ → Formula ℕ → Type 0} {limit events depth state at part end rest : ℕ}
-    {depths depths-one before one two three bytes others : List ℕ} (h : Ready limit events depth state at depths before)
-    (below : at < limit) (x : Appends limit at 2 bytes before one part) (y : Walked Of limit depth part depths depths-one one two end)
-    (z : Appends limit end 2 others two three rest) where
+module _ {kind : ValueKind} {Of : List ℕ → Formula ℕ → Type 0} {limit events depth state at part end rest : ℕ} {a b c d : Node ℕ}
+    {depths depths-one before one two three : List ℕ} (h : Ready kind limit events depth state at depths before)
+    (below : at < limit) (x : Appends kind limit at (a ∷ b ∷ []) before one part) (y : Walked kind limit Of depth part depths depths-one one two end)
+    (z : Appends kind limit end (c ∷ d ∷ []) two three rest) where
   -- After a row.
-  pub ready-more : Ready limit events depth state rest depths-one three
+  pub ready-more : Ready kind limit events depth state rest depths-one three
   ready-more =
       record {
         has-room =

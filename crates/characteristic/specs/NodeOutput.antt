@@ -1,30 +1,41 @@
 -- What the parts of the walk over a table promise: nodes appended to a buffer up to a limit, and the path of open states.
--- Assumes nothing.
 use mathlib.Core.Path.{_≡_}
-use mathlib.Core.List.{List, _++_}
+use mathlib.Core.Option.{none}
+use mathlib.Core.List.{List, [], _∷_, _++_}
 use Prim.Native.Nat.{ℕ, _+_, _*_, _-_, _≤_, _<_, min}
 use lib.ListN.{length, getD, take}
+use Rattle.limits.specs.Limits.{table-limit, node-limit}
 use Rattle.theory.specs.Formula.{Formula, size}
+use Rattle.theory.specs.PrefixCode.{Node, nodes}
 use Rattle.theory.specs.CharacteristicFormula.{OpenAt}
 use Rattle.refusal.specs.declared.Counted.{Counted}
 use Rattle.refusal.specs.Refusal.{counted}
 use Rattle.refusal.specs.LentBuffers.{put-unless}
-use Rattle.formulas.specs.NodeBytes.{encode-formula, three-bytes}
-use Rattle.formulas.specs.RuleRefusal.{node-width}
-use Rattle.characteristic.specs.RuleOfTable.{IsRuleOf, output-refusal}
+use Rattle.values.specs.declared.ValueKind.{ValueKind}
+use Rattle.values.specs.Setup.{setup-of-kind}
+use Rattle.values.specs.SetupTests.{setup-refusal}
+use Rattle.formulas.specs.NodeBytes.{kind-number, first-field, value-field, encode-all, encode-formula, node-width, node-bytes}
+use Rattle.characteristic.specs.RuleOfTable.{IsRuleOf, output-refusal, write-answer, write-contents}
 
--- After `at` nodes, `count` nodes more are appended, with these bytes; `r` is the node count afterwards. One more than the limit
--- says that the nodes do not fit, and then the buffer's contents are no matter.
-pub record Appends (limit at count : ℕ) (bytes before after : List ℕ) (r : ℕ) : Type 0 where
-  pub position : r ≡ min (at + count) (limit + 1)
-  pub contents : r ≤ limit → take (r * node-width) after ≡ take (at * node-width) before ++ bytes
-  pub same-length : length after ≡ length before
+-- Nodes with values of a kind, in so many bytes each.
+module _ (kind : ValueKind) (limit at : ℕ) where
+  -- After `at` nodes, more nodes are appended; `r` is the node count afterwards. One more than the limit says that the nodes do not
+  -- fit, and then the buffer's contents are no matter.
+  pub record Appends (ns : List (Node ℕ)) (before after : List ℕ) (r : ℕ) : Type 0 where
+    pub position : r ≡ min (at + length ns) (limit + 1)
+    pub contents : r ≤ limit → take (r * node-width kind) after ≡ take (at * node-width kind) before ++ encode-all (node-bytes kind) ns
+    pub same-length : length after ≡ length before
 
--- A buffer with room for `limit` nodes, of which `at` are there; the limit lets a node number fit a byte.
-pub record HasRoom (limit at : ℕ) (to : List ℕ) : Type 0 where
-  pub room : limit * node-width ≤ length to
-  pub small-limit : limit ≤ 256
-  pub at-within : at ≤ limit + 1
+  -- The node with these fields is appended.
+  abbrev pub AppendsOne : (tag first value : ℕ) (before after : List ℕ) → ℕ → Type 0
+  AppendsOne tag first value before after r =
+      (n : Node ℕ) → tag ≡ kind-number n → first ≡ first-field n → value ≡ value-field n → Appends (n ∷ []) before after r
+
+  -- A buffer with room for `limit` nodes, of which `at` are there; the limit lets a node number fit a byte.
+  pub record HasRoom (to : List ℕ) : Type 0 where
+    pub room : limit * node-width kind ≤ length to
+    pub small-limit : limit ≤ 256
+    pub at-within : at ≤ limit + 1
 
 -- The array holds the path of `depth` open states, the innermost first: of each open state its depth on the path, from 1 on; of
 -- each other state 0.
@@ -33,36 +44,43 @@ pub record OpenPath (depth : ℕ) (depths path : List ℕ) : Type 0 where
   pub open-there : (s : ℕ) → 0 < getD depths s 0 → OpenAt s path (depth - getD depths s 0)
   pub not-open : (s : ℕ) → getD depths s 0 ≡ 0 → (i : ℕ) → ¬ OpenAt s path i
 
--- What the walk asks: room for the nodes and for each state's depth, an open path, and states and events that index the table.
-pub record Ready (limit events depth state at : ℕ) (depths to : List ℕ) : Type 0 where
-  pub has-room : HasRoom limit at to
-  pub depths-room : 256 ≤ length depths
-  pub path : List ℕ
-  pub held : OpenPath depth depths path
-  pub shallow : depth ≤ at
-  pub few-events : events ≤ 256
-  pub small-state : state < 256
+module _ (kind : ValueKind) (limit : ℕ) where
+  -- What the walk asks: room for the nodes and for each state's depth, an open path, and states and events that index the table.
+  pub record Ready (events depth state at : ℕ) (depths to : List ℕ) : Type 0 where
+    pub has-room : HasRoom kind limit at to
+    pub depths-room : 256 ≤ length depths
+    pub path : List ℕ
+    pub held : OpenPath depth depths path
+    pub shallow : depth ≤ at
+    pub few-events : events ≤ 256
+    pub small-state : state < 256
 
--- What the walk yields: the nodes of each formula that is the one to be written below the open path are appended, and the depths are
--- as they were.
-pub record Walked (Of : List ℕ → Formula ℕ → Type 0) (limit depth at : ℕ) (depths depths-after before after : List ℕ) (r : ℕ) : Type 0 where
-  pub rises : at ≤ r
-  pub within : r ≤ limit + 1
-  pub same-length : length after ≡ length before
-  pub same-depths : depths-after ≡ depths
-  pub written :
-      (path : List ℕ) → OpenPath depth depths path → (φ : Formula ℕ) → Of path φ
-      → Appends limit at (size φ) (encode-formula three-bytes φ) before after r
+  -- What the walk yields: the nodes of each formula that is the one to be written below the open path are appended, and the depths
+  -- are as they were.
+  pub record Walked (Of : List ℕ → Formula ℕ → Type 0) (depth at : ℕ) (depths depths-after before after : List ℕ) (r : ℕ) : Type 0 where
+    pub rises : at ≤ r
+    pub within : r ≤ limit + 1
+    pub same-length : length after ≡ length before
+    pub same-depths : depths-after ≡ depths
+    pub written :
+        (path : List ℕ) → OpenPath depth depths path → (φ : Formula ℕ) → Of path φ → Appends kind limit at (nodes φ) before after r
 
--- The nodes of the rule of a table in a buffer, from its front; their count is cut off at one more than the limit.
-pub record Listed (limit events start : ℕ) (table before after : List ℕ) (r : ℕ) : Type 0 where
-  pub same-length : length after ≡ length before
-  pub cut-off : r ≤ limit + 1
-  pub listed : (φ : Formula ℕ) → IsRuleOf events start table φ → Appends limit 0 (size φ) (encode-formula three-bytes φ) before after r
+  -- The nodes of the rule of a table in a buffer, from its front; their count is cut off at one more than the limit.
+  pub record Listed (events start : ℕ) (table before after : List ℕ) (r : ℕ) : Type 0 where
+    pub same-length : length after ≡ length before
+    pub cut-off : r ≤ limit + 1
+    pub listed : (φ : Formula ℕ) → IsRuleOf events kind start table φ → Appends kind limit 0 (nodes φ) before after r
 
--- The answer and the buffer after the rule of a table is written, 12 and 13 judged.
-pub record Answered (limit events start : ℕ) (table before after : List ℕ) (r : Counted) : Type 0 where
-  pub answer : (φ : Formula ℕ) → IsRuleOf events start table φ → r ≡ counted (output-refusal limit φ (length before)) (size φ)
-  pub contents :
-      (φ : Formula ℕ) → IsRuleOf events start table φ
-      → after ≡ put-unless (output-refusal limit φ (length before)) (encode-formula three-bytes φ) before
+  -- The answer and the buffer after the rule of a table is written, 12 and 13 judged.
+  pub record Answered (events start : ℕ) (table before after : List ℕ) (r : Counted) : Type 0 where
+    pub answer : (φ : Formula ℕ) → IsRuleOf events kind start table φ → r ≡ counted (output-refusal kind limit φ (length before)) (size φ)
+    pub contents :
+        (φ : Formula ℕ) → IsRuleOf events kind start table φ
+        → after ≡ put-unless (output-refusal kind limit φ (length before)) (encode-formula (node-bytes kind) φ) before
+
+-- The answer and the buffer after a call over an accepted set-up, whatever its top and meet.
+abbrev pub Concluded : (events : ℕ) → ValueKind → (states start : ℕ) (table before after : List ℕ) → Counted → Type 0
+Concluded events kind states start table before after r =
+    (top : ℕ) (meet : List ℕ) → setup-refusal (setup-of-kind events kind top meet) ≡ none
+    → (r ≡ write-answer table-limit node-limit (setup-of-kind events kind top meet) states start table before)
+    × (after ≡ write-contents table-limit node-limit (setup-of-kind events kind top meet) states start table before)

@@ -1,62 +1,57 @@
 -- Case 12 of document 01, computed from the definitions.
--- Assumes nothing.
-use mathlib.Core.Path.{_≡_, refl, _∙_, ap}
-use mathlib.Core.List.{List, [], _∷_}
-use mathlib.Core.Option.{Option, none, some}
+use mathlib.Core.{Path.{_≡_, refl, _∙_, ap, subst⁻¹}, List.{List, [], _∷_}, Option.{Option, none, some}}
 use Prim.Native.Nat.{ℕ, _≤_}
 use native.Mathlib.Omega.{arith}
 use borrow.Author.Tests.{le-leb}
-use lib.ListN.{length, take}
-use lib.Dec.{leb}
-use Rattle.theory.specs.ValueSets.{four-value-meet, meetAt}
-use Rattle.theory.specs.DemandSets.{empty, only, union}
+use lib.{ListN.{length, take}, Dec.{leb}}
+use Rattle.theory.specs.{ValueSets.{four-value-meet, meetAt}, ValueSetClaims.{every}, DemandSets.{empty, only, union}}
 use Rattle.refusal.specs.declared.Refusal.{Refusal}
-use Rattle.refusal.specs.Refusal.{or-else, plain-unless}
-use Rattle.refusal.specs.LentBuffers.{put}
-use Rattle.values.specs.Setup.{setup}
+use Rattle.refusal.specs.{Refusal.{or-else, plain-unless}, LentBuffers.{put}}
+use Rattle.values.specs.declared.ValueKind.the-variants.{Numbered}
 use Rattle.values.specs.ValueKind.{meetOf}
 use Rattle.values.proofs.Setups.{four-value-setup}
-use Rattle.machines.specs.TableRefusal.{table-refusal, table-test, entry-test, all-below}
-use Rattle.conformance.specs.Trial.{input, device-limit, table-limit, word-limit, trial-refusal, first-failure, outcome, shown, answer-unless, buffer-unless, trial-answer, trial-buffer}
-use Rattle.conformance.specs.Claims.{case-3-bytes, case-12-input, Case12Claim}
+use Rattle.machines.specs.TableRefusal.{table-refusal, table-test, entry-test}
+use Rattle.conformance.specs.Trial.{input, tables-refusal, trial-refusal, first-failure, outcome, shown, answer-unless, buffer-unless}
+use Rattle.conformance.specs.{Trial.{trial-answer, trial-buffer, Passed, word-length}, Claims.{case-3-bytes, case-12-input, Case12Claim}}
+use Rattle.limits.specs.Limits.{device-limit, table-limit, word-limit}
 
-device-3 : table-refusal 64 2 4 1 0 (3 ∷ 0 ∷ 3 ∷ 0 ∷ []) ≡ none
-unfolding table-refusal table-test entry-test all-below plain-unless
+device-3 : table-refusal device-limit 2 (Numbered 4) 1 0 (3 ∷ 0 ∷ 3 ∷ 0 ∷ []) ≡ none
+unfolding table-refusal table-test entry-test every plain-unless
 device-3 = refl
 
-device-0 : table-refusal 64 2 4 1 0 (0 ∷ 0 ∷ 0 ∷ 0 ∷ []) ≡ none
-unfolding table-refusal table-test entry-test all-below plain-unless
+device-0 : table-refusal device-limit 2 (Numbered 4) 1 0 (0 ∷ 0 ∷ 0 ∷ 0 ∷ []) ≡ none
+unfolding table-refusal table-test entry-test every plain-unless
 device-0 = refl
 
-table-3 : table-refusal 64 2 4 2 0 case-3-bytes ≡ none
-unfolding table-refusal table-test entry-test all-below plain-unless
+table-3 : table-refusal table-limit 2 (Numbered 4) 2 0 case-3-bytes ≡ none
+unfolding table-refusal table-test entry-test every plain-unless
 table-3 = refl
 
 -- Nothing is refused where the device is in order and the buffer is long enough.
 accepted :
-    (value : ℕ) → table-refusal 64 2 4 1 0 (value ∷ 0 ∷ value ∷ 0 ∷ []) ≡ none → (old : List ℕ) → word-limit ≤ length old →
+    (value : ℕ) → table-refusal device-limit 2 (Numbered 4) 1 0 (value ∷ 0 ∷ value ∷ 0 ∷ []) ≡ none → (old : List ℕ) → word-limit ≤ length old →
     trial-refusal device-limit table-limit (case-12-input value) old ≡ none
-unfolding trial-refusal input setup or-else plain-unless
+unfolding trial-refusal tables-refusal input or-else plain-unless
 accepted value e old h =
-    ap (λ o. or-else o (or-else device (or-else table buffer))) (four-value-setup 2 (omega arith) (omega arith))
-    ∙ ap (λ o. or-else o (or-else table buffer)) e ∙ ap (λ o. or-else o buffer) table-3
+    ap (λ o. or-else o (or-else (or-else device table) buffer)) (four-value-setup 2 (omega arith) (omega arith))
+    ∙ ap (λ o. or-else (or-else o table) buffer) e ∙ ap (λ o. or-else o buffer) table-3
     ∙ ap (λ b. plain-unless b 13) (le-leb word-limit (length old) h)
   where
     device : Option Refusal
-    device = table-refusal 64 2 4 1 0 (value ∷ 0 ∷ value ∷ 0 ∷ [])
+    device = table-refusal device-limit 2 (Numbered 4) 1 0 (value ∷ 0 ∷ value ∷ 0 ∷ [])
 
     table : Option Refusal
-    table = table-refusal 64 2 4 2 0 case-3-bytes
+    table = table-refusal table-limit 2 (Numbered 4) 2 0 case-3-bytes
 
     buffer : Option Refusal
     buffer = plain-unless (leb word-limit (length old)) 13
 
 word-3 : first-failure (case-12-input 3) ≡ some (0 ∷ [])
-unfolding first-failure input setup meetOf four-value-meet meetAt
+unfolding first-failure input meetOf four-value-meet meetAt
 word-3 = refl
 
 word-0 : first-failure (case-12-input 0) ≡ none
-unfolding first-failure input setup meetOf four-value-meet meetAt
+unfolding first-failure input meetOf four-value-meet meetAt
 word-0 = refl
 
 pub case-12 : Case12Claim
@@ -65,8 +60,10 @@ case-12 =
     record {
       states = refl;
       bytes = refl;
-      fails = λ old h. ap (λ o. answer-unless o (first-failure (case-12-input 3))) (accepted 3 device-3 old h) ∙ ap outcome word-3;
+      fails = λ old h.
+          ap (λ o. word-length (answer-unless o (first-failure (case-12-input 3)))) (accepted 3 device-3 old h) ∙ ap (λ f. word-length (outcome f)) word-3;
       word = λ old h.
           ap (λ o. take 1 (buffer-unless o (first-failure (case-12-input 3)) old)) (accepted 3 device-3 old h) ∙ ap (λ f. take 1 (shown f old)) word-3;
-      passes = λ old h. ap (λ o. answer-unless o (first-failure (case-12-input 0))) (accepted 0 device-0 old h) ∙ ap outcome word-0;
+      passes = λ old h.
+          subst⁻¹ Passed (ap (λ o. answer-unless o (first-failure (case-12-input 0))) (accepted 0 device-0 old h) ∙ ap outcome word-0) tt;
     }

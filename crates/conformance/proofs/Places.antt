@@ -1,14 +1,12 @@
 -- Places of entries and pairs fit.
--- Assumes nothing.
-use mathlib.Core.Path.{_≡_, refl, _∙_, ap}
-use mathlib.Core.Bool.{Bool, true, false}
+use mathlib.Core.{Path.{_≡_, refl, _∙_, ap}, Bool.{Bool, true, false}}
 use Prim.Native.Nat.{ℕ, _+_, _*_, _≤_, _<_}
-use native.Mathlib.Nat.{mul-le-mul-left, mul-le-mul-right}
-use native.Mathlib.Omega.{arith}
+use native.Mathlib.{Nat.{mul-le-mul-left, mul-le-mul-right}, Omega.{arith}}
 use lib.Dec.{eqb}
 use borrow.Author.Tests.{eqb-true, eqb-false}
+use Rattle.limits.specs.Limits.{event-limit}
 
-pub entry-place : (s events e : ℕ) → s < 256 → events ≤ 16 → e < events → s * events + e < 4096
+pub entry-place : (s events e : ℕ) → s < 256 → events ≤ event-limit → e < events → s * events + e < 256 * event-limit
 entry-place s events e hs he h = omega (arith, mul-le-mul-left s he)
 
 -- The largest product of two bounded numbers.

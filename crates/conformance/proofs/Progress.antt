@@ -1,27 +1,18 @@
 -- The search over the queue is breadth-first exploration: it stops at the first failing word, or has looked at all pairs.
--- Assumes nothing.
-use mathlib.Core.Path.{_≡_, refl, sym, _∙_, ap, ap₂, subst, subst⁻¹}
-use mathlib.Core.Bool.{Bool, true, false, not, cond}
-use mathlib.Core.List.{List, [], _∷_}
+use mathlib.Core.{Path.{_≡_, refl, sym, _∙_, ap, ap₂, subst, subst⁻¹}, Bool.{Bool, true, false, not, cond}, List.{List, [], _∷_}}
 use mathlib.Core.Option.{Option, none, some}
 use Prim.Native.Nat.{ℕ, zero, suc, _+_, _*_, _-_, _≤_, _<_}
-use native.Mathlib.Numerals.{add-one}
-use native.Mathlib.Omega.{arith}
+use native.Mathlib.{Numerals.{add-one}, Omega.{arith}}
 use borrow.Author.Tests.{eqb-true, eqb-false, lt-ltb, le-ltb}
-use lib.Dec.{eqb}
-use lib.ListN.{length, getD, drop, drop-of-length-le}
-use lib.Seq.{drop-cons}
-use Rattle.theory.specs.MealyMachine.{Machine}
-use Rattle.theory.specs.Exploration.{reached, add-events, explore, explored}
+use lib.{Dec.{eqb}, ListN.{length, getD, drop, drop-of-length-le}, Seq.{drop-cons}}
+use Rattle.theory.specs.{MealyMachine.{Machine}, Exploration.{reached, add-events, explore, explored}}
 use Rattle.theory.specs.Conformance.{same-pair, next-pair, bad-event, or-else, first-bad, bad-pair, in-play-order, counterexample}
-use Rattle.theory.proofs.Exploration.{Grows, explore-grows}
-use Rattle.theory.proofs.Conformance.{same-pair-iff, few-pairs}
-use Rattle.values.specs.declared.ValueKind.the-variants.{Numbered}
-use Rattle.values.specs.ValueKind.{at-or-below}
+use Rattle.theory.proofs.{Exploration.{Grows, explore-grows}, Conformance.{same-pair-iff, few-pairs}}
+use Rattle.values.specs.declared.ValueKind.{ValueKind}
 use Rattle.machines.specs.TableBytes.{machine-of}
 use Rattle.conformance.specs.PairQueue.{Queue, Sized, Holds, at-or-below-on, FirstBadEvent, successors, Expandable, Expanded, FailsAt, Searchable}
-use Rattle.conformance.proofs.Places.{product-bounded}
-use Rattle.conformance.proofs.Successors.{part-grows}
+use Rattle.conformance.proofs.{Places.{product-bounded}, Successors.{part-grows}}
+use Rattle.values.specs.ValueTests.{at-or-below}
 
 -- What exploration and the first bad word compute, step by step.
 module _ {S : Type 0} (next : S → ℕ → S) (start : S) (bad : S → ℕ → Bool) where
@@ -58,7 +49,9 @@ module _ {S : Type 0} (next : S → ℕ → S) (start : S) (bad : S → ℕ → 
 
   -- The words from number i on.
   module _ (events : ℕ) (Q : List (List ℕ)) (i : ℕ) (i-in : i < length Q) where
-    first-at : first-bad next start bad events (drop i Q) ≡ or-else (bad-event next start bad events zero (getD Q i [])) (first-bad next start bad events (drop (suc i) Q))
+    first-at :
+        first-bad next start bad events (drop i Q)
+        ≡ or-else (bad-event next start bad events zero (getD Q i [])) (first-bad next start bad events (drop (suc i) Q))
     first-at = ap (first-bad next start bad events) (drop-cons Q i [] i-in)
 
 module _ {S : Type 0} (same : S → S → Bool) (next : S → ℕ → S) (start : S) (events : ℕ) where
@@ -79,18 +72,19 @@ module _ {S : Type 0} (same : S → S → Bool) (next : S → ℕ → S) (start 
       (le-ltb i (length P) h)
 
 -- What holds when i pairs have been taken from the queue and none of them failed.
-module _ {size events values k : ℕ} {device table : List ℕ} {a₀ : Queue} (meet : List ℕ) (x : Searchable size events values k device table a₀) where
+module _ {size events : ℕ} {kind : ValueKind} {k : ℕ} {device table : List ℕ} {a₀ : Queue} (meet : List ℕ)
+    (x : Searchable size events kind k device table a₀) where
   abbrev limit : ℕ
   limit = x .n * k
 
   abbrev below : ℕ → ℕ → Bool
-  below = at-or-below (Numbered values) meet
+  below = at-or-below kind meet
 
   abbrev m : Machine ℕ ℕ
-  m = machine-of events device
+  m = machine-of kind events device
 
   abbrev q : Machine ℕ ℕ
-  q = machine-of events table
+  q = machine-of kind events table
 
   abbrev start : ℕ × ℕ
   start = (x .s, zero)
@@ -152,7 +146,7 @@ module _ {size events values k : ℕ} {device table : List ℕ} {a₀ : Queue} (
       taken-few = omega (arith, i-in, words-few, product-bounded (x .ready .few-device-states) (x .ready .few-table-states))
 
       abbrev after : List (List ℕ)
-      after = successors events device table start (p .words) i
+      after = successors events kind device table start (p .words) i
 
       step-way : explore same-pair (next-pair m q) start events (limit - suc i) (suc i) after ≡ Q
       step-way =
@@ -164,7 +158,7 @@ module _ {size events values k : ℕ} {device table : List ℕ} {a₀ : Queue} (
       after-fits : length after ≤ limit
       after-fits = omega (arith, after-grow .0, Q-few)
 
-      unfoldable expandable : Expandable size events k device table i count a
+      unfoldable expandable : Expandable size events kind k device table i count a
       expandable =
           record {
             n = x .n;
@@ -177,9 +171,9 @@ module _ {size events values k : ℕ} {device table : List ℕ} {a₀ : Queue} (
             room = after-fits;
           }
 
-      pub own-expandable : Sized size a → Sized (length (a .flags)) a × Expandable (length (a .flags)) events k device table i count a
+      pub own-expandable : Sized size a → Sized (length (a .flags)) a × Expandable (length (a .flags)) events kind k device table i count a
       own-expandable sized =
-          subst⁻¹ (λ c. Sized c a × Expandable c events k device table i count a) (sized .flags-size) (sized, expandable)
+          subst⁻¹ (λ c. Sized c a × Expandable c events kind k device table i count a) (sized .flags-size) (sized, expandable)
 
       module _ (s t : ℕ) (s-is : s ≡ getD (a .device-queue) i 0) (t-is : t ≡ getD (a .table-queue) i 0) where
         pub s-small : s < 256
@@ -192,7 +186,7 @@ module _ {size events values k : ℕ} {device table : List ℕ} {a₀ : Queue} (
         w = getD (p .words) i []
 
         bad-is :
-            (e : ℕ) (b : Bool) → at-or-below-on events values meet device table s t e ≡ b →
+            (e : ℕ) (b : Bool) → at-or-below-on events kind meet device table s t e ≡ b →
             bad-pair below m q (reached (next-pair m q) start w) e ≡ not b
         unfolding at-or-below-on
         bad-is e b z =
@@ -207,9 +201,11 @@ module _ {size events values k : ℕ} {device table : List ℕ} {a₀ : Queue} (
             first-at (next-pair m q) start (bad-pair below m q) events Q i (omega (arith, i-in, words-grow .0))
             ∙ ap (λ u. or-else (bad-event (next-pair m q) start (bad-pair below m q) events zero u) (first-from (drop (suc i) Q))) taken-word
 
-        module _ (e : ℕ) (judged : FirstBadEvent events (at-or-below-on events values meet device table s t) e) where
+        module _ (e : ℕ) (judged : FirstBadEvent events (at-or-below-on events kind meet device table s t) e) where
           -- The pair fails.
-          pub found-at : e < events → Sized size a → FailsAt size events (counterexample below m q events (x .n) k (x .s) zero) i e (a .parents) (a .last-events)
+          pub found-at :
+              e < events → Sized size a →
+              FailsAt size events (counterexample below m q events (x .n) k (x .s) zero) i e (a .parents) (a .last-events)
           found-at l sized =
               record {
                 reaches =
@@ -232,10 +228,10 @@ module _ {size events values k : ℕ} {device table : List ℕ} {a₀ : Queue} (
 
           -- It does not, and its successors are pushed.
           pub progress-next :
-              events ≤ e → Sized size a → (r : ℕ) (b : Queue) → Expanded (length (a .flags)) events k device table i count a r b → Progress (i + 1) r b
+              events ≤ e → Sized size a → (r : ℕ) (b : Queue) → Expanded (length (a .flags)) events kind k device table i count a r b → Progress (i + 1) r b
           unfolding expandable
           progress-next l sized r b f =
-              let g = subst (λ c. Expanded c events k device table i count a r b) (sized .flags-size) f expandable in
+              let g = subst (λ c. Expanded c events kind k device table i count a r b) (sized .flags-size) f expandable in
               subst (λ c. Progress c r b) (sym (add-one i)) (record {
                 words = after;
                 held = g .0;

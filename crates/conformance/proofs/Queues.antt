@@ -1,22 +1,14 @@
 -- The queue's arrays after a pair is pushed hold the words with one more.
--- Assumes nothing.
-use mathlib.Core.Path.{_≡_, refl, sym, _∙_, ap, ap₂, subst, subst⁻¹}
-use mathlib.Core.Bool.{Bool, true, false, cond, _||_}
-use mathlib.Core.Logic.{_⊎_, inl, inr}
+use mathlib.Core.{Path.{_≡_, refl, sym, _∙_, ap, ap₂, subst, subst⁻¹}, Bool.{Bool, true, false, cond, _||_}, Logic.{_⊎_, inl, inr}}
 use mathlib.Core.List.{List, [], _∷_, _++_}
 use Prim.Native.Nat.{ℕ, suc, _+_, _*_, _≤_, _<_}
-use native.Mathlib.Nat.{mul-le-mul-right, suc-mul, eq-or-lt-of-le, le-of-suc-le-suc, suc-inj}
-use native.Mathlib.Omega.{arith}
+use native.Mathlib.{Nat.{mul-le-mul-right, suc-mul, eq-or-lt-of-le, le-of-suc-le-suc, suc-inj}, Omega.{arith}}
 use borrow.Author.Tests.{eq-eqb, ne-eqb}
-use lib.Dec.{T, eqb, eqb→eq}
-use lib.ListN.{length, getD, set, length-append, length-set, List·getD-append}
+use lib.{Dec.{T, eqb, eqb→eq}, ListN.{length, getD, set, length-append, length-set, List·getD-append}}
 use lib.Seq.{getD-append-seam, getD-set-same, getD-set-other}
 use mir.Facts.{and-yes}
-use Rattle.theory.specs.MealyMachine.{Machine}
-use Rattle.theory.specs.Exploration.{reached, has-state, add}
-use Rattle.theory.specs.Conformance.{same-pair, next-pair}
-use Rattle.theory.proofs.Numbers.{digits-equal}
-use Rattle.theory.proofs.Exploration.{length-end}
+use Rattle.theory.specs.{MealyMachine.{Machine}, Exploration.{reached, has-state, add}, Conformance.{same-pair, next-pair}}
+use Rattle.theory.proofs.{Numbers.{digits-equal}, Exploration.{length-end}}
 use Rattle.conformance.specs.PairQueue.{Queue, Sized, Linked, Holds, flag, is-new, push, pushed, pushed-count}
 
 module _ (a : Queue) (count place : ℕ) where
@@ -162,7 +154,8 @@ module _ (n k : ℕ) (m q : Machine ℕ ℕ) (start : ℕ × ℕ) where
         extended : has P (x, y) ≡ false → length P < size → Holds n k m q start (P ++ ((e ∷ w) ∷ [])) (push a (length P) place x y i e)
         extended fresh room =
             record {
-              linked = linked-push P (a .parents) (a .last-events) i e i-in (omega (arith, sized .parents-size)) (omega (arith, sized .last-events-size)) (held .linked);
+              linked = linked-push P (a .parents) (a .last-events) i e i-in (omega (arith, sized .parents-size))
+                  (omega (arith, sized .last-events-size)) (held .linked);
               device-at = λ l h. device-at′ l (spot P (e ∷ w) l h);
               table-at = λ l h. table-at′ l (spot P (e ∷ w) l h);
               device-in = λ l h. device-in′ l (spot P (e ∷ w) l h);

@@ -1,34 +1,26 @@
 -- The queue with the start's pair alone, and what the answer is when the search has ended.
--- Assumes nothing.
-use mathlib.Core.Path.{_≡_, refl, sym, _∙_, ap, ap₂, subst, subst⁻¹}
-use mathlib.Core.Bool.{Bool, true, false}
-use mathlib.Core.List.{List, [], _∷_, reverse}
-use mathlib.Core.Option.{Option, none}
+use mathlib.Core.{Path.{_≡_, refl, sym, _∙_, ap, ap₂, subst, subst⁻¹}, Bool.{Bool, true, false}, List.{List, [], _∷_, reverse}, Option.{Option, none}}
 use Prim.Native.Nat.{ℕ, zero, _+_, _*_, _≤_, _<_}
-use native.Mathlib.Nat.{mul-le-mul-right, suc-mul}
-use native.Mathlib.Omega.{arith}
-use lib.ListN.{length, getD, set, replicate, length-set, length-reverse, length-replicate, getD-replicate}
-use lib.Seq.{getD-set-same, getD-set-other}
-use Rattle.theory.specs.Exploration.{reached, has-state}
-use Rattle.theory.specs.Conformance.{same-pair, next-pair, counterexample}
+use native.Mathlib.{Nat.{mul-le-mul-right, suc-mul}, Omega.{arith}}
+use lib.{ListN.{length, getD, set, replicate, length-set, length-reverse, length-replicate, getD-replicate}, Seq.{getD-set-same, getD-set-other}}
+use Rattle.theory.specs.{Exploration.{reached, has-state}, Conformance.{same-pair, next-pair, counterexample}}
 use Rattle.theory.proofs.Numbers.{digits-equal}
 use Rattle.refusal.specs.LentBuffers.{put}
-use Rattle.values.specs.declared.ValueKind.the-variants.{Numbered}
-use Rattle.values.specs.ValueKind.{at-or-below}
+use Rattle.values.specs.declared.ValueKind.{ValueKind}
 use Rattle.machines.specs.TableBytes.{machine-of}
-use Rattle.conformance.specs.declared.Verdict.{Verdict}
+use Rattle.conformance.specs.declared.{Verdict.{Verdict}, Failure.{Failure}}
 use Rattle.conformance.specs.declared.Verdict.the-variants.{Pass, Fail}
-use Rattle.conformance.specs.declared.Failure.{Failure}
 use Rattle.conformance.specs.declared.Failure.the-variants.{Nowhere, At}
 use Rattle.conformance.specs.Trial.{outcome, shown}
 use Rattle.conformance.specs.PairQueue.{Queue, queue, Sized, flag, Searchable, Searched, Located, Tried, Answers, Answered, FailsAt, Empty}
-use Rattle.conformance.proofs.Queues.{same-pair-self, same-pair-true, or-false}
-use Rattle.conformance.proofs.Words.{short-word, put-last}
+use Rattle.conformance.proofs.{Queues.{same-pair-self, same-pair-true, or-false}, Words.{short-word, put-last}}
+use Rattle.values.specs.ValueTests.{at-or-below}
 
 abbrev zeros : ℕ → Queue
 zeros size = queue (replicate size 0) (replicate size 0) (replicate size 0) (replicate size 0) (replicate size 0)
 
-module _ {size events values k : ℕ} {table : List ℕ} {s : ℕ} {device buffer : List ℕ} (x : Tried size events values k table s device buffer) where
+module _ {size events : ℕ} {kind : ValueKind} {k : ℕ} {table : List ℕ} {s : ℕ} {device buffer : List ℕ}
+    (x : Tried size events kind k table s device buffer) where
   -- The start's state and pair fit.
   pub start-place : s * k < size
   start-place = omega (arith, x .some-states, mul-le-mul-right k (x .start-in), suc-mul s k, x .ready .few-pairs)
@@ -48,19 +40,19 @@ module _ {size events values k : ℕ} {table : List ℕ} {s : ℕ} {device buffe
         flags = λ i h. getD-replicate size i 0 0 h;
       }
 
-  pub made-ready : Tried (length (zeros size .flags)) events values k table s device buffer × Empty (length (zeros size .flags)) (zeros size)
+  pub made-ready : Tried (length (zeros size .flags)) events kind k table s device buffer × Empty (length (zeros size .flags)) (zeros size)
   made-ready =
-      subst⁻¹ (λ c. Tried c events values k table s device buffer × Empty c (zeros size)) (length-replicate size 0) (x, made-empty)
+      subst⁻¹ (λ c. Tried c events kind k table s device buffer × Empty c (zeros size)) (length-replicate size 0) (x, made-empty)
 
 -- The answer with such arrays.
 pub made-answered :
-    (size events values : ℕ) (meet : List ℕ) (k : ℕ) (table : List ℕ) (s : ℕ) (device old : List ℕ) (answer : Verdict) (later : List ℕ) →
-    Answered (length (zeros size .flags)) events values meet k table s device old answer later →
-    Answered size events values meet k table s device old answer later
-made-answered size events values meet k table s device old answer later f =
-    subst (λ c. Answered c events values meet k table s device old answer later) (length-replicate size 0) f
+    (size events : ℕ) (kind : ValueKind) (meet : List ℕ) (k : ℕ) (table : List ℕ) (s : ℕ) (device old : List ℕ) (answer : Verdict) (later : List ℕ) →
+    Answered (length (zeros size .flags)) events kind meet k table s device old answer later →
+    Answered size events kind meet k table s device old answer later
+made-answered size events kind meet k table s device old answer later f =
+    subst (λ c. Answered c events kind meet k table s device old answer later) (length-replicate size 0) f
 
-module _ {size events values k : ℕ} {table : List ℕ} {s : ℕ} {device buffer : List ℕ} (x : Tried size events values k table s device buffer)
+module _ {size events : ℕ} {kind : ValueKind} {k : ℕ} {table : List ℕ} {s : ℕ} {device buffer : List ℕ} (x : Tried size events kind k table s device buffer)
     (a : Queue) (empty : Empty size a) where
   abbrev started : Queue
   started = queue (set (a .device-queue) 0 s) (a .table-queue) (a .parents) (a .last-events) (set (a .flags) (s * k) 1)
@@ -75,10 +67,9 @@ module _ {size events values k : ℕ} {table : List ℕ} {s : ℕ} {device buffe
         flags-size = simp length-set (empty .sized .flags-size);
       }
 
-  start-searchable : Searchable size events values k device table started
+  start-searchable : Searchable size events kind k device table started
   start-searchable =
       record {
-        few-values = x .few-values;
         n = x .n;
         ready = x .ready;
         s = s;
@@ -100,7 +91,7 @@ module _ {size events values k : ℕ} {table : List ℕ} {s : ℕ} {device buffe
       }
     where
       state : List ℕ → ℕ × ℕ
-      state w = reached (next-pair (machine-of events device) (machine-of events table)) (s, zero) w
+      state w = reached (next-pair (machine-of kind events device) (machine-of kind events table)) (s, zero) w
 
       word : ℕ → List ℕ
       word j = getD ([] ∷ []) j []
@@ -119,7 +110,8 @@ module _ {size events values k : ℕ} {table : List ℕ} {s : ℕ} {device buffe
 
       device-at′ : (j : ℕ) → j < 1 → getD (set (a .device-queue) 0 s) j 0 ≡ state (word j) .0
       device-at′ j h =
-          ap (λ y. getD (set (a .device-queue) 0 s) y 0) (only j h) ∙ getD-set-same (a .device-queue) 0 s 0 (omega (arith, empty .sized .device-queue-size, some-room)) ∙ sym (first-state j h)
+          ap (λ y. getD (set (a .device-queue) 0 s) y 0) (only j h) ∙ getD-set-same (a .device-queue) 0 s 0
+          (omega (arith, empty .sized .device-queue-size, some-room)) ∙ sym (first-state j h)
 
       table-at′ : (j : ℕ) → j < 1 → getD (a .table-queue) j 0 ≡ state (word j) .1
       table-at′ j h = ap (λ y. getD (a .table-queue) y 0) (only j h) ∙ empty .first ∙ sym (second-state j h)
@@ -127,7 +119,7 @@ module _ {size events values k : ℕ} {table : List ℕ} {s : ℕ} {device buffe
       flagged′ :
           (u v : ℕ) → u < x .n → v < k → (b : Bool) → same-pair (s, zero) (u, v) ≡ b →
           getD (set (a .flags) (s * k) 1) (u * k + v) 0
-          ≡ flag (has-state same-pair (next-pair (machine-of events device) (machine-of events table)) (s, zero) ([] ∷ []) (u, v))
+          ≡ flag (has-state same-pair (next-pair (machine-of kind events device) (machine-of kind events table)) (s, zero) ([] ∷ []) (u, v))
       flagged′ u v hu hv true z =
           let e : (s ≡ u) × (zero ≡ v) = same-pair-true (s, zero) (u, v) z in
           let place : u * k + v ≡ s * k = omega (arith, ap (λ y. y * k) (e .0), e .1) in
@@ -145,18 +137,18 @@ module _ {size events values k : ℕ} {table : List ℕ} {s : ℕ} {device buffe
               let c′ : _≡_ {A = ℕ} 1 0 = ap flag c in omega arith
 
   -- The arrays' own size is given by that of the flags.
-  pub start-ready : Sized (length (started .flags)) started × Searchable (length (started .flags)) events values k device table started
+  pub start-ready : Sized (length (started .flags)) started × Searchable (length (started .flags)) events kind k device table started
   start-ready =
-      subst⁻¹ (λ c. Sized c started × Searchable c events values k device table started) (start-sized .flags-size) (start-sized, start-searchable)
+      subst⁻¹ (λ c. Sized c started × Searchable c events kind k device table started) (start-sized .flags-size) (start-sized, start-searchable)
 
   -- What the search finds from there.
-  module _ (meet : List ℕ) (r : Failure) (b : Queue) (h : Searched (length (started .flags)) events values meet k device table started r b) where
+  module _ (meet : List ℕ) (r : Failure) (b : Queue) (h : Searched (length (started .flags)) events kind meet k device table started r b) where
     abbrev found : Option (List ℕ)
-    found = counterexample (at-or-below (Numbered values) meet) (machine-of events device) (machine-of events table) events (x .n) k s zero
+    found = counterexample (at-or-below kind meet) (machine-of kind events device) (machine-of kind events table) events (x .n) k s zero
 
     located : Located size events found r b
     unfolding start-searchable
-    located = subst (λ c. Searched c events values meet k device table started r b) (start-sized .flags-size) h start-searchable
+    located = subst (λ c. Searched c events kind meet k device table started r b) (start-sized .flags-size) h start-searchable
 
     pub found-nowhere : r ≡ Nowhere → found ≡ none
     unfolding Located

@@ -1,22 +1,15 @@
 -- Pushing the successors of a pair, event by event, adds their words.
--- Assumes nothing.
-use mathlib.Core.Path.{_≡_, sym, _∙_, ap, subst, subst⁻¹}
-use mathlib.Core.Bool.{Bool, true}
-use mathlib.Core.List.{List, [], _∷_}
+use mathlib.Core.{Path.{_≡_, sym, _∙_, ap, subst, subst⁻¹}, Bool.{Bool, true}, List.{List, [], _∷_}}
 use Prim.Native.Nat.{ℕ, zero, suc, _+_, _*_, _-_, _≤_, _<_}
-use native.Mathlib.Nat.{mul-le-mul-right, suc-mul}
-use native.Mathlib.Numerals.{add-one}
-use native.Mathlib.Omega.{arith}
+use native.Mathlib.{Nat.{mul-le-mul-right, suc-mul}, Numerals.{add-one}, Omega.{arith}}
 use borrow.Author.Tests.{eqb-true}
 use lib.ListN.{length, getD}
-use Rattle.theory.specs.MealyMachine.{Machine}
-use Rattle.theory.specs.Exploration.{reached, add, add-events}
+use Rattle.theory.specs.{MealyMachine.{Machine}, Exploration.{reached, add, add-events}, Conformance.{same-pair, next-pair}}
 use Rattle.theory.proofs.Exploration.{add-grows, add-events-grows}
-use Rattle.theory.specs.Conformance.{same-pair, next-pair}
+use Rattle.values.specs.declared.ValueKind.{ValueKind}
 use Rattle.machines.specs.TableBytes.{machine-of}
 use Rattle.conformance.specs.PairQueue.{Queue, Sized, Holds, is-new, Pushable, pushed, pushed-count, Expandable, successors}
-use Rattle.conformance.proofs.Places.{product-bounded}
-use Rattle.conformance.proofs.Queues.{push-room, push-holds}
+use Rattle.conformance.proofs.{Places.{product-bounded}, Queues.{push-room, push-holds}}
 
 -- Adding words, to any list and over any states.
 module _ {S : Type 0} (same : S → S → Bool) (next : S → ℕ → S) (start : S) where
@@ -109,30 +102,32 @@ module _ (n k : ℕ) (m q : Machine ℕ ℕ) (start : ℕ × ℕ) (size : ℕ) (
         )
 
 -- What holds at each turn, of whatever words the arrays held at first.
-pub record Turned {size events k : ℕ} {device table : List ℕ} {i count : ℕ} {a₀ : Queue}
-    (x : Expandable size events k device table i count a₀) (s t e r : ℕ) (a : Queue) : Type 0 where
-  pub s-is : s ≡ reached (next-pair (machine-of events device) (machine-of events table)) (x .start) (getD (x .words) i []) .0
-  pub t-is : t ≡ reached (next-pair (machine-of events device) (machine-of events table)) (x .start) (getD (x .words) i []) .1
+pub record Turned {size events : ℕ} {kind : ValueKind} {k : ℕ} {device table : List ℕ} {i count : ℕ} {a₀ : Queue}
+    (x : Expandable size events kind k device table i count a₀) (s t e r : ℕ) (a : Queue) : Type 0 where
+  pub s-is : s ≡ reached (next-pair (machine-of kind events device) (machine-of kind events table)) (x .start) (getD (x .words) i []) .0
+  pub t-is : t ≡ reached (next-pair (machine-of kind events device) (machine-of kind events table)) (x .start) (getD (x .words) i []) .1
   pub s-in : s < x .n
   pub t-in : t < k
   pub held :
-      Holds (x .n) k (machine-of events device) (machine-of events table) (x .start)
-      (add-events same-pair (next-pair (machine-of events device) (machine-of events table)) (x .start) e zero (x .words) (getD (x .words) i [])) a
+      Holds (x .n) k (machine-of kind events device) (machine-of kind events table) (x .start)
+      (add-events same-pair (next-pair (machine-of kind events device) (machine-of kind events table)) (x .start) e zero (x .words) (getD (x .words) i [])) a
   pub counted :
       r
-      ≡ length (add-events same-pair (next-pair (machine-of events device) (machine-of events table)) (x .start) e zero (x .words) (getD (x .words) i []))
+      ≡ length (add-events same-pair (next-pair (machine-of kind events device) (machine-of kind events table)) (x .start) e zero (x .words)
+      (getD (x .words) i []))
 
-module _ {size events k : ℕ} {device table : List ℕ} {i count : ℕ} {a₀ : Queue} (x : Expandable size events k device table i count a₀) where
+module _ {size events : ℕ} {kind : ValueKind} {k : ℕ} {device table : List ℕ} {i count : ℕ} {a₀ : Queue}
+    (x : Expandable size events kind k device table i count a₀) where
   abbrev m : Machine ℕ ℕ
-  m = machine-of events device
+  m = machine-of kind events device
 
   abbrev q : Machine ℕ ℕ
-  q = machine-of events table
+  q = machine-of kind events table
 
   i-in : i < length (x .words)
   i-in = subst (λ c. i < c) (x .counted) (x .taken)
 
-  fits : length (successors events device table (x .start) (x .words) i) ≤ size
+  fits : length (successors events kind device table (x .start) (x .words) i) ≤ size
   fits = omega (arith, x .room, x .ready .few-pairs)
 
   -- The place is one of the arrays, and is small enough to be stored.
@@ -203,8 +198,8 @@ module _ {size events k : ℕ} {device table : List ℕ} {i count : ℕ} {a₀ :
     -- After the last event.
     pub turned-end :
         e ≡ events →
-        Holds (x .n) k m q (x .start) (successors events device table (x .start) (x .words) i) a
-        × (r ≡ length (successors events device table (x .start) (x .words) i))
+        Holds (x .n) k m q (x .start) (successors events kind device table (x .start) (x .words) i) a
+        × (r ≡ length (successors events kind device table (x .start) (x .words) i))
     turned-end z = (
       subst (λ c. Holds (x .n) k m q (x .start) (add-events same-pair (next-pair m q) (x .start) c zero (x .words) (getD (x .words) i [])) a) z (h .held),
       h .counted ∙ ap (λ c. length (add-events same-pair (next-pair m q) (x .start) c zero (x .words) (getD (x .words) i []))) z,

@@ -1,38 +1,26 @@
 -- The claims on a trial: its refusals are the list's; it passes exactly if the device is simulated; a word that it shows is the first
 -- on which the device fails; against a formula's table it decides satisfaction.
--- Assumes nothing.
-use mathlib.Core.Path.{_≡_, refl, sym, _∙_, ap, subst, subst⁻¹}
-use mathlib.Core.Bool.{Bool, true, false}
-use mathlib.Core.Logic.{_↔_, Iff·trans}
-use mathlib.Core.List.{List, [], _∷_, _++_}
-use mathlib.Core.Option.{Option, none, some}
+use mathlib.Core.{Path.{_≡_, refl, sym, _∙_, ap, subst⁻¹}, Bool.{Bool, true, false}, Logic.{_↔_, Iff·trans, _⊎_, inl, inr, ⊎-elim}}
+use mathlib.Core.{List.{List, [], _∷_, _++_}, Option.{Option, none, some}}
 use Prim.Native.Nat.{ℕ, zero, _*_, _≤_, _<_}
-use native.Mathlib.Nat.{mul-le-mul-left, mul-le-mul-right}
 use native.Mathlib.Omega.{arith}
 use borrow.Author.Tests.{leb-true, leb-false}
-use lib.Dec.{T, leb}
-use lib.ListN.{length, take, drop}
-use lib.Seq.{take-append-seam, drop-append-seam}
-use Rattle.theory.specs.Semilattice.{MeetSemilattice, AtOrBelow}
-use Rattle.theory.specs.ValueSets.{Below}
-use Rattle.theory.specs.MealyMachine.{Runs, States}
-use Rattle.theory.specs.Conformance.{counterexample}
-use Rattle.theory.proofs.ConformanceClaims.{conformance-claim}
-use Rattle.theory.proofs.Trial.{trial-claim}
+use lib.{Dec.{T, leb}, ListN.{length, take, drop}, Seq.{take-append-seam, drop-append-seam}}
+use Rattle.theory.specs.{Semilattice.{AtOrBelow}, MealyMachine.{Runs, States}, Conformance.{counterexample}}
+use Rattle.theory.proofs.{ConformanceClaims.{conformance-claim}, Trial.{trial-claim}}
 use Rattle.refusal.specs.declared.Refusal.{Refusal}
-use Rattle.refusal.specs.Refusal.{has-place, First, HasNumbers}
-use Rattle.refusal.specs.RefusalClaims.{AllFunctional}
-use Rattle.refusal.proofs.Refusals.{plain-first, plain-functional, plain-number, first-append, first-unique}
-use Rattle.refusal.specs.LentBuffers.{put}
-use Rattle.values.specs.declared.ValueKind.the-variants.{Numbered}
-use Rattle.values.specs.Setup.{setup-conditions}
-use Rattle.values.proofs.Setups.{setup-correct}
-use Rattle.values.proofs.ValueKinds.{value-kinds}
+use Rattle.refusal.specs.{Refusal.{plain, First, or-else, has-place, condition-numbers, right-places, part-of, order}, LentBuffers.{put}}
+use Rattle.refusal.proofs.Refusals.{plain-first, first-append}
+use Rattle.values.specs.Setup.{SetupValue, setup-top}
+use Rattle.values.proofs.{Setups.{setup-first, judged-after-setup}, ValueKinds.{value-kinds}}
 use Rattle.machines.proofs.TableRefusals.{table-refusal-first}
+use Rattle.conformance.specs.declared.Verdict.{Verdict}
 use Rattle.conformance.specs.declared.Verdict.the-variants.{Pass, Fail, Refused}
-use Rattle.conformance.specs.Trial.{TrialInput, meet, below, device-machine, table-machine, Passes, FirstFailure, trial-conditions, trial-refusal, first-failure, outcome, shown, answer-unless, buffer-unless, trial-answer, trial-buffer}
+use Rattle.conformance.specs.Trial.{TrialInput, meet, below, device-machine, table-machine, Passes, FirstFailure, tables-refusal, DeviceInOrder}
+use Rattle.conformance.specs.Trial.{RuleTableInOrder, trial-conditions, trial-refusal, first-failure, outcome, shown, answer-unless}
+use Rattle.conformance.specs.Trial.{buffer-unless, trial-answer, trial-buffer, refusal-of, Passed, word-length}
 use Rattle.conformance.specs.Claims.{TrialRefusalClaim, RefusedClaim, PassClaim, FailClaim, SatisfactionClaim, LowestPassesClaim}
-use Rattle.conformance.proofs.Trials.{Sound, sound}
+use Rattle.conformance.proofs.Trials.{Sound, sound, all-pairs}
 
 -- Tests that decide.
 true-iff : (b : Bool) → T b ↔ (b ≡ true)
@@ -40,59 +28,71 @@ true-iff true = ((λ h. refl), λ e. tt)
 true-iff false = ((λ h. absurd h), λ e. subst⁻¹ T e tt)
 
 -- The answers by cases.
-pass-none : (o : Option Refusal) (w : Option (List ℕ)) → answer-unless o w ≡ Pass → (o ≡ none) × (w ≡ none)
+passed-none : (o : Option Refusal) (w : Option (List ℕ)) → Passed (answer-unless o w) → (o ≡ none) × (w ≡ none)
 unfolding answer-unless outcome
-pass-none none none e = (refl, refl)
-pass-none none (some w) e = let c : _≡_ {A = ℕ} 0 1 = cc in absurd (omega arith)
-pass-none (some r) w e = let c : _≡_ {A = ℕ} 0 1 = cc in absurd (omega arith)
+passed-none none none e = (refl, refl)
+passed-none none (some w) e = absurd e
+passed-none (some r) w e = absurd e
 
-fail-some : (o : Option Refusal) (f : Option (List ℕ)) (n : ℕ) → answer-unless o f ≡ Fail n → (o ≡ none) × ((w : List ℕ) × (f ≡ some w) × (length w ≡ n))
+failed-some :
+    (o : Option Refusal) (f : Option (List ℕ)) (n : ℕ) → word-length (answer-unless o f) ≡ some n →
+    (o ≡ none) × ((w : List ℕ) × (f ≡ some w) × (length w ≡ n))
 unfolding answer-unless outcome
-fail-some none none n e = let c : _≡_ {A = ℕ} 0 1 = cc in absurd (omega arith)
-fail-some none (some w) n e = (refl, (w, refl, cc))
-fail-some (some r) f n e = let c : _≡_ {A = ℕ} 0 1 = cc in absurd (omega arith)
+failed-some none none n e = let c : _≡_ {A = ℕ} 0 1 = cc in absurd (omega arith)
+failed-some none (some w) n e = (refl, (w, refl, cc))
+failed-some (some r) f n e = let c : _≡_ {A = ℕ} 0 1 = cc in absurd (omega arith)
 
-refused-iff : (o : Option Refusal) (f : Option (List ℕ)) (r : Refusal) → (answer-unless o f ≡ Refused r) ↔ (o ≡ some r)
+refusal-same : (o : Option Refusal) (f : Option (List ℕ)) → refusal-of (answer-unless o f) ≡ o
 unfolding answer-unless outcome
-refused-iff none none r = ((λ e. let c : _≡_ {A = ℕ} 0 1 = cc in absurd (omega arith)), λ e. let c : _≡_ {A = ℕ} 0 1 = cc in absurd (omega arith))
-refused-iff none (some w) r = ((λ e. let c : _≡_ {A = ℕ} 0 1 = cc in absurd (omega arith)), λ e. let c : _≡_ {A = ℕ} 0 1 = cc in absurd (omega arith))
-refused-iff (some s) f r = ((λ e. let same : s ≡ r = cc in ap some same), λ e. let same : s ≡ r = cc in ap Refused same)
+refusal-same none none = refl
+refusal-same none (some w) = refl
+refusal-same (some s) f = refl
+
+-- An answer that is a pass.
+pub passed-is : (v : Verdict) → Passed v ↔ (v ≡ Pass)
+passed-is Pass = ((λ h. refl), λ e. tt)
+passed-is (Fail n) = ((λ h. absurd h), λ e. let c : _≡_ {A = ℕ} 0 1 = cc in absurd (omega arith))
+passed-is (Refused r) = ((λ h. absurd h), λ e. let c : _≡_ {A = ℕ} 0 1 = cc in absurd (omega arith))
+
+-- One condition that is met in either of two ways.
+either-first :
+    (n : ℕ) (P Q : Type 0) (a b : Option Refusal) → First (plain n P ∷ []) a → First (plain n Q ∷ []) b → First (plain n (P ⊎ Q) ∷ []) (or-else a b)
+unfolding First or-else
+either-first n P Q a b (inl (r, x, e)) y = inl (r, (inl (x .0), x .1), ap (λ o. or-else o b) e)
+either-first n P Q a b (inr (unmet, e)) (inl (r, y, d)) = inl (r, (inr (y .0), y .1), ap (λ o. or-else o b) e ∙ d)
+either-first n P Q a b (inr (unmet, e)) (inr (neither, d)) =
+    inr ((λ r m. ⊎-elim (λ p. unmet r (p, m .1)) (λ q. neither r (q, m .1)) (m .0)), ap (λ o. or-else o b) e ∙ d)
 
 module _ (d t : ℕ) where
   -- The refusals.
-  refusal-first : (x : TrialInput) (old : List ℕ) → First (trial-conditions d t x old) (trial-refusal d t x old)
-  unfolding trial-conditions trial-refusal
-  refusal-first x old =
-      first-append _ _ _ _ (setup-correct .first (x .set-up))
-      (first-append _ _ _ _ (table-refusal-first d (x .set-up .events) (x .set-up .values) (x .device-states) (x .device-start) (x .device))
-      (first-append _ _ _ _ (table-refusal-first t (x .set-up .events) (x .set-up .values) (x .states) zero (x .table))
-      (plain-first 13 (length old < d * t) (leb (d * t) (length old)) (leb-false (d * t) (length old))
-      (λ e h. omega (arith, leb-true (d * t) (length old) e)))))
+  module _ (x : TrialInput) (old : List ℕ) where
+    tables-first :
+        First (plain 11 ((¬ DeviceInOrder d t x old) ⊎ (¬ RuleTableInOrder d t x old)) ∷ [])
+        (tables-refusal d t (x .set-up .events) (x .set-up .kind) (x .states) (x .table) (x .device-states) (x .device-start) (x .device))
+    unfolding tables-refusal
+    tables-first =
+        either-first 11 _ _ _ _
+        (table-refusal-first d (x .set-up .events) (x .set-up .kind) (x .device-states) (x .device-start) (x .device))
+        (table-refusal-first t (x .set-up .events) (x .set-up .kind) (x .states) zero (x .table))
 
-  refusal-functional : (x : TrialInput) (old : List ℕ) → AllFunctional (trial-conditions d t x old)
-  unfolding trial-conditions setup-conditions AllFunctional
-  refusal-functional x old =
-      (plain-functional 1 _, (plain-functional 2 _, (plain-functional 3 _, (plain-functional 11 _, (plain-functional 11 _, (plain-functional 13 _, tt))))))
-
-  refusal-numbers : (x : TrialInput) (old : List ℕ) → HasNumbers (1 ∷ 2 ∷ 3 ∷ 11 ∷ 11 ∷ 13 ∷ []) (trial-conditions d t x old)
-  unfolding trial-conditions setup-conditions HasNumbers has-place
-  refusal-numbers x old =
-      (plain-number 1 _ refl, (plain-number 2 _ refl, (plain-number 3 _ refl, (plain-number 11 _ refl, (plain-number 11 _ refl, (plain-number 13 _ refl, tt))))))
+    refusal-first : First (trial-conditions d t x old) (trial-refusal d t x old)
+    unfolding trial-conditions trial-refusal
+    refusal-first =
+        first-append _ _ _ _ (setup-first (x .set-up))
+        (first-append _ _ _ _ tables-first
+        (plain-first 13 (length old < d * t) (leb (d * t) (length old)) (leb-false (d * t) (length old))
+        (λ e h. omega (arith, leb-true (d * t) (length old) e))))
 
   pub trial-refusals : TrialRefusalClaim d t
-  trial-refusals =
-      record {
-        first = refusal-first;
-        only = λ x old answer first. first-unique (trial-conditions d t x old) (refusal-functional x old) answer (trial-refusal d t x old) first (refusal-first x old);
-        numbered = refusal-numbers;
-      }
+  unfolding trial-conditions condition-numbers right-places has-place part-of order
+  trial-refusals x old = judged-after-setup (x .set-up) _ (trial-refusal d t x old) (refusal-first x old) refl refl refl
 
   pub trial-refused : RefusedClaim d t
   unfolding trial-answer trial-buffer buffer-unless
   trial-refused =
       record {
-        answer = λ x old r. refused-iff (trial-refusal d t x old) (first-failure x) r;
-        kept = λ x old r e. ap (λ o. buffer-unless o (first-failure x) old) (refused-iff (trial-refusal d t x old) (first-failure x) r .0 e);
+        answer = λ x old. refusal-same (trial-refusal d t x old) (first-failure x);
+        kept = λ x old r e. ap (λ o. buffer-unless o (first-failure x) old) (sym (refusal-same (trial-refusal d t x old) (first-failure x)) ∙ e);
       }
 
   -- An accepted input's tables run, and the values obey the laws.
@@ -100,17 +100,16 @@ module _ (d t : ℕ) where
     ok : Sound d t x old
     ok = sound d t x old z
 
-    laws : MeetSemilattice (Below (x .set-up .values)) (meet x) (x .set-up .top)
-    laws = value-kinds .numbered (x .set-up) (ok .set-up)
-
     decides : (b c : ℕ) → T (below x b c) ↔ AtOrBelow (meet x) b c
-    decides b c = Iff·trans (true-iff (below x b c)) (value-kinds .order (Numbered (x .set-up .values)) (x .set-up .meet) b c)
+    decides b c = Iff·trans (true-iff (below x b c)) (value-kinds .order (x .set-up .kind) (x .set-up .meet) b c)
 
-    device-runs : Runs (x .set-up .events) (Below (x .set-up .values)) (States (x .device-states)) (device-machine x)
-    device-runs = record { value-in = λ s h e l. ok .device .values-in s e h l; next-in = λ s h e l. ok .device .nexts-in s e h l }
+    device-runs : Runs (x .set-up .events) (SetupValue (x .set-up)) (States (x .device-states)) (device-machine x)
+    device-runs =
+        record { value-in = λ s h e l. ok .tables .device-ok .values-in s e h l; next-in = λ s h e l. ok .tables .device-ok .nexts-in s e h l }
 
-    table-runs : Runs (x .set-up .events) (Below (x .set-up .values)) (States (x .states)) (table-machine x)
-    table-runs = record { value-in = λ s h e l. ok .table .values-in s e h l; next-in = λ s h e l. ok .table .nexts-in s e h l }
+    table-runs : Runs (x .set-up .events) (SetupValue (x .set-up)) (States (x .states)) (table-machine x)
+    table-runs =
+        record { value-in = λ s h e l. ok .tables .table-ok .values-in s e h l; next-in = λ s h e l. ok .tables .table-ok .nexts-in s e h l }
 
     abbrev found : Option (List ℕ)
     found = counterexample (below x) (device-machine x) (table-machine x) (x .set-up .events) (x .device-states) (x .states) (x .device-start) zero
@@ -119,20 +118,19 @@ module _ (d t : ℕ) where
         ((found ≡ none) ↔ Passes x)
         × ((word : List ℕ) → found ≡ some word → FirstFailure x word × (0 < length word) × (length word ≤ x .device-states * x .states))
     says =
-        conformance-claim (Below (x .set-up .values)) (meet x) (x .set-up .top) laws (x .set-up .events) (below x) decides
+        conformance-claim (SetupValue (x .set-up)) (meet x) (setup-top (x .set-up)) (ok .set-up .laws) (x .set-up .events) (below x) decides
         (x .device-states) (device-machine x) (x .states) (table-machine x) device-runs table-runs (x .device-start) zero
-        (ok .device .start-in) (ok .table .some-states)
+        (ok .tables .device-ok .start-in) (ok .tables .table-ok .some-states)
 
-    answer-iff : (trial-answer d t x old ≡ Pass) ↔ (found ≡ none)
+    answer-iff : Passed (trial-answer d t x old) ↔ (found ≡ none)
     unfolding trial-answer first-failure answer-unless outcome
     answer-iff = (
-      (λ e. pass-none (trial-refusal d t x old) found e .1),
-      λ e. ap (λ o. answer-unless o found) z ∙ ap outcome e,
+      (λ e. passed-none (trial-refusal d t x old) found e .1),
+      λ e. subst⁻¹ Passed (ap (λ o. answer-unless o found) z ∙ ap outcome e) tt,
     )
 
     few : (word : List ℕ) → length word ≤ x .device-states * x .states → length word ≤ d * t
-    few word h =
-        omega (arith, mul-le-mul-right (x .states) (ok .device .few-states), mul-le-mul-left d (ok .table .few-states))
+    few word h = omega (arith, all-pairs d t _ _ _ _ _ _ _ old (ok .tables))
 
   pub trial-passes : PassClaim d t
   unfolding trial-answer trial-buffer buffer-unless shown
@@ -140,14 +138,14 @@ module _ (d t : ℕ) where
       record {
         exactly = λ x old z. Iff·trans (answer-iff x old z) (says x old z .0);
         kept = λ x old e.
-            let c = pass-none (trial-refusal d t x old) (first-failure x) e in
+            let c = passed-none (trial-refusal d t x old) (first-failure x) e in
             ap (λ o. buffer-unless o (first-failure x) old) (c .0) ∙ ap (λ f. shown f old) (c .1);
       }
 
   pub trial-fails : FailClaim d t
   unfolding trial-answer trial-buffer first-failure buffer-unless shown put
   trial-fails x old n e =
-      let c = fail-some (trial-refusal d t x old) (first-failure x) n e in
+      let c = failed-some (trial-refusal d t x old) (first-failure x) n e in
       let word = c .1 .0 in
       let said = says x old (c .0) .1 word (c .1 .1) in
       let later : trial-buffer d t x old ≡ word ++ drop (length word) old
@@ -170,8 +168,9 @@ module _ (d t : ℕ) where
   pub trial-satisfies : SatisfactionClaim d t
   trial-satisfies x old z φ well is-table =
       Iff·trans (answer-iff x old z)
-      (trial-claim (Below (x .set-up .values)) (meet x) (x .set-up .top) (laws x old z) (x .set-up .events) (below x) (decides x old z)
-      φ well (x .states) (table-machine x) is-table (x .device-states) (device-machine x) (device-runs x old z) (x .device-start) (ok x old z .device .start-in))
+      (trial-claim (SetupValue (x .set-up)) (meet x) (setup-top (x .set-up)) (ok x old z .set-up .laws) (x .set-up .events) (below x) (decides x old z)
+      φ well (x .states) (table-machine x) is-table (x .device-states) (device-machine x) (device-runs x old z) (x .device-start)
+      (ok x old z .tables .device-ok .start-in))
 
   pub lowest-passes : LowestPassesClaim d t
   lowest-passes x old z low =

@@ -1,11 +1,8 @@
 -- The words that the arrays link: their length, and how they are written to a buffer.
--- Assumes nothing.
-use mathlib.Core.Path.{_≡_, refl, sym, _∙_, ap, ap₂, subst, subst⁻¹}
-use mathlib.Core.List.{List, [], _∷_, _++_, reverse, reverse-cons, append-assoc}
+use mathlib.Core.{Path.{_≡_, refl, sym, _∙_, ap, ap₂, subst, subst⁻¹}, List.{List, [], _∷_, _++_, reverse, reverse-cons, append-assoc}}
 use Prim.Native.Nat.{ℕ, zero, suc, _+_, _-_, _≤_, _<_}
 use native.Mathlib.Omega.{arith}
-use lib.ListN.{length, getD, set, drop, length-set, length-reverse}
-use lib.Seq.{drop-cons, drop-set-lt, getD-set-same}
+use lib.{ListN.{length, getD, set, drop, length-set, length-reverse}, Seq.{drop-cons, drop-set-lt, getD-set-same}}
 use Rattle.refusal.specs.LentBuffers.{put}
 use Rattle.conformance.specs.PairQueue.{Linked}
 

@@ -1,6 +1,5 @@
 -- The queue of the breadth-first search in flat arrays: what its private parts ask of each other. `counterexample` of theory says
 -- what the search finds.
--- Assumes nothing.
 use mathlib.Core.Path.{_≡_}
 use mathlib.Core.Bool.{Bool, true, false, cond}
 use mathlib.Core.List.{List, [], _∷_, reverse}
@@ -8,26 +7,29 @@ use mathlib.Core.Option.{Option, none, some}
 use Prim.Native.Nat.{ℕ, zero, _+_, _*_, _≤_, _<_}
 use lib.Dec.{eqb}
 use lib.ListN.{length, getD, set}
+use Rattle.limits.specs.Limits.{event-limit, device-limit, table-limit}
 use Rattle.theory.specs.MealyMachine.{Machine}
 use Rattle.theory.specs.Exploration.{reached, has-state, add-events}
 use Rattle.theory.specs.Conformance.{same-pair, next-pair, counterexample}
 use Rattle.refusal.specs.LentBuffers.{put}
 use Rattle.machines.specs.TableBytes.{machine-of}
-use Rattle.values.specs.declared.ValueKind.the-variants.{Numbered}
-use Rattle.values.specs.ValueKind.{at-or-below}
+use Rattle.values.specs.declared.ValueKind.{ValueKind}
+use Rattle.values.specs.Setup.{setup-of-kind}
+use Rattle.values.specs.SetupTests.{setup-refusal}
 use Rattle.conformance.specs.declared.Verdict.{Verdict}
 use Rattle.conformance.specs.declared.Failure.{Failure}
 use Rattle.conformance.specs.declared.Failure.the-variants.{Nowhere, At}
-use Rattle.conformance.specs.Trial.{outcome, shown}
+use Rattle.conformance.specs.Trial.{input, outcome, shown, trial-answer, trial-buffer}
+use Rattle.values.specs.ValueTests.{at-or-below}
 
 -- The cells of each array where there are few pairs of states.
 abbrev pub small-queue : ℕ
 small-queue = 256
 
 -- On an event in a pair of states the device's value is at or below the table's.
-unfoldable pub at-or-below-on : ℕ → ℕ → List ℕ → List ℕ → List ℕ → ℕ → ℕ → ℕ → Bool
-at-or-below-on events values meet device table s t e =
-    at-or-below (Numbered values) meet (machine-of events device .value s e) (machine-of events table .value t e)
+unfoldable pub at-or-below-on : ℕ → ValueKind → List ℕ → List ℕ → List ℕ → ℕ → ℕ → ℕ → Bool
+at-or-below-on events kind meet device table s t e =
+    at-or-below kind meet (machine-of kind events device .value s e) (machine-of kind events table .value t e)
 
 -- r is the first of the events that is not allowed, or their count.
 pub record FirstBadEvent (events : ℕ) (good : ℕ → Bool) (r : ℕ) : Type 0 where
@@ -104,36 +106,36 @@ pub record Pushable (size : ℕ) (a : Queue) (count place s t parent e : ℕ) : 
   pub room : is-new a place ≡ true → count < size
 
 -- What the search is given: the device and the table run over their states, which are few enough for the arrays.
-pub record Ready (size events n k : ℕ) (device table : List ℕ) : Type 0 where
-  pub few-events : events ≤ 16
+pub record Ready (size events : ℕ) (kind : ValueKind) (n k : ℕ) (device table : List ℕ) : Type 0 where
+  pub few-events : events ≤ event-limit
   pub few-device-states : n ≤ 256
   pub few-table-states : k ≤ 256
   pub few-pairs : n * k ≤ size
-  pub device-nexts : (s e : ℕ) → s < n → e < events → machine-of events device .next s e < n
-  pub table-nexts : (t e : ℕ) → t < k → e < events → machine-of events table .next t e < k
+  pub device-nexts : (s e : ℕ) → s < n → e < events → machine-of kind events device .next s e < n
+  pub table-nexts : (t e : ℕ) → t < k → e < events → machine-of kind events table .next t e < k
 
 -- The list of words with the successors of word i.
-abbrev pub successors : ℕ → List ℕ → List ℕ → ℕ × ℕ → List (List ℕ) → ℕ → List (List ℕ)
-successors events device table start P i =
-    add-events same-pair (next-pair (machine-of events device) (machine-of events table)) start events zero P (getD P i [])
+abbrev pub successors : ℕ → ValueKind → List ℕ → List ℕ → ℕ × ℕ → List (List ℕ) → ℕ → List (List ℕ)
+successors events kind device table start P i =
+    add-events same-pair (next-pair (machine-of kind events device) (machine-of kind events table)) start events zero P (getD P i [])
 
 -- The arrays hold `count` pairs, and pair i's successors fit in.
-pub record Expandable (size events k : ℕ) (device table : List ℕ) (i count : ℕ) (a : Queue) : Type 0 where
+pub record Expandable (size events : ℕ) (kind : ValueKind) (k : ℕ) (device table : List ℕ) (i count : ℕ) (a : Queue) : Type 0 where
   pub n : ℕ
-  pub ready : Ready size events n k device table
+  pub ready : Ready size events kind n k device table
   pub start : ℕ × ℕ
   pub words : List (List ℕ)
-  pub held : Holds n k (machine-of events device) (machine-of events table) start words a
+  pub held : Holds n k (machine-of kind events device) (machine-of kind events table) start words a
   pub counted : count ≡ length words
   pub taken : i < count
-  pub room : length (successors events device table start words i) ≤ n * k
+  pub room : length (successors events kind device table start words i) ≤ n * k
 
 -- Whatever words they hold, they hold them afterwards with those of pair i's successors.
-abbrev pub Expanded : ℕ → ℕ → ℕ → List ℕ → List ℕ → ℕ → ℕ → Queue → ℕ → Queue → Type 0
-Expanded size events k device table i count a r b =
-    (x : Expandable size events k device table i count a) →
-    Holds (x .n) k (machine-of events device) (machine-of events table) (x .start) (successors events device table (x .start) (x .words) i) b
-    × (r ≡ length (successors events device table (x .start) (x .words) i))
+abbrev pub Expanded : ℕ → ℕ → ValueKind → ℕ → List ℕ → List ℕ → ℕ → ℕ → Queue → ℕ → Queue → Type 0
+Expanded size events kind k device table i count a r b =
+    (x : Expandable size events kind k device table i count a) →
+    Holds (x .n) k (machine-of kind events device) (machine-of kind events table) (x .start) (successors events kind device table (x .start) (x .words) i) b
+    × (r ≡ length (successors events kind device table (x .start) (x .words) i))
 
 -- Some list of words is linked by the arrays and has word i.
 pub record Reaches (i : ℕ) (parents last-events : List ℕ) : Type 0 where
@@ -164,14 +166,13 @@ pub record Empty (size : ℕ) (a : Queue) : Type 0 where
   pub flags : (i : ℕ) → i < size → getD (a .flags) i 0 ≡ 0
 
 -- The arrays hold the pair of the device's start and the table's state 0 alone.
-pub record Searchable (size events values k : ℕ) (device table : List ℕ) (a : Queue) : Type 0 where
-  pub few-values : values ≤ 16
+pub record Searchable (size events : ℕ) (kind : ValueKind) (k : ℕ) (device table : List ℕ) (a : Queue) : Type 0 where
   pub n : ℕ
-  pub ready : Ready size events n k device table
+  pub ready : Ready size events kind n k device table
   pub s : ℕ
   pub start-in : s < n
   pub some-states : 0 < k
-  pub held : Holds n k (machine-of events device) (machine-of events table) (s, zero) ([] ∷ []) a
+  pub held : Holds n k (machine-of kind events device) (machine-of kind events table) (s, zero) ([] ∷ []) a
 
 -- A failure at place i of the queue on event e: the word of place i, then e, is the first on which the device fails.
 pub record FailsAt (size events : ℕ) (first : Option (List ℕ)) (i e : ℕ) (parents last-events : List ℕ) : Type 0 where
@@ -185,17 +186,16 @@ Located size events first Nowhere a = first ≡ none
 Located size events first (At i e) a = FailsAt size events first i e (a .parents) (a .last-events)
 
 -- What the search finds is the first counterexample.
-abbrev pub Searched : ℕ → ℕ → ℕ → List ℕ → ℕ → List ℕ → List ℕ → Queue → Failure → Queue → Type 0
-Searched size events values meet k device table a r b =
-    (x : Searchable size events values k device table a) →
+abbrev pub Searched : ℕ → ℕ → ValueKind → List ℕ → ℕ → List ℕ → List ℕ → Queue → Failure → Queue → Type 0
+Searched size events kind meet k device table a r b =
+    (x : Searchable size events kind k device table a) →
     Located size events
-    (counterexample (at-or-below (Numbered values) meet) (machine-of events device) (machine-of events table) events (x .n) k (x .s) zero) r b
+    (counterexample (at-or-below kind meet) (machine-of kind events device) (machine-of kind events table) events (x .n) k (x .s) zero) r b
 
 -- What the search is given, and the buffer has room for the longest word.
-pub record Tried (size events values k : ℕ) (table : List ℕ) (s : ℕ) (device buffer : List ℕ) : Type 0 where
-  pub few-values : values ≤ 16
+pub record Tried (size events : ℕ) (kind : ValueKind) (k : ℕ) (table : List ℕ) (s : ℕ) (device buffer : List ℕ) : Type 0 where
   pub n : ℕ
-  pub ready : Ready size events n k device table
+  pub ready : Ready size events kind n k device table
   pub start-in : s < n
   pub some-states : 0 < k
   pub room : size ≤ length buffer
@@ -205,9 +205,18 @@ pub record Answers (found : Option (List ℕ)) (old : List ℕ) (answer : Verdic
   pub answer-is : answer ≡ outcome found
   pub later-is : later ≡ shown found old
 
-abbrev pub Answered : ℕ → ℕ → ℕ → List ℕ → ℕ → List ℕ → ℕ → List ℕ → List ℕ → Verdict → List ℕ → Type 0
-Answered size events values meet k table s device old answer later =
-    (x : Tried size events values k table s device old) →
+abbrev pub Answered : ℕ → ℕ → ValueKind → List ℕ → ℕ → List ℕ → ℕ → List ℕ → List ℕ → Verdict → List ℕ → Type 0
+Answered size events kind meet k table s device old answer later =
+    (x : Tried size events kind k table s device old) →
     Answers
-    (counterexample (at-or-below (Numbered values) meet) (machine-of events device) (machine-of events table) events (x .n) k s zero)
+    (counterexample (at-or-below kind meet) (machine-of kind events device) (machine-of kind events table) events (x .n) k s zero)
     old answer later
+
+-- A trial over an accepted set-up, whatever its top.
+abbrev pub Concluded :
+    (events : ℕ) (kind : ValueKind) (meet : List ℕ) (states : ℕ) (table : List ℕ) (device-states device-start : ℕ) (device old : List ℕ) →
+    Verdict → List ℕ → Type 0
+Concluded events kind meet states table device-states device-start device old answer later =
+    (top : ℕ) → setup-refusal (setup-of-kind events kind top meet) ≡ none →
+    (answer ≡ trial-answer device-limit table-limit (input (setup-of-kind events kind top meet) states table device-states device-start device) old)
+    × (later ≡ trial-buffer device-limit table-limit (input (setup-of-kind events kind top meet) states table device-states device-start device) old)

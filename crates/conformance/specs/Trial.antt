@@ -1,5 +1,6 @@
--- Trial (document 01, "Trial", and refusals 1 to 3, 11 and 13): a device judged against a rule's table, both in bytes.
--- Assumes nothing.
+-- Trial (document 01, "Trial", and refusals 1 to 3, 11 and 13; document 02, F-7): a device judged against a rule's table, both in
+-- bytes, over a set-up of either kind.
+use mathlib.Core.Logic.{_⊎_}
 use mathlib.Core.Bool.{Bool}
 use mathlib.Core.Option.{Option, none, some}
 use mathlib.Core.List.{List, [], _∷_, _++_}
@@ -7,18 +8,18 @@ use Prim.Native.Nat.{ℕ, zero, _*_, _<_}
 use lib.Dec.{leb}
 use lib.ListN.{length}
 use Rattle.theory.specs.MealyMachine.{Machine, SimulatedTable}
-use Rattle.theory.specs.ValueSets.{Below}
 use Rattle.theory.specs.Conformance.{FirstCounterexample, counterexample}
 use Rattle.refusal.specs.declared.Refusal.{Refusal}
 use Rattle.refusal.specs.Refusal.{Condition, plain, or-else, plain-unless}
 use Rattle.refusal.specs.LentBuffers.{put}
-use Rattle.values.specs.declared.ValueKind.the-variants.{Numbered}
-use Rattle.values.specs.Setup.{Setup, setup-conditions, setup-refusal}
-use Rattle.values.specs.ValueKind.{meetOf, at-or-below}
-use Rattle.machines.specs.TableBytes.{machine-of, table-condition}
+use Rattle.values.specs.declared.ValueKind.{ValueKind}
+use Rattle.values.specs.Setup.{Setup, SetupValue, setup-meet, setup-conditions}
+use Rattle.machines.specs.TableBytes.{entry-width, machine-of, TableInOrder}
 use Rattle.machines.specs.TableRefusal.{table-refusal}
 use Rattle.conformance.specs.declared.Verdict.{Verdict}
 use Rattle.conformance.specs.declared.Verdict.the-variants.{Pass, Fail, Refused}
+use Rattle.values.specs.SetupTests.{setup-refusal}
+use Rattle.values.specs.ValueTests.{at-or-below}
 
 -- What is handed in beside the word buffer: a set-up, the rule's table with its state count, and the device with its state count
 -- and start. The rule's table starts at state 0.
@@ -43,26 +44,16 @@ input set-up states table device-states device-start device =
 
 -- Both are read as machines over the set-up's events and values.
 abbrev pub meet : TrialInput → ℕ → ℕ → ℕ
-meet x = meetOf (Numbered (x .set-up .values)) (x .set-up .meet)
+meet x = setup-meet (x .set-up)
 
 abbrev pub below : TrialInput → ℕ → ℕ → Bool
-below x = at-or-below (Numbered (x .set-up .values)) (x .set-up .meet)
+below x = at-or-below (x .set-up .kind) (x .set-up .meet)
 
 abbrev pub device-machine : TrialInput → Machine ℕ ℕ
-device-machine x = machine-of (x .set-up .events) (x .device)
+device-machine x = machine-of (x .set-up .kind) (x .set-up .events) (x .device)
 
 abbrev pub table-machine : TrialInput → Machine ℕ ℕ
-table-machine x = machine-of (x .set-up .events) (x .table)
-
--- A device and a rule's table have at most 64 states, and a word at most their product of events.
-abbrev pub device-limit : ℕ
-device-limit = 64
-
-abbrev pub table-limit : ℕ
-table-limit = 64
-
-abbrev pub word-limit : ℕ
-word-limit = device-limit * table-limit
+table-machine x = machine-of (x .set-up .kind) (x .set-up .events) (x .table)
 
 -- "The device passes when the start is simulated (definition 1) by state 0 of the rule's table."
 abbrev pub Passes : TrialInput → Type 0
@@ -73,24 +64,38 @@ Passes x =
 abbrev pub FirstFailure : TrialInput → List ℕ → Type 0
 FirstFailure x = FirstCounterexample (x .set-up .events) (meet x) (device-machine x) (table-machine x) (x .device-start) zero
 
--- The conditions that a trial meets, in document 01's order: 1 to 3, 11 for the device and for the table, and 13 for a word buffer
--- shorter than the longest word.
+-- 11 computed, for the device and then for the table.
+unfoldable pub tables-refusal : (device-most table-most events : ℕ) → ValueKind → ℕ → List ℕ → ℕ → ℕ → List ℕ → Option Refusal
+tables-refusal device-most table-most events kind states table device-states device-start device =
+    or-else (table-refusal device-most events kind device-states device-start device) (table-refusal table-most events kind states zero table)
+
 module _ (device-most table-most : ℕ) (x : TrialInput) (buffer : List ℕ) where
+  -- 11 is one condition, "for a device or any other table handed in": each has its own limit of states.
+  abbrev pub DeviceInOrder : Type 0
+  DeviceInOrder =
+      TableInOrder (entry-width (x .set-up .kind)) device-most (x .set-up .events) (SetupValue (x .set-up)) (x .device-states) (x .device-start)
+      (x .device) (device-machine x)
+
+  abbrev pub RuleTableInOrder : Type 0
+  RuleTableInOrder =
+      TableInOrder (entry-width (x .set-up .kind)) table-most (x .set-up .events) (SetupValue (x .set-up)) (x .states) zero (x .table)
+      (table-machine x)
+
+  -- The conditions that a trial meets, in document 01's order: those of the set-up, 11, and 13 for a word buffer shorter than the
+  -- longest word.
   unfoldable pub trial-conditions : List Condition
   trial-conditions =
       setup-conditions (x .set-up)
-      ++ table-condition 2 device-most (x .set-up .events) (Below (x .set-up .values)) (x .device-states) (x .device-start) (x .device) (device-machine x)
-      ∷ table-condition 2 table-most (x .set-up .events) (Below (x .set-up .values)) (x .states) zero (x .table) (table-machine x)
-      ∷ plain 13 (length buffer < device-most * table-most)
-      ∷ []
+      ++ (plain 11 ((¬ DeviceInOrder) ⊎ (¬ RuleTableInOrder)) ∷ plain 13 (length buffer < device-most * table-most) ∷ [])
 
   -- The computing twin.
   unfoldable pub trial-refusal : Option Refusal
   trial-refusal =
       or-else (setup-refusal (x .set-up))
-      (or-else (table-refusal device-most (x .set-up .events) (x .set-up .values) (x .device-states) (x .device-start) (x .device))
-      (or-else (table-refusal table-most (x .set-up .events) (x .set-up .values) (x .states) zero (x .table))
-      (plain-unless (leb (device-most * table-most) (length buffer)) 13)))
+      (or-else
+      (tables-refusal device-most table-most (x .set-up .events) (x .set-up .kind) (x .states) (x .table) (x .device-states) (x .device-start)
+      (x .device))
+      (plain-unless (leb (device-most * table-most) (length buffer)) 13))
 
 -- The first word on which the device fails, or none; the computing twin of `Passes` and `FirstFailure`.
 unfoldable pub first-failure : TrialInput → Option (List ℕ)
@@ -124,13 +129,18 @@ trial-answer device-most table-most x old = answer-unless (trial-refusal device-
 unfoldable pub trial-buffer : ℕ → ℕ → TrialInput → List ℕ → List ℕ
 trial-buffer device-most table-most x old = buffer-unless (trial-refusal device-most table-most x old) (first-failure x) old
 
--- Document 01's number of each answer, where it is a refusal, and a failed trial's word length.
-unfoldable pub refusal-of : Verdict → Option Refusal
+-- What each answer says: the refusal, that the device passed, the length of a failed trial's word.
+abbrev pub refusal-of : Verdict → Option Refusal
 refusal-of Pass = none
 refusal-of (Fail n) = none
 refusal-of (Refused refusal) = some refusal
 
-unfoldable pub word-length : Verdict → Option ℕ
+abbrev pub Passed : Verdict → Type 0
+Passed Pass = Unit {0}
+Passed (Fail n) = ⊥
+Passed (Refused refusal) = ⊥
+
+abbrev pub word-length : Verdict → Option ℕ
 word-length Pass = none
 word-length (Fail n) = some n
 word-length (Refused refusal) = none

@@ -1,21 +1,27 @@
 // Document 01, "Trial": a device judged against a rule's table.
+use limits::DEVICE_LIMIT;
+use limits::TABLE_LIMIT;
+use limits::WORD_LIMIT;
+use machines::check_table;
+use machines::next_at;
+use machines::value_at;
+use refusal::BUFFER_LENGTH;
 use refusal::Judgement;
 use refusal::Refusal;
 use values::ValueKind;
+use values::at_or_below;
+use values::check_setup;
 ghost use mathlib.Core.Path.{_≡_};
 ghost use Prim.Native.Nat.{_≤_, _<_};
 ghost use lib.ListN.{length};
-ghost use Rattle.refusal.specs.Refusal.{judgement};
+ghost use lib.Dec.{leb};
+ghost use Rattle.refusal.specs.Refusal.{or-else, plain-unless, judgement};
 ghost use Rattle.values.specs.Setup.{setup};
-ghost use Rattle.conformance.specs.Trial.{input, device-limit, table-limit, word-limit, trial-refusal, trial-answer, trial-buffer};
-ghost use Rattle.conformance.specs.PairQueue.{small-queue, at-or-below-on, FirstBadEvent, queue, Sized, Pushable, pushed, pushed-count, Expandable, Expanded, Reaches, Deep, Writable, Written, Empty, Searchable, Searched, Tried, Answered};
-
-// Document 01's limits: a device's states, a rule's table's states, and their product, the events of a word.
-pub const DEVICE_LIMIT: usize = 64;
-
-pub const TABLE_LIMIT: usize = 64;
-
-pub const WORD_LIMIT: usize = 4096;
+ghost use Rattle.conformance.specs.Trial.{input, tables-refusal, trial-answer, trial-buffer};
+ghost use Rattle.conformance.specs.PairQueue.{small-queue, at-or-below-on, FirstBadEvent, queue, Sized, Pushable, pushed, pushed-count};
+ghost use Rattle.conformance.specs.PairQueue.{Expandable, Expanded, Reaches, Deep, Writable, Written, Empty, Searchable, Searched, Tried};
+ghost use Rattle.conformance.specs.PairQueue.{Answered, Concluded};
+ghost use Rattle.limits.specs.Limits.{event-limit, device-limit, table-limit, word-limit};
 
 // The cells of each of the search's arrays where there are few pairs of states.
 const SMALL_QUEUE: usize = 256;
@@ -48,7 +54,7 @@ fn wide16(x: u16) -> usize
 // Whether in a pair of states the device's value on an event is at or below the table's. Values are compared here only.
 fn at_or_below_on(
     events: usize,
-    values: usize,
+    kind: ValueKind,
     meet: &[u8],
     device: &[u8],
     table: &[u8],
@@ -56,31 +62,30 @@ fn at_or_below_on(
     t: usize,
     e: usize,
 ) -> bool
-    requires { ⌜ (events ≤ 16) × (values ≤ 16) × (s < 256) × (t < 256) × (e < events) ⌝ }
-    ensures { λ r. ⌜ r ≡ at-or-below-on events values (now (meet .entry)) (now (device .entry)) (now (table .entry)) s t e ⌝ }
+    requires { ⌜ (events ≤ event-limit) × (s < 256) × (t < 256) × (e < events) ⌝ }
+    ensures { λ r. ⌜ r ≡ at-or-below-on events kind (now (meet .entry)) (now (device .entry)) (now (table .entry)) s t e ⌝ }
 {
-    let b = machines::value_at(device, s * events + e);
-    let c = machines::value_at(table, t * events + e);
-    let count = values as u32;
-    values::at_or_below(ValueKind::Numbered(count), meet, b, c)
+    let b = value_at(kind, device, s * events + e);
+    let c = value_at(kind, table, t * events + e);
+    at_or_below(kind, meet, b, c)
 }
 
 // The first event on which the device fails in a pair of states; the event count where there is none.
 fn bad_event(
     events: usize,
-    values: usize,
+    kind: ValueKind,
     meet: &[u8],
     device: &[u8],
     table: &[u8],
     s: usize,
     t: usize,
 ) -> usize
-    requires { ⌜ (events ≤ 16) × (values ≤ 16) × (s < 256) × (t < 256) ⌝ }
-    ensures { λ r. ⌜ FirstBadEvent events (at-or-below-on events values (now (meet .entry)) (now (device .entry)) (now (table .entry)) s t) r ⌝ }
+    requires { ⌜ (events ≤ event-limit) × (s < 256) × (t < 256) ⌝ }
+    ensures { λ r. ⌜ FirstBadEvent events (at-or-below-on events kind (now (meet .entry)) (now (device .entry)) (now (table .entry)) s t) r ⌝ }
 {
     let mut e: usize = 0;
     while e < events {
-        if !at_or_below_on(events, values, meet, device, table, s, t, e) {
+        if !at_or_below_on(events, kind, meet, device, table, s, t, e) {
             return e;
         }
         e += 1;
@@ -102,10 +107,13 @@ fn push_pair(
     last_events: &mut [u8],
     flags: &mut [u8],
 ) -> usize
-    requires { ⌜ Pushable (length (now flags)) (queue (now «device_queue») (now «table_queue») (now parents) (now «last_events») (now flags)) count place s t parent e ⌝ }
-    ensures { λ r. ⌜ (r ≡ pushed-count (queue (now («device_queue» .entry)) (now («table_queue» .entry)) (now (parents .entry)) (now («last_events» .entry)) (now (flags .entry))) count place)
+    requires { ⌜ Pushable (length (now flags)) (queue (now «device_queue») (now «table_queue») (now parents) (now «last_events») (now flags)) count
+        place s t parent e ⌝ }
+    ensures { λ r. ⌜ (r ≡ pushed-count (queue (now («device_queue» .entry)) (now («table_queue» .entry)) (now (parents .entry))
+        (now («last_events» .entry)) (now (flags .entry))) count place)
         × (queue (now («device_queue» .exit)) (now («table_queue» .exit)) (now (parents .exit)) (now («last_events» .exit)) (now (flags .exit))
-        ≡ pushed (queue (now («device_queue» .entry)) (now («table_queue» .entry)) (now (parents .entry)) (now («last_events» .entry)) (now (flags .entry))) count place s t parent e) ⌝ }
+        ≡ pushed (queue (now («device_queue» .entry)) (now («table_queue» .entry)) (now (parents .entry)) (now («last_events» .entry))
+        (now (flags .entry))) count place s t parent e) ⌝ }
 {
     if flags[place] != 0 {
         return count;
@@ -121,6 +129,7 @@ fn push_pair(
 // Puts the successors of a pair in the queue at the queue's end, events rising; returns how many pairs the queue has then.
 fn push_successors(
     events: usize,
+    kind: ValueKind,
     states: usize,
     device: &[u8],
     table: &[u8],
@@ -133,18 +142,21 @@ fn push_successors(
     flags: &mut [u8],
 ) -> usize
     requires { ⌜ Sized (length (now flags)) (queue (now «device_queue») (now «table_queue») (now parents) (now «last_events») (now flags))
-        × Expandable (length (now flags)) events states (now device) (now table) i count (queue (now «device_queue») (now «table_queue») (now parents) (now «last_events») (now flags)) ⌝ }
-    ensures { λ r. ⌜ Sized (length (now (flags .entry))) (queue (now («device_queue» .exit)) (now («table_queue» .exit)) (now (parents .exit)) (now («last_events» .exit)) (now (flags .exit)))
-        × Expanded (length (now (flags .entry))) events states (now (device .entry)) (now (table .entry)) i count
-        (queue (now («device_queue» .entry)) (now («table_queue» .entry)) (now (parents .entry)) (now («last_events» .entry)) (now (flags .entry))) r (queue (now («device_queue» .exit)) (now («table_queue» .exit)) (now (parents .exit)) (now («last_events» .exit)) (now (flags .exit))) ⌝ }
+        × Expandable (length (now flags)) events kind states (now device) (now table) i count
+        (queue (now «device_queue») (now «table_queue») (now parents) (now «last_events») (now flags)) ⌝ }
+    ensures { λ r. ⌜ Sized (length (now (flags .entry))) (queue (now («device_queue» .exit)) (now («table_queue» .exit)) (now (parents .exit))
+        (now («last_events» .exit)) (now (flags .exit)))
+        × Expanded (length (now (flags .entry))) events kind states (now (device .entry)) (now (table .entry)) i count
+        (queue (now («device_queue» .entry)) (now («table_queue» .entry)) (now (parents .entry)) (now («last_events» .entry)) (now (flags .entry))) r
+        (queue (now («device_queue» .exit)) (now («table_queue» .exit)) (now (parents .exit)) (now («last_events» .exit)) (now (flags .exit))) ⌝ }
 {
     let s = wide(device_queue[i]);
     let t = wide(table_queue[i]);
     let mut n = count;
     let mut e: usize = 0;
     while e < events {
-        let x = machines::next_at(device, s * events + e);
-        let y = machines::next_at(table, t * events + e);
+        let x = next_at(kind, device, s * events + e);
+        let y = next_at(kind, table, t * events + e);
         n = push_pair(
             x * states + y,
             x,
@@ -166,7 +178,7 @@ fn push_successors(
 // Takes pairs from the queue, the start's first, until one fails or none is left.
 fn find_failure(
     events: usize,
-    values: usize,
+    kind: ValueKind,
     meet: &[u8],
     states: usize,
     table: &[u8],
@@ -178,21 +190,24 @@ fn find_failure(
     flags: &mut [u8],
 ) -> Failure
     requires { ⌜ Sized (length (now flags)) (queue (now «device_queue») (now «table_queue») (now parents) (now «last_events») (now flags))
-        × Searchable (length (now flags)) events values states (now device) (now table) (queue (now «device_queue») (now «table_queue») (now parents) (now «last_events») (now flags)) ⌝ }
-    ensures { λ r. ⌜ Searched (length (now (flags .entry))) events values (now (meet .entry)) states (now (device .entry)) (now (table .entry))
-        (queue (now («device_queue» .entry)) (now («table_queue» .entry)) (now (parents .entry)) (now («last_events» .entry)) (now (flags .entry))) r (queue (now («device_queue» .exit)) (now («table_queue» .exit)) (now (parents .exit)) (now («last_events» .exit)) (now (flags .exit))) ⌝ }
+        × Searchable (length (now flags)) events kind states (now device) (now table)
+        (queue (now «device_queue») (now «table_queue») (now parents) (now «last_events») (now flags)) ⌝ }
+    ensures { λ r. ⌜ Searched (length (now (flags .entry))) events kind (now (meet .entry)) states (now (device .entry)) (now (table .entry))
+        (queue (now («device_queue» .entry)) (now («table_queue» .entry)) (now (parents .entry)) (now («last_events» .entry)) (now (flags .entry))) r
+        (queue (now («device_queue» .exit)) (now («table_queue» .exit)) (now (parents .exit)) (now («last_events» .exit)) (now (flags .exit))) ⌝ }
 {
     let mut count: usize = 1;
     let mut i: usize = 0;
     while i < count {
         let s = wide(device_queue[i]);
         let t = wide(table_queue[i]);
-        let e = bad_event(events, values, meet, device, table, s, t);
+        let e = bad_event(events, kind, meet, device, table, s, t);
         if e < events {
             return Failure::At(i, e);
         }
         count = push_successors(
             events,
+            kind,
             states,
             device,
             table,
@@ -241,7 +256,7 @@ fn write_path(parents: &[u16], last_events: &[u8], i: usize, n: usize, word: &mu
 // the first word on which the device fails.
 fn search(
     events: usize,
-    values: usize,
+    kind: ValueKind,
     meet: &[u8],
     states: usize,
     table: &[u8],
@@ -254,15 +269,16 @@ fn search(
     last_events: &mut [u8],
     flags: &mut [u8],
 ) -> Verdict
-    requires { ⌜ Tried (length (now flags)) events values states (now table) «device_start» (now device) (now word)
+    requires { ⌜ Tried (length (now flags)) events kind states (now table) «device_start» (now device) (now word)
         × Empty (length (now flags)) (queue (now «device_queue») (now «table_queue») (now parents) (now «last_events») (now flags)) ⌝ }
-    ensures { λ r. ⌜ Answered (length (now (flags .entry))) events values (now (meet .entry)) states (now (table .entry)) «device_start» (now (device .entry)) (now (word .entry)) r (now (word .exit)) ⌝ }
+    ensures { λ r. ⌜ Answered (length (now (flags .entry))) events kind (now (meet .entry)) states (now (table .entry)) «device_start»
+        (now (device .entry)) (now (word .entry)) r (now (word .exit)) ⌝ }
 {
     device_queue[0] = device_start as u8;
     flags[device_start * states] = 1;
     let failure = find_failure(
         events,
-        values,
+        kind,
         meet,
         states,
         table,
@@ -285,7 +301,7 @@ fn search(
 // The search over few pairs.
 fn search_few(
     events: usize,
-    values: usize,
+    kind: ValueKind,
     meet: &[u8],
     states: usize,
     table: &[u8],
@@ -293,8 +309,9 @@ fn search_few(
     device: &[u8],
     word: &mut [u8],
 ) -> Verdict
-    requires { ⌜ Tried small-queue events values states (now table) «device_start» (now device) (now word) ⌝ }
-    ensures { λ r. ⌜ Answered small-queue events values (now (meet .entry)) states (now (table .entry)) «device_start» (now (device .entry)) (now (word .entry)) r (now (word .exit)) ⌝ }
+    requires { ⌜ Tried small-queue events kind states (now table) «device_start» (now device) (now word) ⌝ }
+    ensures { λ r. ⌜ Answered small-queue events kind (now (meet .entry)) states (now (table .entry)) «device_start» (now (device .entry))
+        (now (word .entry)) r (now (word .exit)) ⌝ }
 {
     let mut device_queue = [0u8; SMALL_QUEUE];
     let mut table_queue = [0u8; SMALL_QUEUE];
@@ -303,7 +320,7 @@ fn search_few(
     let mut flags = [0u8; SMALL_QUEUE];
     search(
         events,
-        values,
+        kind,
         meet,
         states,
         table,
@@ -321,7 +338,7 @@ fn search_few(
 // The search over as many pairs as there may be.
 fn search_many(
     events: usize,
-    values: usize,
+    kind: ValueKind,
     meet: &[u8],
     states: usize,
     table: &[u8],
@@ -329,8 +346,9 @@ fn search_many(
     device: &[u8],
     word: &mut [u8],
 ) -> Verdict
-    requires { ⌜ Tried word-limit events values states (now table) «device_start» (now device) (now word) ⌝ }
-    ensures { λ r. ⌜ Answered word-limit events values (now (meet .entry)) states (now (table .entry)) «device_start» (now (device .entry)) (now (word .entry)) r (now (word .exit)) ⌝ }
+    requires { ⌜ Tried word-limit events kind states (now table) «device_start» (now device) (now word) ⌝ }
+    ensures { λ r. ⌜ Answered word-limit events kind (now (meet .entry)) states (now (table .entry)) «device_start» (now (device .entry))
+        (now (word .entry)) r (now (word .exit)) ⌝ }
 {
     let mut device_queue = [0u8; WORD_LIMIT];
     let mut table_queue = [0u8; WORD_LIMIT];
@@ -339,7 +357,7 @@ fn search_many(
     let mut flags = [0u8; WORD_LIMIT];
     search(
         events,
-        values,
+        kind,
         meet,
         states,
         table,
@@ -354,12 +372,10 @@ fn search_many(
     )
 }
 
-// The check of a trial's inputs: refusals 1 to 3, 11 for the device and the table, and 13.
-fn check_trial(
+// The check of a device and a table over a set-up that was accepted: refusals 11 and 13.
+fn check_tables(
     events: usize,
-    values: usize,
-    top: usize,
-    meet: &[u8],
+    kind: ValueKind,
     states: usize,
     table: &[u8],
     device_states: usize,
@@ -367,17 +383,14 @@ fn check_trial(
     device: &[u8],
     word: &[u8],
 ) -> Judgement
-    ensures { λ r. ⌜ r ≡ judgement (trial-refusal device-limit table-limit
-        (input (setup events values top (now (meet .entry))) states (now (table .entry)) «device_states» «device_start» (now (device .entry))) (now (word .entry))) ⌝ }
+    ensures { λ r. ⌜ r ≡ judgement (or-else
+        (tables-refusal device-limit table-limit events kind states (now (table .entry)) «device_states» «device_start» (now (device .entry)))
+        (plain-unless (leb word-limit (length (now (word .entry)))) 13)) ⌝ }
 {
-    let setup = values::check_setup(events, values, top, meet);
-    if let Judgement::Refused(_) = setup {
-        return setup;
-    }
-    let first = machines::check_table(
+    let first = check_table(
         DEVICE_LIMIT,
         events,
-        values,
+        kind,
         device_states,
         device_start,
         device,
@@ -385,22 +398,20 @@ fn check_trial(
     if let Judgement::Refused(_) = first {
         return first;
     }
-    let second = machines::check_table(TABLE_LIMIT, events, values, states, 0, table);
+    let second = check_table(TABLE_LIMIT, events, kind, states, 0, table);
     if let Judgement::Refused(_) = second {
         return second;
     }
     if word.len() < WORD_LIMIT {
-        return Judgement::Refused(Refusal::Plain(refusal::BUFFER_LENGTH));
+        return Judgement::Refused(Refusal::Plain(BUFFER_LENGTH));
     }
     Judgement::Accepted
 }
 
-// The trial of a device against a rule's table, both in bytes. A failed one has the first word on which the device fails written
-// to the front of the buffer.
-pub fn trial(
+// The trial over a set-up of either kind that was accepted; its top is not looked at.
+fn trial_accepted(
     events: usize,
-    values: usize,
-    top: usize,
+    kind: ValueKind,
     meet: &[u8],
     states: usize,
     table: &[u8],
@@ -409,16 +420,13 @@ pub fn trial(
     device: &[u8],
     word: &mut [u8],
 ) -> Verdict
-    ensures answer { λ r. ⌜ r ≡ trial-answer device-limit table-limit
-        (input (setup events values top (now (meet .entry))) states (now (table .entry)) «device_states» «device_start» (now (device .entry))) (now (word .entry)) ⌝ }
-    ensures contents { λ r. ⌜ now (word .exit) ≡ trial-buffer device-limit table-limit
-        (input (setup events values top (now (meet .entry))) states (now (table .entry)) «device_states» «device_start» (now (device .entry))) (now (word .entry)) ⌝ }
+    requires { ⌜ events ≤ event-limit ⌝ }
+    ensures { λ r. ⌜ Concluded events kind (now (meet .entry)) states (now (table .entry)) «device_states» «device_start» (now (device .entry))
+        (now (word .entry)) r (now (word .exit)) ⌝ }
 {
-    let judged = check_trial(
+    let judged = check_tables(
         events,
-        values,
-        top,
-        meet,
+        kind,
         states,
         table,
         device_states,
@@ -432,7 +440,7 @@ pub fn trial(
     if device_states * states <= SMALL_QUEUE {
         return search_few(
             events,
-            values,
+            kind,
             meet,
             states,
             table,
@@ -443,10 +451,48 @@ pub fn trial(
     }
     search_many(
         events,
-        values,
+        kind,
         meet,
         states,
         table,
+        device_start,
+        device,
+        word,
+    )
+}
+
+// The trial of a device against a rule's table, both in bytes, two an entry. A failed one has the first word on which the device
+// fails written to the front of the buffer.
+pub fn trial(
+    events: usize,
+    values: usize,
+    top: usize,
+    meet: &[u8],
+    states: usize,
+    table: &[u8],
+    device_states: usize,
+    device_start: usize,
+    device: &[u8],
+    word: &mut [u8],
+) -> Verdict
+    ensures answer { λ r. ⌜ r ≡ trial-answer device-limit table-limit
+        (input (setup events values top (now (meet .entry))) states (now (table .entry)) «device_states» «device_start» (now (device .entry)))
+        (now (word .entry)) ⌝ }
+    ensures contents { λ r. ⌜ now (word .exit) ≡ trial-buffer device-limit table-limit
+        (input (setup events values top (now (meet .entry))) states (now (table .entry)) «device_states» «device_start» (now (device .entry)))
+        (now (word .entry)) ⌝ }
+{
+    let judged = check_setup(events, values, top, meet);
+    if let Judgement::Refused(refusal) = judged {
+        return Verdict::Refused(refusal);
+    }
+    trial_accepted(
+        events,
+        ValueKind::Numbered(values as u32),
+        meet,
+        states,
+        table,
+        device_states,
         device_start,
         device,
         word,

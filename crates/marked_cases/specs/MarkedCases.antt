@@ -1,13 +1,12 @@
 -- Document 01, "Marked for proof": the twelve cases in its order, and what it is for a case to hold.
 -- Four-value set, two events.
--- Assumes nothing.
 use mathlib.Core.Path.{_≡_}
 use mathlib.Core.Bool.{Bool}
 use mathlib.Core.Option.{Option, none, some}
 use mathlib.Core.List.{List, [], _∷_}
-use Prim.Native.Nat.{ℕ, zero, suc, _<_}
-use lib.Dec.{eqb}
-use Rattle.theory.specs.ValueSets.{meetAt, four-value-meet}
+use Prim.Native.Nat.{ℕ, zero, suc}
+use Rattle.limits.specs.Limits.{node-limit, state-limit}
+use Rattle.theory.specs.ValueSets.{four-value-meet}
 use Rattle.theory.specs.Formula.{Formula, size}
 use Rattle.theory.specs.PrefixCode.{Node, truth-node, variable-node, transition-node, output-node, conjunction-node, greatest-node}
 use Rattle.theory.specs.MealyMachine.{Machine, after}
@@ -16,9 +15,13 @@ use Rattle.theory.specs.CharacteristicFormula.{written}
 use Rattle.theory.specs.Conformance.{counterexample}
 use Rattle.refusal.specs.declared.Refusal.{Refusal}
 use Rattle.refusal.specs.declared.Refusal.the-variants.{At}
-use Rattle.formulas.specs.NodeBytes.{encode-all, three-bytes}
-use Rattle.formulas.specs.RuleRefusal.{rule-refusal, formula-of, node-limit}
-use Rattle.machines.specs.TableBytes.{table-bytes, two-bytes, machine-of}
+use Rattle.values.specs.declared.ValueKind.{ValueKind}
+use Rattle.values.specs.declared.ValueKind.the-variants.{Numbered}
+use Rattle.values.specs.ValueKind.{meetOf}
+use Rattle.values.specs.ValueTests.{at-or-below}
+use Rattle.formulas.specs.NodeBytes.{encode-all, node-bytes}
+use Rattle.formulas.specs.RuleRefusal.{rule-refusal, formula-of}
+use Rattle.machines.specs.TableBytes.{table-bytes, entry-bytes, machine-of}
 
 -- Items of a rule, as the channel file has them.
 abbrev pub T : Node ℕ
@@ -43,27 +46,27 @@ abbrev pub «V» : Node ℕ
 abbrev pub events : ℕ
 events = 2
 
-abbrev pub values : ℕ
-values = 4
+abbrev pub kind : ValueKind
+kind = Numbered 4
 
 abbrev pub top : ℕ
 top = 3
 
 abbrev pub meet : ℕ → ℕ → ℕ
-meet = meetAt values four-value-meet
+meet = meetOf kind four-value-meet
 
-abbrev pub at-or-below : ℕ → ℕ → Bool
-at-or-below b c = eqb (meet b c) b
+abbrev pub below : ℕ → ℕ → Bool
+below = at-or-below kind four-value-meet
 
 -- A rule in bytes, its count of states and its table.
 abbrev pub bytes : List (Node ℕ) → List ℕ
-bytes rule = encode-all three-bytes rule
+bytes rule = encode-all (node-bytes kind) rule
 
 abbrev pub states : Formula ℕ → ℕ
-states φ = state-count node-limit meet top φ events 64
+states φ = state-count node-limit meet top φ events state-limit
 
 abbrev pub table : Formula ℕ → Machine ℕ ℕ
-table φ = table-of node-limit meet top φ events 64
+table φ = table-of node-limit meet top φ events state-limit
 
 -- A case: what is given, and what document 01 says of it. Rows are value and next state, by state, then event.
 pub data Case : Type 0 where
@@ -78,16 +81,16 @@ pub data Case : Type 0 where
 
 unfoldable pub Holds : Case → Type 0
 Holds (tabled rule n rows) =
-    (rule-refusal events values (bytes rule) ≡ none)
-    × (states (formula-of (bytes rule)) ≡ n)
-    × (table-bytes two-bytes events (table (formula-of (bytes rule))) n ≡ rows)
-Holds (refused rule refusal) = rule-refusal events values (bytes rule) ≡ some refusal
+    (rule-refusal events kind (bytes rule) ≡ none)
+    × (states (formula-of kind (bytes rule)) ≡ n)
+    × (table-bytes (entry-bytes kind) events (table (formula-of kind (bytes rule))) n ≡ rows)
+Holds (refused rule refusal) = rule-refusal events kind (bytes rule) ≡ some refusal
 Holds (written-as n rows count) =
-    let φ = written (machine-of events rows) n 1 0 in
-    (size φ ≡ count) × (states φ ≡ n) × (table-bytes two-bytes events (table φ) n ≡ rows)
+    let φ = written (machine-of kind events rows) n 1 0 in
+    (size φ ≡ count) × (states φ ≡ n) × (table-bytes (entry-bytes kind) events (table φ) n ≡ rows)
 Holds (tried device rule word) =
-    let φ = formula-of (bytes rule) in
-    counterexample at-or-below (machine-of events device) (table φ) events 1 (states φ) 0 0 ≡ word
+    let φ = formula-of kind (bytes rule) in
+    counterexample below (machine-of kind events device) (table φ) events 1 (states φ) 0 0 ≡ word
 
 abbrev pub cases : List Case
 cases =
@@ -129,7 +132,7 @@ ones (suc k) = 1 ∷ ones k
 
 -- Case 4: event 1 repeated gives 3, then 1 for ever.
 abbrev pub case-4 : Formula ℕ
-case-4 = formula-of (bytes («V» ∷ A ∷ G 1 ∷ O 1 1 ∷ G 1 ∷ X 0 ∷ []))
+case-4 = formula-of kind (bytes («V» ∷ A ∷ G 1 ∷ O 1 1 ∷ G 1 ∷ X 0 ∷ []))
 
 abbrev pub ForEverClaim : Type 0
 ForEverClaim =

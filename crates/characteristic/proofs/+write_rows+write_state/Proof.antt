@@ -1,15 +1,16 @@
 -- The proof of the cycle of calls {write_rows, write_state}. The measure is how many nodes are left up to one more than the limit.
 -- Each return is one step of the walk (`Walks`); each call of the other has fewer nodes left.
--- Assumes nothing.
-use mathlib.Core.Path.{_∙_, ap}
+use mathlib.Core.Path.{refl, _∙_, ap}
 use Prim.Native.Nat.{ℕ, _+_, _-_, _<_}
 use native.Mathlib.Omega.{arith}
-use lib.Dec.{lit<}
-use lib.ListN.{length, length-set}
+use lib.{Dec.{lit<}, ListN.{length, length-set}}
 use borrow.Fn.Kinds.{In}
 use borrow.Fn.PlainCycle.{Measures, is, falls, and}
+use Rattle.theory.specs.PrefixCode.{variable-node, output-node, greatest-node}
 use Rattle.machines.specs.TableBytes.{machine-of}
-use Rattle.characteristic.proofs.Walks.{walk-full, walk-open, walk-new, walk-last, walk-more, room-after, ready-rows, ready-part, room-walked, ready-more, fewer-left}
+use Rattle.characteristic.proofs.Appended.{zero-fits}
+use Rattle.characteristic.proofs.Walks.{walk-full, walk-open, walk-new, walk-last, walk-more, room-after, ready-rows, ready-part, room-walked}
+use Rattle.characteristic.proofs.Walks.{ready-more, fewer-left}
 use Rattle.characteristic.proofs.write_rows.Reads as write-rows
 use Rattle.characteristic.proofs.write_rows.Kinds as write-rows-kinds
 use Rattle.characteristic.proofs.+write_rows+write_state.Lts-write_rows as write-rows-lts
@@ -25,10 +26,10 @@ use Rattle.characteristic.proofs.+write_rows+write_state.{statement}
 use Rattle.characteristic.proofs.+write_rows+write_state.Tie.{close}
 
 abbrev μ-write-rows : Measures 3 write-rows-kinds.ps ℕ
-μ-write-rows κs a = a .1 .1 .0 + 1 - a .1 .1 .1 .1 .1 .1 .1 .1 .0
+μ-write-rows κs a = a .1 .1 .1 .0 + 1 - a .1 .1 .1 .1 .1 .1 .1 .1 .1 .0
 
 abbrev μ-write-state : Measures 3 write-state-kinds.ps ℕ
-μ-write-state κs a = a .1 .1 .0 + 1 - a .1 .1 .1 .1 .1 .1 .1 .0
+μ-write-state κs a = a .1 .1 .1 .0 + 1 - a .1 .1 .1 .1 .1 .1 .1 .1 .0
 
 abbrev write-rows-at : ℕ → In 3 write-rows-kinds.ps
 write-rows-at t =
@@ -77,7 +78,7 @@ write-rows-add-result : (t : ℕ) → write-rows-lts.Need-add-result (rows-claim
 write-rows-add-result t c = omega (arith, c .before .before .before .before .pre .1 .0 .has-room .small-limit)
 
 write-rows-returns : (t : ℕ) → write-rows-lts.Need-returns (rows-claims t) (write-rows-at t) write-rows.Post
-write-rows-returns t c = walk-full _ _ _ _ (c .if1 .taken) (c .before .before .before .before .pre .1 .0 .has-room .at-within)
+write-rows-returns t c = walk-full _ _ _ _ _ (c .if1 .taken) (c .before .before .before .before .pre .1 .0 .has-room .at-within)
 
 write-rows-put-transition-requires : (t : ℕ) → write-rows-lts.Need-put-transition-requires (rows-claims t) (write-rows-at t) write-rows.Post
 write-rows-put-transition-requires t c κs =
@@ -103,12 +104,17 @@ write-rows-value-of-requires t c κs =
     (h .0 .small-state, h .1, h .0 .few-events)
 
 write-rows-add-if2 : (t : ℕ) → write-rows-lts.Need-add-if2 (rows-claims t) (write-rows-at t) write-rows.Post
-write-rows-add-if2 t c = let h = c .before .before .before .before .before .before .before .before .before .before .before .before .before .before .before .before .before .pre .1 in omega (arith, h .1, h .0 .few-events)
+write-rows-add-if2 t c =
+    let b17 = c .before .before .before .before .before .before .before .before .before .before .before .before .before .before .before .before .before in
+    let h = b17 .pre .1 in omega (arith, h .1, h .0 .few-events)
 
 write-rows-put-node-requires : (t : ℕ) → write-rows-lts.Need-put-node-requires (rows-claims t) (write-rows-at t) write-rows.Post
 write-rows-put-node-requires t c κs =
-    let h = c .before .before .before .before .before .before .before .before .before .before .before .before .before .before .before .before .before .before .before .pre .1 in (
-      room-walked (room-after (h .0 .has-room) (c .before .before .before .before .before .before .before .before .before .before .before .before .before .put-transition .ensures)) (c .before .before .before .before .before .before .before .write-state .ensures),
+    let b7 = c .before .before .before .before .before .before .before in
+    let b13 = b7 .before .before .before .before .before .before in
+    let b19 = b13 .before .before .before .before .before .before in
+    let h = b19 .pre .1 in (
+      room-walked (room-after (h .0 .has-room) (b13 .put-transition .ensures)) (b7 .write-state .ensures),
       omega (arith, h .1, h .0 .few-events),
       c .before .before .value-of .ensures .1,
     )
@@ -118,7 +124,10 @@ write-rows-same-length t c = ap length (c .before .before .before .before .befor
 
 write-rows-same-length-2 : (t : ℕ) → write-rows-lts.Need-same-length-2 (rows-claims t) (write-rows-at t) write-rows.Post
 write-rows-same-length-2 t c =
-    c .before .before .put-node .ensures .same-length ∙ c .before .before .before .before .before .before .before .before .before .before .write-state .ensures .same-length ∙ c .before .before .before .before .before .before .before .before .before .before .before .before .before .before .before .before .put-transition .ensures .same-length
+    let b10 = c .before .before .before .before .before .before .before .before .before .before in
+    let b16 = b10 .before .before .before .before .before .before in
+    c .before .before .put-node .ensures (output-node _ _) refl refl refl .same-length ∙ b10 .write-state .ensures .same-length ∙
+    b16 .put-transition .ensures .same-length
 
 write-rows-returns-2 : (t : ℕ) → write-rows-lts.Need-returns-2 (rows-claims t) (write-rows-at t) write-rows.Post
 write-rows-returns-2 t c =
@@ -126,20 +135,27 @@ write-rows-returns-2 t c =
     let walked = end .before .before .before .before .before in
     let entry = walked .before .before .before .before .before .before .before .before .before .before .before .before in
     let a = entry .args in
-    walk-last (machine-of (a .events) (a .table .now)) (a .events) (entry .pre .1 .0 .has-room .at-within)
-    (walked .before .before .before .before .before .before .put-transition .ensures) (walked .before .before .before .next-state .ensures .0) (walked .write-state .ensures) (end .value-of .ensures .0)
-    (c .before .before .before .before .if2 .taken) (c .before .before .put-node .ensures)
+    walk-last (a .kind) (machine-of (a .kind) (a .events) (a .table .now)) (a .events) (entry .pre .1 .0 .has-room .at-within)
+    (walked .before .before .before .before .before .before .put-transition .ensures) (walked .before .before .before .next-state .ensures .0)
+    (walked .write-state .ensures) (end .value-of .ensures .0)
+    (c .before .before .before .before .if2 .taken) (c .before .before .put-node .ensures (output-node _ _) refl refl refl)
 
 write-rows-put-output-requires : (t : ℕ) → write-rows-lts.Need-put-output-requires (rows-claims t) (write-rows-at t) write-rows.Post
 write-rows-put-output-requires t c κs =
-    let h = c .before .before .before .before .before .before .before .before .before .before .before .before .before .before .before .before .before .before .before .pre .1 in (
-      room-walked (room-after (h .0 .has-room) (c .before .before .before .before .before .before .before .before .before .before .before .before .before .put-transition .ensures)) (c .before .before .before .before .before .before .before .write-state .ensures),
+    let b7 = c .before .before .before .before .before .before .before in
+    let b13 = b7 .before .before .before .before .before .before in
+    let b19 = b13 .before .before .before .before .before .before in
+    let h = b19 .pre .1 in (
+      room-walked (room-after (h .0 .has-room) (b13 .put-transition .ensures)) (b7 .write-state .ensures),
       omega (arith, h .1, h .0 .few-events),
       c .before .before .value-of .ensures .1,
     )
 
 write-rows-add-write-rows : (t : ℕ) → write-rows-lts.Need-add-write-rows (rows-claims t) (write-rows-at t) write-rows.Post
-write-rows-add-write-rows t c = let h = c .before .before .before .before .before .before .before .before .before .before .before .before .before .before .before .before .before .before .before .before .before .before .before .pre .1 in omega (arith, h .1, h .0 .few-events)
+write-rows-add-write-rows t c =
+    let b16 = c .before .before .before .before .before .before .before .before .before .before .before .before .before .before .before .before in
+    let b23 = b16 .before .before .before .before .before .before .before in
+    let h = b23 .pre .1 in omega (arith, h .1, h .0 .few-events)
 
 write-rows-write-rows-requires : (t : ℕ) → write-rows-lts.Need-write-rows-requires (rows-claims t) (write-rows-at t) write-rows.Post
 write-rows-write-rows-requires t c κs =
@@ -155,28 +171,37 @@ write-rows-write-rows-requires t c κs =
     )
 
 write-rows-same-length-3 : (t : ℕ) → write-rows-lts.Need-same-length-3 (rows-claims t) (write-rows-at t) write-rows.Post
-write-rows-same-length-3 t c = ap length (c .before .before .before .before .write-rows .ensures .same-depths ∙ c .before .before .before .before .before .before .before .before .before .before .before .before .before .before .before .before .before .write-state .ensures .same-depths)
+write-rows-same-length-3 t c =
+    let b17 = c .before .before .before .before .before .before .before .before .before .before .before .before .before .before .before .before .before in
+    ap length (c .before .before .before .before .write-rows .ensures .same-depths ∙ b17 .write-state .ensures .same-depths)
 
 write-rows-same-length-4 : (t : ℕ) → write-rows-lts.Need-same-length-4 (rows-claims t) (write-rows-at t) write-rows.Post
 write-rows-same-length-4 t c =
-    c .before .before .before .before .write-rows .ensures .same-length ∙ c .before .before .before .before .before .before .before .before .before .put-output .ensures .same-length ∙ c .before .before .before .before .before .before .before .before .before .before .before .before .before .before .before .before .before .write-state .ensures .same-length
-    ∙ c .before .before .before .before .before .before .before .before .before .before .before .before .before .before .before .before .before .before .before .before .before .before .before .put-transition .ensures .same-length
+    let b9 = c .before .before .before .before .before .before .before .before .before in
+    let b17 = b9 .before .before .before .before .before .before .before .before in
+    let b23 = b17 .before .before .before .before .before .before in
+    c .before .before .before .before .write-rows .ensures .same-length ∙ b9 .put-output .ensures .same-length ∙ b17 .write-state .ensures .same-length
+    ∙ b23 .put-transition .ensures .same-length
 
 write-rows-returns-3 : (t : ℕ) → write-rows-lts.Need-returns-3 (rows-claims t) (write-rows-at t) write-rows.Post
 write-rows-returns-3 t c =
-    let end = c .before .before .before .before .before .before .before .before .before .before .before .before in
+    let b9 = c .before .before .before .before .before .before .before .before .before in
+    let b11 = b9 .before .before in
+    let b12 = b11 .before in
+    let end = b12 in
     let walked = end .before .before .before .before .before in
     let entry = walked .before .before .before .before .before .before .before .before .before .before .before .before in
     let a = entry .args in
-    walk-more (machine-of (a .events) (a .table .now)) (a .events) (entry .pre .1 .0 .has-room .at-within)
-    (walked .before .before .before .before .before .before .put-transition .ensures) (walked .before .before .before .next-state .ensures .0) (walked .write-state .ensures) (end .value-of .ensures .0)
-    (c .before .before .before .before .before .before .before .before .before .before .before .if2 .left) (c .before .before .before .before .before .before .before .before .before .put-output .ensures) (c .before .before .before .before .write-rows .ensures)
+    walk-more (a .kind) (machine-of (a .kind) (a .events) (a .table .now)) (a .events) (entry .pre .1 .0 .has-room .at-within)
+    (walked .before .before .before .before .before .before .put-transition .ensures) (walked .before .before .before .next-state .ensures .0)
+    (walked .write-state .ensures) (end .value-of .ensures .0)
+    (b11 .if2 .left) (b9 .put-output .ensures) (c .before .before .before .before .write-rows .ensures)
 
 write-state-add-result : (t : ℕ) → write-state-lts.Need-add-result (state-claims t) (write-state-at t) write-state.Post
 write-state-add-result t c = omega (arith, c .before .before .before .before .pre .1 .0 .has-room .small-limit)
 
 write-state-returns : (t : ℕ) → write-state-lts.Need-returns (state-claims t) (write-state-at t) write-state.Post
-write-state-returns t c = walk-full _ _ _ _ (c .if1 .taken) (c .before .before .before .before .pre .1 .0 .has-room .at-within)
+write-state-returns t c = walk-full _ _ _ _ _ (c .if1 .taken) (c .before .before .before .before .pre .1 .0 .has-room .at-within)
 
 write-state-mul-place : (t : ℕ) → write-state-lts.Need-mul-place (state-claims t) (write-state-at t) write-state.Post
 write-state-mul-place t c = omega (arith, c .before .before .before .before .pre .1 .0 .small-state)
@@ -189,60 +214,82 @@ write-state-sub-place t c = let e = c .before .before .before .before .before in
 
 write-state-put-node-requires : (t : ℕ) → write-state-lts.Need-put-node-requires (state-claims t) (write-state-at t) write-state.Post
 write-state-put-node-requires t c κs =
-    let h = c .before .before .before .before .before .before .before .pre .1 .0 in
-    (h .has-room, omega (arith, h .shallow, h .has-room .small-limit, c .before .before .before .if1 .left, c .before .if2 .taken), lit< tt)
+    let b7 = c .before .before .before .before .before .before .before in
+    let h = b7 .pre .1 .0 in
+    (h .has-room, omega (arith, h .shallow, h .has-room .small-limit, c .before .before .before .if1 .left, c .before .if2 .taken), zero-fits (b7 .args .kind))
 
 write-state-same-length : (t : ℕ) → write-state-lts.Need-same-length (state-claims t) (write-state-at t) write-state.Post
-write-state-same-length t c = c .before .before .put-node .ensures .same-length
+write-state-same-length t c = c .before .before .put-node .ensures (variable-node _) refl refl refl .same-length
 
 write-state-returns-2 : (t : ℕ) → write-state-lts.Need-returns-2 (state-claims t) (write-state-at t) write-state.Post
 write-state-returns-2 t c =
-    let a = c .before .before .before .before .before .before .before .before .before .before .args in
-    walk-open (machine-of (a .events) (a .table .now)) (a .events) (a .depths .now) (c .before .before .before .before .before .before .before .before .before .before .pre .1 .0 .has-room .at-within) (c .before .before .before .before .if2 .taken)
-    (c .before .before .put-node .ensures)
+    let b10 = c .before .before .before .before .before .before .before .before .before .before in
+    let a = b10 .args in
+    walk-open (a .kind) (machine-of (a .kind) (a .events) (a .table .now)) (a .events) (a .depths .now) (b10 .pre .1 .0 .has-room .at-within)
+    (c .before .before .before .before .if2 .taken)
+    (c .before .before .put-node .ensures (variable-node _) refl refl refl)
 
 write-state-put-node-requires-2 : (t : ℕ) → write-state-lts.Need-put-node-requires-2 (state-claims t) (write-state-at t) write-state.Post
-write-state-put-node-requires-2 t c κs = (c .before .before .before .before .before .before .before .pre .1 .0 .has-room, lit< tt, lit< tt)
+write-state-put-node-requires-2 t c κs =
+    let b7 = c .before .before .before .before .before .before .before in
+    (b7 .pre .1 .0 .has-room, lit< tt, zero-fits (b7 .args .kind))
 
 write-state-add-depths : (t : ℕ) → write-state-lts.Need-add-depths (state-claims t) (write-state-at t) write-state.Post
-write-state-add-depths t c = let h = c .before .before .before .before .before .before .before .before .before .before .pre .1 .0 in omega (arith, h .shallow, h .has-room .small-limit, c .before .before .before .before .before .before .if1 .left)
+write-state-add-depths t c =
+    let b6 = c .before .before .before .before .before .before in
+    let b10 = b6 .before .before .before .before in
+    let h = b10 .pre .1 .0 in omega (arith, h .shallow, h .has-room .small-limit, b6 .if1 .left)
 
 write-state-mul-depths : (t : ℕ) → write-state-lts.Need-mul-depths (state-claims t) (write-state-at t) write-state.Post
 write-state-mul-depths t c = omega (arith, c .before .before .before .before .before .before .before .before .before .before .pre .1 .0 .small-state)
 
 write-state-slice-write-depths : (t : ℕ) → write-state-lts.Need-slice-write-depths (state-claims t) (write-state-at t) write-state.Post
-write-state-slice-write-depths t c = let h = c .before .before .before .before .before .before .before .before .before .before .pre .1 .0 in omega (arith, h .small-state, h .depths-room)
+write-state-slice-write-depths t c =
+    let b10 = c .before .before .before .before .before .before .before .before .before .before in
+    let h = b10 .pre .1 .0 in omega (arith, h .small-state, h .depths-room)
 
 write-state-add-write-rows : (t : ℕ) → write-state-lts.Need-add-write-rows (state-claims t) (write-state-at t) write-state.Post
-write-state-add-write-rows t c = let h = c .before .before .before .before .before .before .before .before .before .before .before .pre .1 .0 in omega (arith, h .shallow, h .has-room .small-limit, c .before .before .before .before .before .before .before .if1 .left)
+write-state-add-write-rows t c =
+    let b7 = c .before .before .before .before .before .before .before in
+    let b11 = b7 .before .before .before .before in
+    let h = b11 .pre .1 .0 in omega (arith, h .shallow, h .has-room .small-limit, b7 .if1 .left)
 
 write-state-write-rows-requires : (t : ℕ) → write-state-lts.Need-write-rows-requires (state-claims t) (write-state-at t) write-state.Post
 write-state-write-rows-requires t c κs =
-    let x = c .before .before .before .before .put-node2 .ensures in
+    let x = c .before .before .before .before .put-node2 .ensures greatest-node refl refl refl in
     let entry = c .before .before .before .before .before .before .before .before .before .before .before .before in
     let below = c .before .before .before .before .before .before .before .before .if1 .left in
     (omega (arith, entry .pre .0, below, x .position), (ready-rows (entry .pre .1 .0) below x, entry .pre .1 .1))
 
 write-state-mul-depths-2 : (t : ℕ) → write-state-lts.Need-mul-depths-2 (state-claims t) (write-state-at t) write-state.Post
-write-state-mul-depths-2 t c = omega (arith, c .before .before .before .before .before .before .before .before .before .before .before .before .before .before .before .before .before .pre .1 .0 .small-state)
+write-state-mul-depths-2 t c =
+    let b17 = c .before .before .before .before .before .before .before .before .before .before .before .before .before .before .before .before .before in
+    omega (arith, b17 .pre .1 .0 .small-state)
 
 write-state-slice-write-depths-2 : (t : ℕ) → write-state-lts.Need-slice-write-depths-2 (state-claims t) (write-state-at t) write-state.Post
 write-state-slice-write-depths-2 t c =
-    let h = c .before .before .before .before .before .before .before .before .before .before .before .before .before .before .before .before .before .pre .1 .0 in
-    let l = c .before .before .before .before .write-rows .kept .1 .1 .1 .0 in
+    let b17 = c .before .before .before .before .before .before .before .before .before .before .before .before .before .before .before .before .before in
+    let h = b17 .pre .1 .0 in
+    let l = c .before .before .before .before .write-rows .kept .1 .1 .1 .1 .0 in
     omega (arith, h .small-state, h .depths-room, simp length-set at l)
 
 write-state-same-length-2 : (t : ℕ) → write-state-lts.Need-same-length-2 (state-claims t) (write-state-at t) write-state.Post
-write-state-same-length-2 t c = simp length-set (c .before .before .before .before .write-rows .kept .1 .1 .1 .0 ∙ simp length-set)
+write-state-same-length-2 t c = simp length-set (c .before .before .before .before .write-rows .kept .1 .1 .1 .1 .0 ∙ simp length-set)
 
 write-state-same-length-3 : (t : ℕ) → write-state-lts.Need-same-length-3 (state-claims t) (write-state-at t) write-state.Post
-write-state-same-length-3 t c = c .before .before .before .before .write-rows .ensures .same-length ∙ c .before .before .before .before .before .before .before .before .before .put-node2 .ensures .same-length
+write-state-same-length-3 t c =
+    let b9 = c .before .before .before .before .before .before .before .before .before in
+    c .before .before .before .before .write-rows .ensures .same-length ∙ b9 .put-node2 .ensures greatest-node refl refl refl .same-length
 
 write-state-returns-3 : (t : ℕ) → write-state-lts.Need-returns-3 (state-claims t) (write-state-at t) write-state.Post
 write-state-returns-3 t c =
-    let entry = c .before .before .before .before .before .before .before .before .before .before .before .before .before .before .before .before .before in
+    let b9 = c .before .before .before .before .before .before .before .before .before in
+    let b11 = b9 .before .before in
+    let b17 = b11 .before .before .before .before .before .before in
+    let entry = b17 in
     let a = entry .args in
-    walk-new (machine-of (a .events) (a .table .now)) (a .events) (a .depths .now) (entry .pre .1 .0) (c .before .before .before .before .before .before .before .before .before .before .before .if2 .left) (c .before .before .before .before .before .before .before .before .before .put-node2 .ensures)
+    walk-new (a .kind) (machine-of (a .kind) (a .events) (a .table .now)) (a .events) (a .depths .now) (entry .pre .1 .0) (b11 .if2 .left)
+    (b9 .put-node2 .ensures greatest-node refl refl refl)
     (c .before .before .before .before .write-rows .ensures)
 
 pub +write-rows+write-state-spec : {M : Type 1} → statement M

@@ -1,23 +1,16 @@
 -- `characteristic::list_nodes` meets its contract: it is the walk from the start, with no state open.
--- Assumes nothing.
 use native.Mathlib.Omega.{arith}
 use borrow.Author.Needs.{needs}
 use Rattle.characteristic.proofs.Outputs.{start-ready, walk-listed}
 use Rattle.characteristic.proofs.list_nodes.Statement.{statement}
 use Rattle.characteristic.proofs.list_nodes.Tie as tie
 
-slice-aggregate-write-state : tie.Need-slice-aggregate-write-state
-slice-aggregate-write-state c = search needs
-
 write-state-requires : tie.Need-write-state-requires
 write-state-requires c κs = let h = c .before .before .before .before .pre in (start-ready 256 (omega arith) (h .0) (h .2) (h .3), h .1)
-
-same-length : tie.Need-same-length
-same-length c = search needs
 
 returns : tie.Need-returns
 returns c = walk-listed (c .before .before .before .before .before .before .before .before .args .events) 256 (c .before .before .before .write-state .ensures)
 
 pub list-nodes-spec : {M : Type 1} → statement M
 list-nodes-spec =
-    tie.close (tie.spec slice-aggregate-write-state write-state-requires same-length returns)
+    tie.close (tie.spec (λ c. search needs) write-state-requires (λ c. search needs) returns)

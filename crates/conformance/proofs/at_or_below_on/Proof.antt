@@ -1,9 +1,6 @@
--- `conformance::at_or_below_on` meets its contract.
--- Assumes nothing.
 use mathlib.Core.Path.{_∙_, ap₂}
 use native.Mathlib.Omega.{arith}
-use Rattle.values.specs.declared.ValueKind.the-variants.{Numbered}
-use Rattle.values.specs.ValueKind.{at-or-below}
+use Rattle.values.specs.ValueTests.{at-or-below}
 use Rattle.conformance.specs.PairQueue.{at-or-below-on}
 use Rattle.conformance.proofs.Places.{entry-place}
 use borrow.Author.Needs.{needs}
@@ -11,43 +8,31 @@ use Rattle.conformance.proofs.at_or_below_on.Statement.{statement}
 use Rattle.conformance.proofs.at_or_below_on.Tie as tie
 
 mul-value-at : tie.Need-mul-value-at
-mul-value-at c = let a = c .before .before .before .args in omega (arith, entry-place (a .s) (a .events) (a .e) (search needs) (search needs) (search needs))
+mul-value-at c =
+    let a = c .before .before .before .args in
+    omega (arith, entry-place (a .s) (a .events) (a .e) (search needs) (search needs) (search needs))
 
 add-value-at : tie.Need-add-value-at
-add-value-at c = let a = c .before .before .before .args in omega (arith, entry-place (a .s) (a .events) (a .e) (search needs) (search needs) (search needs))
-
-value-at-requires : tie.Need-value-at-requires
-value-at-requires c κs = search needs
+add-value-at c =
+    let a = c .before .before .before .args in
+    omega (arith, entry-place (a .s) (a .events) (a .e) (search needs) (search needs) (search needs))
 
 mul-value-at-2 : tie.Need-mul-value-at-2
-mul-value-at-2 c = let a = c .before .before .before .before .args in omega (arith, entry-place (a .t) (a .events) (a .e) (search needs) (search needs) (search needs))
+mul-value-at-2 c =
+    let a = c .before .before .before .before .args in
+    omega (arith, entry-place (a .t) (a .events) (a .e) (search needs) (search needs) (search needs))
 
 add-value-at-2 : tie.Need-add-value-at-2
-add-value-at-2 c = let a = c .before .before .before .before .args in omega (arith, entry-place (a .t) (a .events) (a .e) (search needs) (search needs) (search needs))
-
-value-at-requires-2 : tie.Need-value-at-requires-2
-value-at-requires-2 c κs = search needs
-
-cast-count : tie.Need-cast-count
-cast-count c = search needs
-
-at-or-below-requires : tie.Need-at-or-below-requires
-at-or-below-requires c κs = search needs
+add-value-at-2 c =
+    let a = c .before .before .before .before .args in
+    omega (arith, entry-place (a .t) (a .events) (a .e) (search needs) (search needs) (search needs))
 
 returns : tie.Need-returns
 unfolding at-or-below-on
-returns c = c .at-or-below .ensures ∙ ap₂ (at-or-below (Numbered (c .before .before .before .before .before .before .args .values)) (c .before .before .before .before .before .before .args .meet .now)) (c .before .before .value-at .ensures) (c .before .value-at2 .ensures)
+returns c =
+    let a = c .before .before .before .before .before .before .args in
+    c .at-or-below .ensures ∙ ap₂ (at-or-below (a .kind) (a .meet .now)) (c .before .before .value-at .ensures) (c .before .value-at2 .ensures)
 
 pub at-or-below-on-spec : {M : Type 1} → statement M
-at-or-below-on-spec =
-    tie.close
-    (tie.spec
-    mul-value-at
-    add-value-at
-    value-at-requires
-    mul-value-at-2
-    add-value-at-2
-    value-at-requires-2
-    cast-count
-    at-or-below-requires
-    returns)
+at-or-below-on-spec = tie.close (tie.spec mul-value-at add-value-at (λ c κs. search needs) mul-value-at-2 add-value-at-2 (λ c κs. search needs)
+    (λ c κs. search needs) returns)

@@ -1,44 +1,16 @@
 -- `conformance::search_many` meets its contract: the arrays are made of zeros, of as many cells as it says.
--- Assumes nothing.
-use Rattle.conformance.specs.Trial.{word-limit}
 use Rattle.conformance.proofs.Starts.{made-ready, made-answered}
 use borrow.Author.Needs.{needs}
 use Rattle.conformance.proofs.search_many.Statement.{statement}
 use Rattle.conformance.proofs.search_many.Tie as tie
-
-slice-aggregate-search : tie.Need-slice-aggregate-search
-slice-aggregate-search c = search needs
-
-slice-aggregate-search-2 : tie.Need-slice-aggregate-search-2
-slice-aggregate-search-2 c = search needs
-
-slice-aggregate-search-3 : tie.Need-slice-aggregate-search-3
-slice-aggregate-search-3 c = search needs
-
-slice-aggregate-search-4 : tie.Need-slice-aggregate-search-4
-slice-aggregate-search-4 c = search needs
-
-slice-aggregate-search-5 : tie.Need-slice-aggregate-search-5
-slice-aggregate-search-5 c = search needs
+use Rattle.limits.specs.Limits.{word-limit}
 
 search-requires : tie.Need-search-requires
 search-requires c κs = made-ready (c .before .before .before .before .before .before .before .before .before .before .pre)
-
-same-length : tie.Need-same-length
-same-length c = search needs
 
 returns : tie.Need-returns
 returns c = made-answered word-limit _ _ _ _ _ _ _ _ _ _ (c .before .before .before .before .before .before .before .search .ensures)
 
 pub search-many-spec : {M : Type 1} → statement M
-search-many-spec =
-    tie.close
-    (tie.spec
-    slice-aggregate-search
-    slice-aggregate-search-2
-    slice-aggregate-search-3
-    slice-aggregate-search-4
-    slice-aggregate-search-5
-    search-requires
-    same-length
-    returns)
+search-many-spec = tie.close (tie.spec (λ c. search needs) (λ c. search needs) (λ c. search needs) (λ c. search needs) (λ c. search needs)
+    search-requires (λ c. search needs) returns)

@@ -1,75 +1,46 @@
--- `conformance::trial` meets its contract: what the check refuses is refused, and what it accepts is what the search asks for.
--- Assumes nothing.
+-- `conformance::trial` meets its contract: a refused set-up, or what the trial over an accepted one answers.
+use mathlib.Core.Path.{sym, _∙_}
 use native.Mathlib.Omega.{arith}
-use Rattle.values.specs.Setup.{setup}
-use Rattle.conformance.specs.Trial.{input, device-limit, table-limit, word-limit}
-use Rattle.conformance.specs.PairQueue.{small-queue}
-use Rattle.conformance.proofs.Trials.{trial-refused, trial-accepted, sound, all-pairs, tried, trial-searched}
+use Rattle.limits.specs.Limits.{device-limit, table-limit}
+use Rattle.refusal.proofs.Refusals.{judgement-accepted}
+use Rattle.values.specs.{Setup.{setup}, SetupTests.{setup-refusal}}
+use Rattle.values.proofs.Setups.{setup-accepted}
+use Rattle.conformance.specs.Trial.{input}
+use Rattle.conformance.proofs.Trials.{setup-refused}
 use borrow.Author.Needs.{needs}
 use Rattle.conformance.proofs.trial.Statement.{statement}
 use Rattle.conformance.proofs.trial.Tie as tie
 
-check-trial-requires : tie.Need-check-trial-requires
-check-trial-requires c κs = search needs
-
-enum-known-judged : tie.Need-enum-known-judged
-enum-known-judged c = search needs
-
-same-length : tie.Need-same-length
-same-length c = search needs
-
 returns : tie.Need-returns
-returns c = trial-refused _ _ _ _ _ (c .before .before .before .check-trial .ensures) _ (c .before .judged .given .1)
+unfolding input
+returns c =
+    let a = c .before .before .before .before .before .before .before .before .args in
+    setup-refused device-limit table-limit
+    (input (setup (a .events) (a .values) (a .top) (a .meet .now)) (a .states) (a .table .now) (a .«device-states») (a .«device-start») (a .device .now))
+    (a .word .now) _ (sym (c .before .before .before .check-setup .ensures) ∙ c .before .judged .given .1)
 
-enum-told : tie.Need-enum-told
-enum-told c = search needs
+cast-t13 : tie.Need-cast-t13
+cast-t13 c =
+    let a = c .before .before .before .before .before .before .before .args in
+    let s = setup (a .events) (a .values) (a .top) (a .meet .now) in
+    let w = setup-accepted s .0 (judgement-accepted (setup-refusal s) (sym (c .before .before .check-setup .ensures) ∙ c .enum-told .given .1)) in
+    omega (arith, w .of-kind .few-values)
 
-mul-if1 : tie.Need-mul-if1
-unfolding input setup
-mul-if1 c = let z = trial-accepted _ _ _ _ _ (c .before .before .check-trial .ensures) (c .enum-told .given .1) in
-    omega (arith, all-pairs _ _ _ _ (sound device-limit table-limit _ _ z))
-
-search-few-requires : tie.Need-search-few-requires
-unfolding input setup
-search-few-requires c κs = let h = sound _ _ _ _ (trial-accepted _ _ _ _ _ (c .before .before .before .before .check-trial .ensures) (c .before .before .enum-told .given .1)) in
-    tried device-limit table-limit _ _ (omega arith) (omega arith) h small-queue (c .before .if1 .taken) (omega (arith, h .room))
-
-same-length-2 : tie.Need-same-length-2
-same-length-2 c = search needs
+trial-accepted-requires : tie.Need-trial-accepted-requires
+trial-accepted-requires c κs =
+    let b8 = c .before .before .before .before .before .before .before .before in
+    let a = b8 .args in
+    let s = setup (a .events) (a .values) (a .top) (a .meet .now) in
+    setup-accepted s .0 (judgement-accepted (setup-refusal s)
+    (sym (c .before .before .before .check-setup .ensures) ∙ c .before .enum-told .given .1)) .few-events
 
 returns-2 : tie.Need-returns-2
-unfolding input setup
-returns-2 c = let z = trial-accepted _ _ _ _ _ (c .before .before .before .before .before .before .before .check-trial .ensures) (c .before .before .before .before .before .enum-told .given .1) in
-    let h = sound _ _ _ _ z in
-    trial-searched device-limit table-limit _ _ (omega arith) (omega arith) h small-queue (c .before .before .before .before .if1 .taken) (omega (arith, h .room)) z _ _ (c .before .before .search-few .ensures)
-
-search-many-requires : tie.Need-search-many-requires
-unfolding input setup
-search-many-requires c κs = let h = sound _ _ _ _ (trial-accepted _ _ _ _ _ (c .before .before .before .before .check-trial .ensures) (c .before .before .enum-told .given .1)) in
-    tried device-limit table-limit _ _ (omega arith) (omega arith) h word-limit (all-pairs _ _ _ _ h) (h .room)
-
-same-length-3 : tie.Need-same-length-3
-same-length-3 c = search needs
-
-returns-3 : tie.Need-returns-3
-unfolding input setup
-returns-3 c = let z = trial-accepted _ _ _ _ _ (c .before .before .before .before .before .before .before .check-trial .ensures) (c .before .before .before .before .before .enum-told .given .1) in
-    let h = sound _ _ _ _ z in
-    trial-searched device-limit table-limit _ _ (omega arith) (omega arith) h word-limit (all-pairs _ _ _ _ h) (h .room) z _ _ (c .before .before .search-many .ensures)
+returns-2 c =
+    let a = c .before .before .before .before .before .before .before .before .before .before .before .args in
+    c .before .before .trial-accepted .ensures (a .top)
+    (judgement-accepted (setup-refusal (setup (a .events) (a .values) (a .top) (a .meet .now)))
+    (sym (c .before .before .before .before .before .before .check-setup .ensures) ∙ c .before .before .before .before .enum-told .given .1))
 
 pub trial-spec : {M : Type 1} → statement M
-trial-spec =
-    tie.close
-    (tie.spec
-    check-trial-requires
-    enum-known-judged
-    same-length
-    returns
-    enum-told
-    mul-if1
-    search-few-requires
-    same-length-2
-    returns-2
-    search-many-requires
-    same-length-3
-    returns-3)
+trial-spec = tie.close (tie.spec (λ c κs. search needs) (λ c. search needs) returns (λ c. search needs) cast-t13 trial-accepted-requires
+    (λ c. search needs) returns-2)
