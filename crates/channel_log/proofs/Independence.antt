@@ -1,16 +1,14 @@
 -- A channel's replies do not depend on the calls that name another channel.
--- Assumes nothing.
-use mathlib.Core.Path.{_≡_, refl, sym, _∙_, ap, ap₂, subst, subst⁻¹}
-use mathlib.Core.Bool.{Bool, true, false, cond}
-use mathlib.Core.List.{List, [], _∷_}
+use mathlib.Core.{Path.{_≡_, refl, sym, _∙_, ap, ap₂, subst, subst⁻¹}, Bool.{Bool, true, false, cond}, List.{List, [], _∷_}}
 use mathlib.Core.Option.{Option, none, some}
 use Prim.Native.Nat.{ℕ}
 use lib.Dec.{eqb}
 use borrow.Author.Tests.{eqb-true, eqb-false, eq-eqb, ne-eqb}
 use Rattle.refusal.specs.declared.Refusal.{Refusal}
 use Rattle.refusal.specs.Refusal.{or-else}
-use Rattle.channel_log.specs.Calls.{Call, load, event, restart, restart-all, clear, Reply, accepted, refused, Channels, with-channel, channel-refusal, Content, empty-refusal, on-event, call-refusal, event-reply, accepted-reply, map-option, effect, settled, step, replies, final}
-use Rattle.channel_log.specs.Independence.{concerns, struck, replies-on}
+use Rattle.channel_log.specs.Calls.{Call, load, event, restart, restart-all, clear, Reply, accepted, Channels, with-channel}
+use Rattle.channel_log.specs.Calls.{channel-refusal, Content, empty-refusal, on-event, call-refusal, event-reply, accepted-reply, map-option}
+use Rattle.channel_log.specs.{Calls.{effect, settled, step, replies, final}, Independence.{concerns, struck, replies-on}}
 
 put-at : {X : Type 0} (c : ℕ) (x : Option X) (L : Channels X) → with-channel c x L c ≡ x
 put-at c x L = ap (λ t. cond t x (L c)) (eq-eqb c c refl)
@@ -32,7 +30,9 @@ module _ {X Input Output : Type 0} (K : Content X Input Output)
 
   other : (call : Call Input) (L : Channels X) → concerns c call ≡ false → step K call L .1 c ≡ L c
   other (load d r) L e = settle-other (call-refusal K L (load d r)) accepted (effect K L (load d r)) L (put-other d c (some (K .loaded r)) L e)
-  other (event d m) L e = settle-other (call-refusal K L (event d m)) (accepted-reply K L (event d m)) (effect K L (event d m)) L (put-other d c (map-option (λ x. K .moved x m) (L d)) L e)
+  other (event d m) L e =
+      settle-other (call-refusal K L (event d m)) (accepted-reply K L (event d m)) (effect K L (event d m)) L
+      (put-other d c (map-option (λ x. K .moved x m) (L d)) L e)
   other (restart d) L e = settle-other (call-refusal K L (restart d)) accepted (effect K L (restart d)) L (put-other d c (map-option (K .restarted) (L d)) L e)
   other restart-all L e = absurd (subst (λ t. elim t as (λ b. Type 0) [ false ↦ ⊥ | true ↦ Unit {0} ]) e tt)
   other (clear d) L e = settle-other (call-refusal K L (clear d)) accepted (effect K L (clear d)) L (put-other d c none L e)
@@ -41,10 +41,14 @@ module _ {X Input Output : Type 0} (K : Content X Input Output)
   Same call L N = (step K call L .0 ≡ step K call N .0) × (step K call L .1 c ≡ step K call N .1 c)
 
   -- The same refusal, reply and effect.
-  same-by : (call : Call Input) (L N : Channels X) → call-refusal K L call ≡ call-refusal K N call → accepted-reply K L call ≡ accepted-reply K N call → effect K L call c ≡ effect K N call c → L c ≡ N c → Same call L N
+  same-by :
+      (call : Call Input) (L N : Channels X) → call-refusal K L call ≡ call-refusal K N call → accepted-reply K L call ≡ accepted-reply K N call →
+      effect K L call c ≡ effect K N call c → L c ≡ N c → Same call L N
   same-by call L N o a e l =
-      subst (λ p. (step K call L .0 ≡ settled K p (accepted-reply K N call) (effect K N call) N .0) × (step K call L .1 c ≡ settled K p (accepted-reply K N call) (effect K N call) N .1 c)) o
-      (subst (λ b. (step K call L .0 ≡ settled K (call-refusal K L call) b (effect K N call) N .0) × (step K call L .1 c ≡ settled K (call-refusal K L call) b (effect K N call) N .1 c)) a
+      subst (λ p. (step K call L .0 ≡ settled K p (accepted-reply K N call) (effect K N call) N .0)
+      × (step K call L .1 c ≡ settled K p (accepted-reply K N call) (effect K N call) N .1 c)) o
+      (subst (λ b. (step K call L .0 ≡ settled K (call-refusal K L call) b (effect K N call) N .0)
+      × (step K call L .1 c ≡ settled K (call-refusal K L call) b (effect K N call) N .1 c)) a
       (settle-same (call-refusal K L call) (accepted-reply K L call) (effect K L call) (effect K N call) L N e l))
 
   put-both : (x y : Option X) (L N : Channels X) → x ≡ y → with-channel c x L c ≡ with-channel c y N c
@@ -77,7 +81,8 @@ module _ {X Input Output : Type 0} (K : Content X Input Output)
     where
       go :
           (t : Bool) → concerns c x ≡ t →
-          ((L N : Channels X) → L c ≡ N c → (replies-on c xs (replies (step K) xs L) ≡ replies (step K) (struck c xs) N) × (final (step K) xs L c ≡ final (step K) (struck c xs) N c)) →
+          ((L N : Channels X) → L c ≡ N c → (replies-on c xs (replies (step K) xs L) ≡ replies (step K) (struck c xs) N)
+          × (final (step K) xs L c ≡ final (step K) (struck c xs) N c)) →
           (cond t (step K x L .0 ∷ replies-on c xs (replies (step K) xs (step K x L .1))) (replies-on c xs (replies (step K) xs (step K x L .1)))
           ≡ replies (step K) (cond t (x ∷ struck c xs) (struck c xs)) N)
           × (final (step K) xs (step K x L .1) c ≡ final (step K) (cond t (x ∷ struck c xs) (struck c xs)) N c)

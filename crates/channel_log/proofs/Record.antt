@@ -1,53 +1,64 @@
 -- Demand 3 and independence for any tool whose calls take its channels as `recorded` says, over compiled tables that are the rules'.
--- Assumes nothing.
-use mathlib.Core.Path.{_≡_, refl, sym, _∙_, ap, ap₂, subst, subst⁻¹}
-use mathlib.Core.Bool.{Bool, true, false, cond}
-use mathlib.Core.Logic.{_⊎_, inl, inr}
-use mathlib.Core.List.{List, [], _∷_, _++_}
-use mathlib.Core.Option.{Option, none, some}
+use mathlib.Core.{Path.{_≡_, refl, sym, _∙_, ap, subst, subst⁻¹}, Bool.{Bool, true, false, cond, true≢false}, Logic.{⊎-elim}, List.{List, [], _∷_}}
+use mathlib.Core.Option.{Option, none, some, Option·some-ne-none}
 use Prim.Native.Nat.{ℕ, zero, _<_}
 use native.Mathlib.Omega.{arith}
-use lib.Dec.{ltb}
-use borrow.Author.Tests.{ltb-true}
-use Rattle.theory.specs.Semilattice.{MeetSemilattice}
-use Rattle.theory.specs.Formula.{Formula, WellFormed}
-use Rattle.theory.specs.MealyMachine.{Machine, Word, after}
-use Rattle.theory.specs.ReachableStates.{IsTableOf}
-use Rattle.theory.proofs.SemanticsEquality.{only-answer}
-use Rattle.theory.proofs.WordOrder.{word-append}
-use Rattle.theory.proofs.ReachableStates.{after-append}
-use Rattle.theory.proofs.Claims.{table-values}
+use lib.Dec.{ltb, eqb}
+use borrow.Author.Tests.{ltb-true, eqb-false}
+use Rattle.theory.specs.{Semilattice.{MeetSemilattice}, Formula.{Formula, WellFormed}, MealyMachine.{Word, after}, ReachableStates.{IsTableOf}}
+use Rattle.theory.proofs.{SemanticsEquality.{only-answer}, WordOrder.{word-append}, ReachableStates.{after-append}, Claims.{table-values}}
 use Rattle.refusal.specs.declared.Refusal.{Refusal}
 use Rattle.refusal.specs.declared.Refusal.the-variants.{Plain}
-use Rattle.refusal.specs.Refusal.{or-else, number}
-use Rattle.channel_log.specs.Calls.{Call, load, event, restart, restart-all, clear, Reply, accepted, returned, refused, Channels, all-empty, channel-refusal, Content, empty-refusal, on-event, call-refusal, event-reply, accepted-reply, map-option, effect, settled, step, replies, final}
-use Rattle.channel_log.specs.Log.{History, large-event, value-after, log}
-use Rattle.channel_log.specs.Recorded.{Loaded, at-state, recorded}
-use Rattle.channel_log.specs.Independence.{struck, replies-on}
-use Rattle.channel_log.specs.Claims.{Never, StandsAs, AsLogged, Independent, RecordClaim, IndependenceClaim}
-use Rattle.channel_log.proofs.Simulation.{run-related, Related, AllRelated, Matches, step-related}
-use Rattle.channel_log.proofs.Independence.{replies-struck}
-
-abbrev IsNone : {A : Type 0} → Option A → Type 0
-IsNone none = Unit {0}
-IsNone (some a) = ⊥
+use Rattle.limits.specs.Limits.{channel-limit}
+use Rattle.refusal.specs.Refusal.{Condition, plain, at-lowest, Gives, First, part-of, condition-numbers, or-else, number}
+use Rattle.channel_log.specs.Calls.{Call, load, event, restart, restart-all, clear, Reply, accepted, returned, refused, Channels, all-empty}
+use Rattle.channel_log.specs.Calls.{channel-refusal, Content, empty-refusal, on-event, call-refusal, event-reply, accepted-reply}
+use Rattle.channel_log.specs.{Calls.{effect, settled, step, replies, final}, Log.{History, large-event, value-after, log}}
+use Rattle.channel_log.specs.{Recorded.{Loaded, recorded}, Independence.{replies-on}, Claims.{Never, StandsAs, RecordClaim, IndependenceClaim}}
+use Rattle.channel_log.proofs.{Simulation.{run-related, Related, AllRelated, Matches, step-related}, Independence.{replies-struck}}
 
 pub not-large : (events e : ℕ) → large-event events e ≡ none → e < events
 not-large events e h = go (ltb e events) refl h
   where
     go : (t : Bool) → ltb e events ≡ t → cond t none (some (Plain 16)) ≡ none → e < events
     go true p x = ltb-true e events p
-    go false p x = absurd (subst⁻¹ IsNone x tt)
+    go false p x = absurd (Option·some-ne-none (Plain 16) x)
 
 -- The refusal, if any, has another number.
 abbrev pub Not : ℕ → Option Refusal → Type 0
 Not n none = Unit {0}
 Not n (some r) = ¬ (number r ≡ n)
 
-plain-not-17 : (t : Bool) (k : ℕ) → k < 17 → Not 17 (cond t none (some (Plain k)))
+-- A number that is not in a list is not the first there, nor in the rest.
+absent : (n m : ℕ) (ms : List ℕ) → part-of (n ∷ []) (m ∷ ms) ≡ false → (¬ (m ≡ n)) × (part-of (n ∷ []) ms ≡ false)
+unfolding part-of
+absent n m ms h = go (eqb n m) refl h
+  where
+    go : (b : Bool) → eqb n m ≡ b → cond b true (part-of (n ∷ []) ms) ≡ false → (¬ (m ≡ n)) × (part-of (n ∷ []) ms ≡ false)
+    go true e h = absurd (true≢false h)
+    go false e h = (λ q. eqb-false n m e (sym q), h)
+
+-- A condition gives refusals of one number.
+given-number :
+    (C : Condition) (cs : List Condition) →
+    (m : ℕ) × (condition-numbers (C ∷ cs) ≡ m ∷ condition-numbers cs) × ((r : Refusal) → Gives C r → number r ≡ m)
+unfolding condition-numbers number
+given-number (plain m Met) cs = (m, refl, λ r met. ap number (met .1))
+given-number (at-lowest m Met) cs = (m, refl, λ r met. ap number (met .2))
+
+-- Where no condition of a list has a number, what the list gives has another.
+pub first-not : (n : ℕ) (cs : List Condition) (a : Option Refusal) → part-of (n ∷ []) (condition-numbers cs) ≡ false → First cs a → Not n a
+unfolding First
+first-not n [] a h e = subst⁻¹ (Not n) e tt
+first-not n (C ∷ cs) a h x =
+    let g = given-number C cs in
+    let p = absent n (g .0) (condition-numbers cs) (subst (λ l. part-of (n ∷ []) l ≡ false) (g .1) h) in
+    ⊎-elim (λ y. subst⁻¹ (Not n) (y .2) (λ q. p .0 (sym (g .2 (y .0) (y .1)) ∙ q))) (λ y. first-not n cs a (p .1) (y .1)) x
+
+plain-not-17 : (t : Bool) (k : ℕ) → ¬ (k ≡ 17) → Not 17 (cond t none (some (Plain k)))
 unfolding number
 plain-not-17 true k h = tt
-plain-not-17 false k h = λ e. omega arith
+plain-not-17 false k h = h
 
 first-not-17 : (a b : Option Refusal) → Not 17 a → Not 17 b → Not 17 (or-else a b)
 unfolding or-else
@@ -101,7 +112,7 @@ module _ {B : Type 0} (In : B → Type 0) (meet : B → B → B) (top : B) (laws
   event-not-17 : (h : Option (History B)) (e : ℕ) → Not 17 (on-event logged h e)
   unfolding number
   event-not-17 none e = λ q. omega arith
-  event-not-17 (some h) e = plain-not-17 (ltb e events) 16 (omega arith)
+  event-not-17 (some h) e = plain-not-17 (ltb e events) 16 (λ q. omega arith)
 
   empty-not-17 : (h : Option (History B)) → Not 17 (empty-refusal h)
   unfolding number
@@ -109,7 +120,7 @@ module _ {B : Type 0} (In : B → Type 0) (meet : B → B → B) (top : B) (laws
   empty-not-17 (some h) = tt
 
   channel-not-17 : (c : ℕ) → Not 17 (channel-refusal c)
-  channel-not-17 c = plain-not-17 (ltb c 8) 14 (omega arith)
+  channel-not-17 c = plain-not-17 (ltb c channel-limit) 14 (λ q. omega arith)
 
   refusal-not-17 : (L : Channels (History B)) (call : Call ℕ) → Not 17 (call-refusal logged L call)
   refusal-not-17 L (load c r) = first-not-17 (channel-refusal c) (judged r) (channel-not-17 c) (not-17 r)

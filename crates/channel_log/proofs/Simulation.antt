@@ -1,14 +1,12 @@
 -- Two kinds of contents that are related answer alike: a call keeps the relation and gives the same reply, and so does a list.
--- Assumes nothing.
-use mathlib.Core.Path.{_≡_, refl, sym, _∙_, ap, ap₂, subst, subst⁻¹}
-use mathlib.Core.Bool.{Bool, true, false, cond}
-use mathlib.Core.List.{List, [], _∷_}
-use mathlib.Core.Option.{Option, none, some}
+use mathlib.Core.{Path.{_≡_, refl, ap, ap₂, subst}, Bool.{Bool, true, false, cond}, List.{List, [], _∷_}, Option.{Option, none, some}}
 use Prim.Native.Nat.{ℕ}
 use lib.Dec.{eqb}
 use Rattle.refusal.specs.declared.Refusal.{Refusal}
 use Rattle.refusal.specs.Refusal.{or-else}
-use Rattle.channel_log.specs.Calls.{Call, load, event, restart, restart-all, clear, Reply, accepted, returned, refused, Channels, with-channel, channel-refusal, Content, empty-refusal, on-event, call-refusal, event-reply, accepted-reply, map-option, effect, settled, step, replies, final}
+use Rattle.channel_log.specs.Calls.{Call, load, event, restart, restart-all, clear, returned, Channels, with-channel}
+use Rattle.channel_log.specs.Calls.{channel-refusal, Content, empty-refusal, on-event, call-refusal, event-reply, accepted-reply, map-option}
+use Rattle.channel_log.specs.Calls.{effect, settled, step, replies, final}
 
 -- One step after another: related, with equal replies.
 pub run-related :

@@ -1,11 +1,11 @@
 -- The calls on a tool and how its eight channels take them (document 01, "Tool"), whatever a loaded channel holds: the log's
 -- channels hold a rule and its events, the tool's a table and a current state, and both take calls by this one definition.
--- Assumes nothing.
 use mathlib.Core.Bool.{cond}
 use mathlib.Core.List.{List, [], _∷_}
 use mathlib.Core.Option.{Option, none, some}
 use Prim.Native.Nat.{ℕ}
 use lib.Dec.{eqb, ltb}
+use Rattle.limits.specs.Limits.{channel-limit}
 use Rattle.refusal.specs.declared.Refusal.{Refusal}
 use Rattle.refusal.specs.declared.Refusal.the-variants.{Plain}
 use Rattle.refusal.specs.Refusal.{or-else}
@@ -50,7 +50,7 @@ pub record Content (X Input Output : Type 0) : Type 0 where
 
 -- 14: channel above 7.
 abbrev pub channel-refusal : ℕ → Option Refusal
-channel-refusal c = cond (ltb c 8) none (some (Plain 14))
+channel-refusal c = cond (ltb c channel-limit) none (some (Plain 14))
 
 -- 15: channel empty.
 abbrev pub empty-refusal : {X : Type 0} → Option X → Option Refusal

@@ -1,13 +1,11 @@
 -- Demand 3 as one claim about every list of calls, and the independence of channels, for any tool.
--- Assumes nothing.
 use mathlib.Core.Path.{_≡_}
 use mathlib.Core.List.{List, [], _∷_}
 use mathlib.Core.Option.{Option, none, some}
 use Prim.Native.Nat.{ℕ, zero, _<_}
-use Rattle.theory.specs.Formula.{Formula}
-use Rattle.theory.specs.MealyMachine.{Machine, after}
+use Rattle.limits.specs.Limits.{channel-limit}
+use Rattle.theory.specs.MealyMachine.{after}
 use Rattle.theory.specs.ReachableStates.{IsTableOf}
-use Rattle.refusal.specs.declared.Refusal.{Refusal}
 use Rattle.refusal.specs.Refusal.{number}
 use Rattle.channel_log.specs.Calls.{Call, Reply, accepted, returned, refused, Channels, all-empty, Content, step, replies, final}
 use Rattle.channel_log.specs.Log.{History}
@@ -40,7 +38,7 @@ module _ {Tool X Y Input Output : Type 0} (call : Call Input → Tool → Reply 
   pub record AsLogged (calls : List (Call Input)) : Type 0 where
     pub same-replies : replies call calls tool ≡ replies (step log) calls all-empty
     pub never-17 : Never 17 (replies call calls tool)
-    pub stands : (c : ℕ) → c < 8 → Stands (channels (final call calls tool) c) (final (step log) calls all-empty c)
+    pub stands : (c : ℕ) → c < channel-limit → Stands (channels (final call calls tool) c) (final (step log) calls all-empty c)
 
   -- Two lists that become the same once calls that name another channel than c are struck out: the same replies to the calls
   -- that stay, and the same channel afterwards.
@@ -53,4 +51,4 @@ module _ {Tool X Y Input Output : Type 0} (call : Call Input → Tool → Reply 
 
   abbrev pub IndependenceClaim : Type 0
   IndependenceClaim =
-      (c : ℕ) → c < 8 → (calls others : List (Call Input)) → struck c calls ≡ struck c others → Independent c calls others
+      (c : ℕ) → c < channel-limit → (calls others : List (Call Input)) → struck c calls ≡ struck c others → Independent c calls others

@@ -1,6 +1,5 @@
 -- The calls of a list that concern one channel (document 01, "Tool": calls that name another channel are struck out; a number
 -- above 7 counts as another, and restart all names none).
--- Assumes nothing.
 use mathlib.Core.Bool.{Bool, true, cond}
 use mathlib.Core.List.{List, [], _∷_}
 use Prim.Native.Nat.{ℕ}

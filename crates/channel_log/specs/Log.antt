@@ -1,6 +1,5 @@
 -- The log (document 01, "Tool"): for each channel nothing, or a rule and its events in order. It is fed the set-up and the calls
 -- with their inputs, and judges by document 01's list and the formula semantics; no table is built.
--- Assumes nothing.
 use mathlib.Core.Bool.{cond}
 use mathlib.Core.List.{List, [], _∷_, _++_}
 use mathlib.Core.Option.{Option, none, some}

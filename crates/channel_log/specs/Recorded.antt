@@ -1,5 +1,4 @@
 -- A tool's channels: a table and a current state (document 01, "Tool").
--- Assumes nothing.
 use mathlib.Core.List.{List}
 use mathlib.Core.Option.{Option}
 use Prim.Native.Nat.{ℕ, zero}

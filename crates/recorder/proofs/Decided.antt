@@ -1,250 +1,323 @@
 -- What is decided is what the definitions of the calls say.
--- Assumes nothing.
-use mathlib.Core.Path.{_≡_, refl, sym, _∙_, ap, ap₂, subst, subst⁻¹}
-use mathlib.Core.Bool.{Bool, true, false, _&&_, cond}
-use mathlib.Core.List.{List}
-use mathlib.Core.Option.{Option, none, some}
-use Prim.Native.Nat.{ℕ, _+_, _*_, _%_, _≤_, _<_}
-use native.Mathlib.Nat.{mod-eq-of-lt}
-use native.Mathlib.Omega.{arith}
-use borrow.Author.Tests.{lt-ltb, ltb-true, ltb-false}
-use lib.Dec.{ltb}
-use lib.ListN.{getD, set, replicate}
-use lib.Seq.{set-getD}
-use Rattle.refusal.specs.declared.Refusal.{Refusal}
+use mathlib.Core.{Path.{_≡_, refl, sym, _∙_, ap, ap₂, subst}, Bool.{Bool, true, false, _&&_, cond}, List.{List}}
+use mathlib.Core.Option.{Option, none, some, Option·some-ne-none}
+use Prim.Native.Nat.{ℕ, zero, suc, _+_, _*_, _%_, _≤_, _<_}
+use native.Mathlib.{Nat.{mod-eq-of-lt}, Omega.{arith}}
+use borrow.Author.Tests.{ltb-true, ltb-false}
+use lib.{Dec.{ltb}, ListN.{getD, set, replicate}, Seq.{set-getD}}
+use Rattle.limits.specs.Limits.{channel-limit, event-limit, meet-limit}
+use Rattle.theory.specs.MealyMachine.{Machine}
+use Rattle.theory.proofs.ValueSets.{and-left, and-right}
+use Rattle.refusal.specs.declared.{Refusal.{Refusal}, Judgement.{Judgement}}
 use Rattle.refusal.specs.declared.Refusal.the-variants.{Plain}
-use Rattle.refusal.specs.Refusal.{or-else, plain-unless, judgement}
-use Rattle.refusal.specs.declared.Judgement.{Judgement}
 use Rattle.refusal.specs.declared.Judgement.the-variants.{Accepted, Refused}
-use Rattle.values.specs.Setup.{Setup, setup, WellFormed, setup-refusal}
-use Rattle.channel_log.specs.Calls.{event, restart, restart-all, clear, Reply, accepted, returned, refused, empty-refusal, on-event, event-reply, call-refusal, accepted-reply}
-use Rattle.channel_log.specs.Recorded.{Loaded}
-use Rattle.recorder.specs.declared.Tool.{Tool}
-use Rattle.recorder.specs.declared.Decision.{Decision}
-use Rattle.recorder.specs.declared.Decision.the-variants.{Refuse, Go}
+use Rattle.refusal.specs.Refusal.{or-else, plain-unless, judgement}
+use Rattle.refusal.proofs.Refusals.{or-else-none, or-else-assoc, plain-none, judgement-accepted, judgement-refused}
+use Rattle.values.specs.{Setup.{Setup, setup}, SetupTests.{setup-refusal}}
+use Rattle.values.proofs.Setups.{setup-accepted}
 use Rattle.machines.proofs.EntryIndex.{index-below}
-use Rattle.recorder.specs.Channels.{setup-of, rows-size, rows-start, held, channels, loaded-at}
-use Rattle.recorder.specs.ToolFault.{InOrder, setup-test, channel-test, tool-test}
-use Rattle.recorder.specs.Tool.{with-current, with-rows, next-state, content, effect-on, settled-tool, called, padded, empty-tool, new-tool, blank-tool, set-up-answer, set-up-called}
-use Rattle.recorder.specs.Decisions.{decide, event-decision-in, event-decision, restart-decision, channel-decision, value-reply, plain-reply, state-after, count-after, sound-reply, states-after, judged-reply}
-use Rattle.recorder.proofs.Rows.{getD-part, rows-in, entries-fit}
-use Rattle.recorder.proofs.Held.{held-above, held-some, empty-held, in-order-of-test, well-formed-of-test, accepted-test}
+use Rattle.channel_log.specs.Calls.{Call, event, restart, restart-all, clear, Reply, accepted, returned, refused}
+use Rattle.channel_log.specs.{Calls.{channel-refusal, empty-refusal, on-event, event-reply, accepted-reply}, Log.{large-event}, Recorded.{Loaded}}
+use Rattle.channel_log.proofs.Record.{not-large}
+use Rattle.recorder.specs.declared.Decision.{Decision}
+use Rattle.recorder.specs.Store.{Store, setup-of, table-at, loaded-at, rows-start, held, channels}
+use Rattle.recorder.specs.ToolFault.{ChannelInOrder, setup-test, channel-test, test-of, tool-test}
+use Rattle.recorder.specs.Called.{with-current, next-state, content, tool-refusal, effect-on, settled-store, called}
+use Rattle.recorder.specs.Called.{empty-store, filled, new-store, blank, set-up-answer, set-up-called}
+use Rattle.recorder.specs.Decisions.{refusal-of, number-unless, first-number, channel-number, loaded-number, event-number}
+use Rattle.recorder.specs.Decisions.{decided, entry-place, Bounds, plain-reply, value-reply, kept-number, states-after, judged-reply}
+use Rattle.recorder.proofs.{Numbers.{first-refusal, unless-refusal, test-refusal}, Rows.{getD-part, rows-in, entries-fit}}
+use Rattle.recorder.proofs.Held.{channel-below, few-events, held-above, held-some, empty-held, in-order-of-test}
+
+-- What comes after a refusal does not matter.
+pub or-else-same : (a b d : Option Refusal) → (a ≡ none → b ≡ d) → or-else a b ≡ or-else a d
+unfolding or-else
+or-else-same none b d h = h refl
+or-else-same (some r) b d h = refl
+
+module _ (t : Store) (call : Call ℕ) where
+  pub refused-call : (r : Refusal) → tool-refusal t call ≡ some r → called call t ≡ (refused r, t)
+  unfolding called
+  refused-call r h = ap (λ o. settled-store o (accepted-reply (content t) (channels t) call) (effect-on t call) t) h
+
+  pub accepted-call : tool-refusal t call ≡ none → called call t ≡ (accepted-reply (content t) (channels t) call, effect-on t call)
+  unfolding called
+  accepted-call h = ap (λ o. settled-store o (accepted-reply (content t) (channels t) call) (effect-on t call) t) h
 
 -- The channel as the code reads it, with its state at c % 8; and 17's test of it.
-abbrev pub read : Tool → ℕ → Option (Loaded ℕ)
-read t c = held c (t .events) (getD (t .states) (c % 8) 0) (getD (t .current) (c % 8) 0) (t .value) (t .next)
+abbrev pub read : Store → ℕ → Option (Loaded ℕ)
+read t c =
+    held c (t .setup .events) (getD (t .states) (c % channel-limit) 0) (getD (t .current) (c % channel-limit) 0) (t .value) (t .next)
 
-abbrev pub tested : Tool → ℕ → Bool
-tested t c = setup-test (setup-of t) && channel-test (t .events) (t .values) (read t c)
-
-pub read-same : (t : Tool) (c : ℕ) → read t c ≡ channels t c
-read-same t c = go (ltb c 8) refl
+pub read-same : (t : Store) (c : ℕ) → read t c ≡ channels t c
+read-same t c = go (ltb c channel-limit) refl
   where
-    go : (i : Bool) → ltb c 8 ≡ i → read t c ≡ channels t c
+    go : (i : Bool) → ltb c channel-limit ≡ i → read t c ≡ channels t c
     go true p =
-        ap (λ x. held c (t .events) (getD (t .states) x 0) (getD (t .current) x 0) (t .value) (t .next)) (mod-eq-of-lt (ltb-true c 8 p))
+        ap (λ x. held c (t .setup .events) (getD (t .states) x 0) (getD (t .current) x 0) (t .value) (t .next))
+        (mod-eq-of-lt (ltb-true c channel-limit p))
     go false p =
-        held-above c (t .events) (getD (t .states) (c % 8) 0) (getD (t .current) (c % 8) 0) (t .value) (t .next) (ltb-false c 8 p)
-        ∙ sym (held-above c (t .events) (getD (t .states) c 0) (getD (t .current) c 0) (t .value) (t .next) (ltb-false c 8 p))
+        held-above c (t .setup .events) (getD (t .states) (c % channel-limit) 0) (getD (t .current) (c % channel-limit) 0) (t .value) (t .next)
+        (ltb-false c channel-limit p)
+        ∙ sym (held-above c (t .setup .events) (getD (t .states) c 0) (getD (t .current) c 0) (t .value) (t .next) (ltb-false c channel-limit p))
 
-pub tested-same : (t : Tool) (c : ℕ) → tested t c ≡ (setup-test (setup-of t) && channel-test (t .events) (t .values) (channels t c))
-tested-same t c = ap (λ o. setup-test (setup-of t) && channel-test (t .events) (t .values) o) (read-same t c)
+-- 17's number for a named channel.
+abbrev pub fault-number : Store → ℕ → ℕ
+fault-number t c = number-unless (setup-test (setup-of t) && channel-test (t .setup .events) (t .setup .kind) (read t c)) 17
 
--- The entry of an event, where nothing is refused.
-pub goes :
-    (n c k q e : ℕ) (L N : List ℕ) → c < 8 → 0 < k → q < k → e < n →
-    event-decision true n c (held c n k q L N) e ≡ Go (getD L (rows-start c + (q * n + e)) 0) (getD N (rows-start c + (q * n + e)) 0)
-goes n c k q e L N h g l m =
-    rw (held-some c n k q L N h g)
-    (simp (
-      lt-ltb c 8 h,
-      lt-ltb e n m,
-      getD-part L (rows-start c) (k * n) (q * n + e) (index-below n k q e l m),
-      getD-part N (rows-start c) (k * n) (q * n + e) (index-below n k q e l m),
-    ))
+module _ (t : Store) (c f : ℕ) (e-fault : f ≡ fault-number t c) where
+  abbrev w : ℕ
+  w = c % channel-limit
 
--- Where it lies.
-pub record Bounds (c n k q e : ℕ) : Type 0 where
-  pub state : q < k
-  pub row : q * n ≤ rows-size
-  pub place : rows-start c + (q * n + e) < 8192
+  abbrev k : ℕ
+  k = getD (t .states) w 0
 
-pub bounds :
-    (n v c k q e : ℕ) (L N : List ℕ) → (n ≤ 16) × (channel-test n v (held c n k q L N) ≡ true) → c < 8 → 0 < k → e < n → Bounds c n k q e
-bounds n v c k q e L N p h g l =
-    let f : InOrder n v (loaded-at (rows-start c) n k q L N) =
-    in-order-of-test n v (loaded-at (rows-start c) n k q L N) (rw (held-some c n k q L N h g) at (p .1)) in
-    record {
-      state = f .start-in;
-      row = entries-fit q n (omega (arith, f .start-in, f .few-states)) (p .0);
-      place = omega (arith, rows-in c h, entries-fit k n (f .few-states) (p .0), index-below n k q e (f .start-in) l);
-    }
+  abbrev seventeen : Option Refusal
+  seventeen = plain-unless (setup-test (setup-of t) && test-of t c) 17
 
-abbrev pub IsGo : Decision → Type 0
-IsGo (Refuse n) = ⊥
-IsGo (Go v q) = Unit {0}
+  fault-refusal : refusal-of f ≡ seventeen
+  fault-refusal =
+      ap refusal-of e-fault ∙ unless-refusal (setup-test (setup-of t) && channel-test (t .setup .events) (t .setup .kind) (read t c)) 16
+      ∙ ap (λ o. plain-unless (setup-test (setup-of t) && channel-test (t .setup .events) (t .setup .kind) o) 17) (read-same t c)
+
+  channel-unless : refusal-of (number-unless (ltb c channel-limit) 14) ≡ channel-refusal c
+  channel-unless = test-refusal (ltb c channel-limit) 13
+
+  -- 17, then 14.
+  pub channel-refused : refusal-of (channel-number f c) ≡ or-else seventeen (channel-refusal c)
+  channel-refused = first-refusal f (number-unless (ltb c channel-limit) 14) ∙ ap₂ or-else fault-refusal channel-unless
+
+  -- A channel that they do not refuse is where the code looks.
+  here : or-else seventeen (channel-refusal c) ≡ none → w ≡ c
+  here h = mod-eq-of-lt (channel-below c (or-else-none seventeen (channel-refusal c) h .1))
+
+  empty-unless : or-else seventeen (channel-refusal c) ≡ none → refusal-of (number-unless (ltb 0 k) 15) ≡ empty-refusal (channels t c)
+  empty-unless h =
+      ap (λ x. refusal-of (number-unless (ltb 0 (getD (t .states) x 0)) 15)) (here h) ∙ test-refusal (ltb 0 (getD (t .states) c 0)) 14
+      ∙ sym (empty-held c (t .setup .events) (getD (t .states) c 0) (getD (t .current) c 0) (t .value) (t .next)
+      (channel-below c (or-else-none seventeen (channel-refusal c) h .1)))
+
+  -- Then 15, and what comes after it.
+  pub loaded-refused : refusal-of (loaded-number f c k) ≡ or-else seventeen (or-else (channel-refusal c) (empty-refusal (channels t c)))
+  loaded-refused =
+      first-refusal (channel-number f c) (number-unless (ltb 0 k) 15)
+      ∙ ap (λ o. or-else o (refusal-of (number-unless (ltb 0 k) 15))) channel-refused
+      ∙ or-else-same (or-else seventeen (channel-refusal c)) (refusal-of (number-unless (ltb 0 k) 15)) (empty-refusal (channels t c)) empty-unless
+      ∙ sym (or-else-assoc seventeen (channel-refusal c) (empty-refusal (channels t c)))
+
+  pub later-refused :
+      (n : ℕ) →
+      refusal-of (first-number (loaded-number f c k) n)
+      ≡ or-else seventeen (or-else (channel-refusal c) (or-else (empty-refusal (channels t c)) (refusal-of n)))
+  later-refused n =
+      let a = channel-refusal c in
+      let b = empty-refusal (channels t c) in
+      first-refusal (loaded-number f c k) n ∙ ap (λ o. or-else o (refusal-of n)) loaded-refused
+      ∙ sym (or-else-assoc seventeen (or-else a b) (refusal-of n)) ∙ ap (or-else seventeen) (sym (or-else-assoc a b (refusal-of n)))
+
+-- A loaded channel that 17, 14 and 15 do not refuse.
+pub record Ready (t : Store) (c : ℕ) : Type 0 where
+  pub setup-passes : setup-test (setup-of t) ≡ true
+  pub channel : c < channel-limit
+  pub loaded : 0 < getD (t .states) c 0
+  pub in-order : test-of t c ≡ true
+
+-- A loaded channel has states.
+loaded-below : (t : Store) (c : ℕ) → c < channel-limit → empty-refusal (channels t c) ≡ none → 0 < getD (t .states) c 0
+loaded-below t c h e =
+    go (ltb 0 (getD (t .states) c 0)) refl
+    (sym (empty-held c (t .setup .events) (getD (t .states) c 0) (getD (t .current) c 0) (t .value) (t .next) h) ∙ e)
+  where
+    go : (b : Bool) → ltb 0 (getD (t .states) c 0) ≡ b → cond b none (some (Plain 15)) ≡ none → 0 < getD (t .states) c 0
+    go true p x = ltb-true 0 (getD (t .states) c 0) p
+    go false p x = absurd (Option·some-ne-none (Plain 15) x)
+
+pub ready-of :
+    (t : Store) (c : ℕ) (later : Option Refusal) →
+    or-else (plain-unless (setup-test (setup-of t) && test-of t c) 17)
+    (or-else (channel-refusal c) (or-else (empty-refusal (channels t c)) later)) ≡ none →
+    Ready t c × (later ≡ none)
+ready-of t c later h =
+    let T = setup-test (setup-of t) && test-of t c in
+    let a = or-else-none (plain-unless T 17) (or-else (channel-refusal c) (or-else (empty-refusal (channels t c)) later)) h in
+    let b = or-else-none (channel-refusal c) (or-else (empty-refusal (channels t c)) later) (a .1) in
+    let d = or-else-none (empty-refusal (channels t c)) later (b .1) in
+    let passes = plain-none T 17 (a .0) in
+    let below = channel-below c (b .0) in (
+      record {
+        setup-passes = and-left (setup-test (setup-of t)) (test-of t c) passes;
+        channel = below;
+        loaded = loaded-below t c below (d .0);
+        in-order = and-right (setup-test (setup-of t)) (test-of t c) passes;
+      },
+      d .1,
+    )
+
+module _ (t : Store) (c : ℕ) where
+  abbrev pub table-of : Machine ℕ ℕ
+  table-of = table-at (rows-start c) (t .setup .events) (getD (t .states) c 0) (t .value) (t .next)
+
+  abbrev pub state-of : ℕ
+  state-of = getD (t .current) c 0
+
+  abbrev pub loaded-with : ℕ → Loaded ℕ
+  loaded-with q = loaded-at (rows-start c) (t .setup .events) (getD (t .states) c 0) q (t .value) (t .next)
+
+  module _ (g : Ready t c) where
+    pub has : channels t c ≡ some (loaded-with state-of)
+    has = held-some c (t .setup .events) (getD (t .states) c 0) state-of (t .value) (t .next) (g .channel) (g .loaded)
+
+    pub ready-facts : ChannelInOrder (t .setup .events) (t .setup .kind) (loaded-with state-of)
+    ready-facts =
+        in-order-of-test (t .setup .events) (t .setup .kind) (loaded-with state-of)
+        (subst (λ o. channel-test (t .setup .events) (t .setup .kind) o ≡ true) has (g .in-order))
+
+    pub ready-events : t .setup .events ≤ event-limit
+    ready-events = few-events (setup-of t) (g .setup-passes)
+
+-- 15 and 16 together.
+on-event-is :
+    (t : Store) (o : Option (Loaded ℕ)) (e : ℕ) → or-else (empty-refusal o) (large-event (t .setup .events) e) ≡ on-event (content t) o e
+unfolding or-else
+on-event-is t none e = refl
+on-event-is t (some x) e = refl
 
 -- Nothing written.
-same-tool : (t : Tool) (w : ℕ) → with-current t (set (t .current) w (getD (t .current) w 0)) ≡ t
-same-tool t w = ap (with-current t) (set-getD (t .current) w 0)
+pub same-store : (t : Store) (w : ℕ) → with-current t (set (t .current) w (getD (t .current) w 0)) ≡ t
+same-store t w = ap (with-current t) (set-getD (t .current) w 0)
 
-module _ (t : Tool) (c : ℕ) where
-  abbrev w : ℕ
-  w = c % 8
+-- An event.
+module _ (t : Store) (c e f : ℕ) (e-fault : f ≡ fault-number t c) where
+  abbrev at : ℕ
+  at = c % channel-limit
 
-  module _ (e : ℕ) where
-    abbrev event-result : Decision → Reply ℕ × Tool
-    event-result d = (value-reply d, with-current t (set (t .current) w (state-after d (getD (t .current) w 0))))
+  abbrev n : ℕ
+  n = event-number f c (getD (t .states) at 0) (t .setup .events) e
 
-    event-refused : (n : ℕ) → event-result (Refuse n) ≡ (refused (Plain n), t)
-    event-refused n = ap (λ u. (refused (Plain n), u)) (same-tool t w)
+  large-unless : refusal-of (number-unless (ltb e (t .setup .events)) 16) ≡ large-event (t .setup .events) e
+  large-unless = test-refusal (ltb e (t .setup .events)) 15
 
-    event-by-number :
-        (i : Bool) → ltb c 8 ≡ i → (x : Loaded ℕ) (j : Bool) →
-        event-result (decide i (decide j (Go (x .table .value (x .current) e) (x .table .next (x .current) e)) 16) 14)
-        ≡ settled-tool (or-else (cond i none (some (Plain 14))) (cond j none (some (Plain 16)))) (event-reply (content t) (some x) e)
-        (with-current t (set (t .current) c (next-state (some x) e))) t
-    unfolding or-else
-    event-by-number true p x true =
-        ap (λ d. (returned (x .table .value (x .current) e), with-current t (set (t .current) d (x .table .next (x .current) e))))
-        (mod-eq-of-lt (ltb-true c 8 p))
-    event-by-number true p x false = event-refused 16
-    event-by-number false p x j = event-refused 14
+  number-is : refusal-of n ≡ tool-refusal t (event c e)
+  number-is =
+      later-refused t c f e-fault (number-unless (ltb e (t .setup .events)) 16)
+      ∙ ap (λ o. or-else (seventeen t c f e-fault) (or-else (channel-refusal c) o))
+      (ap (or-else (empty-refusal (channels t c))) large-unless ∙ on-event-is t (channels t c) e)
 
-    event-by-channel :
-        (i : Bool) → ltb c 8 ≡ i → (o : Option (Loaded ℕ)) →
-        event-result (decide i (event-decision-in (t .events) o e) 14)
-        ≡ settled-tool (or-else (cond i none (some (Plain 14))) (on-event (content t) o e)) (event-reply (content t) o e)
-        (with-current t (set (t .current) c (next-state o e))) t
-    unfolding or-else
-    event-by-channel true p none = event-refused 15
-    event-by-channel false p none = event-refused 14
-    event-by-channel i p (some x) = event-by-number i p x (ltb e (t .events))
+  ready : n ≡ 0 → Ready t c × (e < t .setup .events)
+  ready h =
+      let r =
+      ready-of t c (refusal-of (number-unless (ltb e (t .setup .events)) 16))
+      (sym (later-refused t c f e-fault (number-unless (ltb e (t .setup .events)) 16)) ∙ ap refusal-of h) in
+      (r .0, not-large (t .setup .events) e (sym large-unless ∙ r .1))
 
-    event-by-test :
-        (s : Bool) →
-        event-result (event-decision s (t .events) c (channels t c) e)
-        ≡ settled-tool (or-else (plain-unless s 17) (call-refusal (content t) (channels t) (event c e)))
-        (accepted-reply (content t) (channels t) (event c e)) (effect-on t (event c e)) t
-    unfolding or-else plain-unless
-    event-by-test true = event-by-channel (ltb c 8) refl (channels t c)
-    event-by-test false = event-refused 17
+  -- Its entry lies within the arrays.
+  pub event-bounds : n ≡ 0 → Bounds at (t .setup .events) (getD (t .current) at 0) e
+  event-bounds h =
+      let r = ready h in
+      let x = ready-facts t c (r .0) in
+      let few = ready-events t c (r .0) in
+      subst (λ d. Bounds d (t .setup .events) (getD (t .current) d 0) e) (sym (mod-eq-of-lt (r .0 .channel)))
+      (record {
+        channel = r .0 .channel;
+        row = entries-fit (state-of t c) (t .setup .events) (omega (arith, x .start-in, x .few-states)) few;
+        place =
+            omega (
+              arith,
+              rows-in c (r .0 .channel),
+              entries-fit (getD (t .states) c 0) (t .setup .events) (x .few-states) few,
+              index-below (t .setup .events) (getD (t .states) c 0) (state-of t c) e (x .start-in) (r .1),
+            );
+      })
 
-    pub event-done :
-        (r : Reply ℕ) (q : ℕ) (d : Decision) (s : Bool) → r ≡ value-reply d → q ≡ state-after d (getD (t .current) w 0) →
-        d ≡ event-decision s (t .events) c (read t c) e → s ≡ tested t c →
-        (r, with-current t (set (t .current) w q)) ≡ called (event c e) t
-    unfolding called or-else plain-unless
-    event-done r q d s e1 e2 e3 e4 =
-        ap₂ (λ r q. (r, with-current t (set (t .current) w q))) e1 e2
-        ∙ ap event-result (e3 ∙ ap₂ (λ s o. event-decision s (t .events) c o e) (e4 ∙ tested-same t c) (read-same t c))
-        ∙ event-by-test (tool-test t (event c e))
+  abbrev value-there : ℕ → ℕ
+  value-there d = getD (t .value) (entry-place d (t .setup .events) (getD (t .current) d 0) e) 0
 
-  abbrev restart-result : ℕ → Decision → Reply ℕ × Tool
-  restart-result x d = (plain-reply d, with-current t (set (t .current) x (state-after d (getD (t .current) x 0))))
+  abbrev next-there : ℕ → ℕ
+  next-there d = getD (t .next) (entry-place d (t .setup .events) (getD (t .current) d 0) e) 0
 
-  restart-refused : (n : ℕ) → restart-result w (Refuse n) ≡ (refused (Plain n), t)
-  restart-refused n = ap (λ u. (refused (Plain n), u)) (same-tool t w)
+  abbrev outcome : ℕ → Decision → Reply ℕ × Store
+  outcome d x = (value-reply x, with-current t (set (t .current) d (x .next)))
 
-  restart-cases :
-      (s i : Bool) → ltb c 8 ≡ i →
-      restart-result w (decide s (decide i (decide (ltb 0 (getD (t .states) w 0)) (Go 0 0) 15) 14) 17)
-      ≡ settled-tool (or-else (plain-unless s 17) (or-else (cond i none (some (Plain 14))) (empty-refusal (channels t c)))) accepted
-      (with-current t (set (t .current) c 0)) t
-  unfolding or-else plain-unless
-  restart-cases false i p = restart-refused 17
-  restart-cases true false p = restart-refused 14
-  restart-cases true true p =
-      rw (empty-held c (t .events) (getD (t .states) c 0) (getD (t .current) c 0) (t .value) (t .next) (ltb-true c 8 p))
-      (subst⁻¹
-      (λ x. restart-result x (decide (ltb 0 (getD (t .states) x 0)) (Go 0 0) 15)
-      ≡ settled-tool (cond (ltb 0 (getD (t .states) c 0)) none (some (Plain 15))) accepted (with-current t (set (t .current) c 0)) t)
-      (mod-eq-of-lt (ltb-true c 8 p)) (go (ltb 0 (getD (t .states) c 0))))
+  went : n ≡ 0 → outcome at (decided 0 (getD (t .current) at 0) (value-there at) (next-there at)) ≡ called (event c e) t
+  went h =
+      let r = ready h in
+      let i = index-below (t .setup .events) (getD (t .states) c 0) (state-of t c) e (ready-facts t c (r .0) .start-in) (r .1) in
+      ap (λ d. outcome d (decided 0 (getD (t .current) d 0) (value-there d) (next-there d))) (mod-eq-of-lt (r .0 .channel))
+      ∙ ap₂ (λ v q. (returned v, with-current t (set (t .current) c q)))
+      (sym (getD-part (t .value) (rows-start c) (getD (t .states) c 0 * t .setup .events) (state-of t c * t .setup .events + e) i))
+      (sym (getD-part (t .next) (rows-start c) (getD (t .states) c 0 * t .setup .events) (state-of t c * t .setup .events + e) i))
+      ∙ sym (ap (λ o. (event-reply (content t) o e, with-current t (set (t .current) c (next-state o e)))) (has t c (r .0)))
+      ∙ sym (accepted-call t (event c e) (sym number-is ∙ ap refusal-of h))
+
+  pub event-done :
+      (a : Reply ℕ) (d : Decision) (m : ℕ) → a ≡ value-reply d → d ≡ decided m (getD (t .current) at 0) (value-there at) (next-there at) → m ≡ n →
+      (a, with-current t (set (t .current) at (d .next))) ≡ called (event c e) t
+  event-done a d m e1 e2 e3 =
+      ap (λ a. (a, with-current t (set (t .current) at (d .next)))) e1
+      ∙ ap (outcome at) (e2 ∙ ap (λ m. decided m (getD (t .current) at 0) (value-there at) (next-there at)) e3)
+      ∙ go n refl
     where
-      go :
-          (j : Bool) →
-          restart-result c (decide j (Go 0 0) 15)
-          ≡ settled-tool (cond j none (some (Plain 15))) accepted (with-current t (set (t .current) c 0)) t
-      go true = refl
-      go false = ap (λ u. (refused (Plain 15), u)) (same-tool t c)
+      go : (m : ℕ) → n ≡ m → outcome at (decided m (getD (t .current) at 0) (value-there at) (next-there at)) ≡ called (event c e) t
+      go zero h = went h
+      go (suc m) h =
+          ap (λ u. (refused (Plain (suc m)), u)) (same-store t at)
+          ∙ sym (refused-call t (event c e) (Plain (suc m)) (sym number-is ∙ ap refusal-of h))
+
+-- Restart and clear.
+module _ (t : Store) (c f : ℕ) (e-fault : f ≡ fault-number t c) where
+  abbrev x : ℕ
+  x = c % channel-limit
 
   pub restart-done :
-      (r : Reply ℕ) (q : ℕ) (d : Decision) (s : Bool) → r ≡ plain-reply d → q ≡ state-after d (getD (t .current) w 0) →
-      d ≡ restart-decision s c (getD (t .states) w 0) → s ≡ tested t c →
-      (r, with-current t (set (t .current) w q)) ≡ called (restart c) t
-  unfolding called or-else plain-unless
-  restart-done r q d s e1 e2 e3 e4 =
-      ap₂ (λ r q. (r, with-current t (set (t .current) w q))) e1 e2
-      ∙ ap (restart-result w) (e3 ∙ ap (λ s. restart-decision s c (getD (t .states) w 0)) (e4 ∙ tested-same t c))
-      ∙ restart-cases (tool-test t (restart c)) (ltb c 8) refl
+      (a : Reply ℕ) (q m : ℕ) → a ≡ plain-reply m → q ≡ kept-number m (getD (t .current) x 0) → m ≡ loaded-number f c (getD (t .states) x 0) →
+      (a, with-current t (set (t .current) x q)) ≡ called (restart c) t
+  restart-done a q m e1 e2 e3 =
+      ap₂ (λ a q. (a, with-current t (set (t .current) x q))) e1 e2 ∙ go m (ap refusal-of e3 ∙ loaded-refused t c f e-fault)
+    where
+      go :
+          (m : ℕ) → refusal-of m ≡ tool-refusal t (restart c) →
+          (plain-reply m, with-current t (set (t .current) x (kept-number m (getD (t .current) x 0)))) ≡ called (restart c) t
+      go zero h =
+          ap (λ d. (accepted, with-current t (set (t .current) d 0)))
+          (here t c f e-fault (or-else-none _ _ (sym (h ∙ or-else-assoc _ (channel-refusal c) _)) .0))
+          ∙ sym (accepted-call t (restart c) (sym h))
+      go (suc m) h = ap (λ u. (refused (Plain (suc m)), u)) (same-store t x) ∙ sym (refused-call t (restart c) (Plain (suc m)) (sym h))
 
-  abbrev emptied : ℕ → ℕ → ℕ → Tool
-  emptied x k q =
-      record {
-        events = t .events;
-        values = t .values;
-        top = t .top;
-        meet = t .meet;
-        states = set (t .states) x k;
-        current = set (t .current) x q;
-        value = t .value;
-        next = t .next;
-      }
-
-  abbrev clear-result : ℕ → Decision → Reply ℕ × Tool
-  clear-result x d = (plain-reply d, emptied x (count-after d (getD (t .states) x 0)) (state-after d (getD (t .current) x 0)))
-
-  clear-refused : (n : ℕ) → clear-result w (Refuse n) ≡ (refused (Plain n), t)
-  clear-refused n =
-      ap₂
-      (λ a b. (
-        refused (Plain n),
-        record {
-          events = t .events;
-          values = t .values;
-          top = t .top;
-          meet = t .meet;
-          states = a;
-          current = b;
-          value = t .value;
-          next = t .next;
-        },
-      ))
-      (set-getD (t .states) w 0) (set-getD (t .current) w 0)
-
-  clear-cases :
-      (s i : Bool) → ltb c 8 ≡ i →
-      clear-result w (decide s (decide i (Go 0 0) 14) 17)
-      ≡ settled-tool (or-else (plain-unless s 17) (cond i none (some (Plain 14)))) accepted (with-rows t c 0 (t .value) (t .next)) t
-  unfolding or-else plain-unless
-  clear-cases false i p = clear-refused 17
-  clear-cases true false p = clear-refused 14
-  clear-cases true true p = ap (λ x. (accepted, emptied x 0 0)) (mod-eq-of-lt (ltb-true c 8 p))
+  abbrev emptied : ℕ → ℕ → ℕ → Store
+  emptied d k q =
+      record { setup = t .setup; states = set (t .states) d k; current = set (t .current) d q; value = t .value; next = t .next }
 
   pub clear-done :
-      (r : Reply ℕ) (k q : ℕ) (d : Decision) (s : Bool) → r ≡ plain-reply d → k ≡ count-after d (getD (t .states) w 0) →
-      q ≡ state-after d (getD (t .current) w 0) → d ≡ channel-decision s c → s ≡ tested t c →
-      (r, emptied w k q) ≡ called (clear c) t
-  unfolding called or-else plain-unless
-  clear-done r k q d s e1 e2 e3 e4 e5 =
-      ap (λ r. (r, emptied w k q)) e1 ∙ ap₂ (λ k q. (plain-reply d, emptied w k q)) e2 e3
-      ∙ ap (clear-result w) (e4 ∙ ap (λ s. channel-decision s c) (e5 ∙ tested-same t c))
-      ∙ clear-cases (tool-test t (clear c)) (ltb c 8) refl
+      (a : Reply ℕ) (k q m : ℕ) → a ≡ plain-reply m → k ≡ kept-number m (getD (t .states) x 0) → q ≡ kept-number m (getD (t .current) x 0) →
+      m ≡ channel-number f c → (a, emptied x k q) ≡ called (clear c) t
+  clear-done a k q m e1 e2 e3 e4 =
+      ap (λ a. (a, emptied x k q)) e1 ∙ ap₂ (λ k q. (plain-reply m, emptied x k q)) e2 e3
+      ∙ go m (ap refusal-of e4 ∙ channel-refused t c f e-fault)
+    where
+      go :
+          (m : ℕ) → refusal-of m ≡ tool-refusal t (clear c) →
+          (plain-reply m, emptied x (kept-number m (getD (t .states) x 0)) (kept-number m (getD (t .current) x 0))) ≡ called (clear c) t
+      go zero h = ap (λ d. (accepted, emptied d 0 0)) (here t c f e-fault (sym h)) ∙ sym (accepted-call t (clear c) (sym h))
+      go (suc m) h =
+          ap₂ (λ a b. (refused (Plain (suc m)), record { setup = t .setup; states = a; current = b; value = t .value; next = t .next }))
+          (set-getD (t .states) x 0) (set-getD (t .current) x 0)
+          ∙ sym (refused-call t (clear c) (Plain (suc m)) (sym h))
 
 pub restart-all-done :
-    (t : Tool) (r : Reply ℕ) (l : List ℕ) (s : Bool) → r ≡ sound-reply s → l ≡ states-after s (t .current) →
-    s ≡ tool-test t restart-all → (r, with-current t l) ≡ called restart-all t
-unfolding called or-else plain-unless
-restart-all-done t r l s e1 e2 e3 =
-    ap₂ (λ r l. (r, with-current t l)) e1 e2
-    ∙ ap (λ s. (sound-reply s, with-current t (states-after s (t .current)))) e3 ∙ go (tool-test t restart-all)
+    (t : Store) (a : Reply ℕ) (l : List ℕ) (m : ℕ) → a ≡ plain-reply m → l ≡ states-after m (t .current) →
+    m ≡ number-unless (tool-test t restart-all) 17 → (a, with-current t l) ≡ called restart-all t
+unfolding or-else
+restart-all-done t a l m e1 e2 e3 =
+    ap₂ (λ a l. (a, with-current t l)) e1 e2
+    ∙ go m (ap refusal-of e3 ∙ unless-refusal (tool-test t restart-all) 16 ∙ last (plain-unless (tool-test t restart-all) 17))
   where
-    go :
-        (s : Bool) →
-        (sound-reply s, with-current t (states-after s (t .current)))
-        ≡ settled-tool (or-else (plain-unless s 17) none) accepted (with-current t (replicate 8 0)) t
-    go true = refl
-    go false = refl
+    last : (o : Option Refusal) → o ≡ or-else o none
+    last none = refl
+    last (some r) = refl
+
+    go : (m : ℕ) → refusal-of m ≡ tool-refusal t restart-all → (plain-reply m, with-current t (states-after m (t .current))) ≡ called restart-all t
+    go zero h = sym (accepted-call t restart-all (sym h))
+    go (suc m) h = sym (refused-call t restart-all (Plain (suc m)) (sym h))
 
 -- Set up: what 1 to 3 say, and the tool.
 module _ (events values top : ℕ) (meet : List ℕ) (j : Judgement) (e : j ≡ judgement (setup-refusal (setup events values top meet))) where
@@ -252,28 +325,23 @@ module _ (events values top : ℕ) (meet : List ℕ) (j : Judgement) (e : j ≡ 
   s = setup events values top meet
 
   pub set-up-refused :
-      (r : Reply ℕ) (u : Tool) (x : Refusal) → j ≡ Refused x → r ≡ judged-reply j → u ≡ empty-tool 0 0 0 (replicate 256 0) →
-      (r, u) ≡ set-up-called events values top meet
-  unfolding blank-tool judgement
-  set-up-refused r u x h e1 e2 = ap₂ (λ r u. (r, u)) (e1 ∙ ap judged-reply h) e2 ∙ go (setup-refusal s) (sym e ∙ h)
-    where
-      go : (o : Option Refusal) → judgement o ≡ Refused x → (refused x, empty-tool 0 0 0 (replicate 256 0)) ≡ set-up-answer s o
-      go none p = let z : _≡_ {A = ℕ} 0 1 = cc in absurd (omega arith)
-      go (some y) p = ap (λ j. (judged-reply j, empty-tool 0 0 0 (replicate 256 0))) (sym p)
+      (a : Reply ℕ) (u : Store) (r : Refusal) → j ≡ Refused r → a ≡ judged-reply j → u ≡ empty-store (setup 0 0 0 (replicate meet-limit 0)) →
+      (a, u) ≡ set-up-called s
+  unfolding blank
+  set-up-refused a u r h e1 e2 =
+      ap₂ (λ a u. (a, u)) (e1 ∙ ap judged-reply h) e2 ∙ sym (ap (set-up-answer s) (judgement-refused (setup-refusal s) r (sym e ∙ h)))
 
   pub set-up-accepted :
-      (u : Tool) → j ≡ Accepted → u ≡ empty-tool (events % 256) (values % 256) (top % 256) (padded 256 meet) →
-      (accepted, u) ≡ set-up-called events values top meet
-  unfolding new-tool setup judgement
+      (u : Store) → j ≡ Accepted → u ≡ empty-store (setup (events % 256) (values % 256) (top % 256) (filled meet-limit meet)) →
+      (accepted, u) ≡ set-up-called s
+  unfolding new-store
   set-up-accepted u h e1 =
-      let f : WellFormed s = well-formed-of-test s (sym (accepted-test s j e h)) in
+      let ok = judgement-accepted (setup-refusal s) (sym e ∙ h) in
+      let f = setup-accepted s .0 ok in
       let below : top < values = f .laws .top-in in
       ap (λ u. (accepted, u))
       (e1
-      ∙ ap₂ (λ a b. empty-tool a b (top % 256) (padded 256 meet)) (mod-eq-of-lt {n = events} {m = 256} (omega (arith, f .few-events))) (mod-eq-of-lt {n = values} {m = 256} (omega (arith, f .few-values)))
-      ∙ ap (λ a. empty-tool events values a (padded 256 meet)) (mod-eq-of-lt {n = top} {m = 256} (omega (arith, f .few-values))))
-      ∙ go (setup-refusal s) (sym e ∙ h)
-    where
-      go : (o : Option Refusal) → judgement o ≡ Accepted → (accepted, empty-tool events values top (padded 256 meet)) ≡ set-up-answer s o
-      go none p = refl
-      go (some y) p = let z : _≡_ {A = ℕ} 0 1 = cc in absurd (omega arith)
+      ∙ ap₂ (λ a b. empty-store (setup a b (top % 256) (filled meet-limit meet)))
+      (mod-eq-of-lt {n = events} {m = 256} (omega (arith, f .few-events))) (mod-eq-of-lt {n = values} {m = 256} (omega (arith, f .of-kind .few-values)))
+      ∙ ap (λ a. empty-store (setup events values a (filled meet-limit meet))) (mod-eq-of-lt {n = top} {m = 256} (omega (arith, f .of-kind .few-values))))
+      ∙ sym (ap (set-up-answer s) ok)

@@ -1,3 +1,5 @@
+-- Refusals as numbers.
+pub mod Numbers
 -- Parts of lists, copies into them, and where channels' rows lie.
 pub mod Rows
 -- What channels hold, and the tests of refusal 17.
@@ -12,3 +14,5 @@ pub mod Loads
 pub mod Runs
 -- A sequence of events is the event call repeated.
 pub mod Replays
+-- A store is that of one tool.
+pub mod Tools

@@ -1,19 +1,12 @@
 -- Parts of a list, copies into it and padding; where the rows of channels lie.
--- Assumes nothing.
-use mathlib.Core.Path.{_≡_, refl, sym, _∙_, ap, ap₂, subst}
-use mathlib.Core.Bool.{Bool, true, false}
-use mathlib.Core.Logic.{_⊎_, inl, inr, ⊎-elim}
-use mathlib.Core.List.{List, _++_, append-nil}
+use mathlib.Core.{Path.{_≡_, refl, sym, _∙_, ap, ap₂, subst}, Bool.{Bool, true, false}, Logic.{_⊎_, inl, inr, ⊎-elim}, List.{List, _++_, append-nil}}
 use Prim.Native.Nat.{ℕ, zero, suc, _+_, _*_, _-_, _≤_, _<_}
-use native.Mathlib.Nat.{mul-le-mul-right, eq-or-lt-of-le}
-use native.Mathlib.Numerals.{add-one}
-use native.Mathlib.Omega.{arith}
+use native.Mathlib.{Nat.{mul-le-mul-right, eq-or-lt-of-le}, Numerals.{add-one}, Omega.{arith}}
 use borrow.Author.Tests.{ltb-true, ltb-false}
-use lib.Dec.{ltb}
-use lib.ListN.{length, getD, set, take, drop, replicate, length-append, length-take, length-drop, length-replicate, List·getD-append}
+use lib.{Dec.{ltb}, ListN.{length, getD, set, take, drop, replicate, length-append, length-take, length-drop, length-replicate, List·getD-append}}
 use lib.Seq.{paste, paste-suc, drop-length, length-paste-head, length-paste, length-take-le, take-all, getD-append-add, getD-take, getD-drop, ext-getD}
-use Rattle.recorder.specs.Channels.{part, rows-size, rows-start}
-use Rattle.recorder.specs.Tool.{padded}
+use Rattle.limits.specs.Limits.{channel-limit, event-limit, table-limit, entry-limit, store-limit}
+use Rattle.recorder.specs.{Store.{part, rows-start}, Called.{filled}}
 
 pub length-part : (l : List ℕ) (at n : ℕ) → at + n ≤ length l → length (part l at n) ≡ n
 length-part l at n h = simp (length-take, length-drop) (omega arith)
@@ -33,27 +26,27 @@ drop-zeros (suc m) (suc i) = let e : m - i ≡ suc m - suc i = omega arith in dr
 
 -- A list of at most n elements, brought to n.
 module _ (n : ℕ) (l : List ℕ) (h : length l ≤ n) where
-  pub length-padded : length (padded n l) ≡ n
-  unfolding padded
-  length-padded =
+  pub length-filled : length (filled n l) ≡ n
+  unfolding filled
+  length-filled =
       length-append (take n l) (replicate (n - length l) 0)
       ∙ ap₂ _+_ (ap length (take-all n l h)) (length-replicate {A = ℕ} (n - length l) 0) ∙ omega arith
 
-  pub padded-at : (i : ℕ) → i < length l → getD (padded n l) i 0 ≡ getD l i 0
-  unfolding padded
-  padded-at i g =
+  pub filled-at : (i : ℕ) → i < length l → getD (filled n l) i 0 ≡ getD l i 0
+  unfolding filled
+  filled-at i g =
       ap (λ x. getD (x ++ replicate (n - length l) 0) i 0) (take-all n l h)
       ∙ List·getD-append l (replicate (n - length l) 0) 0 i g
 
-  pub take-padded : take (length l) (padded n l) ≡ l
-  take-padded =
-      let a : length (take (length l) (padded n l)) ≡ length l = length-take-le (length l) (padded n l) (omega (arith, length-padded)) in
-      ext-getD 0 (take (length l) (padded n l)) l a
-      (λ i g. getD-take (length l) (padded n l) i 0 (omega arith) ∙ padded-at i (omega arith))
+  pub take-filled : take (length l) (filled n l) ≡ l
+  take-filled =
+      let a : length (take (length l) (filled n l)) ≡ length l = length-take-le (length l) (filled n l) (omega (arith, length-filled)) in
+      ext-getD 0 (take (length l) (filled n l)) l a
+      (λ i g. getD-take (length l) (filled n l) i 0 (omega arith) ∙ filled-at i (omega arith))
 
 -- A copy into n zeros, as far as it goes.
-pub pasted-zeros : (n : ℕ) (l : List ℕ) (i : ℕ) → i ≤ length l → i ≤ n → (n ≤ i) ⊎ (length l ≤ i) → paste (replicate n 0) 0 l i ≡ padded n l
-unfolding padded
+pub pasted-zeros : (n : ℕ) (l : List ℕ) (i : ℕ) → i ≤ length l → i ≤ n → (n ≤ i) ⊎ (length l ≤ i) → paste (replicate n 0) 0 l i ≡ filled n l
+unfolding filled
 pasted-zeros n l i h g (inl m) =
     let e : i ≡ n = omega arith in
     let z : 0 + i ≡ i = omega arith in
@@ -141,15 +134,15 @@ module _ (d : List ℕ) (at : ℕ) (s : List ℕ) (n : ℕ) (hd : at + n ≤ len
       ∙ ap (λ x. getD d x 0) (sym e) ∙ sym (getD-part d b m i k))
 
 -- The rows of a channel lie within the arrays, and those of two channels apart.
-pub rows-in : (c : ℕ) → c < 8 → rows-start c + rows-size ≤ 8192
+pub rows-in : (c : ℕ) → c < channel-limit → rows-start c + entry-limit ≤ store-limit
 unfolding rows-start
 rows-in c h = omega arith
 
-pub rows-apart : (c d : ℕ) → (d ≡ c → ⊥) → (rows-start d + rows-size ≤ rows-start c) ⊎ (rows-start c + rows-size ≤ rows-start d)
+pub rows-apart : (c d : ℕ) → (d ≡ c → ⊥) → (rows-start d + entry-limit ≤ rows-start c) ⊎ (rows-start c + entry-limit ≤ rows-start d)
 unfolding rows-start
 rows-apart c d h = go (ltb d c) refl
   where
-    go : (t : Bool) → ltb d c ≡ t → (rows-start d + rows-size ≤ rows-start c) ⊎ (rows-start c + rows-size ≤ rows-start d)
+    go : (t : Bool) → ltb d c ≡ t → (rows-start d + entry-limit ≤ rows-start c) ⊎ (rows-start c + entry-limit ≤ rows-start d)
     go true e = let l : d < c = ltb-true d c e in inl (omega arith)
     go false e = let l : c < d = later (ltb-false d c e) in inr (omega arith)
       where
@@ -157,5 +150,5 @@ rows-apart c d h = go (ltb d c) refl
         later l = ⊎-elim (λ p. absurd (h (sym p))) (λ g. g) (eq-or-lt-of-le l)
 
 -- A table's entries fit the rows.
-pub entries-fit : (k n : ℕ) → k ≤ 64 → n ≤ 16 → k * n ≤ rows-size
+pub entries-fit : (k n : ℕ) → k ≤ table-limit → n ≤ event-limit → k * n ≤ entry-limit
 entries-fit k n h g = omega (arith, mul-le-mul-right n h)

@@ -1,39 +1,34 @@
 -- What load takes from the compiler, for a set-up and a rule's bytes (document 01, "Table of a rule" and refusals 5 to 10).
--- Assumes nothing.
-use mathlib.Core.List.{List, map}
+use mathlib.Core.List.{List}
 use mathlib.Core.Option.{Option}
-use Prim.Native.Nat.{ℕ, _*_, _%_}
+use Prim.Native.Nat.{ℕ, _*_}
+use Rattle.limits.specs.Limits.{state-limit, entry-limit}
 use Rattle.theory.specs.MealyMachine.{Machine}
 use Rattle.refusal.specs.declared.Refusal.{Refusal}
-use Rattle.values.specs.Setup.{Setup}
-use Rattle.values.specs.declared.ValueKind.the-variants.{Numbered}
+use Rattle.values.specs.Setup.{Setup, setup-top}
 use Rattle.synthesis.specs.declared.Compiled.{Compiled}
-use Rattle.synthesis.specs.Compilation.{state-limit, rule-states, rule-table, rule-table-refusal, flat, compiled}
-use Rattle.recorder.specs.Channels.{rows-size, loaded-at}
+use Rattle.synthesis.specs.Compilation.{rule-states, rule-table, rule-table-refusal, flat, compiled}
 use Rattle.channel_log.specs.Recorded.{Loaded}
-
--- A value in a tool's byte: the values of a set-up are below 16.
-abbrev pub low-byte : ℕ → ℕ
-low-byte v = v % 256
+use Rattle.recorder.specs.Store.{loaded-at}
 
 module _ (s : Setup) (rule : List ℕ) where
   -- 5 to 10.
   unfoldable pub rule-judged : Option Refusal
-  rule-judged = rule-table-refusal (Numbered (s .values)) (s .events) (s .top) (s .meet) rule state-limit
+  rule-judged = rule-table-refusal (s .kind) (s .events) (setup-top s) (s .meet) rule state-limit
 
   -- The table of an accepted rule: its states, and its entries by state, then event, with 0 after them up to what a channel has room
   -- for.
   unfoldable pub states-of-rule : ℕ
-  states-of-rule = rule-states (Numbered (s .values)) (s .events) (s .top) (s .meet) rule state-limit
+  states-of-rule = rule-states (s .kind) (s .events) (setup-top s) (s .meet) rule state-limit
 
   abbrev pub table-of-rule : Machine ℕ ℕ
-  table-of-rule = rule-table (Numbered (s .values)) (s .events) (s .top) (s .meet) rule state-limit
+  table-of-rule = rule-table (s .kind) (s .events) (setup-top s) (s .meet) rule state-limit
 
   unfoldable pub values-of-rule : List ℕ
-  values-of-rule = map low-byte (flat (table-of-rule .value) (s .events) (states-of-rule * s .events) rows-size)
+  values-of-rule = flat (table-of-rule .value) (s .events) (states-of-rule * s .events) entry-limit
 
   unfoldable pub nexts-of-rule : List ℕ
-  nexts-of-rule = flat (table-of-rule .next) (s .events) (states-of-rule * s .events) rows-size
+  nexts-of-rule = flat (table-of-rule .next) (s .events) (states-of-rule * s .events) entry-limit
 
   -- The channel that it is loaded into.
   abbrev pub loaded-rule : Loaded ℕ
@@ -41,4 +36,4 @@ module _ (s : Setup) (rule : List ℕ) where
 
   -- The answer of `compile_rule`, whose arrays hold these.
   unfoldable pub compiled-rule : Compiled
-  compiled-rule = compiled (Numbered (s .values)) (s .events) (s .top) (s .meet) rule
+  compiled-rule = compiled (s .kind) (s .events) (setup-top s) (s .meet) rule

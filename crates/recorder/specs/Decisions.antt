@@ -1,98 +1,106 @@
--- What the private functions of the calls decide before anything is written: refusals 14 to 17 (document 01, "Who can cause a
--- refusal"), or the value and the next state.
--- Assumes nothing.
+-- What the private functions decide before anything is written: the number of a refusal, 13 to 17, or 0 where there is none (document 01,
+-- "Who can cause a refusal"), and what an event comes to.
 use mathlib.Core.Path.{_≡_}
-use mathlib.Core.Bool.{Bool, true, false, cond}
-use mathlib.Core.List.{List, [], _∷_}
+use mathlib.Core.Bool.{Bool, cond}
+use mathlib.Core.List.{List}
 use mathlib.Core.Option.{Option, none, some}
-use Prim.Native.Nat.{ℕ, _+_, _*_, _≤_, _<_}
+use Prim.Native.Nat.{ℕ, zero, suc, _+_, _*_, _%_, _≤_, _<_}
 use lib.Dec.{ltb}
 use lib.ListN.{getD, length, replicate}
-use Rattle.theory.specs.MealyMachine.{Machine}
+use Rattle.limits.specs.Limits.{channel-limit, event-limit, table-limit, entry-limit, store-limit}
+use Rattle.refusal.specs.declared.Refusal.{Refusal}
 use Rattle.refusal.specs.declared.Refusal.the-variants.{Plain}
 use Rattle.refusal.specs.declared.Counted.{Counted}
 use Rattle.refusal.specs.declared.Counted.the-variants.{Count, Refused as NotCounted}
 use Rattle.refusal.specs.declared.Judgement.{Judgement}
 use Rattle.refusal.specs.declared.Judgement.the-variants.{Accepted, Refused}
 use Rattle.channel_log.specs.Calls.{Reply, accepted, returned, refused}
-use Rattle.channel_log.specs.Recorded.{Loaded}
+use Rattle.recorder.specs.Store.{rows-start}
 use Rattle.recorder.specs.declared.Decision.{Decision}
-use Rattle.recorder.specs.declared.Decision.the-variants.{Refuse, Go}
 
--- Go on, or refuse with a number.
-abbrev pub decide : Bool → Decision → ℕ → Decision
-decide t d n = cond t d (Refuse n)
+-- The refusal of a number; 0 is none.
+abbrev pub refusal-of : ℕ → Option Refusal
+refusal-of zero = none
+refusal-of (suc n) = some (Plain (suc n))
 
--- 15, 16, or the value and the next state.
-abbrev pub event-decision-in : ℕ → Option (Loaded ℕ) → ℕ → Decision
-event-decision-in events none e = Refuse 15
-event-decision-in events (some x) e =
-    decide (ltb e events) (Go (x .table .value (x .current) e) (x .table .next (x .current) e)) 16
+-- The number of a test that fails where a refusal is met; the first of two numbers.
+abbrev pub number-unless : Bool → ℕ → ℕ
+number-unless test n = cond test 0 n
 
-abbrev pub event-decision : Bool → ℕ → ℕ → Option (Loaded ℕ) → ℕ → Decision
-event-decision sound events c o e = decide sound (decide (ltb c 8) (event-decision-in events o e) 14) 17
+abbrev pub first-number : ℕ → ℕ → ℕ
+first-number zero later = later
+first-number (suc n) later = suc n
 
--- 17, 14, then 15.
-abbrev pub restart-decision : Bool → ℕ → ℕ → Decision
-restart-decision sound c states = decide sound (decide (ltb c 8) (decide (ltb 0 states) (Go 0 0) 15) 14) 17
+-- 17, then 14; then 15; then 16; for a sequence 16 and 13.
+abbrev pub channel-number : ℕ → ℕ → ℕ
+channel-number fault c = first-number fault (number-unless (ltb c channel-limit) 14)
 
--- 17, then 14.
-abbrev pub channel-decision : Bool → ℕ → Decision
-channel-decision sound c = decide sound (decide (ltb c 8) (Go 0 0) 14) 17
+abbrev pub loaded-number : ℕ → ℕ → ℕ → ℕ
+loaded-number fault c states = first-number (channel-number fault c) (number-unless (ltb 0 states) 15)
 
--- 17, 14, 15, 16, then 13.
-abbrev pub replay-decision : Bool → ℕ → ℕ → Bool → Bool → Decision
-replay-decision sound c states allowed fits =
-    decide sound (decide (ltb c 8) (decide (ltb 0 states) (decide allowed (decide fits (Go 0 0) 13) 16) 15) 14) 17
+abbrev pub event-number : ℕ → ℕ → ℕ → ℕ → ℕ → ℕ
+event-number fault c states events e = first-number (loaded-number fault c states) (number-unless (ltb e events) 16)
 
--- The reply of a decision, where it returns the value and where it does not; and the state afterwards.
+abbrev pub replay-number : ℕ → ℕ → ℕ → Bool → Bool → ℕ
+replay-number fault c states allowed fits =
+    first-number (loaded-number fault c states) (first-number (number-unless allowed 16) (number-unless fits 13))
+
+-- What an event comes to: its refusal and the state as it was, or the value and the next state.
+abbrev pub decided : ℕ → ℕ → ℕ → ℕ → Decision
+decided zero old value next = record { refusal = 0; value = value; next = next }
+decided (suc n) old value next = record { refusal = suc n; value = 0; next = old }
+
+-- Where its entry lies, within the arrays.
+abbrev pub entry-place : ℕ → ℕ → ℕ → ℕ → ℕ
+entry-place c events q e = rows-start c + (q * events + e)
+
+pub record Bounds (c events q e : ℕ) : Type 0 where
+  pub channel : c < channel-limit
+  pub row : q * events ≤ entry-limit
+  pub place : entry-place c events q e < store-limit
+
+-- The reply of a number, and of what an event comes to.
+abbrev pub plain-reply : ℕ → Reply ℕ
+plain-reply zero = accepted
+plain-reply (suc n) = refused (Plain (suc n))
+
+abbrev pub decided-reply : ℕ → ℕ → Reply ℕ
+decided-reply zero value = returned value
+decided-reply (suc n) value = refused (Plain (suc n))
+
 abbrev pub value-reply : Decision → Reply ℕ
-value-reply (Refuse n) = refused (Plain n)
-value-reply (Go v q) = returned v
+value-reply d = decided-reply (d .refusal) (d .value)
 
-abbrev pub plain-reply : Decision → Reply ℕ
-plain-reply (Refuse n) = refused (Plain n)
-plain-reply (Go v q) = accepted
+-- What stays beside a refusal and is 0 otherwise: for a restart the state, for clear the count of states too.
+abbrev pub kept-number : ℕ → ℕ → ℕ
+kept-number zero old = 0
+kept-number (suc n) old = old
 
-abbrev pub state-after : Decision → ℕ → ℕ
-state-after (Refuse n) old = old
-state-after (Go v q) old = q
+-- The same for restart all.
+abbrev pub states-after : ℕ → List ℕ → List ℕ
+states-after zero old = replicate channel-limit 0
+states-after (suc n) old = old
 
 -- For set up: what 1 to 3 say.
 abbrev pub judged-reply : Judgement → Reply ℕ
 judged-reply Accepted = accepted
 judged-reply (Refused r) = refused r
 
--- For load: what 5 to 10 say.
+-- For load: what 5 to 10 say, and a value in a tool's byte.
 abbrev pub counted-reply : Counted → Reply ℕ
 counted-reply (Count n) = accepted
 counted-reply (NotCounted r) = refused r
 
--- For clear: the state count afterwards.
-abbrev pub count-after : Decision → ℕ → ℕ
-count-after (Refuse n) old = old
-count-after (Go v q) old = 0
-
--- For restart all: 17, or all channels at state 0.
-abbrev pub sound-reply : Bool → Reply ℕ
-sound-reply true = accepted
-sound-reply false = refused (Plain 17)
-
-abbrev pub states-after : Bool → List ℕ → List ℕ
-states-after sound old = cond sound (replicate 8 0) old
-
--- The values of a sequence of events from a state.
-abbrev pub outputs : Machine ℕ ℕ → ℕ → List ℕ → List ℕ
-outputs m q [] = []
-outputs m q (e ∷ word) = m .value q e ∷ outputs m (m .next q e) word
+abbrev pub low-byte : ℕ → ℕ
+low-byte v = v % 256
 
 -- What a run over a sequence needs: a table in the rows, a state of it, events of it, and room for the values.
 pub record Runnable (from events k q : ℕ) (value next word buffer : List ℕ) : Type 0 where
-  pub room : from + k * events ≤ 8192
-  pub few-states : k ≤ 64
-  pub few-events : events ≤ 16
-  pub value-length : length value ≡ 8192
-  pub next-length : length next ≡ 8192
+  pub room : from + k * events ≤ store-limit
+  pub few-states : k ≤ table-limit
+  pub few-events : events ≤ event-limit
+  pub value-length : length value ≡ store-limit
+  pub next-length : length next ≡ store-limit
   pub state : q < k
   pub nexts : (i : ℕ) → i < k * events → getD next (from + i) 0 < k
   pub word-in : (i : ℕ) → i < length word → getD word i 0 < events

@@ -1,13 +1,15 @@
 -- In reading order.
--- What a tool holds: its set-up and its channels.
-pub mod Channels
+-- What a tool holds, however it is represented: its set-up and its channels.
+pub mod Store
 -- Refusal 17.
 pub mod ToolFault
 -- What load takes from the compiler.
 pub mod CompiledRule
--- What each call answers, and the tool that it returns.
-pub mod Tool
+-- What each call answers, and what the tool holds afterwards.
+pub mod Called
 -- A sequence of events on one channel.
 pub mod Replay
+-- The tool of this crate's calls as one representation.
+pub mod Tool
 -- What the private functions decide before anything is written.
 pub mod Decisions

@@ -1,5 +1,11 @@
 // Document 01, "Tool": one set-up and eight channels, and the calls on them. Refusals 14 to 17.
 // Each call first decides, then writes and returns the tool once; a refused call returns the tool as it came.
+use limits::CHANNEL_LIMIT;
+use limits::ENTRY_LIMIT;
+use limits::MEET_LIMIT;
+use limits::STORE_LIMIT;
+use limits::TABLE_LIMIT;
+use limits::VALUE_LIMIT;
 use refusal::Counted;
 use refusal::Judgement;
 use refusal::Refusal;
@@ -7,27 +13,26 @@ use synthesis::Compiled;
 use synthesis::compile_rule;
 use values::ValueKind;
 ghost use mathlib.Core.Path.{_≡_};
-ghost use mathlib.Core.Bool.{true, _&&_};
+ghost use mathlib.Core.Bool.{_&&_};
 ghost use mathlib.Core.List.{map};
 ghost use Prim.Native.Nat.{_+_, _*_, _≤_, _<_};
 ghost use lib.Dec.{ltb};
 ghost use lib.ListN.{length, getD, take};
 ghost use lib.Seq.{paste};
-ghost use Rattle.theory.specs.MealyMachine.{after};
+ghost use Rattle.limits.specs.Limits.{channel-limit, entry-limit, event-limit, meet-limit, store-limit, value-limit};
+ghost use Rattle.theory.specs.MealyMachine.{after, word-values};
 ghost use Rattle.theory.specs.ValueSetClaims.{every};
+ghost use Rattle.values.specs.declared.ValueKind.the-variants.{Numbered};
 ghost use Rattle.values.specs.Setup.{setup};
-ghost use Rattle.recorder.specs.Channels.{table-at, rows-start, held};
+ghost use Rattle.channel_log.specs.Calls as calls;
+ghost use Rattle.recorder.specs.Store.{table-at, rows-start, held};
 ghost use Rattle.recorder.specs.ToolFault.{setup-test, channel-test};
-ghost use Rattle.recorder.specs.CompiledRule.{low-byte, compiled-rule};
-ghost use Rattle.recorder.specs.Tool.{padded, with-rows, stored-rows, empty-tool, reply-of, answer, load-called, event-called, restart-called, restart-all-called, clear-called, set-up-called};
-ghost use Rattle.recorder.specs.Replay.{replayed, replay-answer};
-ghost use Rattle.recorder.specs.Decisions.{event-decision, restart-decision, channel-decision, replay-decision, value-reply, plain-reply, state-after, count-after, sound-reply, states-after, judged-reply, counted-reply, outputs, Runnable};
-
-// The most states of a table.
-const STATE_LIMIT: usize = 64;
-
-// The entries that a channel has room for: 64 states of 16 events.
-const ROWS_SIZE: usize = 1024;
+ghost use Rattle.recorder.specs.CompiledRule.{compiled-rule};
+ghost use Rattle.recorder.specs.Called.{filled, with-rows, stored-rows, empty-store, called, set-up-called};
+ghost use Rattle.recorder.specs.Replay.{word-test, replayed};
+ghost use Rattle.recorder.specs.Tool.{store-of, reply-of, answer, replay-answer};
+ghost use Rattle.recorder.specs.Decisions.{number-unless, channel-number, loaded-number, event-number, replay-number, decided, entry-place, Bounds};
+ghost use Rattle.recorder.specs.Decisions.{plain-reply, value-reply, kept-number, states-after, judged-reply, counted-reply, low-byte, Runnable};
 
 // What a call replies.
 pub enum Reply {
@@ -36,16 +41,21 @@ pub enum Reply {
     Refused(Refusal),
 }
 
-// A channel of 0 states is empty. The entries of a channel's table lie from its rows' start on, by state, then event.
-pub struct Tool {
+// The set-up; the meet table's entries come first in the array.
+pub struct ToolSetup {
     pub events: u8,
     pub values: u8,
     pub top: u8,
-    pub meet: [u8; 256],
-    pub states: [u16; 8],
-    pub current: [u8; 8],
-    pub value: [u8; 8192],
-    pub next: [u8; 8192],
+    pub meet: [u8; MEET_LIMIT],
+}
+
+// A channel of 0 states is empty. The entries of a channel's table lie from its rows' start on, by state, then event.
+pub struct Tool {
+    pub setup: ToolSetup,
+    pub states: [u16; CHANNEL_LIMIT],
+    pub current: [u8; CHANNEL_LIMIT],
+    pub value: [u8; STORE_LIMIT],
+    pub next: [u8; STORE_LIMIT],
 }
 
 pub struct Answer {
@@ -53,10 +63,11 @@ pub struct Answer {
     pub tool: Tool,
 }
 
-// What a call comes to: a refusal's number, or the value that it returns and the channel's state after it.
-enum Decision {
-    Refuse(u8),
-    Go(u8, u8),
+// What an event comes to: a refusal's number, or 0; the value that it returns; the channel's state after it.
+struct Decision {
+    refusal: u8,
+    value: u8,
+    next: u8,
 }
 
 fn wide(x: u8) -> usize
@@ -79,18 +90,18 @@ fn wide16(x: u16) -> usize
 
 // Where the rows of a channel start.
 fn rows_start(channel: usize) -> usize
-    requires { ⌜ channel < 8 ⌝ }
-    ensures { λ r. ⌜ (r ≡ rows-start channel) × (r ≤ 7168) ⌝ }
+    requires { ⌜ channel < channel-limit ⌝ }
+    ensures { λ r. ⌜ (r ≡ rows-start channel) × (r + entry-limit ≤ store-limit) ⌝ }
 {
-    channel * ROWS_SIZE
+    channel * ENTRY_LIMIT
 }
 
 // Whether the set-up meets none of 1 to 3.
 fn setup_in_order(meet: &[u8], events: usize, values: usize, top: usize) -> bool
-    requires { ⌜ length (now meet) ≡ 256 ⌝ }
+    requires { ⌜ length (now meet) ≡ meet-limit ⌝ }
     ensures { λ r. ⌜ r ≡ setup-test (setup events values top (take (values * values) (now (meet .entry)))) ⌝ }
 {
-    if values::VALUE_LIMIT < values {
+    if VALUE_LIMIT < values {
         return false;
     }
     let count = values * values;
@@ -103,15 +114,16 @@ fn setup_in_order(meet: &[u8], events: usize, values: usize, top: usize) -> bool
 
 // Whether the values and next states of so many entries are in range.
 fn entries_in_order<'a>(
-    value: &'a [u8; 8192],
-    next: &'a [u8; 8192],
+    value: &'a [u8; STORE_LIMIT],
+    next: &'a [u8; STORE_LIMIT],
     from: usize,
     count: usize,
     values: usize,
     states: usize,
 ) -> bool
-    requires { ⌜ (from + count ≤ 8192) × (length (now value) ≡ 8192) × (length (now next) ≡ 8192) ⌝ }
-    ensures { λ r. ⌜ r ≡ every count (λ i. ltb (getD (now (value .entry)) (from + i) 0) values && ltb (getD (now (next .entry)) (from + i) 0) states) ⌝ }
+    requires { ⌜ (from + count ≤ store-limit) × (length (now value) ≡ store-limit) × (length (now next) ≡ store-limit) ⌝ }
+    ensures { λ r. ⌜ r ≡ every count
+        (λ i. ltb (getD (now (value .entry)) (from + i) 0) values && ltb (getD (now (next .entry)) (from + i) 0) states) ⌝ }
 {
     for i in 0..count {
         if values <= wide(value[from + i]) {
@@ -126,24 +138,24 @@ fn entries_in_order<'a>(
 
 // Refusal 17's test of one channel.
 fn channel_in_order<'a>(
-    value: &'a [u8; 8192],
-    next: &'a [u8; 8192],
+    value: &'a [u8; STORE_LIMIT],
+    next: &'a [u8; STORE_LIMIT],
     channel: usize,
     events: usize,
     values: usize,
     states: usize,
     current: usize,
 ) -> bool
-    requires { ⌜ (events ≤ 16) × (length (now value) ≡ 8192) × (length (now next) ≡ 8192) ⌝ }
-    ensures { λ r. ⌜ r ≡ channel-test events values (held channel events states current (now (value .entry)) (now (next .entry))) ⌝ }
+    requires { ⌜ (events ≤ event-limit) × (length (now value) ≡ store-limit) × (length (now next) ≡ store-limit) ⌝ }
+    ensures { λ r. ⌜ r ≡ channel-test events (Numbered values) (held channel events states current (now (value .entry)) (now (next .entry))) ⌝ }
 {
-    if 7 < channel {
+    if CHANNEL_LIMIT <= channel {
         return true;
     }
     if states == 0 {
         return true;
     }
-    if STATE_LIMIT < states {
+    if TABLE_LIMIT < states {
         return false;
     }
     if states <= current {
@@ -159,135 +171,152 @@ fn channel_in_order<'a>(
     )
 }
 
-// Refusal 17's test of the set-up and one channel.
-fn tool_in_order<'a>(
+// Refusal 17's test of the set-up and one channel: its number, or 0.
+fn tool_fault<'a>(
     meet: &'a [u8],
-    value: &'a [u8; 8192],
-    next: &'a [u8; 8192],
+    value: &'a [u8; STORE_LIMIT],
+    next: &'a [u8; STORE_LIMIT],
     events: u8,
     values: u8,
     top: u8,
     channel: usize,
     states: u16,
     current: u8,
-) -> bool
-    requires { ⌜ (length (now meet) ≡ 256) × (length (now value) ≡ 8192) × (length (now next) ≡ 8192) ⌝ }
-    ensures { λ r. ⌜ r ≡ (setup-test (setup events values top (take (values * values) (now (meet .entry)))) && channel-test events values (held channel events states current (now (value .entry)) (now (next .entry)))) ⌝ }
+) -> u8
+    requires { ⌜ (length (now meet) ≡ meet-limit) × (length (now value) ≡ store-limit) × (length (now next) ≡ store-limit) ⌝ }
+    ensures { λ r. ⌜ r ≡ number-unless (setup-test (setup events values top (take (values * values) (now (meet .entry))))
+        && channel-test events (Numbered values) (held channel events states current (now (value .entry)) (now (next .entry)))) 17 ⌝ }
 {
     let n = wide(events);
     let v = wide(values);
     if setup_in_order(meet, n, v, wide(top)) {
-        return channel_in_order(value, next, channel, n, v, wide16(states), wide(current));
+        if channel_in_order(value, next, channel, n, v, wide16(states), wide(current)) {
+            return 0;
+        }
     }
-    false
+    refusal::TOOL_CONTENTS
 }
 
-// What an event comes to.
+// 17, then 14.
+fn channel_refusal(fault: u8, channel: usize) -> u8
+    ensures { λ r. ⌜ r ≡ channel-number fault channel ⌝ }
+{
+    if 0 < fault {
+        return fault;
+    }
+    if CHANNEL_LIMIT <= channel {
+        return refusal::CHANNEL_NUMBER;
+    }
+    0
+}
+
+// Then 15.
+fn loaded_refusal(fault: u8, channel: usize, states: u16) -> u8
+    ensures { λ r. ⌜ r ≡ loaded-number fault channel states ⌝ }
+{
+    let earlier = channel_refusal(fault, channel);
+    if 0 < earlier {
+        return earlier;
+    }
+    if states < 1 {
+        return refusal::CHANNEL_EMPTY;
+    }
+    0
+}
+
+// Then 16.
+fn event_refusal(fault: u8, channel: usize, states: u16, events: u8, event: usize) -> u8
+    ensures { λ r. ⌜ r ≡ event-number fault channel states events event ⌝ }
+{
+    let earlier = loaded_refusal(fault, channel, states);
+    if 0 < earlier {
+        return earlier;
+    }
+    if wide(events) <= event {
+        return refusal::EVENT_NUMBER;
+    }
+    0
+}
+
+// What an event comes to beside a refusal's number.
 fn decide_event<'a>(
-    value: &'a [u8; 8192],
-    next: &'a [u8; 8192],
-    sound: bool,
+    value: &'a [u8; STORE_LIMIT],
+    next: &'a [u8; STORE_LIMIT],
+    refusal: u8,
     channel: usize,
     events: u8,
-    values: u8,
-    states: u16,
     current: u8,
     event: usize,
 ) -> Decision
-    requires { ⌜ (length (now value) ≡ 8192) × (length (now next) ≡ 8192) × (sound ≡ true → (events ≤ 16) × (channel-test events values (held channel events states current (now value) (now next)) ≡ true)) ⌝ }
-    ensures { λ r. ⌜ r ≡ event-decision sound events channel (held channel events states current (now (value .entry)) (now (next .entry))) event ⌝ }
+    requires { ⌜ (length (now value) ≡ store-limit) × (length (now next) ≡ store-limit) × (refusal ≡ 0 → Bounds channel events current event) ⌝ }
+    ensures { λ r. ⌜ r ≡ decided refusal current (getD (now (value .entry)) (entry-place channel events current event) 0)
+        (getD (now (next .entry)) (entry-place channel events current event) 0) ⌝ }
 {
-    if sound {
-        if 7 < channel {
-            return Decision::Refuse(refusal::CHANNEL_NUMBER);
-        }
-        if states == 0 {
-            return Decision::Refuse(refusal::CHANNEL_EMPTY);
-        }
-        if wide(events) <= event {
-            return Decision::Refuse(refusal::EVENT_NUMBER);
-        }
-        let at = rows_start(channel) + (wide(current) * wide(events) + event);
-        return Decision::Go(value[at], next[at]);
+    if 0 < refusal {
+        return Decision {
+            refusal: refusal,
+            value: 0,
+            next: current,
+        };
     }
-    Decision::Refuse(refusal::TOOL_CONTENTS)
-}
-
-fn decide_restart(sound: bool, channel: usize, states: u16) -> Decision
-    ensures { λ r. ⌜ r ≡ restart-decision sound channel states ⌝ }
-{
-    if sound {
-        if 7 < channel {
-            return Decision::Refuse(refusal::CHANNEL_NUMBER);
-        }
-        if states < 1 {
-            return Decision::Refuse(refusal::CHANNEL_EMPTY);
-        }
-        return Decision::Go(0, 0);
+    let at = rows_start(channel) + (wide(current) * wide(events) + event);
+    Decision {
+        refusal: 0,
+        value: value[at],
+        next: next[at],
     }
-    Decision::Refuse(refusal::TOOL_CONTENTS)
-}
-
-fn decide_channel(sound: bool, channel: usize) -> Decision
-    ensures { λ r. ⌜ r ≡ channel-decision sound channel ⌝ }
-{
-    if sound {
-        if 7 < channel {
-            return Decision::Refuse(refusal::CHANNEL_NUMBER);
-        }
-        return Decision::Go(0, 0);
-    }
-    Decision::Refuse(refusal::TOOL_CONTENTS)
 }
 
 fn value_reply(decision: Decision) -> Reply
     ensures { λ r. ⌜ reply-of r ≡ value-reply decision ⌝ }
 {
-    match decision {
-        Decision::Refuse(n) => Reply::Refused(Refusal::Plain(n)),
-        Decision::Go(v, _) => Reply::Value(v),
+    if 0 < decision.refusal {
+        return Reply::Refused(Refusal::Plain(decision.refusal));
     }
+    Reply::Value(decision.value)
 }
 
-fn plain_reply(decision: Decision) -> Reply
-    ensures { λ r. ⌜ reply-of r ≡ plain-reply decision ⌝ }
+fn plain_reply(refusal: u8) -> Reply
+    ensures { λ r. ⌜ reply-of r ≡ plain-reply refusal ⌝ }
 {
-    match decision {
-        Decision::Refuse(n) => Reply::Refused(Refusal::Plain(n)),
-        Decision::Go(_, _) => Reply::Accepted,
+    if 0 < refusal {
+        return Reply::Refused(Refusal::Plain(refusal));
     }
+    Reply::Accepted
 }
 
-fn state_after(decision: Decision, old: u8) -> u8
-    ensures { λ r. ⌜ r ≡ state-after decision old ⌝ }
+// The state of a restarted or cleared channel: 0, or beside a refusal as it was.
+fn state_after(refusal: u8, old: u8) -> u8
+    ensures { λ r. ⌜ r ≡ kept-number refusal old ⌝ }
 {
-    match decision {
-        Decision::Refuse(_) => old,
-        Decision::Go(_, q) => q,
+    if 0 < refusal {
+        return old;
     }
+    0
 }
 
-fn count_after(decision: Decision, old: u16) -> u16
-    ensures { λ r. ⌜ r ≡ count-after decision old ⌝ }
+// The count of states of a cleared channel.
+fn count_after(refusal: u8, old: u16) -> u16
+    ensures { λ r. ⌜ r ≡ kept-number refusal old ⌝ }
 {
-    match decision {
-        Decision::Refuse(_) => old,
-        Decision::Go(_, _) => 0,
+    if 0 < refusal {
+        return old;
     }
+    0
 }
 
 // An event: returns the value and moves to the next state.
 pub fn event(mut tool: Tool, channel: usize, event: usize) -> Answer
-    ensures { λ r. ⌜ answer r ≡ event-called tool channel event ⌝ }
+    ensures { λ r. ⌜ answer r ≡ called (calls.event channel event) (store-of tool) ⌝ }
 {
-    let events = tool.events;
-    let values = tool.values;
-    let top = tool.top;
-    let c = channel % 8;
+    let events = tool.setup.events;
+    let values = tool.setup.values;
+    let top = tool.setup.top;
+    let c = channel % CHANNEL_LIMIT;
     let states = tool.states[c];
     let current = tool.current[c];
-    let sound = tool_in_order(
-        &tool.meet,
+    let fault = tool_fault(
+        &tool.setup.meet,
         &tool.value,
         &tool.next,
         events,
@@ -297,19 +326,9 @@ pub fn event(mut tool: Tool, channel: usize, event: usize) -> Answer
         states,
         current,
     );
-    let decision = decide_event(
-        &tool.value,
-        &tool.next,
-        sound,
-        channel,
-        events,
-        values,
-        states,
-        current,
-        event,
-    );
-    let moved = state_after(decision, current);
-    tool.current[c] = moved;
+    let refusal = event_refusal(fault, channel, states, events, event);
+    let decision = decide_event(&tool.value, &tool.next, refusal, c, events, current, event);
+    tool.current[c] = decision.next;
     Answer {
         reply: value_reply(decision),
         tool: tool,
@@ -318,16 +337,16 @@ pub fn event(mut tool: Tool, channel: usize, event: usize) -> Answer
 
 // Restart one: the channel is at state 0 again.
 pub fn restart(mut tool: Tool, channel: usize) -> Answer
-    ensures { λ r. ⌜ answer r ≡ restart-called tool channel ⌝ }
+    ensures { λ r. ⌜ answer r ≡ called (calls.restart channel) (store-of tool) ⌝ }
 {
-    let events = tool.events;
-    let values = tool.values;
-    let top = tool.top;
-    let c = channel % 8;
+    let events = tool.setup.events;
+    let values = tool.setup.values;
+    let top = tool.setup.top;
+    let c = channel % CHANNEL_LIMIT;
     let states = tool.states[c];
     let current = tool.current[c];
-    let sound = tool_in_order(
-        &tool.meet,
+    let fault = tool_fault(
+        &tool.setup.meet,
         &tool.value,
         &tool.next,
         events,
@@ -337,27 +356,27 @@ pub fn restart(mut tool: Tool, channel: usize) -> Answer
         states,
         current,
     );
-    let decision = decide_restart(sound, channel, states);
-    let restarted = state_after(decision, current);
+    let refusal = loaded_refusal(fault, channel, states);
+    let restarted = state_after(refusal, current);
     tool.current[c] = restarted;
     Answer {
-        reply: plain_reply(decision),
+        reply: plain_reply(refusal),
         tool: tool,
     }
 }
 
 // Clear: the channel is empty.
 pub fn clear(mut tool: Tool, channel: usize) -> Answer
-    ensures { λ r. ⌜ answer r ≡ clear-called tool channel ⌝ }
+    ensures { λ r. ⌜ answer r ≡ called (calls.clear channel) (store-of tool) ⌝ }
 {
-    let events = tool.events;
-    let values = tool.values;
-    let top = tool.top;
-    let c = channel % 8;
+    let events = tool.setup.events;
+    let values = tool.setup.values;
+    let top = tool.setup.top;
+    let c = channel % CHANNEL_LIMIT;
     let states = tool.states[c];
     let current = tool.current[c];
-    let sound = tool_in_order(
-        &tool.meet,
+    let fault = tool_fault(
+        &tool.setup.meet,
         &tool.value,
         &tool.next,
         events,
@@ -367,28 +386,30 @@ pub fn clear(mut tool: Tool, channel: usize) -> Answer
         states,
         current,
     );
-    let decision = decide_channel(sound, channel);
-    tool.states[c] = count_after(decision, states);
-    tool.current[c] = state_after(decision, current);
+    let refusal = channel_refusal(fault, channel);
+    tool.states[c] = count_after(refusal, states);
+    tool.current[c] = state_after(refusal, current);
     Answer {
-        reply: plain_reply(decision),
+        reply: plain_reply(refusal),
         tool: tool,
     }
 }
 
 // Refusal 17's test of all channels.
 fn channels_in_order<'a>(
-    value: &'a [u8; 8192],
-    next: &'a [u8; 8192],
-    states: &'a [u16; 8],
-    current: &'a [u8; 8],
+    value: &'a [u8; STORE_LIMIT],
+    next: &'a [u8; STORE_LIMIT],
+    states: &'a [u16; CHANNEL_LIMIT],
+    current: &'a [u8; CHANNEL_LIMIT],
     events: usize,
     values: usize,
 ) -> bool
-    requires { ⌜ (events ≤ 16) × (length (now value) ≡ 8192) × (length (now next) ≡ 8192) × (length (now states) ≡ 8) × (length (now current) ≡ 8) ⌝ }
-    ensures { λ r. ⌜ r ≡ every 8 (λ c. channel-test events values (held c events (getD (now (states .entry)) c 0) (getD (now (current .entry)) c 0) (now (value .entry)) (now (next .entry)))) ⌝ }
+    requires { ⌜ (events ≤ event-limit) × (length (now value) ≡ store-limit) × (length (now next) ≡ store-limit)
+        × (length (now states) ≡ channel-limit) × (length (now current) ≡ channel-limit) ⌝ }
+    ensures { λ r. ⌜ r ≡ every channel-limit (λ c. channel-test events (Numbered values)
+        (held c events (getD (now (states .entry)) c 0) (getD (now (current .entry)) c 0) (now (value .entry)) (now (next .entry)))) ⌝ }
 {
-    for c in 0..8 {
+    for c in 0..CHANNEL_LIMIT {
         if !channel_in_order(
             value,
             next,
@@ -404,56 +425,52 @@ fn channels_in_order<'a>(
     true
 }
 
-// Refusal 17's test of the set-up and all channels.
-fn all_in_order<'a>(
+// Refusal 17's test of the set-up and all channels: its number, or 0.
+fn all_fault<'a>(
     meet: &'a [u8],
-    value: &'a [u8; 8192],
-    next: &'a [u8; 8192],
-    states: &'a [u16; 8],
-    current: &'a [u8; 8],
+    value: &'a [u8; STORE_LIMIT],
+    next: &'a [u8; STORE_LIMIT],
+    states: &'a [u16; CHANNEL_LIMIT],
+    current: &'a [u8; CHANNEL_LIMIT],
     events: u8,
     values: u8,
     top: u8,
-) -> bool
-    requires { ⌜ (length (now meet) ≡ 256) × (length (now value) ≡ 8192) × (length (now next) ≡ 8192) × (length (now states) ≡ 8) × (length (now current) ≡ 8) ⌝ }
-    ensures { λ r. ⌜ r ≡ (setup-test (setup events values top (take (values * values) (now (meet .entry)))) && every 8 (λ c. channel-test events values (held c events (getD (now (states .entry)) c 0) (getD (now (current .entry)) c 0) (now (value .entry)) (now (next .entry))))) ⌝ }
+) -> u8
+    requires { ⌜ (length (now meet) ≡ meet-limit) × (length (now value) ≡ store-limit) × (length (now next) ≡ store-limit)
+        × (length (now states) ≡ channel-limit) × (length (now current) ≡ channel-limit) ⌝ }
+    ensures { λ r. ⌜ r ≡ number-unless (setup-test (setup events values top (take (values * values) (now (meet .entry))))
+        && every channel-limit (λ c. channel-test events (Numbered values)
+        (held c events (getD (now (states .entry)) c 0) (getD (now (current .entry)) c 0) (now (value .entry)) (now (next .entry))))) 17 ⌝ }
 {
     let n = wide(events);
     let v = wide(values);
     if setup_in_order(meet, n, v, wide(top)) {
-        return channels_in_order(value, next, states, current, n, v);
+        if channels_in_order(value, next, states, current, n, v) {
+            return 0;
+        }
     }
-    false
+    refusal::TOOL_CONTENTS
 }
 
-fn states_after(sound: bool, old: [u8; 8]) -> [u8; 8]
-    ensures { λ r. ⌜ r ≡ states-after sound old ⌝ }
+fn states_after(refusal: u8, old: [u8; CHANNEL_LIMIT]) -> [u8; CHANNEL_LIMIT]
+    ensures { λ r. ⌜ r ≡ states-after refusal old ⌝ }
 {
-    if sound {
-        return [0u8; 8];
+    if 0 < refusal {
+        return old;
     }
-    old
-}
-
-fn sound_reply(sound: bool) -> Reply
-    ensures { λ r. ⌜ reply-of r ≡ sound-reply sound ⌝ }
-{
-    if sound {
-        return Reply::Accepted;
-    }
-    Reply::Refused(Refusal::Plain(refusal::TOOL_CONTENTS))
+    [0u8; CHANNEL_LIMIT]
 }
 
 // Restart all: every loaded channel is at state 0 again; empty ones remain empty.
 pub fn restart_all(mut tool: Tool) -> Answer
-    ensures { λ r. ⌜ answer r ≡ restart-all-called tool ⌝ }
+    ensures { λ r. ⌜ answer r ≡ called calls.restart-all (store-of tool) ⌝ }
 {
-    let events = tool.events;
-    let values = tool.values;
-    let top = tool.top;
+    let events = tool.setup.events;
+    let values = tool.setup.values;
+    let top = tool.setup.top;
     let old = tool.current;
-    let sound = all_in_order(
-        &tool.meet,
+    let fault = all_fault(
+        &tool.setup.meet,
         &tool.value,
         &tool.next,
         &tool.states,
@@ -462,22 +479,22 @@ pub fn restart_all(mut tool: Tool) -> Answer
         values,
         top,
     );
-    let new = states_after(sound, old);
+    let new = states_after(fault, old);
     tool.current = new;
     Answer {
-        reply: sound_reply(sound),
+        reply: plain_reply(fault),
         tool: tool,
     }
 }
 
-// The first 256 entries of a meet table, and 0 after them.
-fn padded_meet(meet: &[u8]) -> [u8; 256]
-    ensures { λ r. ⌜ r ≡ padded 256 (now (meet .entry)) ⌝ }
+// The first entries of a meet table, as many as there is room for, and 0 after them.
+fn padded_meet(meet: &[u8]) -> [u8; MEET_LIMIT]
+    ensures { λ r. ⌜ r ≡ filled meet-limit (now (meet .entry)) ⌝ }
 {
-    let mut array = [0u8; 256];
+    let mut array = [0u8; MEET_LIMIT];
     let mut i: usize = 0;
     while i < meet.len() {
-        if i == 256 {
+        if i == MEET_LIMIT {
             return array;
         }
         array[i] = meet[i];
@@ -496,30 +513,32 @@ fn judged_reply(judgement: Judgement) -> Reply
 }
 
 // A tool with all channels empty.
-fn empty_tool(events: u8, values: u8, top: u8, meet: [u8; 256]) -> Tool
-    ensures { λ r. ⌜ r ≡ empty-tool events values top meet ⌝ }
+fn empty_tool(events: u8, values: u8, top: u8, meet: [u8; MEET_LIMIT]) -> Tool
+    ensures { λ r. ⌜ store-of r ≡ empty-store (setup events values top meet) ⌝ }
 {
     Tool {
-        events: events,
-        values: values,
-        top: top,
-        meet: meet,
-        states: [0u16; 8],
-        current: [0u8; 8],
-        value: [0u8; 8192],
-        next: [0u8; 8192],
+        setup: ToolSetup {
+            events: events,
+            values: values,
+            top: top,
+            meet: meet,
+        },
+        states: [0u16; CHANNEL_LIMIT],
+        current: [0u8; CHANNEL_LIMIT],
+        value: [0u8; STORE_LIMIT],
+        next: [0u8; STORE_LIMIT],
     }
 }
 
 // Set up: a tool with all channels empty. A refused set-up hands back a tool with every cell 0.
 pub fn set_up(events: usize, values: usize, top: usize, meet: &[u8]) -> Answer
-    ensures { λ r. ⌜ answer r ≡ set-up-called events values top (now (meet .entry)) ⌝ }
+    ensures { λ r. ⌜ answer r ≡ set-up-called (setup events values top (now (meet .entry))) ⌝ }
 {
     let judgement = values::check_setup(events, values, top, meet);
     let Judgement::Accepted = judgement else {
         return Answer {
             reply: judged_reply(judgement),
-            tool: empty_tool(0, 0, 0, [0u8; 256]),
+            tool: empty_tool(0, 0, 0, [0u8; MEET_LIMIT]),
         };
     };
     let tool = empty_tool(
@@ -536,7 +555,7 @@ pub fn set_up(events: usize, values: usize, top: usize, meet: &[u8]) -> Answer
 
 // Whether all events of a sequence are below the event count.
 fn word_in_order(word: &[u8], events: u8) -> bool
-    ensures { λ r. ⌜ r ≡ every (length (now (word .entry))) (λ i. ltb (getD (now (word .entry)) i 0) events) ⌝ }
+    ensures { λ r. ⌜ r ≡ word-test events (now (word .entry)) ⌝ }
 {
     for i in 0..word.len() {
         if events <= word[i] {
@@ -548,8 +567,8 @@ fn word_in_order(word: &[u8], events: u8) -> bool
 
 // Runs a sequence of events from a state of a table: the state after it; the values go to the buffer.
 fn run<'a>(
-    value: &'a [u8; 8192],
-    next: &'a [u8; 8192],
+    value: &'a [u8; STORE_LIMIT],
+    next: &'a [u8; STORE_LIMIT],
     from: usize,
     events: u8,
     states: u16,
@@ -559,7 +578,8 @@ fn run<'a>(
 ) -> u8
     requires { ⌜ Runnable from events states start (now value) (now next) (now word) (now buffer) ⌝ }
     ensures { λ r. ⌜ (r ≡ after (table-at from events states (now (value .entry)) (now (next .entry))) start (now (word .entry)))
-        × (now (buffer .exit) ≡ paste (now (buffer .entry)) 0 (outputs (table-at from events states (now (value .entry)) (now (next .entry))) start (now (word .entry))) (length (now (word .entry)))) ⌝ }
+        × (now (buffer .exit) ≡ paste (now (buffer .entry)) 0
+        (word-values (table-at from events states (now (value .entry)) (now (next .entry))) start (now (word .entry))) (length (now (word .entry)))) ⌝ }
 {
     let mut state = start;
     let mut i: usize = 0;
@@ -573,35 +593,36 @@ fn run<'a>(
     state
 }
 
-fn decide_replay(sound: bool, channel: usize, states: u16, allowed: bool, fits: bool) -> Decision
-    ensures { λ r. ⌜ r ≡ replay-decision sound channel states allowed fits ⌝ }
+// 17, 14, 15, 16, then 13.
+fn replay_refusal(fault: u8, channel: usize, states: u16, allowed: bool, fits: bool) -> u8
+    ensures { λ r. ⌜ r ≡ replay-number fault channel states allowed fits ⌝ }
 {
-    let decision = decide_restart(sound, channel, states);
-    let Decision::Go(_, _) = decision else {
-        return decision;
-    };
+    let earlier = loaded_refusal(fault, channel, states);
+    if 0 < earlier {
+        return earlier;
+    }
     if allowed {
         if fits {
-            return Decision::Go(0, 0);
+            return 0;
         }
-        return Decision::Refuse(refusal::BUFFER_LENGTH);
+        return refusal::BUFFER_LENGTH;
     }
-    Decision::Refuse(refusal::EVENT_NUMBER)
+    refusal::EVENT_NUMBER
 }
 
 // Replay: a sequence of events on one channel, its values into a lent buffer; 17 is tested once. The event call repeated, or a
 // refusal that changes nothing.
 pub fn replay<'a>(mut tool: Tool, channel: usize, word: &'a [u8], values: &mut [u8]) -> Answer
-    ensures { λ r. ⌜ replay-answer r (now (values .exit)) ≡ replayed tool channel (now (word .entry)) (now (values .entry)) ⌝ }
+    ensures { λ r. ⌜ replay-answer r (now (values .exit)) ≡ replayed (store-of tool) channel (now (word .entry)) (now (values .entry)) ⌝ }
 {
-    let events = tool.events;
-    let count = tool.values;
-    let top = tool.top;
-    let c = channel % 8;
+    let events = tool.setup.events;
+    let count = tool.setup.values;
+    let top = tool.setup.top;
+    let c = channel % CHANNEL_LIMIT;
     let states = tool.states[c];
     let current = tool.current[c];
-    let sound = tool_in_order(
-        &tool.meet,
+    let fault = tool_fault(
+        &tool.setup.meet,
         &tool.value,
         &tool.next,
         events,
@@ -613,13 +634,13 @@ pub fn replay<'a>(mut tool: Tool, channel: usize, word: &'a [u8], values: &mut [
     );
     let allowed = word_in_order(word, events);
     let fits = word.len() <= values.len();
-    let decision = decide_replay(sound, channel, states, allowed, fits);
-    let Decision::Go(_, _) = decision else {
+    let refusal = replay_refusal(fault, channel, states, allowed, fits);
+    if 0 < refusal {
         return Answer {
-            reply: plain_reply(decision),
+            reply: plain_reply(refusal),
             tool: tool,
         };
-    };
+    }
     let from = rows_start(c);
     let last = run(
         &tool.value,
@@ -639,13 +660,13 @@ pub fn replay<'a>(mut tool: Tool, channel: usize, word: &'a [u8], values: &mut [
 }
 
 // Compiled values in the tool's bytes.
-fn low_bytes(values: &[u32; 1024]) -> [u8; 1024]
-    requires { ⌜ length (now values) ≡ 1024 ⌝ }
+fn low_bytes(values: &[u32; ENTRY_LIMIT]) -> [u8; ENTRY_LIMIT]
+    requires { ⌜ length (now values) ≡ entry-limit ⌝ }
     ensures { λ r. ⌜ r ≡ map low-byte (now (values .entry)) ⌝ }
 {
-    let mut bytes = [0u8; 1024];
+    let mut bytes = [0u8; ENTRY_LIMIT];
     let mut i: usize = 0;
-    while i < ROWS_SIZE {
+    while i < ENTRY_LIMIT {
         bytes[i] = (values[i] % 256) as u8;
         i += 1;
     }
@@ -653,21 +674,28 @@ fn low_bytes(values: &[u32; 1024]) -> [u8; 1024]
 }
 
 // Copies a table's entries into the rows from a place on.
-fn store_rows(rows: &mut [u8; 8192], at: usize, entries: &[u8; 1024])
-    requires { ⌜ (at ≤ 7168) × (length (now rows) ≡ 8192) × (length (now entries) ≡ 1024) ⌝ }
-    ensures { λ _. ⌜ now (rows .exit) ≡ paste (now (rows .entry)) at (now (entries .entry)) 1024 ⌝ }
+fn store_rows(rows: &mut [u8; STORE_LIMIT], at: usize, entries: &[u8; ENTRY_LIMIT])
+    requires { ⌜ (at + entry-limit ≤ store-limit) × (length (now rows) ≡ store-limit) × (length (now entries) ≡ entry-limit) ⌝ }
+    ensures { λ _. ⌜ now (rows .exit) ≡ paste (now (rows .entry)) at (now (entries .entry)) entry-limit ⌝ }
 {
     let mut i: usize = 0;
-    while i < ROWS_SIZE {
+    while i < ENTRY_LIMIT {
         rows[at + i] = entries[i];
         i += 1;
     }
 }
 
 // The tool with a table in a channel's rows, at state 0.
-fn stored(tool: Tool, channel: usize, states: u16, values: [u8; 1024], nexts: [u8; 1024]) -> Tool
-    requires { ⌜ channel < 8 ⌝ }
-    ensures { λ r. ⌜ r ≡ with-rows tool channel states (stored-rows (tool .value) channel values) (stored-rows (tool .next) channel nexts) ⌝ }
+fn stored(
+    tool: Tool,
+    channel: usize,
+    states: u16,
+    values: [u8; ENTRY_LIMIT],
+    nexts: [u8; ENTRY_LIMIT],
+) -> Tool
+    requires { ⌜ channel < channel-limit ⌝ }
+    ensures { λ r. ⌜ store-of r ≡ with-rows (store-of tool) channel states
+        (stored-rows (tool .value) channel values) (stored-rows (tool .next) channel nexts) ⌝ }
 {
     let at = rows_start(channel);
     let mut t = tool;
@@ -680,7 +708,7 @@ fn stored(tool: Tool, channel: usize, states: u16, values: [u8; 1024], nexts: [u
 
 // The compiler's answer for a rule and the tool's set-up.
 fn compile_for(meet: &[u8], events: u8, values: u8, top: u8, rule: &[u8]) -> Compiled
-    requires { ⌜ (length (now meet) ≡ 256) × (values ≤ 16) ⌝ }
+    requires { ⌜ (length (now meet) ≡ meet-limit) × (values ≤ value-limit) ⌝ }
     ensures { λ r. ⌜ r ≡ compiled-rule (setup events values top (take (values * values) (now (meet .entry)))) (now (rule .entry)) ⌝ }
 {
     let v = wide(values);
@@ -700,16 +728,16 @@ fn counted_reply(verdict: Counted) -> Reply
 
 // Load a rule: its table replaces what the channel had, at state 0. A refused loading hands the old tool back.
 pub fn load(tool: Tool, channel: usize, rule: &[u8]) -> Answer
-    ensures { λ r. ⌜ answer r ≡ load-called tool channel (now (rule .entry)) ⌝ }
+    ensures { λ r. ⌜ answer r ≡ called (calls.load channel (now (rule .entry))) (store-of tool) ⌝ }
 {
-    let events = tool.events;
-    let values = tool.values;
-    let top = tool.top;
-    let c = channel % 8;
+    let events = tool.setup.events;
+    let values = tool.setup.values;
+    let top = tool.setup.top;
+    let c = channel % CHANNEL_LIMIT;
     let states = tool.states[c];
     let current = tool.current[c];
-    let sound = tool_in_order(
-        &tool.meet,
+    let fault = tool_fault(
+        &tool.setup.meet,
         &tool.value,
         &tool.next,
         events,
@@ -719,14 +747,14 @@ pub fn load(tool: Tool, channel: usize, rule: &[u8]) -> Answer
         states,
         current,
     );
-    let decision = decide_channel(sound, channel);
-    let Decision::Go(_, _) = decision else {
+    let refusal = channel_refusal(fault, channel);
+    if 0 < refusal {
         return Answer {
-            reply: plain_reply(decision),
+            reply: plain_reply(refusal),
             tool: tool,
         };
-    };
-    let compiled = compile_for(&tool.meet, events, values, top, rule);
+    }
+    let compiled = compile_for(&tool.setup.meet, events, values, top, rule);
     let verdict = compiled.verdict;
     let Counted::Count(n) = verdict else {
         return Answer {

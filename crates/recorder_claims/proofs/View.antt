@@ -1,29 +1,21 @@
 -- Each call's effect on the arrays is its effect on the channels: the only place that looks at where rows lie.
--- Assumes nothing.
-use mathlib.Core.Path.{_≡_, refl, sym, _∙_, ap, ap₂, subst, subst⁻¹, fun-ext}
-use mathlib.Core.Bool.{Bool, true, false, _&&_, cond}
-use mathlib.Core.List.{List}
-use mathlib.Core.Logic.{⊎-elim}
+use mathlib.Core.{Path.{_≡_, refl, sym, _∙_, ap, ap₂, subst, subst⁻¹, fun-ext}, Bool.{Bool, true, false, _&&_, cond}, List.{List}, Logic.{⊎-elim}}
 use mathlib.Core.Option.{Option, none, some}
 use Prim.Native.Nat.{ℕ, _+_, _*_, _≤_, _<_}
 use native.Mathlib.Omega.{arith}
 use borrow.Author.Tests.{eq-eqb, ne-eqb, ltb-true, ltb-false, eqb-true, eqb-false}
-use lib.Dec.{ltb, eqb}
-use lib.ListN.{length, getD, set, replicate}
-use lib.Seq.{getD-set-same, getD-set-other}
-use Rattle.channel_log.specs.Calls.{Channels, with-channel, map-option}
-use Rattle.channel_log.specs.Recorded.{Loaded, at-state}
-use Rattle.recorder.specs.declared.Tool.{Tool}
-use Rattle.recorder.specs.Channels.{part, loaded-at, rows-size, rows-start, held, channels}
-use Rattle.recorder.specs.ToolFault.{channel-test}
-use Rattle.recorder.specs.Tool.{with-current, with-rows, stored-rows}
+use lib.{Dec.{ltb, eqb}, ListN.{length, getD, set, replicate}, Seq.{getD-set-same, getD-set-other}}
+use Rattle.limits.specs.Limits.{channel-limit, event-limit, table-limit, entry-limit, store-limit}
+use Rattle.channel_log.specs.{Calls.{Channels, with-channel, map-option}, Recorded.{Loaded, at-state}}
+use Rattle.recorder.specs.{Store.{Store, part, loaded-at, rows-start, held, channels}, ToolFault.{channel-test, test-of}}
+use Rattle.recorder.specs.Called.{with-current, with-rows, stored-rows}
 use Rattle.recorder.proofs.Rows.{getD-zeros, part-inside, part-before, part-after, rows-in, rows-apart, entries-fit}
 use Rattle.recorder.proofs.Held.{held-above, held-empty, held-some, in-order-of-test}
 
 -- Another state in the same table.
 held-state : (c n k q p : ℕ) (L N : List ℕ) → held c n k p L N ≡ map-option (λ x. at-state x p) (held c n k q L N)
 unfolding held
-held-state c n k q p L N = go (ltb c 8 && ltb 0 k)
+held-state c n k q p L N = go (ltb c channel-limit && ltb 0 k)
   where
     go :
         (t : Bool) →
@@ -49,9 +41,9 @@ channels-with c x L N here there =
     (λ e. subst⁻¹ (λ d. N d ≡ with-channel c x L d) e (here ∙ sym (ap (λ t. cond t x (L c)) (eq-eqb c c refl))))
     (λ e. there d e ∙ sym (ap (λ t. cond t x (L d)) (ne-eqb d c e)))
 
-module _ (t : Tool) where
+module _ (t : Store) where
   abbrev n : ℕ
-  n = t .events
+  n = t .setup .events
 
   -- A current state written.
   pub current-view :
@@ -64,10 +56,10 @@ module _ (t : Tool) where
       (λ d e. ap (λ q. held d n (getD (t .states) d 0) q (t .value) (t .next)) (getD-set-other (t .current) c d p 0 e))
 
   -- All channels at state 0.
-  pub restarted-view : channels (with-current t (replicate 8 0)) ≡ (λ d. map-option (λ x. at-state x 0) (channels t d))
+  pub restarted-view : channels (with-current t (replicate channel-limit 0)) ≡ (λ d. map-option (λ x. at-state x 0) (channels t d))
   restarted-view =
       fun-ext λ d.
-      ap (λ q. held d n (getD (t .states) d 0) q (t .value) (t .next)) (getD-zeros 8 d)
+      ap (λ q. held d n (getD (t .states) d 0) q (t .value) (t .next)) (getD-zeros channel-limit d)
       ∙ held-state d n (getD (t .states) d 0) (getD (t .current) d 0) 0 (t .value) (t .next)
 
   pub cleared-view : (c : ℕ) → c < length (t .states) → channels (with-rows t c 0 (t .value) (t .next)) ≡ with-channel c none (channels t)
@@ -77,11 +69,10 @@ module _ (t : Tool) where
       (λ d e. ap₂ (λ k q. held d n k q (t .value) (t .next)) (getD-set-other (t .states) c d 0 0 e) (getD-set-other (t .current) c d 0 0 e))
 
   -- A table stored into a channel's rows; those of the others lie elsewhere.
-  module _ (states-length : length (t .states) ≡ 8) (current-length : length (t .current) ≡ 8) (value-length : length (t .value) ≡ 8192)
-      (next-length : length (t .next) ≡ 8192) (few-events : n ≤ 16)
-      (in-order : (d : ℕ) → channel-test n (t .values) (channels t d) ≡ true)
-      (c k : ℕ) (A B : List ℕ) (h : c < 8) (some-states : 0 < k) (few-states : k ≤ 64) (A-length : length A ≡ rows-size)
-      (B-length : length B ≡ rows-size) where
+  module _ (states-length : length (t .states) ≡ channel-limit) (current-length : length (t .current) ≡ channel-limit)
+      (value-length : length (t .value) ≡ store-limit) (next-length : length (t .next) ≡ store-limit) (few-events : n ≤ event-limit)
+      (in-order : (d : ℕ) → test-of t d ≡ true) (c k : ℕ) (A B : List ℕ) (h : c < channel-limit) (some-states : 0 < k)
+      (few-states : k ≤ table-limit) (A-length : length A ≡ entry-limit) (B-length : length B ≡ entry-limit) where
     abbrev value-rows : List ℕ
     value-rows = stored-rows (t .value) c A
 
@@ -89,10 +80,10 @@ module _ (t : Tool) where
     next-rows = stored-rows (t .next) c B
 
     mine :
-        (L S : List ℕ) → length L ≡ 8192 → length S ≡ rows-size →
+        (L S : List ℕ) → length L ≡ store-limit → length S ≡ entry-limit →
         part (stored-rows L c S) (rows-start c) (k * n) ≡ part S 0 (k * n)
     mine L S a b =
-        part-inside L (rows-start c) S rows-size (omega (arith, rows-in c h)) (omega arith) (k * n) (entries-fit k n few-states few-events)
+        part-inside L (rows-start c) S entry-limit (omega (arith, rows-in c h)) (omega arith) (k * n) (entries-fit k n few-states few-events)
 
     here : channels (with-rows t c k value-rows next-rows) c ≡ some (loaded-at 0 n k 0 A B)
     here =
@@ -109,18 +100,18 @@ module _ (t : Tool) where
         (mine (t .value) A value-length A-length) (mine (t .next) B next-length B-length)
 
     theirs :
-        (d m : ℕ) (L S : List ℕ) → length L ≡ 8192 → length S ≡ rows-size → d < 8 → m ≤ rows-size → (d ≡ c → ⊥) →
+        (d m : ℕ) (L S : List ℕ) → length L ≡ store-limit → length S ≡ entry-limit → d < channel-limit → m ≤ entry-limit → (d ≡ c → ⊥) →
         part (stored-rows L c S) (rows-start d) m ≡ part L (rows-start d) m
     theirs d m L S a b l g e =
         ⊎-elim
-        (λ p. part-before L (rows-start c) S rows-size (omega (arith, rows-in c h)) (omega arith) (rows-start d) m (omega (arith, p)))
+        (λ p. part-before L (rows-start c) S entry-limit (omega (arith, rows-in c h)) (omega arith) (rows-start d) m (omega (arith, p)))
         (λ p.
-        part-after L (rows-start c) S rows-size (omega (arith, rows-in c h)) (omega arith) (rows-start d) m (omega (arith, p))
+        part-after L (rows-start c) S entry-limit (omega (arith, rows-in c h)) (omega arith) (rows-start d) m (omega (arith, p))
         (omega (arith, rows-in d l)))
         (rows-apart c d e)
 
     same-rows :
-        (d j q : ℕ) → d < 8 → j * n ≤ rows-size → (d ≡ c → ⊥) →
+        (d j q : ℕ) → d < channel-limit → j * n ≤ entry-limit → (d ≡ c → ⊥) →
         _≡_ {A = Option (Loaded ℕ)} (some (loaded-at (rows-start d) n j q value-rows next-rows)) (some (loaded-at (rows-start d) n j q (t .value) (t .next)))
     same-rows d j q l g e =
         ap₂
@@ -137,7 +128,7 @@ module _ (t : Tool) where
     there : (d : ℕ) → (d ≡ c → ⊥) → channels (with-rows t c k value-rows next-rows) d ≡ channels t d
     there d e =
         ap₂ (λ k q. held d n k q value-rows next-rows) (getD-set-other (t .states) c d k 0 e) (getD-set-other (t .current) c d 0 0 e)
-        ∙ go (ltb d 8) refl (ltb 0 (getD (t .states) d 0)) refl
+        ∙ go (ltb d channel-limit) refl (ltb 0 (getD (t .states) d 0)) refl
       where
         j : ℕ
         j = getD (t .states) d 0
@@ -145,23 +136,23 @@ module _ (t : Tool) where
         q : ℕ
         q = getD (t .current) d 0
 
-        fits : d < 8 → 0 < j → j * n ≤ rows-size
+        fits : d < channel-limit → 0 < j → j * n ≤ entry-limit
         fits l g =
             entries-fit j n
-            (in-order-of-test n (t .values) (loaded-at (rows-start d) n j q (t .value) (t .next))
-            (subst (λ o. channel-test n (t .values) o ≡ true) (held-some d n j q (t .value) (t .next) l g) (in-order d)) .few-states)
+            (in-order-of-test n (t .setup .kind) (loaded-at (rows-start d) n j q (t .value) (t .next))
+            (subst (λ o. channel-test n (t .setup .kind) o ≡ true) (held-some d n j q (t .value) (t .next) l g) (in-order d)) .few-states)
             few-events
 
-        go : (i : Bool) → ltb d 8 ≡ i → (b : Bool) → ltb 0 j ≡ b → held d n j q value-rows next-rows ≡ channels t d
+        go : (i : Bool) → ltb d channel-limit ≡ i → (b : Bool) → ltb 0 j ≡ b → held d n j q value-rows next-rows ≡ channels t d
         go true p true r =
-            held-some d n j q value-rows next-rows (ltb-true d 8 p) (ltb-true 0 j r)
-            ∙ same-rows d j q (ltb-true d 8 p) (fits (ltb-true d 8 p) (ltb-true 0 j r)) e
-            ∙ sym (held-some d n j q (t .value) (t .next) (ltb-true d 8 p) (ltb-true 0 j r))
+            held-some d n j q value-rows next-rows (ltb-true d channel-limit p) (ltb-true 0 j r)
+            ∙ same-rows d j q (ltb-true d channel-limit p) (fits (ltb-true d channel-limit p) (ltb-true 0 j r)) e
+            ∙ sym (held-some d n j q (t .value) (t .next) (ltb-true d channel-limit p) (ltb-true 0 j r))
         go true p false r =
             let z : j ≡ 0 = omega (arith, ltb-false 0 j r) in
             held-empty d n j q value-rows next-rows z ∙ sym (held-empty d n j q (t .value) (t .next) z)
         go false p b r =
-            held-above d n j q value-rows next-rows (ltb-false d 8 p) ∙ sym (held-above d n j q (t .value) (t .next) (ltb-false d 8 p))
+            held-above d n j q value-rows next-rows (ltb-false d channel-limit p) ∙ sym (held-above d n j q (t .value) (t .next) (ltb-false d channel-limit p))
 
     pub loaded-view : channels (with-rows t c k value-rows next-rows) ≡ with-channel c (some (loaded-at 0 n k 0 A B)) (channels t)
     loaded-view = channels-with c (some (loaded-at 0 n k 0 A B)) (channels t) (channels (with-rows t c k value-rows next-rows)) here there

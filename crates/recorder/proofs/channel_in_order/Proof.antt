@@ -1,10 +1,9 @@
 -- `recorder::channel_in_order` meets its contract: each limit is tested in turn, and the entries last.
--- Assumes nothing.
 use native.Mathlib.Omega.{arith}
 use borrow.Author.Needs.{needs}
-use Rattle.recorder.specs.Channels.{rows-start}
-use Rattle.recorder.proofs.Held.{held-above, held-empty, held-some, many-states, state-outside, entries-only}
-use Rattle.recorder.proofs.Rows.{entries-fit}
+use Rattle.values.specs.declared.ValueKind.the-variants.{Numbered}
+use Rattle.recorder.specs.Store.{rows-start}
+use Rattle.recorder.proofs.{Held.{held-above, held-empty, held-some, many-states, state-outside, entries-only}, Rows.{entries-fit}}
 use Rattle.recorder.proofs.channel_in_order.Statement.{statement}
 use Rattle.recorder.proofs.channel_in_order.Tie as tie
 
@@ -23,7 +22,7 @@ returns-3 c =
     let a = c .before .before .before .args in
     rw (
       held-some (a .channel) (a .events) (a .states) (a .current) (a .value .now) (a .next .now) (omega arith) (omega arith),
-      many-states (rows-start (a .channel)) (a .events) (a .values) (a .states) (a .current) (a .value .now) (a .next .now) (omega arith),
+      many-states (rows-start (a .channel)) (a .events) (Numbered (a .values)) (a .states) (a .current) (a .value .now) (a .next .now) (omega arith),
     )
 
 returns-4 : tie.Need-returns-4
@@ -31,11 +30,8 @@ returns-4 c =
     let a = c .before .before .before .before .args in
     rw (
       held-some (a .channel) (a .events) (a .states) (a .current) (a .value .now) (a .next .now) (omega arith) (omega arith),
-      state-outside (rows-start (a .channel)) (a .events) (a .values) (a .states) (a .current) (a .value .now) (a .next .now) (omega arith),
+      state-outside (rows-start (a .channel)) (a .events) (Numbered (a .values)) (a .states) (a .current) (a .value .now) (a .next .now) (omega arith),
     )
-
-rows-start-requires : tie.Need-rows-start-requires
-rows-start-requires c κs = search needs
 
 mul-entries-in-order : tie.Need-mul-entries-in-order
 mul-entries-in-order c =
@@ -52,19 +48,11 @@ returns-5 c =
     let a = c .before .before .before .before .before .before .args in
     rw (
       held-some (a .channel) (a .events) (a .states) (a .current) (a .value .now) (a .next .now) (omega arith) (omega arith),
-      entries-only (rows-start (a .channel)) (a .events) (a .values) (a .states) (a .current) (a .value .now) (a .next .now) (omega arith) (omega arith) (omega arith),
+      entries-only (rows-start (a .channel)) (a .events) (Numbered (a .values)) (a .states) (a .current) (a .value .now) (a .next .now) (omega arith)
+          (omega arith) (omega arith),
     )
     (rw (c .before .rows-start .ensures .0) at (c .entries-in-order .ensures))
 
 pub channel-in-order-spec : {M : Type 1} → statement M
-channel-in-order-spec =
-    tie.close
-    (tie.spec
-    returns
-    returns-2
-    returns-3
-    returns-4
-    rows-start-requires
-    mul-entries-in-order
-    entries-in-order-requires
-    returns-5)
+channel-in-order-spec = tie.close (tie.spec returns returns-2 returns-3 returns-4 (λ c κs. search needs) mul-entries-in-order
+    entries-in-order-requires returns-5)

@@ -1,22 +1,12 @@
 -- `recorder::counted_reply` meets its contract: case by case.
--- Assumes nothing.
 use mathlib.Core.Path.{sym, ap}
 use borrow.Author.Needs.{needs}
 use Rattle.recorder.specs.Decisions.{counted-reply}
 use Rattle.recorder.proofs.counted_reply.Statement.{statement}
 use Rattle.recorder.proofs.counted_reply.Tie as tie
 
-enum-told : tie.Need-enum-told
-enum-told c = search needs
-
-enum-known-verdict : tie.Need-enum-known-verdict
-enum-known-verdict c = search needs
-
-returns : tie.Need-returns
-returns c = search needs
-
 returns-2 : tie.Need-returns-2
 returns-2 c = ap counted-reply (sym (c .before .verdict .given .1))
 
 pub counted-reply-spec : {M : Type 1} → statement M
-counted-reply-spec = tie.close (tie.spec enum-told enum-known-verdict returns returns-2)
+counted-reply-spec = tie.close (tie.spec (λ c. search needs) (λ c. search needs) (λ c. search needs) returns-2)

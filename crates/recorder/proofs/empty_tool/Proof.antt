@@ -1,12 +1,11 @@
 -- `recorder::empty_tool` meets its contract: field by field.
--- Assumes nothing.
 use mathlib.Core.Path.{refl}
-use Rattle.recorder.specs.Tool.{empty-tool}
+use Rattle.recorder.specs.Called.{empty-store}
 use Rattle.recorder.proofs.empty_tool.Statement.{statement}
 use Rattle.recorder.proofs.empty_tool.Tie as tie
 
 returns : tie.Need-returns
-unfolding empty-tool
+unfolding empty-store
 returns c = refl
 
 pub empty-tool-spec : {M : Type 1} → statement M

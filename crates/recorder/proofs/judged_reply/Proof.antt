@@ -1,22 +1,12 @@
 -- `recorder::judged_reply` meets its contract: case by case.
--- Assumes nothing.
 use mathlib.Core.Path.{sym, ap}
 use borrow.Author.Needs.{needs}
 use Rattle.recorder.specs.Decisions.{judged-reply}
 use Rattle.recorder.proofs.judged_reply.Statement.{statement}
 use Rattle.recorder.proofs.judged_reply.Tie as tie
 
-enum-told : tie.Need-enum-told
-enum-told c = search needs
-
-enum-known-judgement : tie.Need-enum-known-judgement
-enum-known-judgement c = search needs
-
-returns : tie.Need-returns
-returns c = search needs
-
 returns-2 : tie.Need-returns-2
 returns-2 c = ap judged-reply (sym (c .before .judgement .given .1))
 
 pub judged-reply-spec : {M : Type 1} → statement M
-judged-reply-spec = tie.close (tie.spec enum-told enum-known-judgement returns returns-2)
+judged-reply-spec = tie.close (tie.spec (λ c. search needs) (λ c. search needs) (λ c. search needs) returns-2)

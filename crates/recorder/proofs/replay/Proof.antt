@@ -1,81 +1,53 @@
 -- `recorder::replay` meets its contract: refused, or run from the current state.
--- Assumes nothing.
-use mathlib.Core.Path.{refl}
+use mathlib.Core.Path.{_≡_, refl}
+use native.Mathlib.Omega.{arith}
 use borrow.Author.Needs.{needs}
-use lib.ListN.{length-map}
+use lib.ListN.{length, length-map}
+use Rattle.limits.specs.Limits.{channel-limit, store-limit}
+use Rattle.recorder.specs.Tool.{store-of}
 use Rattle.recorder.proofs.Replays.{replay-refused, runnable, replay-done}
 use Rattle.recorder.proofs.replay.Statement.{statement}
 use Rattle.recorder.proofs.replay.Tie as tie
 
-mul-states : tie.Need-mul-states
-mul-states c = search needs
-
-element-copy-out-states : tie.Need-element-copy-out-states
-element-copy-out-states c = search needs
-
-element-copy-out-current : tie.Need-element-copy-out-current
-element-copy-out-current c = search needs
-
-tool-in-order-requires : tie.Need-tool-in-order-requires
-tool-in-order-requires c κs = search needs
-
-word-in-order-requires : tie.Need-word-in-order-requires
-word-in-order-requires c κs = search needs
-
-decide-replay-requires : tie.Need-decide-replay-requires
-decide-replay-requires c κs = search needs
-
-enum-told : tie.Need-enum-told
-enum-told c = search needs
-
-enum-told-2 : tie.Need-enum-told-2
-enum-told-2 c = search needs
-
-plain-reply-requires : tie.Need-plain-reply-requires
-plain-reply-requires c κs = search needs
-
 returns : tie.Need-returns
 returns c =
-    let a = c .before .before .before .before .before .before .before .before .before .before .before .before .before .before .before .args in
-    replay-refused (a .t1) (a .channel) (a .word .now) (a .values .now) (c .before .before .before .decide-replay .result) (c .before .before .before .before .before .tool-in-order .result) (c .before .before .before .before .word-in-order .result) _ (c .before .before .before .decide-replay .ensures) (c .before .before .before .before .before .tool-in-order .ensures) (c .before .before .before .before .word-in-order .ensures) refl _ (c .before .enum-told2 .given .0 .0) (c .plain-reply .ensures) (c .before .enum-told2 .given .1)
-
-rows-start-requires : tie.Need-rows-start-requires
-rows-start-requires c κs = search needs
+    let a = c .before .before .before .before .before .before .before .before .before .before .before .before .before .before .args in
+    let f = c .before .before .before .before .tool-fault in
+    let w = c .before .before .before .word-in-order in
+    let n = c .before .before .replay-refusal in
+    replay-refused (store-of (a .t1)) (a .channel) (a .word .now) (a .values .now) (f .result) (f .ensures) (w .result) _ (w .ensures) refl (n .result)
+    (n .ensures) _ (c .plain-reply .ensures) (c .before .if1 .taken)
 
 run-requires : tie.Need-run-requires
 run-requires c κs =
-    let a = c .before .before .before .before .before .before .before .before .before .before .before .before .before .before .before .before .before .before .before .args in
+    let e = c .before .before .before .before .before .before .before .before .before in
+    let a = e .before .before .before .before .before .before .before .before .before .args in
+    let f = c .before .before .before .before .before .before .before .before .tool-fault in
+    let w = c .before .before .before .before .before .before .before .word-in-order in
+    let n = c .before .before .before .before .before .before .replay-refusal in
+    let z : n .result ≡ 0 = omega arith in
+    let g = e .before .before .before .before .before .before .before .before .before .good .0 .1 .1 .1 .1 .1 in
+    let vl : length (a .t1 .value) ≡ store-limit = rw length-map at (g .0 .1 .0 .1) in
+    let nl : length (a .t1 .next) ≡ store-limit = rw length-map at (g .1 .0 .1 .0 .1) in
     rw (c .before .before .before .before .rows-start .ensures .0)
-    (runnable (a .t1) (a .channel) (a .word .now) (a .values .now) (c .before .before .before .before .before .before .before .decide-replay .result) (c .before .before .before .before .before .before .before .before .before .tool-in-order .result) (c .before .before .before .before .before .before .before .before .word-in-order .result) _ (c .before .before .before .before .before .before .before .decide-replay .ensures) (c .before .before .before .before .before .before .before .before .before .tool-in-order .ensures) (c .before .before .before .before .before .before .before .before .word-in-order .ensures) refl (c .before .before .before .before .before .enum-told .given .0 .0) (c .before .before .before .before .before .enum-told .given .0 .1 .0) (c .before .before .before .before .before .enum-told .given .1) (rw length-map at (c .before .before .before .before .before .before .before .before .before .before .before .before .before .before .before .before .before .before .before .good .0 .1 .1 .1 .1 .1 .1 .1 .1 .0 .1 .0 .1)) (rw length-map at (c .before .before .before .before .before .before .before .before .before .before .before .before .before .before .before .before .before .before .before .good .0 .1 .1 .1 .1 .1 .1 .1 .1 .1 .0 .1 .0 .1)))
-
-element-write-tool : tie.Need-element-write-tool
-element-write-tool c = search needs
-
-same-length : tie.Need-same-length
-same-length c = search needs
+    (runnable (store-of (a .t1)) (a .channel) (a .word .now) (a .values .now) (f .result) (f .ensures) (w .result) _ (w .ensures) refl (n .result)
+    (n .ensures) z vl nl)
 
 returns-2 : tie.Need-returns-2
 returns-2 c =
-    let a = c .before .before .before .before .before .before .before .before .before .before .before .before .before .before .before .before .before .before .before .before .before .before .args in
-    replay-done (a .t1) (a .channel) (a .word .now) (a .values .now) (c .before .before .before .before .before .before .before .before .before .before .decide-replay .result) (c .before .before .before .before .before .before .before .before .before .before .before .before .tool-in-order .result) (c .before .before .before .before .before .before .before .before .before .before .before .word-in-order .result) _ (c .before .before .before .before .before .before .before .before .before .before .decide-replay .ensures) (c .before .before .before .before .before .before .before .before .before .before .before .before .tool-in-order .ensures) (c .before .before .before .before .before .before .before .before .before .before .before .word-in-order .ensures) refl (c .before .before .before .before .before .before .before .before .enum-told .given .0 .0) (c .before .before .before .before .before .before .before .before .enum-told .given .0 .1 .0) (c .before .before .before .before .before .before .before .before .enum-told .given .1) (c .before .before .run .result) _ (rw length-map at (c .before .before .before .before .before .before .before .before .before .before .before .before .before .before .before .before .before .before .before .before .before .before .good .0 .1 .1 .1 .1 .1 .1 .1 .0 .1 .0 .1))
-    (rw (c .before .before .before .before .before .before .before .rows-start .ensures .0) at (c .before .before .run .ensures .0)) (rw (c .before .before .before .before .before .before .before .rows-start .ensures .0) at (c .before .before .run .ensures .1))
+    let e = c .before .before .before .before .before .before .before .before .before .before .before in
+    let a = e .before .before .before .before .before .before .before .before .before .before .args in
+    let f = e .tool-fault in
+    let w = c .before .before .before .before .before .before .before .before .before .before .word-in-order in
+    let n = c .before .before .before .before .before .before .before .before .before .replay-refusal in
+    let r = c .before .before .before .before .before .before .before .rows-start in
+    let z : n .result ≡ 0 = omega arith in
+    let l : length (a .t1 .current) ≡ channel-limit = rw length-map at
+    (e .before .before .before .before .before .before .before .before .before .before .good .0 .1 .1 .1 .1 .0 .1 .0 .1) in
+    replay-done (store-of (a .t1)) (a .channel) (a .word .now) (a .values .now) (f .result) (f .ensures) (w .result) _ (w .ensures) refl (n .result)
+    (n .ensures) z (c .before .before .run .result) _ l (rw (r .ensures .0) at (c .before .before .run .ensures .0))
+    (rw (r .ensures .0) at (c .before .before .run .ensures .1))
 
 pub replay-spec : {M : Type 1} → statement M
-replay-spec =
-    tie.close
-    (tie.spec
-    mul-states
-    element-copy-out-states
-    element-copy-out-current
-    tool-in-order-requires
-    word-in-order-requires
-    decide-replay-requires
-    enum-told
-    enum-told-2
-    plain-reply-requires
-    returns
-    rows-start-requires
-    run-requires
-    element-write-tool
-    same-length
-    returns-2)
+replay-spec = tie.close (tie.spec (λ c. search needs) (λ c. search needs) (λ c. search needs) (λ c κs. search needs) (λ c κs. search needs)
+    (λ c κs. search needs) (λ c κs. search needs) returns (λ c κs. search needs) run-requires (λ c. search needs) (λ c. search needs) returns-2)

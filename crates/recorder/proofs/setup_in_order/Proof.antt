@@ -1,10 +1,11 @@
--- `recorder::setup_in_order` meets its contract: a set-up of more than 16 values is refused at once; any other is judged on the part of the array that is its table.
--- Assumes nothing.
+-- `recorder::setup_in_order` meets its contract: a set-up of more than 16 values is refused at once;
+-- any other is judged on the part of the array that is its table.
 use mathlib.Core.Path.{sym}
 use Prim.Native.Nat.{_≤_, _*_}
 use native.Mathlib.Omega.{arith}
 use borrow.Author.Needs.{needs}
 use lib.Seq.{length-take-le}
+use Rattle.limits.specs.Limits.{meet-limit}
 use Rattle.values.proofs.Setups.{square-small}
 use Rattle.recorder.proofs.Held.{many-values, accepted-test, refused-test}
 use Rattle.recorder.proofs.setup_in_order.Statement.{statement}
@@ -14,22 +15,13 @@ returns : tie.Need-returns
 returns c = sym (many-values _ _ _ _ (search needs))
 
 mul-count : tie.Need-mul-count
-mul-count c = let h : c .before .before .args .values * c .before .before .args .values ≤ 256 = square-small (search needs) in omega arith
+mul-count c = let h : c .before .before .args .values * c .before .before .args .values ≤ meet-limit = square-small (search needs) in omega arith
 
 slice-aggregate-check-setup : tie.Need-slice-aggregate-check-setup
 slice-aggregate-check-setup c =
     let v = c .before .before .before .args .values in
-    let h : v * v ≤ 256 = square-small (search needs) in
+    let h : v * v ≤ meet-limit = square-small (search needs) in
     sym (length-take-le (v * v) (c .before .before .before .args .meet .now) (omega arith))
-
-check-setup-requires : tie.Need-check-setup-requires
-check-setup-requires c κs = search needs
-
-enum-told : tie.Need-enum-told
-enum-told c = search needs
-
-enum-told-2 : tie.Need-enum-told-2
-enum-told-2 c = search needs
 
 returns-2 : tie.Need-returns-2
 returns-2 c =
@@ -40,14 +32,5 @@ returns-3 c =
     refused-test _ (c .before .before .check-setup .result) (c .before .before .check-setup .ensures) (c .enum-told2 .given .0 .0) (c .enum-told2 .given .1)
 
 pub setup-in-order-spec : {M : Type 1} → statement M
-setup-in-order-spec =
-    tie.close
-    (tie.spec
-    returns
-    mul-count
-    slice-aggregate-check-setup
-    check-setup-requires
-    enum-told
-    enum-told-2
-    returns-2
-    returns-3)
+setup-in-order-spec = tie.close (tie.spec returns mul-count slice-aggregate-check-setup (λ c κs. search needs) (λ c. search needs) (λ c. search needs)
+    returns-2 returns-3)

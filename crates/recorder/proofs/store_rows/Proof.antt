@@ -1,37 +1,21 @@
 -- `recorder::store_rows` meets its contract: the loop's invariant: the first i entries are copied.
--- Assumes nothing.
 use mathlib.Core.Path.{_≡_}
 use Prim.Native.Nat.{_≤_, _-_}
-use native.Mathlib.Numerals.{add-one}
-use native.Mathlib.Omega.{arith}
+use native.Mathlib.{Numerals.{add-one}, Omega.{arith}}
 use borrow.Author.Needs.{needs}
 use lib.Seq.{paste, paste-zero, paste-suc}
+use Rattle.limits.specs.Limits.{entry-limit}
 use Rattle.recorder.proofs.store_rows.Statement.{statement}
 use Rattle.recorder.proofs.store_rows.Tie as tie
 
 abbrev Inv-loop : tie.InvT-loop
-Inv-loop rows₀ at entries i₀ rows i = (i ≤ 1024) × (rows ≡ paste rows₀ at entries i)
+Inv-loop rows₀ at entries i₀ rows i = (i ≤ entry-limit) × (rows ≡ paste rows₀ at entries i)
 
 abbrev μ-loop : tie.MeasureT-loop
-μ-loop rows₀ at entries i₀ rows i = 1024 - i
+μ-loop rows₀ at entries i₀ rows i = entry-limit - i
 
 loop-holds : tie.Need-loop-holds Inv-loop μ-loop
 loop-holds c = (search needs, paste-zero (c .args .rows .now) (c .args .at) (c .args .entries .now))
-
-element-copy-out-rows : tie.Need-element-copy-out-rows Inv-loop μ-loop
-element-copy-out-rows c = search needs
-
-add-rows : tie.Need-add-rows Inv-loop μ-loop
-add-rows c = search needs
-
-element-write-rows : tie.Need-element-write-rows Inv-loop μ-loop
-element-write-rows c = search needs
-
-add-i : tie.Need-add-i Inv-loop μ-loop
-add-i c = search needs
-
-loop-less : tie.Need-loop-less Inv-loop μ-loop
-loop-less c = search needs
 
 loop-again : tie.Need-loop-again Inv-loop μ-loop
 loop-again c =
@@ -43,20 +27,9 @@ loop-again c =
 
 returns : tie.Need-returns Inv-loop μ-loop
 returns c =
-    let e : c .before .loop .i ≡ 1024 = omega arith in
+    let e : c .before .loop .i ≡ entry-limit = omega arith in
     rw e at (c .before .loop .inv .1)
 
 pub store-rows-spec : {M : Type 1} → statement M
-store-rows-spec =
-    tie.close
-    (tie.spec
-    Inv-loop
-    μ-loop
-    loop-holds
-    element-copy-out-rows
-    add-rows
-    element-write-rows
-    add-i
-    loop-less
-    loop-again
-    returns)
+store-rows-spec = tie.close (tie.spec Inv-loop μ-loop loop-holds (λ c. search needs) (λ c. search needs) (λ c. search needs) (λ c. search needs)
+    (λ c. search needs) loop-again returns)

@@ -1,12 +1,8 @@
 -- `recorder::word_in_order` meets its contract: the loop's invariant: the test passes at every event before i.
--- Assumes nothing.
-use mathlib.Core.Bool.{true}
-use mathlib.Core.Path.{_≡_, sym}
+use mathlib.Core.{Bool.{true}, Path.{_≡_, sym}}
 use Prim.Native.Nat.{_≤_, _-_}
-use borrow.Author.Needs.{needs}
-use borrow.Author.Tests.{lt-ltb, le-ltb}
-use lib.Dec.{ltb}
-use lib.ListN.{length, getD}
+use borrow.Author.{Needs.{needs}, Tests.{lt-ltb, le-ltb}}
+use lib.{Dec.{ltb}, ListN.{length, getD}}
 use Rattle.theory.proofs.ValueSets.{every-none, every-more, every-not, every-done}
 use Rattle.theory.specs.ValueSetClaims.{every}
 use Rattle.recorder.proofs.word_in_order.Statement.{statement}
@@ -22,17 +18,8 @@ abbrev μ-loop : tie.MeasureT-loop
 loop-holds : tie.Need-loop-holds Inv-loop μ-loop
 loop-holds c = (search needs, search needs, every-none _)
 
-shared-slice-read-if1 : tie.Need-shared-slice-read-if1 Inv-loop μ-loop
-shared-slice-read-if1 c = search needs
-
 returns : tie.Need-returns Inv-loop μ-loop
 returns c = sym (every-not _ _ (c .before .before .before .loop .i) (search needs) (le-ltb _ _ (c .if1 .taken)))
-
-add-i : tie.Need-add-i Inv-loop μ-loop
-add-i c = search needs
-
-loop-less : tie.Need-loop-less Inv-loop μ-loop
-loop-less c = search needs
 
 loop-again : tie.Need-loop-again Inv-loop μ-loop
 loop-again c = (search needs, search needs, every-more _ _ (c .before .before .before .loop .inv .2) (lt-ltb _ _ (c .if1 .left)))
@@ -41,15 +28,5 @@ returns-2 : tie.Need-returns-2 Inv-loop μ-loop
 returns-2 c = sym (every-done _ _ _ (c .before .loop .inv .1) (search needs) (c .before .loop .inv .2))
 
 pub word-in-order-spec : {M : Type 1} → statement M
-word-in-order-spec =
-    tie.close
-    (tie.spec
-    Inv-loop
-    μ-loop
-    loop-holds
-    shared-slice-read-if1
-    returns
-    add-i
-    loop-less
-    loop-again
+word-in-order-spec = tie.close (tie.spec Inv-loop μ-loop loop-holds (λ c. search needs) returns (λ c. search needs) (λ c. search needs) loop-again
     returns-2)

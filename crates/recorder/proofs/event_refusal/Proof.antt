@@ -1,0 +1,24 @@
+-- `recorder::event_refusal` meets its contract: 17, 14 and 15, then 16.
+use native.Mathlib.Omega.{arith}
+use borrow.Author.{Needs.{needs}, Tests.{lt-ltb, le-ltb}}
+use Rattle.recorder.proofs.Numbers.{earlier-stands, later-stands, passes, fails}
+use Rattle.recorder.proofs.event_refusal.Statement.{statement}
+use Rattle.recorder.proofs.event_refusal.Tie as tie
+
+returns : tie.Need-returns
+returns c = earlier-stands _ _ _ (c .before .loaded-refusal .ensures) (omega arith)
+
+returns-2 : tie.Need-returns-2
+returns-2 c =
+    let a = c .before .before .before .before .args in
+    later-stands _ _ _ _ (c .before .before .before .loaded-refusal .ensures) (omega arith)
+    (fails _ 16 (le-ltb (a .event) (a .events) (omega (arith, c .before .wide .ensures))))
+
+returns-3 : tie.Need-returns-3
+returns-3 c =
+    let a = c .before .before .before .before .args in
+    later-stands _ _ _ _ (c .before .before .before .loaded-refusal .ensures) (omega arith)
+    (passes _ 16 (lt-ltb (a .event) (a .events) (omega (arith, c .before .wide .ensures))))
+
+pub event-refusal-spec : {M : Type 1} → statement M
+event-refusal-spec = tie.close (tie.spec (λ c κs. search needs) returns (λ c κs. search needs) returns-2 returns-3)

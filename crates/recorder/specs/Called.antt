@@ -1,0 +1,102 @@
+-- The calls on a tool (document 01, "Tool"): what each answers and what the tool holds afterwards, whatever it held before.
+use mathlib.Core.List.{List, _++_}
+use mathlib.Core.Option.{Option, none, some}
+use Prim.Native.Nat.{ℕ, _-_}
+use lib.ListN.{length, set, take, replicate}
+use lib.Seq.{paste}
+use Rattle.limits.specs.Limits.{meet-limit, channel-limit, entry-limit, store-limit}
+use Rattle.refusal.specs.declared.Refusal.{Refusal}
+use Rattle.refusal.specs.Refusal.{or-else, plain-unless}
+use Rattle.values.specs.declared.ValueKind.{ValueKind}
+use Rattle.values.specs.declared.ValueKind.the-variants.{Numbered, Register}
+use Rattle.values.specs.Setup.{Setup, setup-of-kind, setup, register-setup}
+use Rattle.values.specs.SetupTests.{setup-refusal}
+use Rattle.channel_log.specs.Calls.{Call, load, event, restart, restart-all, clear, Reply, accepted, refused, Content, call-refusal, accepted-reply}
+use Rattle.channel_log.specs.Recorded.{Loaded, recorded}
+use Rattle.recorder.specs.Store.{Store, setup-of, rows-start, channels}
+use Rattle.recorder.specs.ToolFault.{tool-test}
+use Rattle.recorder.specs.CompiledRule.{rule-judged, states-of-rule, values-of-rule, nexts-of-rule, loaded-rule}
+
+-- The store with other current states; with another table in channel c, at state 0.
+abbrev pub with-current : Store → List ℕ → Store
+with-current t l = record { setup = t .setup; states = t .states; current = l; value = t .value; next = t .next }
+
+abbrev pub with-rows : Store → ℕ → ℕ → List ℕ → List ℕ → Store
+with-rows t c k value next =
+    record { setup = t .setup; states = set (t .states) c k; current = set (t .current) c 0; value = value; next = next }
+
+-- A table's entries in the rows of channel c; no other channel's change.
+abbrev pub stored-rows : List ℕ → ℕ → List ℕ → List ℕ
+stored-rows rows c entries = paste rows (rows-start c) entries entry-limit
+
+-- The state that an event leads to.
+abbrev pub next-state : Option (Loaded ℕ) → ℕ → ℕ
+next-state none e = 0
+next-state (some x) e = x .table .next (x .current) e
+
+-- The channels take calls as `recorded` says.
+abbrev pub content : Store → Content (Loaded ℕ) ℕ ℕ
+content t = recorded (t .setup .events) (rule-judged (setup-of t)) (loaded-rule (setup-of t))
+
+-- The first refusal in document 01's order: 17, then 14, 15, 16, then 5 to 10.
+abbrev pub tool-refusal : Store → Call ℕ → Option Refusal
+tool-refusal t call = or-else (plain-unless (tool-test t call) 17) (call-refusal (content t) (channels t) call)
+
+-- What an accepted call leaves. After a load the channel's rows beyond the new table are 0; clear leaves its rows as they are.
+abbrev pub effect-on : Store → Call ℕ → Store
+effect-on t (load c r) =
+    with-rows t c (states-of-rule (setup-of t) r)
+    (stored-rows (t .value) c (values-of-rule (setup-of t) r)) (stored-rows (t .next) c (nexts-of-rule (setup-of t) r))
+effect-on t (event c e) = with-current t (set (t .current) c (next-state (channels t c) e))
+effect-on t (restart c) = with-current t (set (t .current) c 0)
+effect-on t restart-all = with-current t (replicate channel-limit 0)
+effect-on t (clear c) = with-rows t c 0 (t .value) (t .next)
+
+-- A refused call changes nothing.
+abbrev pub settled-store : Option Refusal → Reply ℕ → Store → Store → Reply ℕ × Store
+settled-store none reply after before = (reply, after)
+settled-store (some r) reply after before = (refused r, before)
+
+-- One call: its reply, and the store afterwards.
+unfoldable pub called : Call ℕ → Store → Reply ℕ × Store
+called call t = settled-store (tool-refusal t call) (accepted-reply (content t) (channels t) call) (effect-on t call) t
+
+-- All channels empty, every cell of theirs 0.
+unfoldable pub empty-store : Setup → Store
+empty-store s =
+    record {
+      setup = s;
+      states = replicate channel-limit 0;
+      current = replicate channel-limit 0;
+      value = replicate store-limit 0;
+      next = replicate store-limit 0;
+    }
+
+-- A list brought to a length, with 0 after its end.
+unfoldable pub filled : ℕ → List ℕ → List ℕ
+filled n l = take n l ++ replicate (n - length l) 0
+
+-- The cells that a meet table is kept in: after its entries they are 0.
+abbrev pub meet-cells : ValueKind → List ℕ → List ℕ
+meet-cells (Numbered n) meet = filled meet-limit meet
+meet-cells (Register lines) meet = meet
+
+-- What an accepted set-up makes.
+unfoldable pub new-store : Setup → Store
+new-store s = empty-store (setup-of-kind (s .events) (s .kind) (s .top) (meet-cells (s .kind) (s .meet)))
+
+-- What a refused set-up hands back, by its kind of values: every cell is 0, and every call on it is 17.
+abbrev pub blank-setup : ValueKind → Setup
+blank-setup (Numbered n) = setup 0 0 0 (replicate meet-limit 0)
+blank-setup (Register lines) = register-setup 0 0
+
+unfoldable pub blank : ValueKind → Store
+blank kind = empty-store (blank-setup kind)
+
+-- Set up takes no earlier tool: the set-up's refusal, or the new store.
+abbrev pub set-up-answer : Setup → Option Refusal → Reply ℕ × Store
+set-up-answer s none = (accepted, new-store s)
+set-up-answer s (some r) = (refused r, blank (s .kind))
+
+abbrev pub set-up-called : Setup → Reply ℕ × Store
+set-up-called s = set-up-answer s (setup-refusal s)
