@@ -1,28 +1,21 @@
 -- The claims of specs/Claims.
--- Assumes nothing.
-use Prim.Native.Nat.{ℕ, suc, _+_, _-_, _*_, _≤_, _<_, min}
-use mathlib.Core.Path.{_≡_, refl, sym, ap, ap₂, _∙_, subst}
-use mathlib.Core.List.{List, [], _∷_, _++_, map}
-use mathlib.Core.Bool.{Bool, true, false, cond}
-use native.Mathlib.Omega.{arith}
-use native.Mathlib.Nat.{suc-mul}
-use lib.Dec.{ltb}
-use borrow.Author.Tests.{ltb-true, ltb-false, lt-ltb, le-ltb}
-use lib.ListN.{length, drop, length-append, length-drop}
-use Rattle.text_format.specs.Format.{Parsed, ok, bad, Outcome, contents, refused, read}
-use Rattle.text_format.specs.Series.{separated, OneOrMore}
-use Rattle.text_format.specs.Decimal.{Numeral}
-use Rattle.text_format.specs.Place.{Answers}
-use Rattle.text_format.proofs.Decimal.{decimal-numeral}
-use Rattle.text_format.proofs.Place.{answers, one-answer}
-use Rattle.text_format.proofs.Combinators.{not-both}
-use Rattle.channel_file.specs.ChannelFile.{Token, token-T, token-A, token-V, token-X, token-G, token-O, Contents, number, Small, SmallToken, token-text, text, SmallContents, Shows, Form}
-use Rattle.channel_file.specs.FileFormat.{file}
-use Rattle.channel_file.specs.Reading.{file-limit, Refused4, over-long, off-form, AnswersFile, read-file, tokens-stretch}
-use Rattle.channel_file.specs.Bytes.{clamp}
-use Rattle.channel_file.specs.Claims.{AnswerClaim, OneAnswerClaim, RewriteClaim, ReadBackClaim, LengthClaim, TokensClaim, SomeTokensClaim, OneLineClaim, ClampClaim}
+use Prim.Native.Nat.{ℕ, _+_, _*_, _≤_, _<_}
+use mathlib.Core.{Path.{_≡_, refl, sym, ap, ap₂, _∙_, subst}, List.{List, [], _∷_, _++_, map, append-nil}, Bool.{Bool, true, false, cond}}
+use native.Mathlib.{Omega.{arith}, Nat.{suc-mul}}
+use lib.{Dec.{ltb}, ListN.{length, take, drop, length-append, length-drop}, Seq.{take-at}}
+use borrow.Author.Tests.{ltb-true, ltb-false}
+use Rattle.limits.specs.Limits.{file-limit}
+use Rattle.text_format.specs.{Format.{Parsed, ok, bad, bind, Outcome, contents, refused, at-end, outcome, read, ascii}, Series.{separated, OneOrMore}}
+use Rattle.text_format.specs.{Decimal.{Numeral}, Place.{Answers}}
+use Rattle.text_format.proofs.{Decimal.{decimal-numeral}, Place.{answers, one-answer}, Combinators.{not-both}}
+use Rattle.text_format.proofs.Series.{series-fitting, series-of-fitting}
+use Rattle.channel_file.specs.ChannelFile.{Token, token-T, token-A, token-V, token-X, token-G, token-O, Contents, number, Small, SmallToken, token-text}
+use Rattle.channel_file.specs.{ChannelFile.{text, ShowsTokens, Shows}, FileFormat.{token-item, tokens, file}}
+use Rattle.channel_file.specs.Reading.{over-long, off-form, AnswersFile, read-file, read-tokens, tokens-stretch}
+use Rattle.channel_file.specs.Claims.{AnswerClaim, OneAnswerClaim, RewriteClaim, ReadBackClaim, LengthClaim}
+use Rattle.channel_file.specs.Claims.{TokensClaim, SomeTokensClaim, TokenListClaim, OneLineClaim, ClampClaim}
 use Rattle.channel_file.specs.declared.Number.{Number}
-use Rattle.channel_file.proofs.FileFormat.{file-laws, file-renders}
+use Rattle.channel_file.proofs.FileFormat.{token-fits, token-of-fits, tokens-laws, tokens-text, file-laws, file-renders}
 use Rattle.channel_file.proofs.Stretches.{tokens-between}
 
 -- ---- the answer
@@ -52,7 +45,8 @@ not-long t h (refused p) (off-form q l a) = a
 one₁ : (b : Bool) (t : List ℕ) → ltb file-limit (length t) ≡ b → (x y : Outcome Contents) → AnswersFile t x → AnswersFile t y → x ≡ y
 one₁ true t e x y hx hy = too-long t (ltb-true file-limit (length t) e) x hx ∙ sym (too-long t (ltb-true file-limit (length t) e) y hy)
 one₁ false t e x y hx hy =
-    one-answer file Shows file-laws file-renders t x y (not-long t (ltb-false file-limit (length t) e) x hx) (not-long t (ltb-false file-limit (length t) e) y hy)
+    one-answer file Shows file-laws file-renders t x y (not-long t (ltb-false file-limit (length t) e) x hx)
+    (not-long t (ltb-false file-limit (length t) e) y hy)
 
 pub one-answer-claim : OneAnswerClaim
 one-answer-claim t x y hx hy = one₁ (ltb file-limit (length t)) t refl x y hx hy
@@ -104,7 +98,8 @@ length-claim c s m n =
 
 pub tokens-claim : TokensClaim
 tokens-claim t c e =
-    ap (tokens-stretch t) e ∙ subst (λ (z : List ℕ). tokens-stretch z (contents c) ≡ separated (map token-text (c .rule))) (rewrite-claim t c e) (tokens-between c)
+    ap (tokens-stretch t) e ∙ subst (λ (z : List ℕ). tokens-stretch z (contents c) ≡ separated (map token-text (c .rule))) (rewrite-claim t c e)
+    (tokens-between c)
 
 -- an item has at least one byte
 some-byte : (x : Token) → 1 ≤ length (token-text x)
@@ -124,6 +119,41 @@ pub some-tokens-claim : SomeTokensClaim
 some-tokens-claim t c e h =
     let l : 1 ≤ length (separated (map token-text (c .rule))) = some-bytes (c .rule) (shown t c e .1 .small .rule) in
     omega (arith, ap length (sym (tokens-claim t c e) ∙ h))
+
+-- ---- tokens alone
+
+-- what is read of a whole text, and what is read leaves nothing
+whole-read : {A : Type 0} (t : List ℕ) (y : Parsed A) (a : A) → outcome t (bind y (λ b r. at-end b r)) ≡ contents a → y ≡ ok a []
+whole-read t (ok b []) a e = cc
+whole-read t (ok b (d ∷ r)) a e = let z : _≡_ {A = ℕ} 0 1 = cc in absurd (omega arith)
+whole-read t (bad r) a e = let z : _≡_ {A = ℕ} 0 1 = cc in absurd (omega arith)
+
+tokens-read : (t : List ℕ) (xs : List Token) → ShowsTokens xs t → read-tokens t ≡ contents xs
+tokens-read t xs h =
+    let f : tokens .print xs ++ [] ≡ t ++ ascii "\n" =
+    append-nil (tokens .print xs) ∙ tokens-text xs (h .small) ∙ ap (λ (s : List ℕ). s ++ ascii "\n") (h .printed) in
+    let e : tokens .parse (t ++ ascii "\n") ≡ ok xs [] =
+    ap (tokens .parse) (sym f) ∙ tokens-laws .full xs (series-fitting token-item SmallToken token-fits xs (h .small)) [] in
+    ap (λ (y : Parsed (List Token)). outcome (t ++ ascii "\n") (bind y (λ a r. at-end a r))) e
+
+tokens-shown : (t : List ℕ) (xs : List Token) → read-tokens t ≡ contents xs → ShowsTokens xs t
+tokens-shown t xs e =
+    let f = tokens-laws .sound (t ++ ascii "\n") xs [] (whole-read (t ++ ascii "\n") (tokens .parse (t ++ ascii "\n")) xs e) in
+    let s : OneOrMore SmallToken xs = series-of-fitting token-item SmallToken token-of-fits xs (f .0) in
+    record { small = s; printed = same-front (sym (tokens-text xs s) ∙ sym (append-nil (tokens .print xs)) ∙ sym (f .1)) }
+  where
+    same-front : {u w : List ℕ} → u ++ ascii "\n" ≡ w ++ ascii "\n" → u ≡ w
+    same-front {u} {w} e =
+        let n : length u ≡ length w = omega (arith, ap length e, length-append u (ascii "\n"), length-append w (ascii "\n")) in
+        sym (take-at u (ascii "\n") (length u) refl) ∙ ap (take (length u)) e ∙ take-at w (ascii "\n") (length u) (sym n)
+
+pub token-list-claim : TokenListClaim
+token-list-claim =
+    record {
+      shown = λ t xs. (tokens-shown t xs, tokens-read t xs);
+      of-a-file = λ t c e.
+          tokens-read (tokens-stretch t (read-file t)) (c .rule) (record { small = shown t c e .1 .small .rule; printed = sym (tokens-claim t c e) });
+    }
 
 -- ---- a line
 

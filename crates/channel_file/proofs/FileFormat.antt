@@ -1,21 +1,19 @@
 -- The channel file's format keeps the laws, and it prints exactly the texts of the form.
--- Assumes nothing.
-use Prim.Native.Nat.{ℕ, _+_, _<_}
-use mathlib.Core.Path.{_≡_, refl, sym, ap, ap₂, _∙_, subst}
-use mathlib.Core.List.{List, [], _∷_, _++_, map, append-assoc, append-nil}
-use mathlib.Core.Option.{Option, some, none}
+use Prim.Native.Nat.{ℕ, _<_}
+use mathlib.Core.{Path.{_≡_, refl, sym, ap, ap₂, _∙_}, List.{List, [], _∷_, _++_, map, append-assoc}, Option.{none}}
 use native.Mathlib.Omega.{arith}
 use borrow.Author.Tests.{ne-eqb}
 use lib.ListN.{length}
-use Rattle.text_format.specs.Format.{Parsed, ok, bad, Format, Laws, ascii}
-use Rattle.text_format.specs.Combinators.{sequence, mapped, find-in, choice, Alphabet, the, word, keyed}
-use Rattle.text_format.specs.Series.{Separator, space, newline, separator-byte, separator, number-item, separated, OneOrMore}
-use Rattle.text_format.specs.Claims.{Renders}
-use Rattle.text_format.proofs.Combinators.{sequence-laws, mapped-laws, letter-laws, choice-laws, choice-at, choice-none, keyed-laws, keyed-fits, keyed-of-fits}
+use Rattle.text_format.specs.{Format.{bad, Laws, ascii}, Combinators.{sequence, mapped, find-in, Alphabet, the}}
+use Rattle.text_format.specs.{Series.{Separator, newline, separator-byte, separator, number-item, separated, OneOrMore}, Claims.{Renders}}
+use Rattle.text_format.proofs.Combinators.{sequence-laws, mapped-laws, choice-laws, choice-at, choice-none, keyed-laws, keyed-fits, keyed-of-fits}
 use Rattle.text_format.proofs.Decimal.{numbered-laws}
 use Rattle.text_format.proofs.Series.{separator-laws, number-item-laws, number-item-solid, series-laws, series-text, series-fitting, series-of-fitting}
-use Rattle.channel_file.specs.ChannelFile.{Token, token-T, token-A, token-V, token-X, token-G, token-O, Contents, number, Small, token-text, SmallToken, line, text, SmallContents, Shows}
-use Rattle.channel_file.specs.FileFormat.{Letter, letter-T, letter-A, letter-V, letter-X, letter-G, letter-O, letter-byte, letters, letter-of, first, second, number-dot, number-line, plain, body, token-item, tokens, entries, field, head, meet-line, rule-line, file}
+use Rattle.channel_file.specs.ChannelFile.{Token, token-T, token-A, token-V, token-X, token-G, token-O, Contents, number, Small, token-text, SmallToken}
+use Rattle.channel_file.specs.ChannelFile.{line, text, SmallContents, Shows}
+use Rattle.channel_file.specs.FileFormat.{Letter, letter-T, letter-A, letter-V, letter-X, letter-G, letter-O, letter-byte, letters, letter-of, first}
+use Rattle.channel_file.specs.FileFormat.{second, number-dot, number-line, plain, body, token-item, tokens, entries, field, head, meet-line, rule-line}
+use Rattle.channel_file.specs.FileFormat.{file}
 
 -- ---- tokens
 
@@ -71,7 +69,8 @@ token-at l s = choice-at letter-byte letter-T letters body (λ q. letter-of (q .
 pub token-none : (b : ℕ) (s : List ℕ) → find-in letter-byte (letter-T ∷ letters) b ≡ none → token-item .parse (b ∷ s) ≡ bad (b ∷ s)
 token-none b s h = choice-none letter-byte letter-T letters body (λ q. letter-of (q .0)) b s h
 
-pub no-letter : (b : ℕ) → (b ≡ 84 → ⊥) → (b ≡ 65 → ⊥) → (b ≡ 86 → ⊥) → (b ≡ 88 → ⊥) → (b ≡ 71 → ⊥) → (b ≡ 79 → ⊥) → find-in letter-byte (letter-T ∷ letters) b ≡ none
+pub no-letter : (b : ℕ) → (b ≡ 84 → ⊥) → (b ≡ 65 → ⊥) → (b ≡ 86 → ⊥) → (b ≡ 88 → ⊥) → (b ≡ 71 → ⊥) → (b ≡ 79 → ⊥)
+    → find-in letter-byte (letter-T ∷ letters) b ≡ none
 no-letter b t a v x g o = rw (ne-eqb b 84 t, ne-eqb b 65 a, ne-eqb b 86 v, ne-eqb b 88 x, ne-eqb b 71 g, ne-eqb b 79 o)
 
 pub token-print : (x : Token) (e : Separator) → token-item .print (x, e) ≡ token-text x ++ (separator-byte e ∷ [])
@@ -95,7 +94,7 @@ token-fits (token-X n) e h = ((tt, (h, refl)), refl)
 token-fits (token-G n) e h = ((tt, (h, refl)), refl)
 token-fits (token-O n m) e h = ((tt, (h, refl)), refl)
 
-token-of-fits : (x : Token) (e : Separator) → token-item .Fits (x, e) → SmallToken x
+pub token-of-fits : (x : Token) (e : Separator) → token-item .Fits (x, e) → SmallToken x
 token-of-fits token-T e h = tt
 token-of-fits token-A e h = tt
 token-of-fits token-V e h = tt
@@ -118,7 +117,8 @@ pub entries-laws : Laws entries
 entries-laws = series-laws (number-item 2) 0 (number-item-laws 2) (number-item-solid 2) zero-fits
 
 pub field-laws : (key : List ℕ) → Laws (field key)
-field-laws key = keyed-laws key (mapped number-line (λ p. p .0) (λ v. (v, tt))) (mapped-laws number-line (λ p. p .0) (λ v. (v, tt)) number-line-laws (λ a h. refl))
+field-laws key = keyed-laws key (mapped number-line (λ p. p .0) (λ v. (v, tt))) (mapped-laws number-line (λ p. p .0) (λ v. (v, tt)) number-line-laws
+    (λ a h. refl))
 
 pub head-laws : Laws head
 head-laws =
@@ -136,7 +136,8 @@ file-laws =
     mapped-laws (sequence head (λ _. sequence meet-line (λ _. rule-line)))
     (λ p. record { events = p .0 .0; values = p .0 .1 .0; top = p .0 .1 .1; meet = p .1 .0; rule = p .1 .1 })
     (λ c. ((c .events, (c .values, c .top)), (c .meet, c .rule)))
-    (sequence-laws head (λ _. sequence meet-line (λ _. rule-line)) head-laws (λ _. sequence-laws meet-line (λ _. rule-line) meet-line-laws (λ _. rule-line-laws)))
+    (sequence-laws head (λ _. sequence meet-line (λ _. rule-line)) head-laws (λ _. sequence-laws meet-line (λ _. rule-line) meet-line-laws
+    (λ _. rule-line-laws)))
     (λ a h. refl)
 
 -- ---- what is printed is the text
@@ -156,9 +157,11 @@ file-print c h =
     let e = line (ascii "events=") (number (c .events)) in
     let v = line (ascii "values=") (number (c .values)) in
     let p = line (ascii "top=") (number (c .top)) in
-    ap₂ (λ (x y : List ℕ). (e ++ (v ++ p)) ++ ((ascii "meet=" ++ x) ++ (ascii "rule=" ++ y))) (entries-text (c .meet) (h .meet)) (tokens-text (c .rule) (h .rule))
+    ap₂ (λ (x y : List ℕ). (e ++ (v ++ p)) ++ ((ascii "meet=" ++ x) ++ (ascii "rule=" ++ y))) (entries-text (c .meet) (h .meet))
+    (tokens-text (c .rule) (h .rule))
     ∙ append-assoc e (v ++ p) (line (ascii "meet=") (separated (map number (c .meet))) ++ line (ascii "rule=") (separated (map token-text (c .rule))))
-    ∙ ap (λ (z : List ℕ). e ++ z) (append-assoc v p (line (ascii "meet=") (separated (map number (c .meet))) ++ line (ascii "rule=") (separated (map token-text (c .rule)))))
+    ∙ ap (λ (z : List ℕ). e ++ z) (append-assoc v p (line (ascii "meet=") (separated (map number (c .meet)))
+    ++ line (ascii "rule=") (separated (map token-text (c .rule)))))
 
 field-fits : (key : List ℕ) (v : ℕ) → Small v → field key .Fits v
 field-fits key v h = keyed-fits key (mapped number-line (λ p. p .0) (λ v. (v, tt))) v (h, refl)

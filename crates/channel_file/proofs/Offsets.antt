@@ -1,24 +1,16 @@
 -- What is left of a text at an offset, and how it is read on.
--- Assumes nothing.
 use Prim.Native.Nat.{ℕ, suc, _+_, _≤_, _<_}
-use mathlib.Core.Path.{_≡_, refl, sym, ap, _∙_}
-use native.Mathlib.Omega.{arith}
-use mathlib.Core.List.{List, [], _∷_, _++_}
-use native.Mathlib.Numerals.{add-one}
-use lib.ListN.{length, drop, getD, drop-of-length-le, length-drop, length-append}
-use lib.Seq.{drop-cons}
-use mathlib.Core.Option.{none}
-use Rattle.text_format.specs.Format.{Parsed, ok, bad, bind, Format, Laws}
-use Rattle.text_format.specs.Combinators.{find-in, word, keyed}
+use mathlib.Core.{Path.{_≡_, refl, sym, ap, _∙_}, List.{List, [], _∷_}}
+use native.Mathlib.{Omega.{arith}, Numerals.{add-one}}
+use lib.{ListN.{length, drop, getD, drop-of-length-le, length-drop, length-append}, Seq.{drop-cons}}
+use Rattle.text_format.specs.{Format.{Parsed, ok, bad, bind, Format, Laws}, Combinators.{word, keyed}}
 use Rattle.text_format.specs.Series.{Separator, space, newline, number-item, series}
 use Rattle.text_format.proofs.Combinators.{word-hit, word-miss}
 use Rattle.text_format.proofs.Series.{series-bad, series-ends, series-goes, shorter, number-item-laws, number-item-solid}
-use Rattle.channel_file.specs.ChannelFile.{Token, token-T}
-use Rattle.channel_file.specs.FileFormat.{Letter, letter-T, letter-byte, letters, body, token-item, tokens, entries, field}
-use Rattle.channel_file.specs.Steps.{Saw, SawItem, SawEnded, SawNumber, counted, count-of}
-use Rattle.channel_file.specs.declared.Scanned.{Scanned}
+use Rattle.channel_file.specs.{ChannelFile.{Token, token-T}, FileFormat.{token-item, tokens, entries, field}}
+use Rattle.channel_file.specs.Steps.{SawEnded, SawNumber, counted, count-of}
 use Rattle.channel_file.specs.declared.Number.{Number}
-use Rattle.channel_file.proofs.FileFormat.{token-at, token-none, token-item-laws, token-solid, T-fits, zero-fits}
+use Rattle.channel_file.proofs.FileFormat.{token-item-laws, token-solid, T-fits, zero-fits}
 
 -- a byte and what is behind it
 pub here : (t : List ℕ) (i : ℕ) → i < length t → drop i t ≡ getD t i 0 ∷ drop (i + 1) t
@@ -39,20 +31,9 @@ forward-by F L t i n a hi hn e =
     let g = ap length (L .sound (drop i t) a (drop n t) e .1) ∙ length-append (F .print a) (drop n t) in
     omega (arith, length-drop i t, length-drop n t)
 
--- a token's letter is read
-pub lettered : (l : Letter) (t : List ℕ) (i : ℕ) → i < length t → getD t i 0 ≡ letter-byte l → token-item .parse (drop i t) ≡ body l .parse (drop (i + 1) t)
-lettered l t i h e = ap (token-item .parse) (here-is t i (letter-byte l) h e) ∙ token-at l (drop (i + 1) t)
-
-pub unlettered : (t : List ℕ) (i : ℕ) → i < length t → find-in letter-byte (letter-T ∷ letters) (getD t i 0) ≡ none → token-item .parse (drop i t) ≡ bad (drop i t)
-unlettered t i h e = ap (token-item .parse) (here t i h) ∙ token-none (getD t i 0) (drop (i + 1) t) e ∙ ap (λ (z : List ℕ). bad z) (sym (here t i h))
-
--- what is seen of one format at one offset is seen of another at another, where they read the same
-pub moved : (F G : Format (Token × Separator)) (t : List ℕ) (i j : ℕ) → F .parse (drop i t) ≡ G .parse (drop j t) → (r : Scanned) → SawItem G t j r → SawItem F t i r
-moved F G t i j e (Scanned.Of x s n) h = record { same = e ∙ h .same; within = h .within }
-moved F G t i j e (Scanned.Bad p) h = record { same = e ∙ h .same; within = h .within }
-
 -- a word is read byte by byte
-pub word-on : (w t : List ℕ) (j i : ℕ) → j < length w → i < length t → getD t i 0 ≡ getD w j 0 → word (drop j w) .parse (drop i t) ≡ word (drop (j + 1) w) .parse (drop (i + 1) t)
+pub word-on : (w t : List ℕ) (j i : ℕ) → j < length w → i < length t → getD t i 0 ≡ getD w j 0 → word (drop j w) .parse (drop i t)
+    ≡ word (drop (j + 1) w) .parse (drop (i + 1) t)
 word-on w t j i hj hi e =
     ap (λ (z : List ℕ). word z .parse (drop i t)) (here w j hj)
     ∙ ap (word (getD w j 0 ∷ drop (j + 1) w) .parse) (here-is t i (getD w j 0) hi e)
@@ -70,7 +51,8 @@ count-cons : {A : Type 0} (n : ℕ) (a : A) (y : Parsed (List A)) → counted n 
 count-cons n a (ok xs r) = let e : n + suc (length xs) ≡ n + 1 + length xs = omega arith in ap (λ (z : ℕ). ok z r) e
 count-cons n a (bad r) = refl
 
-module _ {A : Type 0} (F : Format (A × Separator)) (one : A) (L : Laws F) (solid : (p : A × Separator) → 0 < length (F .print p)) (one-fits : F .Fits (one, newline)) where
+module _ {A : Type 0} (F : Format (A × Separator)) (one : A) (L : Laws F) (solid : (p : A × Separator) → 0 < length (F .print p))
+    (one-fits : F .Fits (one, newline)) where
   many-bad : (n : ℕ) (s r : List ℕ) → F .parse s ≡ bad r → counted n (series F one .parse s) ≡ bad r
   many-bad n s r e = ap (counted n) (series-bad F one L solid one-fits s r e)
 
@@ -92,7 +74,8 @@ tokens-bad = many-bad token-item token-T token-item-laws token-solid T-fits
 pub tokens-last : (n : ℕ) (s : List ℕ) (a : Token) (r : List ℕ) → token-item .parse s ≡ ok (a, newline) r → counted n (tokens .parse s) ≡ ok (n + 1) r
 tokens-last = many-last token-item token-T token-item-laws token-solid T-fits
 
-pub tokens-next : (n : ℕ) (s : List ℕ) (a : Token) (r : List ℕ) → token-item .parse s ≡ ok (a, space) r → counted n (tokens .parse s) ≡ counted (n + 1) (tokens .parse r)
+pub tokens-next : (n : ℕ) (s : List ℕ) (a : Token) (r : List ℕ) → token-item .parse s ≡ ok (a, space) r → counted n (tokens .parse s)
+    ≡ counted (n + 1) (tokens .parse r)
 tokens-next = many-next token-item token-T token-item-laws token-solid T-fits
 
 pub token-forward : (t : List ℕ) (i m : ℕ) (p : Token × Separator) → m ≤ length t → token-item .parse (drop i t) ≡ ok p (drop m t) → i < m
@@ -104,19 +87,22 @@ entries-bad = many-bad (number-item 2) 0 (number-item-laws 2) (number-item-solid
 pub entries-last : (n : ℕ) (s : List ℕ) (a : ℕ) (r : List ℕ) → number-item 2 .parse s ≡ ok (a, newline) r → counted n (entries .parse s) ≡ ok (n + 1) r
 entries-last = many-last (number-item 2) 0 (number-item-laws 2) (number-item-solid 2) zero-fits
 
-pub entries-next : (n : ℕ) (s : List ℕ) (a : ℕ) (r : List ℕ) → number-item 2 .parse s ≡ ok (a, space) r → counted n (entries .parse s) ≡ counted (n + 1) (entries .parse r)
+pub entries-next : (n : ℕ) (s : List ℕ) (a : ℕ) (r : List ℕ) → number-item 2 .parse s ≡ ok (a, space) r → counted n (entries .parse s)
+    ≡ counted (n + 1) (entries .parse r)
 entries-next = many-next (number-item 2) 0 (number-item-laws 2) (number-item-solid 2) zero-fits
 
 pub entry-forward : (t : List ℕ) (i m : ℕ) (p : ℕ × Separator) → m ≤ length t → number-item 2 .parse (drop i t) ≡ ok p (drop m t) → i < m
 entry-forward = item-forward (number-item 2) 0 (number-item-laws 2) (number-item-solid 2) zero-fits
 
 -- a key's number
-pub fielded : (key t : List ℕ) (at a : ℕ) → word key .parse (drop at t) ≡ ok tt (drop a t) → (r : Number) → SawEnded 10 t a r → SawNumber (field key .parse) t at r
+pub fielded : (key t : List ℕ) (at a : ℕ) → word key .parse (drop at t) ≡ ok tt (drop a t) → (r : Number) → SawEnded 10 t a r
+    → SawNumber (field key .parse) t at r
 fielded key t at a e (Number.Value v n) h = record { same = rw e (rw (h .same)); within = h .within }
 fielded key t at a e (Number.Bad p) h = record { same = rw e (rw (h .same)); within = h .within }
 
 -- a key in front of a series
-bind-tt : {A : Type 0} (x : Parsed A) → _≡_ {A = Parsed A} (bind {A = Unit {0} × A} {B = A} (bind {A = A} {B = Unit {0} × A} x (λ b r. ok (tt, b) r)) (λ p r. ok (p .1) r)) x
+bind-tt : {A : Type 0} (x : Parsed A) → _≡_ {A = Parsed A} (bind {A = Unit {0} × A} {B = A} (bind {A = A} {B = Unit {0} × A} x (λ b r. ok (tt, b) r))
+    (λ p r. ok (p .1) r)) x
 bind-tt (ok a r) = refl
 bind-tt (bad r) = refl
 

@@ -1,21 +1,14 @@
 -- How the answer to a whole text comes from the answers to its parts.
--- Assumes nothing.
-use Prim.Native.Nat.{ℕ, suc, _+_, _-_, _≤_, _<_}
-use mathlib.Core.Path.{_≡_, refl, sym, ap, ap₂, _∙_, subst}
-use mathlib.Core.List.{List, [], _∷_, _++_, map}
+use Prim.Native.Nat.{ℕ, _+_, _-_, _≤_}
+use mathlib.Core.{Path.{_≡_, refl, sym, ap, _∙_}, List.{List, [], _∷_, _++_, map}}
 use native.Mathlib.Omega.{arith}
-use lib.ListN.{length, drop, length-drop, length-append}
-use Rattle.text_format.specs.Format.{Parsed, ok, bad, bind, Format, Laws, Outcome, contents, refused, whole, outcome, read, ascii}
-use Rattle.text_format.specs.Series.{separated, OneOrMore, number-item}
-use Rattle.text_format.proofs.Combinators.{not-both, keyed-of-fits}
-use Rattle.text_format.proofs.Series.{series-of-fitting}
-use Rattle.channel_file.specs.ChannelFile.{Token, Contents, number, Small, token-text, line, text}
-use Rattle.channel_file.specs.FileFormat.{entries, tokens, head, meet-line, rule-line, file}
-use Rattle.channel_file.specs.Reading.{head-text, meet-text, meet-start, rule-start, checked}
-use Rattle.channel_file.specs.Steps.{counted}
+use lib.ListN.{length, drop, length-drop}
+use Rattle.text_format.specs.{Format.{Parsed, ok, bad, contents, whole, outcome, read, ascii}, Series.{separated, number-item}}
+use Rattle.text_format.proofs.{Combinators.{not-both, keyed-of-fits}, Series.{series-of-fitting}}
+use Rattle.channel_file.specs.{ChannelFile.{Token, Contents, number, Small, line}, FileFormat.{entries, head, meet-line, rule-line, file}}
+use Rattle.channel_file.specs.{Reading.{head-text, meet-text, meet-start, rule-start, checked}, Steps.{counted}}
 use Rattle.channel_file.specs.declared.Checked.{Checked}
-use Rattle.channel_file.proofs.FileFormat.{head-laws, meet-line-laws, head-print, entries-text}
-use Rattle.channel_file.proofs.Offsets.{forward-by}
+use Rattle.channel_file.proofs.{FileFormat.{head-laws, meet-line-laws, entries-text}, Offsets.{forward-by}}
 
 pub refuse : (t : List ℕ) (p : ℕ) → p ≤ length t → whole file t ≡ bad (drop p t) → Checked.Refused p ≡ checked (read file t)
 refuse t p h e =

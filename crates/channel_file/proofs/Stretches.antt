@@ -1,20 +1,13 @@
 -- Where the items of a file stand in its text.
--- Assumes nothing.
-use Prim.Native.Nat.{ℕ, suc, _+_, _-_, _≤_, _<_}
-use mathlib.Core.Path.{_≡_, refl, sym, ap, ap₂, _∙_, subst}
-use mathlib.Core.List.{List, [], _∷_, _++_, map, append-assoc, append-nil}
-use mathlib.Core.Bool.{Bool, true, false, cond}
+use Prim.Native.Nat.{ℕ, _+_, _-_, _≤_}
+use mathlib.Core.{Path.{_≡_, sym, ap, ap₂, _∙_}, List.{List, _++_, map, append-assoc}}
 use native.Mathlib.Omega.{arith}
-use lib.Dec.{ltb}
-use lib.ListN.{length, take, drop, length-append, length-drop}
-use lib.Seq.{take-at, drop-at}
-use Rattle.text_format.specs.Format.{Parsed, ok, bad, Outcome, contents, refused, read, ascii}
-use Rattle.text_format.specs.Series.{separated, number-item}
+use lib.{ListN.{length, take, drop, length-append}, Seq.{take-at, drop-at}}
+use Rattle.text_format.specs.{Format.{ok, ascii}, Series.{separated, number-item}}
 use Rattle.text_format.proofs.Series.{series-fitting}
-use Rattle.channel_file.specs.ChannelFile.{Token, Contents, number, Small, SmallToken, token-text, line, text, SmallContents}
-use Rattle.channel_file.specs.FileFormat.{entries, tokens, token-item}
-use Rattle.channel_file.specs.Reading.{head-text, meet-text, meet-start, rule-start, stretch, read-file}
-use Rattle.channel_file.proofs.FileFormat.{entries-laws, tokens-laws, entries-text, tokens-text, token-fits}
+use Rattle.channel_file.specs.{ChannelFile.{Contents, number, Small, token-text, line, text, SmallContents}, FileFormat.{entries}}
+use Rattle.channel_file.specs.Reading.{head-text, meet-text, meet-start, rule-start, stretch}
+use Rattle.channel_file.proofs.FileFormat.{entries-laws, entries-text}
 
 module _ (c : Contents) where
   abbrev rule-text : List ℕ
@@ -46,11 +39,6 @@ module _ (c : Contents) where
         ap (entries .parse) (drop-meet ∙ ap (λ (z : List ℕ). z ++ rule-text) (sym (entries-text (c .meet) (s .meet))))
         ∙ entries-laws .full (c .meet) (series-fitting (number-item 2) Small (λ a e g. g) (c .meet) (s .meet)) rule-text
 
-    pub tokens-there : tokens .parse (drop (rule-start c) (text c)) ≡ ok (c .rule) []
-    tokens-there =
-        ap (tokens .parse) (drop-rule ∙ sym (tokens-text (c .rule) (s .rule)) ∙ sym (append-nil (tokens .print (c .rule))))
-        ∙ tokens-laws .full (c .rule) (series-fitting token-item SmallToken token-fits (c .rule) (s .rule)) []
-
   text-length : length (text c) ≡ rule-start c + (length (separated (map token-text (c .rule))) + 1)
   text-length =
       ap length split-rule ∙ length-append ((head-text c ++ meet-text c) ++ ascii "rule=") _
@@ -66,4 +54,5 @@ module _ (c : Contents) where
   pub tokens-between : stretch (rule-start c) (length (text c) - 1) (text c) ≡ separated (map token-text (c .rule))
   tokens-between =
       let e : length (separated (map token-text (c .rule))) ≡ length (text c) - 1 - rule-start c = omega (arith, text-length) in
-      ap (take (length (text c) - 1 - rule-start c)) drop-rule ∙ take-at (separated (map token-text (c .rule))) (ascii "\n") (length (text c) - 1 - rule-start c) e
+      ap (take (length (text c) - 1 - rule-start c)) drop-rule ∙ take-at (separated (map token-text (c .rule))) (ascii "\n")
+      (length (text c) - 1 - rule-start c) e

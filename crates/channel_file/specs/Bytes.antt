@@ -1,18 +1,16 @@
 -- The bytes stored from a file: one byte an entry of meet, three bytes a node of the rule (document 01, "Rules"). A number
 -- above 255 stands as 255, which every judgement on it takes as it takes the number (Claims, ClampClaim).
--- Assumes nothing.
 use Prim.Native.Nat.{ℕ, min}
 use mathlib.Core.Path.{_≡_}
 use mathlib.Core.List.{List, [], _∷_, _++_}
-use mathlib.Core.Bool.{Bool, cond, _&&_}
-use lib.Dec.{leb}
-use lib.ListN.{length}
+use lib.ListN.{length, take}
 use Rattle.refusal.specs.LentBuffers.{put}
 use Rattle.text_format.specs.Format.{Outcome, contents, refused}
 use Rattle.channel_file.specs.ChannelFile.{Token, token-T, token-A, token-V, token-X, token-G, token-O, Contents}
 use Rattle.channel_file.specs.FileFormat.{first, second}
-use Rattle.channel_file.specs.Reading.{read-file}
+use Rattle.channel_file.specs.Reading.{read-file, read-tokens}
 use Rattle.channel_file.specs.declared.Stored.{Stored}
+use Rattle.channel_file.specs.declared.TokenList.{TokenList}
 
 abbrev pub clamp : ℕ → ℕ
 clamp v = min v 255
@@ -44,29 +42,41 @@ meet-bytes c = encoded entry (c .meet)
 abbrev pub rule-bytes : Contents → List ℕ
 rule-bytes c = encoded node (c .rule)
 
--- ---- storing into two lent buffers
+-- ---- storing into lent buffers
 
--- Both buffers have room for their outputs.
-abbrev pub fits : Contents → List ℕ → List ℕ → Bool
-fits c meet rule = leb (length (meet-bytes c)) (length meet) && leb (length (rule-bytes c)) (length rule)
+-- The front of an output, as far as a buffer has room for it, over the front of what the buffer held.
+abbrev pub put-front : List ℕ → List ℕ → List ℕ
+put-front output old = put (take (length old) output) old
 
--- The reply: the file's numbers and how many entries and items it has, that a buffer is shorter than its output, or 4's place.
-abbrev pub stored-reply : Outcome Contents → List ℕ → List ℕ → Stored
-stored-reply (contents c) meet rule =
-    cond (fits c meet rule) (Stored.Form (c .events) (c .values) (c .top) (length (c .meet)) (length (c .rule))) Stored.Short
-stored-reply (refused p) meet rule = Stored.Refused p
+-- The reply to a text: the file's numbers and how many entries and items it has, or 4's place.
+abbrev pub stored-reply : Outcome Contents → Stored
+stored-reply (contents c) = Stored.Form (c .events) (c .values) (c .top) (length (c .meet)) (length (c .rule))
+stored-reply (refused p) = Stored.Refused p
 
--- The buffers afterwards; both are as before unless both outputs were stored.
-abbrev pub stored-meet : Outcome Contents → List ℕ → List ℕ → List ℕ
-stored-meet (contents c) meet rule = cond (fits c meet rule) (put (meet-bytes c) meet) meet
-stored-meet (refused p) meet rule = meet
+-- The buffers afterwards.
+abbrev pub stored-meet : Outcome Contents → List ℕ → List ℕ
+stored-meet (contents c) meet = put-front (meet-bytes c) meet
+stored-meet (refused p) meet = meet
 
-abbrev pub stored-rule : Outcome Contents → List ℕ → List ℕ → List ℕ
-stored-rule (contents c) meet rule = cond (fits c meet rule) (put (rule-bytes c) rule) rule
-stored-rule (refused p) meet rule = rule
+abbrev pub stored-rule : Outcome Contents → List ℕ → List ℕ
+stored-rule (contents c) rule = put-front (rule-bytes c) rule
+stored-rule (refused p) rule = rule
 
 -- Reply and buffers of a call that reads the text t.
 pub record Stores (t meet rule meet′ rule′ : List ℕ) (r : Stored) : Type 0 where
-  pub reply : r ≡ stored-reply (read-file t) meet rule
-  pub meet-is : meet′ ≡ stored-meet (read-file t) meet rule
-  pub rule-is : rule′ ≡ stored-rule (read-file t) meet rule
+  pub reply : r ≡ stored-reply (read-file t)
+  pub meet-is : meet′ ≡ stored-meet (read-file t) meet
+  pub rule-is : rule′ ≡ stored-rule (read-file t) rule
+
+-- The same of a text of tokens alone: how many nodes it has, or that it is no list of tokens.
+abbrev pub token-reply : Outcome (List Token) → TokenList
+token-reply (contents xs) = TokenList.Nodes (length xs)
+token-reply (refused p) = TokenList.Malformed
+
+abbrev pub stored-nodes : Outcome (List Token) → List ℕ → List ℕ
+stored-nodes (contents xs) old = put-front (encoded node xs) old
+stored-nodes (refused p) old = old
+
+pub record ReadsTokens (t old new : List ℕ) (r : TokenList) : Type 0 where
+  pub reply : r ≡ token-reply (read-tokens t)
+  pub buffer : new ≡ stored-nodes (read-tokens t) old

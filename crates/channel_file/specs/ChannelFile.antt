@@ -1,9 +1,8 @@
 -- The form of a channel file (document 01, "Channel file"), taken without its length limit: what the contents of a file are,
 -- and how they stand as text. Numbers are those of the text, not yet judged and not clamped.
--- Assumes nothing.
 use Prim.Native.Nat.{ℕ, _<_}
 use mathlib.Core.Path.{_≡_}
-use mathlib.Core.List.{List, [], _∷_, _++_, map}
+use mathlib.Core.List.{List, _++_, map}
 use Rattle.text_format.specs.Format.{ascii}
 use Rattle.text_format.specs.Decimal.{decimal}
 use Rattle.text_format.specs.Series.{separated, OneOrMore}
@@ -66,6 +65,11 @@ pub record SmallContents (c : Contents) : Type 0 where
   pub top : Small (c .top)
   pub meet : OneOrMore Small (c .meet)
   pub rule : OneOrMore SmallToken (c .rule)
+
+-- t is the text of the tokens xs alone, as they stand in the rule line.
+pub record ShowsTokens (xs : List Token) (t : List ℕ) : Type 0 where
+  pub small : OneOrMore SmallToken xs
+  pub printed : separated (map token-text xs) ≡ t
 
 -- t is the text of the contents c.
 pub record Shows (c : Contents) (t : List ℕ) : Type 0 where

@@ -1,14 +1,14 @@
 -- What is claimed of the channel file; each claim is inhabited in proofs/Claims.
--- Assumes nothing.
 use Prim.Native.Nat.{ℕ, _≤_, _<_}
 use mathlib.Core.Path.{_≡_}
-use mathlib.Core.List.{List, [], _∷_, _++_, map}
+use mathlib.Core.List.{List, [], map}
 use mathlib.Core.Logic.{_↔_}
 use lib.ListN.{length}
-use Rattle.text_format.specs.Format.{Outcome, contents, refused}
+use Rattle.limits.specs.Limits.{meet-limit, node-limit, file-limit}
+use Rattle.text_format.specs.Format.{Outcome, contents}
 use Rattle.text_format.specs.Series.{separated}
-use Rattle.channel_file.specs.ChannelFile.{Token, token-text, Contents, text, SmallContents, Shows, Form}
-use Rattle.channel_file.specs.Reading.{file-limit, AnswersFile, read-file, tokens-stretch}
+use Rattle.channel_file.specs.ChannelFile.{Token, token-text, Contents, text, SmallContents, ShowsTokens}
+use Rattle.channel_file.specs.Reading.{AnswersFile, read-file, read-tokens, tokens-stretch}
 use Rattle.channel_file.specs.Bytes.{clamp}
 use Rattle.channel_file.specs.Steps.{SawNumber, line-parse}
 use Rattle.channel_file.specs.declared.Line.{Line}
@@ -32,7 +32,7 @@ ReadBackClaim = (c : Contents) → SmallContents c → length (text c) ≤ file-
 
 -- Meet tables of up to 16 values and rules of up to 256 nodes have a text within the limit.
 abbrev pub LengthClaim : Type 0
-LengthClaim = (c : Contents) → SmallContents c → length (c .meet) ≤ 256 → length (c .rule) ≤ 256 → length (text c) ≤ file-limit
+LengthClaim = (c : Contents) → SmallContents c → length (c .meet) ≤ meet-limit → length (c .rule) ≤ node-limit → length (text c) ≤ file-limit
 
 -- The stretch of tokens is the rule's items with one space between.
 abbrev pub TokensClaim : Type 0
@@ -41,6 +41,11 @@ TokensClaim = (t : List ℕ) (c : Contents) → read-file t ≡ contents c → t
 -- The stretch of tokens of an accepted text is not empty; so it is empty exactly where 4 refuses.
 abbrev pub SomeTokensClaim : Type 0
 SomeTokensClaim = (t : List ℕ) (c : Contents) → read-file t ≡ contents c → tokens-stretch t (read-file t) ≡ [] → ⊥
+
+-- A text of tokens alone is read as the tokens that it shows; and the stretch of tokens as the rule.
+pub record TokenListClaim : Type 0 where
+  pub shown : (t : List ℕ) (xs : List Token) → (read-tokens t ≡ contents xs) ↔ ShowsTokens xs t
+  pub of-a-file : (t : List ℕ) (c : Contents) → read-file t ≡ contents c → read-tokens (tokens-stretch t (read-file t)) ≡ contents (c .rule)
 
 -- What the functions over a reader say of a line's answer leaves no other answer.
 abbrev pub OneLineClaim : Type 0

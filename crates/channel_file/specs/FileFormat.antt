@@ -1,9 +1,7 @@
 -- The computing twin of the form: the channel file as a two-way format. proofs/FileFormat shows that it keeps the laws and
 -- prints exactly the texts of the form.
--- Assumes nothing.
 use Prim.Native.Nat.{ℕ}
-use mathlib.Core.Path.{_≡_}
-use mathlib.Core.List.{List, [], _∷_, _++_}
+use mathlib.Core.List.{List, [], _∷_}
 use Rattle.text_format.specs.Format.{Format, ascii}
 use Rattle.text_format.specs.Combinators.{sequence, mapped, choice, the, keyed}
 use Rattle.text_format.specs.Decimal.{numbered}

@@ -1,21 +1,17 @@
 -- The answer to a text (document 01, refusal 4), with the limit of 4,096 bytes tested first; where its items stand; and the
 -- stretch of the text that holds the rule's tokens.
--- Assumes nothing.
 use Prim.Native.Nat.{ℕ, _+_, _-_, _≤_, _<_}
-use mathlib.Core.Path.{_≡_}
-use mathlib.Core.List.{List, [], _∷_, _++_, map}
+use mathlib.Core.List.{List, [], _++_, map}
 use mathlib.Core.Bool.{cond}
 use lib.Dec.{ltb}
 use lib.ListN.{length, take, drop}
 use Rattle.text_format.specs.Format.{Outcome, contents, refused, read, ascii}
 use Rattle.text_format.specs.Series.{separated}
 use Rattle.text_format.specs.Place.{Refused}
-use Rattle.channel_file.specs.ChannelFile.{Contents, number, token-text, line, Shows, Form}
-use Rattle.channel_file.specs.FileFormat.{file}
+use Rattle.limits.specs.Limits.{file-limit}
+use Rattle.channel_file.specs.ChannelFile.{Token, Contents, number, line, Shows, Form}
+use Rattle.channel_file.specs.FileFormat.{tokens, file}
 use Rattle.channel_file.specs.declared.Checked.{Checked}
-
-abbrev pub file-limit : ℕ
-file-limit = 4096
 
 -- Refusal 4 at a place: "over 4,096 bytes: place 4,096, tested first"; else where the form refuses the text.
 pub data Refused4 (t : List ℕ) : ℕ → Type 0 where
@@ -30,6 +26,10 @@ AnswersFile t (refused p) = Refused4 t p
 -- The computing twin: the answer to a text. It is the one that AnswersFile asks for (Claims, AnswerClaim).
 abbrev pub read-file : List ℕ → Outcome Contents
 read-file t = cond (ltb file-limit (length t)) (refused file-limit) (read file t)
+
+-- The answer to a text of tokens alone: what the tokens of a rule line are, once byte 10 stands behind (Claims, TokenListClaim).
+abbrev pub read-tokens : List ℕ → Outcome (List Token)
+read-tokens t = read tokens (t ++ ascii "\n")
 
 -- ---- offsets
 

@@ -1,28 +1,30 @@
 -- What the private functions of src/ say: each answer of the code as an answer of a parser, where an offset in the text
 -- stands for what is left of the text there.
--- Assumes nothing.
 use Prim.Native.Nat.{ℕ, _+_, _≤_}
 use mathlib.Core.Path.{_≡_}
 use mathlib.Core.List.{List, [], _∷_, _++_}
-use lib.ListN.{length, drop, set}
-use Rattle.text_format.specs.Format.{Parsed, ok, bad, Format, ascii}
-use Rattle.channel_file.specs.Reading.{read-file, stretch, tokens-stretch}
-use Rattle.channel_file.specs.Bytes.{encoded}
-use Rattle.text_format.specs.Combinators.{letter-parse, the, word}
-use Rattle.text_format.specs.Decimal.{number, numbered-parse}
-use Rattle.text_format.specs.Series.{Separator, space, newline, separator-byte, separator, number-item}
+use mathlib.Core.Bool.{Bool, true, false}
+use lib.ListN.{length, drop}
+use Rattle.text_format.specs.Format.{Parsed, ok, bad, bind, Format, contents, ascii}
+use Rattle.text_format.specs.Combinators.{the, word}
+use Rattle.text_format.specs.Decimal.{numbered-parse}
+use Rattle.text_format.specs.Series.{Separator, space, newline, separator, number-item}
 use Rattle.channel_file.specs.ChannelFile.{Token, token-T, token-A, token-V, token-X, token-G, token-O}
-use Rattle.channel_file.specs.FileFormat.{field, head, meet-line, rule-line}
+use Rattle.channel_file.specs.FileFormat.{token-item, entries, field, head, meet-line, rule-line}
+use Rattle.channel_file.specs.Reading.{read-file, read-tokens, stretch, tokens-stretch}
+use Rattle.channel_file.specs.Bytes.{node, entry, encoded, put-front, token-reply}
 use Rattle.channel_file.specs.declared.Item.{Item}
 use Rattle.channel_file.specs.declared.Behind.{Behind}
 use Rattle.channel_file.specs.declared.Number.{Number}
 use Rattle.channel_file.specs.declared.Ended.{Ended}
 use Rattle.channel_file.specs.declared.Entry.{Entry}
+use Rattle.channel_file.specs.declared.Taken.{Taken}
 use Rattle.channel_file.specs.declared.Scanned.{Scanned}
 use Rattle.channel_file.specs.declared.Reached.{Reached}
 use Rattle.channel_file.specs.declared.Head.{Head}
 use Rattle.channel_file.specs.declared.Line.{Line}
 use Rattle.channel_file.specs.declared.Span.{Span}
+use Rattle.channel_file.specs.declared.TokenList.{TokenList}
 
 -- The token and the separator that values of src/ stand for.
 abbrev pub token-of : Item → Token
@@ -59,9 +61,27 @@ abbrev pub SawEntry : List ℕ → ℕ → Entry → Type 0
 SawEntry t at (Entry.Of v e n) = Saw (number-item 2 .parse (drop at t)) (ok (v, separator-of e) (drop n t)) t n
 SawEntry t at (Entry.Bad p) = Saw (number-item 2 .parse (drop at t)) (bad (drop p t)) t p
 
-abbrev pub SawItem : Format (Token × Separator) → List ℕ → ℕ → Scanned → Type 0
-SawItem F t at (Scanned.Of x e n) = Saw (F .parse (drop at t)) (ok (token-of x, separator-of e) (drop n t)) t n
-SawItem F t at (Scanned.Bad p) = Saw (F .parse (drop at t)) (bad (drop p t)) t p
+-- What is left of a text at an offset; closed: where byte 10 stands behind the text.
+abbrev pub left : Bool → List ℕ → ℕ → List ℕ
+left false t i = drop i t
+left true t i = drop i t ++ (10 ∷ [])
+
+-- A token and the separator behind it, from the token and what is left behind it.
+abbrev pub with-separator : Token → List ℕ → Parsed (Token × Separator)
+with-separator x s = bind (separator .parse s) (λ e r. ok (x, e) r)
+
+-- What is seen of a token, whether or not the text is closed.
+pub record SawHere (t : List ℕ) (at : ℕ) (seen : Bool → Parsed (Token × Separator)) (n : ℕ) : Type 0 where
+  pub same : (closed : Bool) → token-item .parse (left closed t at) ≡ seen closed
+  pub within : n ≤ length t
+
+abbrev pub SawToken : List ℕ → ℕ → Taken → Type 0
+SawToken t at (Taken.Of x n) = SawHere t at (λ closed. with-separator (token-of x) (left closed t n)) n
+SawToken t at (Taken.Bad p) = SawHere t at (λ closed. bad (left closed t p)) p
+
+abbrev pub SawItem : List ℕ → ℕ → Scanned → Type 0
+SawItem t at (Scanned.Of x e n) = Saw (token-item .parse (drop at t)) (ok (token-of x, separator-of e) (drop n t)) t n
+SawItem t at (Scanned.Bad p) = Saw (token-item .parse (drop at t)) (bad (drop p t)) t p
 
 abbrev pub SawWord : List ℕ → List ℕ → ℕ → Reached → Type 0
 SawWord w t at (Reached.Past n) = Saw (word w .parse (drop at t)) (ok tt (drop n t)) t n
@@ -93,34 +113,14 @@ pub record SpansTokens (t : List ℕ) (r : Span) : Type 0 where
   pub within : r .to ≤ length t
   pub same : stretch (r .from) (r .to) t ≡ tokens-stretch t (read-file t)
 
--- ---- bytes put into a lent buffer
+-- ---- series that are stored
 
--- l with the bytes of s from the offset i on.
-abbrev pub puts : List ℕ → ℕ → List ℕ → List ℕ
-puts l i [] = l
-puts l i (b ∷ s) = puts (set l i b) (i + 1) s
+-- The answer to the entries that stand in t at an offset; where they can be read, the buffer has them, as far as there is room.
+pub record StoresEntries (t : List ℕ) (at : ℕ) (old new : List ℕ) (r : Number) : Type 0 where
+  pub reply : SawNumber (count-of entries) t at r
+  pub buffer : (xs rest : List ℕ) → entries .parse (drop at t) ≡ ok xs rest → new ≡ put-front (encoded entry xs) old
 
--- s was put into l at i: l′ is the buffer afterwards, and r the offset behind s.
-pub record Wrote (l s l′ : List ℕ) (i r : ℕ) : Type 0 where
-  pub same : l′ ≡ puts l i s
-  pub next : r ≡ i + length s
-
--- ---- a series that is stored item by item
-
-abbrev pub IsOk : {A : Type 0} → Parsed A → Type 0
-IsOk (ok a r) = Unit {0}
-IsOk (bad r) = ⊥
-
-abbrev pub values-of : {A : Type 0} → Parsed (List A) → List A
-values-of (ok xs r) = xs
-values-of (bad r) = []
-
--- The codes of the items of a series that stands in t at an offset.
-abbrev pub codes-at : {A : Type 0} → Format (List A) → (A → List ℕ) → List ℕ → ℕ → List ℕ
-codes-at F code t at = encoded code (values-of (F .parse (drop at t)))
-
--- A series stands in t at an offset, and the codes of its items fit into l from k on.
-pub record Storable {A : Type 0} (F : Format (List A)) (code : A → List ℕ) (t : List ℕ) (at : ℕ) (l : List ℕ) (k : ℕ) : Type 0 where
-  pub within : at ≤ length t
-  pub stands : IsOk (F .parse (drop at t))
-  pub room : k + length (codes-at F code t at) ≤ length l
+-- The same of the tokens that a whole text shows.
+pub record StoresTokens (t old new : List ℕ) (r : TokenList) : Type 0 where
+  pub reply : r ≡ token-reply (read-tokens t)
+  pub buffer : (xs : List Token) → read-tokens t ≡ contents xs → new ≡ put-front (encoded node xs) old

@@ -1,14 +1,17 @@
 // The channel file: its form and refusal 4, the bytes stored from it, and the stretch of its tokens.
 ghost use mathlib.Core.Path.{_≡_};
-ghost use mathlib.Core.List.{_∷_, []};
-ghost use Prim.Native.Nat.{_≤_, _<_, _+_, _*_};
-ghost use lib.ListN.{length, drop};
-ghost use Rattle.text_format.specs.Format.{ascii, read};
+ghost use Prim.Native.Nat.{_≤_};
+ghost use lib.ListN.{length};
+ghost use Rattle.text_format.specs.Format.{read};
 ghost use Rattle.text_format.specs.Decimal.{is-digit, number};
-ghost use Rattle.channel_file.specs.FileFormat.{first, second, field, plain, token-item, tokens, entries, meet-line, rule-line, file};
+ghost use Rattle.text_output.specs.Output.{Puts};
+ghost use Rattle.channel_file.specs.FileFormat.{first, second, field, tokens, meet-line, rule-line, file};
 ghost use Rattle.channel_file.specs.Reading.{checked, read-file, tokens-stretch};
-ghost use Rattle.channel_file.specs.Bytes.{clamp, kind, node, entry, Stores};
-ghost use Rattle.channel_file.specs.Steps.{token-of, SawNumber, SawEnded, SawEnd, SawEntry, SawItem, SawWord, SawHead, count-of, line-parse, SpansTokens, puts, Wrote, codes-at, Storable};
+ghost use Rattle.channel_file.specs.Bytes.{clamp, kind, node, Stores, ReadsTokens};
+ghost use Rattle.channel_file.specs.Steps.{token-of, SawNumber, SawEnded, SawEnd, SawEntry, SawToken, SawItem, SawWord, SawHead};
+ghost use Rattle.channel_file.specs.Steps.{count-of, line-parse, SpansTokens, StoresEntries, StoresTokens};
+use limits::FILE_LIMIT;
+use text_output::put;
 
 // The answer to a text: its numbers, how many meet entries and rule items there are and where they start; or 4's place.
 pub enum Checked {
@@ -24,8 +27,7 @@ pub enum Checked {
     Refused(usize),
 }
 
-// Reply of a call that reads a text into two buffers: its numbers, and how many meet entries and rule items it has; that a
-// buffer is too short; or 4's place.
+// Reply of a call that reads a text into two buffers: its numbers, and how many meet entries and rule items it has; or 4's place.
 pub enum Stored {
     Form {
         events: usize,
@@ -34,8 +36,13 @@ pub enum Stored {
         entries: usize,
         items: usize,
     },
-    Short,
     Refused(usize),
+}
+
+// The answer to a text of tokens alone: how many nodes it has, or that it is no list of tokens.
+pub enum TokenList {
+    Nodes(usize),
+    Malformed,
 }
 
 // A token of the rule line.
@@ -70,6 +77,11 @@ enum Ended {
 
 enum Entry {
     Of(usize, Behind, usize),
+    Bad(usize),
+}
+
+enum Taken {
+    Of(Item, usize),
     Bad(usize),
 }
 
@@ -205,47 +217,50 @@ fn entry_at(text: &[u8], at: usize) -> Entry
     }
 }
 
-// What stands behind a token that is one letter.
-fn plain_at(text: &[u8], at: usize, x: Item) -> Scanned
+// A token, up to what stands behind it.
+fn token_at(text: &[u8], at: usize) -> Taken
     requires { ⌜ at ≤ length (now text) ⌝ }
-    ensures { λ r. ⌜ SawItem (plain (token-of x)) (now (text .entry)) at r ⌝ }
-{
-    match end_at(text, at) {
-        Ended::Bad(p) => Scanned::Bad(p),
-        Ended::By(e, n) => Scanned::Of(x, e, n),
-    }
-}
-
-// A token of the rule line.
-fn item_at(text: &[u8], at: usize) -> Scanned
-    requires { ⌜ at ≤ length (now text) ⌝ }
-    ensures { λ r. ⌜ SawItem token-item (now (text .entry)) at r ⌝ }
+    ensures { λ r. ⌜ SawToken (now (text .entry)) at r ⌝ }
 {
     if text.len() <= at {
-        return Scanned::Bad(at);
+        return Taken::Bad(at);
     }
     let b = text[at];
     let n = at + 1;
     match b {
-        84 => plain_at(text, n, Item::Truth),
-        65 => plain_at(text, n, Item::Both),
-        86 => plain_at(text, n, Item::Binder),
-        88 => match entry_at(text, n) {
-            Entry::Bad(p) => Scanned::Bad(p),
-            Entry::Of(v, e, m) => Scanned::Of(Item::Variable(v), e, m),
+        84 => Taken::Of(Item::Truth, n),
+        65 => Taken::Of(Item::Both, n),
+        86 => Taken::Of(Item::Binder, n),
+        88 => match number_at(text, n) {
+            Number::Bad(p) => Taken::Bad(p),
+            Number::Value(v, m) => Taken::Of(Item::Variable(v), m),
         },
-        71 => match entry_at(text, n) {
-            Entry::Bad(p) => Scanned::Bad(p),
-            Entry::Of(v, e, m) => Scanned::Of(Item::Next(v), e, m),
+        71 => match number_at(text, n) {
+            Number::Bad(p) => Taken::Bad(p),
+            Number::Value(v, m) => Taken::Of(Item::Next(v), m),
         },
         79 => match ended_at(text, n, 46) {
-            Number::Bad(p) => Scanned::Bad(p),
-            Number::Value(v, k) => match entry_at(text, k) {
-                Entry::Bad(p) => Scanned::Bad(p),
-                Entry::Of(w, e, m) => Scanned::Of(Item::Output(v, w), e, m),
+            Number::Bad(p) => Taken::Bad(p),
+            Number::Value(v, k) => match number_at(text, k) {
+                Number::Bad(p) => Taken::Bad(p),
+                Number::Value(w, m) => Taken::Of(Item::Output(v, w), m),
             },
         },
-        _ => Scanned::Bad(at),
+        _ => Taken::Bad(at),
+    }
+}
+
+// A token of the rule line and what stands behind it.
+fn item_at(text: &[u8], at: usize) -> Scanned
+    requires { ⌜ at ≤ length (now text) ⌝ }
+    ensures { λ r. ⌜ SawItem (now (text .entry)) at r ⌝ }
+{
+    match token_at(text, at) {
+        Taken::Bad(p) => Scanned::Bad(p),
+        Taken::Of(x, n) => match end_at(text, n) {
+            Ended::Bad(p) => Scanned::Bad(p),
+            Ended::By(e, m) => Scanned::Of(x, e, m),
+        },
     }
 }
 
@@ -293,27 +308,85 @@ fn items_at(text: &[u8], at: usize) -> Number
     }
 }
 
-// The entries of the meet line, to its end: how many.
-fn entries_at(text: &[u8], at: usize) -> Number
+fn clip(v: usize) -> u8
+    ensures { λ r. ⌜ r ≡ clamp v ⌝ }
+{
+    if v < 255 { v as u8 } else { 255 }
+}
+
+fn kind_of(x: Item) -> u8
+    ensures { λ r. ⌜ r ≡ kind (token-of x) ⌝ }
+{
+    match x {
+        Item::Truth => 0,
+        Item::Variable(_) => 1,
+        Item::Next(_) => 2,
+        Item::Output(_, _) => 3,
+        Item::Both => 4,
+        Item::Binder => 5,
+    }
+}
+
+fn first_of(x: Item) -> usize
+    ensures { λ r. ⌜ r ≡ first (token-of x) ⌝ }
+{
+    match x {
+        Item::Truth => 0,
+        Item::Variable(n) => n,
+        Item::Next(e) => e,
+        Item::Output(e, _) => e,
+        Item::Both => 0,
+        Item::Binder => 0,
+    }
+}
+
+fn second_of(x: Item) -> usize
+    ensures { λ r. ⌜ r ≡ second (token-of x) ⌝ }
+{
+    match x {
+        Item::Truth => 0,
+        Item::Variable(_) => 0,
+        Item::Next(_) => 0,
+        Item::Output(_, v) => v,
+        Item::Both => 0,
+        Item::Binder => 0,
+    }
+}
+
+// Puts the three bytes of a node into a buffer as text_output does.
+fn put_node(out: &mut [u8], at: usize, x: Item) -> usize
+    ensures { λ r. ⌜ Puts (now (out .entry)) (node (token-of x)) (now (out .exit)) at r ⌝ }
+{
+    let a = put(out, at, kind_of(x));
+    let b = put(out, a, clip(first_of(x)));
+    put(out, b, clip(second_of(x)))
+}
+
+// The entries of the meet line, to its end, stored as far as there is room: how many.
+fn entries_at(text: &[u8], at: usize, out: &mut [u8]) -> Number
     requires { ⌜ at ≤ length (now text) ⌝ }
-    ensures { λ r. ⌜ SawNumber (count-of entries) (now (text .entry)) at r ⌝ }
+    ensures { λ r. ⌜ StoresEntries (now (text .entry)) at (now (out .entry)) (now (out .exit)) r ⌝ }
 {
     let mut i = at;
     let mut n = 0;
+    let mut k = 0;
     loop {
         match entry_at(text, i) {
             Entry::Bad(p) => {
                 return Number::Bad(p);
             }
-            Entry::Of(_, e, m) => match e {
-                Behind::Newline => {
-                    return Number::Value(n + 1, m);
+            Entry::Of(v, e, m) => {
+                k = put(out, k, clip(v));
+                n += 1;
+                match e {
+                    Behind::Newline => {
+                        return Number::Value(n, m);
+                    }
+                    Behind::Space => {
+                        i = m;
+                    }
                 }
-                Behind::Space => {
-                    i = m;
-                    n += 1;
-                }
-            },
+            }
         }
     }
 }
@@ -336,7 +409,10 @@ fn meet_line_at(text: &[u8], at: usize) -> Number
 {
     match word_at(text, at, b"meet=") {
         Reached::Bad(p) => Number::Bad(p),
-        Reached::Past(a) => entries_at(text, a),
+        Reached::Past(a) => {
+            let mut none = [0u8; 0];
+            entries_at(text, a, &mut none)
+        }
     }
 }
 
@@ -437,8 +513,8 @@ fn check_text(text: &[u8]) -> Checked
 pub fn check_form(text: &[u8]) -> Checked
     ensures { λ r. ⌜ r ≡ checked (read-file (now (text .entry))) ⌝ }
 {
-    if 4096 < text.len() {
-        return Checked::Refused(4096);
+    if FILE_LIMIT < text.len() {
+        return Checked::Refused(FILE_LIMIT);
     }
     check_text(text)
 }
@@ -465,125 +541,48 @@ pub fn tokens(text: &[u8]) -> &[u8]
     &text[from..to]
 }
 
-fn clip(v: usize) -> u8
-    ensures { λ r. ⌜ r ≡ clamp v ⌝ }
+// The nodes of tokens with one space between, stored as far as there is room: how many.
+fn store_tokens(text: &[u8], out: &mut [u8]) -> TokenList
+    ensures { λ r. ⌜ StoresTokens (now (text .entry)) (now (out .entry)) (now (out .exit)) r ⌝ }
 {
-    if v < 255 { v as u8 } else { 255 }
-}
-
-fn kind_of(x: Item) -> u8
-    ensures { λ r. ⌜ r ≡ kind (token-of x) ⌝ }
-{
-    match x {
-        Item::Truth => 0,
-        Item::Variable(_) => 1,
-        Item::Next(_) => 2,
-        Item::Output(_, _) => 3,
-        Item::Both => 4,
-        Item::Binder => 5,
-    }
-}
-
-fn first_of(x: Item) -> usize
-    ensures { λ r. ⌜ r ≡ first (token-of x) ⌝ }
-{
-    match x {
-        Item::Truth => 0,
-        Item::Variable(n) => n,
-        Item::Next(e) => e,
-        Item::Output(e, _) => e,
-        Item::Both => 0,
-        Item::Binder => 0,
-    }
-}
-
-fn second_of(x: Item) -> usize
-    ensures { λ r. ⌜ r ≡ second (token-of x) ⌝ }
-{
-    match x {
-        Item::Truth => 0,
-        Item::Variable(_) => 0,
-        Item::Next(_) => 0,
-        Item::Output(_, v) => v,
-        Item::Both => 0,
-        Item::Binder => 0,
-    }
-}
-
-// Puts a byte at an offset, and answers the offset behind it.
-fn put(out: &mut [u8], at: usize, b: u8) -> usize
-    requires { ⌜ at < length (now out) ⌝ }
-    ensures { λ r. ⌜ Wrote (now (out .entry)) (b ∷ []) (now (out .exit)) at r ⌝ }
-{
-    out[at] = b;
-    at + 1
-}
-
-fn put_node(out: &mut [u8], at: usize, x: Item) -> usize
-    requires { ⌜ at + 3 ≤ length (now out) ⌝ }
-    ensures { λ r. ⌜ Wrote (now (out .entry)) (node (token-of x)) (now (out .exit)) at r ⌝ }
-{
-    let a = put(out, at, kind_of(x));
-    let b = put(out, a, clip(first_of(x)));
-    put(out, b, clip(second_of(x)))
-}
-
-// The nodes of the tokens that start at an offset.
-fn store_items(text: &[u8], at: usize, out: &mut [u8])
-    requires { ⌜ Storable tokens node (now text) at (now out) 0 ⌝ }
-    ensures { λ r. ⌜ now (out .exit) ≡ puts (now (out .entry)) 0 (codes-at tokens node (now (text .entry)) at) ⌝ }
-{
-    let mut i = at;
+    let mut i = 0;
+    let mut n = 0;
     let mut k = 0;
     loop {
-        match item_at(text, i) {
-            Scanned::Bad(_) => {
-                return;
+        match token_at(text, i) {
+            Taken::Bad(_) => {
+                return TokenList::Malformed;
             }
-            Scanned::Of(x, e, m) => {
+            Taken::Of(x, m) => {
                 k = put_node(out, k, x);
-                match e {
-                    Behind::Newline => {
-                        return;
-                    }
-                    Behind::Space => {
-                        i = m;
-                    }
+                n += 1;
+                if text.len() <= m {
+                    return TokenList::Nodes(n);
                 }
+                if text[m] != 32 {
+                    return TokenList::Malformed;
+                }
+                i = m + 1;
             }
         }
     }
 }
 
-// The meet entries that start at an offset.
-fn store_entries(text: &[u8], at: usize, out: &mut [u8])
-    requires { ⌜ Storable entries entry (now text) at (now out) 0 ⌝ }
-    ensures { λ r. ⌜ now (out .exit) ≡ puts (now (out .entry)) 0 (codes-at entries entry (now (text .entry)) at) ⌝ }
+// Reads tokens with one space between, as they stand in a rule line, into a buffer as far as there is room: three bytes a node, a
+// number above 255 as 255. Nothing is written where the text is no list of tokens.
+pub fn read_tokens(text: &[u8], out: &mut [u8]) -> TokenList
+    ensures { λ r. ⌜ ReadsTokens (now (text .entry)) (now (out .entry)) (now (out .exit)) r ⌝ }
 {
-    let mut i = at;
-    let mut k = 0;
-    loop {
-        match entry_at(text, i) {
-            Entry::Bad(_) => {
-                return;
-            }
-            Entry::Of(v, e, m) => {
-                k = put(out, k, clip(v));
-                match e {
-                    Behind::Newline => {
-                        return;
-                    }
-                    Behind::Space => {
-                        i = m;
-                    }
-                }
-            }
-        }
+    let mut none = [0u8; 0];
+    let listed = store_tokens(text, &mut none);
+    if let TokenList::Malformed = listed {
+        return TokenList::Malformed;
     }
+    store_tokens(text, out)
 }
 
-// Reads a text into two buffers: its meet entries, one byte each, and its rule's nodes, three bytes each, a number above 255 as
-// 255. Both buffers are looked at before either is written.
+// Reads a text into two buffers as far as there is room: its meet entries, one byte each, and its rule's nodes, three bytes each, a
+// number above 255 as 255. The counts are those of the text.
 pub fn read_text(text: &[u8], meet: &mut [u8], rule: &mut [u8]) -> Stored
     ensures { λ r. ⌜ Stores (now (text .entry)) (now (meet .entry)) (now (rule .entry)) (now (meet .exit)) (now (rule .exit)) r ⌝ }
 {
@@ -598,14 +597,9 @@ pub fn read_text(text: &[u8], meet: &mut [u8], rule: &mut [u8]) -> Stored
             items,
             rule_at,
         } => {
-            if meet.len() < entries {
-                return Stored::Short;
-            }
-            if rule.len() / 3 < items {
-                return Stored::Short;
-            }
-            store_entries(text, meet_at, meet);
-            store_items(text, rule_at, rule);
+            let end = text.len() - 1;
+            entries_at(text, meet_at, meet);
+            store_tokens(&text[rule_at..end], rule);
             Stored::Form {
                 events,
                 values,

@@ -1,35 +1,32 @@
 -- A number above 255 held as 255: refusals 1 to 3 and 5 to 9 are the same, and of what is accepted nothing is clamped.
--- Assumes nothing.
 use Prim.Native.Nat.{ℕ, zero, suc, _+_, _*_, _/_, _≤_, _<_}
-use mathlib.Core.Path.{_≡_, refl, sym, ap, ap₂, _∙_}
-use mathlib.Core.List.{List, [], _∷_, _++_, map}
-use mathlib.Core.Bool.{Bool, true, false, cond, not, _&&_}
+use mathlib.Core.{Path.{_≡_, refl, sym, ap, ap₂, _∙_}, List.{List, [], _∷_, _++_, map}, Bool.{Bool, true, false, cond, not, _&&_}}
 use mathlib.Core.Option.{Option, none, some}
 use native.Mathlib.Omega.{arith}
-use lib.Dec.{eqb, ltb}
-use lib.ListN.{length, getD, length-map, List·getD-map}
+use lib.{Dec.{eqb, ltb}, ListN.{length, getD, length-map, List·getD-map}}
 use borrow.Author.Tests.{ltb-true, ltb-false, lt-ltb, le-ltb, eqb-true, eqb-false, eq-eqb, ne-eqb}
+use Rattle.limits.specs.Limits.{event-limit, value-limit, node-limit}
 use Rattle.theory.specs.Formula.{Formula, truth, variable, transition, output, conjunction, greatest, size, FreeBelow, Fits}
 use Rattle.theory.specs.PrefixCode.{Node, truth-node, variable-node, transition-node, output-node, conjunction-node, greatest-node}
-use Rattle.theory.specs.ValueSets.{Below}
-use Rattle.theory.specs.ValueSetClaims.{every, lawful}
+use Rattle.theory.specs.{ValueSets.{Below}, ValueSetClaims.{every, lawful}}
 use Rattle.theory.proofs.ValueSets.{every-at, and-left, and-right, and-false-right}
 use Rattle.refusal.specs.declared.Refusal.{Refusal}
 use Rattle.refusal.specs.Refusal.{or-else, plain-unless, at-found}
 use Rattle.refusal.proofs.Refusals.{or-else-none, plain-none}
-use Rattle.values.specs.Setup.{setup, WellFormed, events-test, values-test, entries-test, meet-test, setup-refusal}
+use Rattle.values.specs.declared.ValueKind.{ValueKind}
+use Rattle.values.specs.declared.ValueKind.the-variants.{Numbered}
+use Rattle.values.specs.{Setup.{setup, WellFormed}, SetupTests.{events-test, values-test, entries-test, meet-test, kind-refusal, setup-refusal}}
 use Rattle.values.proofs.Setups.{values-small, setup-accepted}
-use Rattle.formulas.specs.NodeBytes.{three-bytes, encode-formula}
-use Rattle.formulas.specs.RuleConditions.{Position, open-to-variable, closed-to-variable}
-use Rattle.formulas.specs.RuleReading.{Kind, kind-T, kind-X, kind-G, kind-O, kind-A, kind-V, unknown-kind, kind-of, fields-fit, end-fault, awaited, first-of, node-of, nodes-from, with-parts, formulas, first-formula, formula-read, lowest-variable, unbound-below, closed-there, lowest-unbound, lowest-closed}
-use Rattle.formulas.specs.RuleRefusal.{count-fits, variables-refusal, structure-refusal, misfit-place, nodes-refusal, kind-at, first-at, second-at, rule-refusal, formula-of}
-use Rattle.formulas.proofs.Search.{lowest-same}
-use Rattle.formulas.proofs.Prefix.{length-from}
-use Rattle.formulas.proofs.Decoding.{CountFits, count-facts}
-use Rattle.formulas.proofs.RuleClaims.{accepted-formula-of}
+use Rattle.formulas.specs.{NodeBytes.{node-bytes, encode-formula}, RuleConditions.{Position, open-to-variable, closed-to-variable}}
+use Rattle.formulas.specs.RuleReading.{Kind, kind-T, kind-X, kind-G, kind-O, kind-A, kind-V, unknown-kind, kind-of, fields-fit}
+use Rattle.formulas.specs.RuleReading.{end-fault, awaited, first-of, node-of, nodes-from, with-parts, formulas, first-formula, formula-read}
+use Rattle.formulas.specs.RuleReading.{lowest-variable, unbound-below, closed-there, lowest-unbound, lowest-closed}
+use Rattle.formulas.specs.RuleRefusal.{count-fits, variables-refusal, structure-refusal, misfit-place, nodes-refusal, kind-at, first-at, value-at}
+use Rattle.formulas.specs.RuleRefusal.{rule-refusal, formula-of}
+use Rattle.formulas.proofs.{Search.{lowest-same}, Prefix.{length-from}, Decoding.{CountFits, count-facts}, RuleClaims.{accepted-formula-of}}
 use Rattle.channel_file.specs.ChannelFile.{Token, token-T, token-A, token-V, token-X, token-G, token-O, Contents}
 use Rattle.channel_file.specs.Bytes.{clamp, node, entry, encoded, meet-bytes, rule-bytes}
-use Rattle.channel_io.specs.FileJudgement.{node-numbers, rule-numbers, pair-refusal, contents-refusal}
+use Rattle.channel_io.specs.{FileJudgement.{setup-of, node-numbers, rule-numbers}, FileRefusals.{pair-refusal, contents-refusal}}
 use Rattle.channel_io.specs.Claims.{ClampedClaim}
 
 -- ---- one number
@@ -104,18 +101,16 @@ module _ (values top : ℕ) (meet : List ℕ) (small : values ≤ 255) where
           (ap (λ (b : Bool). b && lawful values (map clamp meet) top) (entries-same ∙ e))
           ∙ sym (and-false-right (eqb (length meet) (values * values)) (ap (λ (b : Bool). b && lawful values meet top) e))
 
-setup-same :
+pub setup-same :
     (events values top : ℕ) (meet : List ℕ) → setup-refusal (setup events values top (map clamp meet)) ≡ setup-refusal (setup events values top meet)
-unfolding setup-refusal setup or-else plain-unless
-setup-same events values top meet = go (values-test values top) refl
+unfolding setup-refusal kind-refusal or-else plain-unless
+setup-same events values top meet = ap (or-else (plain-unless (events-test events) 1)) (go (values-test values top) refl)
   where
-    go : (b : Bool) → values-test values top ≡ b
-        → setup-refusal (setup events values top (map clamp meet)) ≡ setup-refusal (setup events values top meet)
-    go true e = ap (λ (b : Bool). or-else (plain-unless (events-test events) 1) (or-else (plain-unless (values-test values top) 2) (plain-unless b 3)))
+    go : (b : Bool) → values-test values top ≡ b → kind-refusal (Numbered values) top (map clamp meet) ≡ kind-refusal (Numbered values) top meet
+    go true e =
+        ap (λ (b : Bool). or-else (plain-unless (values-test values top) 2) (plain-unless b 3))
         (let h = values-small values top e in meet-same values top meet (omega arith))
-    go false e =
-        ap (λ (b : Bool). or-else (plain-unless (events-test events) 1) (or-else (plain-unless b 2) (plain-unless (meet-test values top (map clamp meet)) 3))) e
-        ∙ sym (ap (λ (b : Bool). or-else (plain-unless (events-test events) 1) (or-else (plain-unless b 2) (plain-unless (meet-test values top meet) 3))) e)
+    go false e = rw (e)
 
 -- ---- a rule: its nodes and its formula
 
@@ -217,7 +212,7 @@ size-same (conjunction φ χ) = ap₂ (λ (x y : ℕ). suc (x + y)) (size-same �
 size-same (greatest φ) = ap suc (size-same φ)
 
 -- 8: within 256 nodes fewer than 256 binders stand above a variable
-unbound-same : (d i : ℕ) (φ : Formula ℕ) → d + size φ ≤ 256 → lowest-unbound d i (clamp-formula φ) ≡ lowest-unbound d i φ
+unbound-same : (d i : ℕ) (φ : Formula ℕ) → d + size φ ≤ node-limit → lowest-unbound d i (clamp-formula φ) ≡ lowest-unbound d i φ
 unfolding lowest-variable unbound-below
 unbound-same d i truth h = refl
 unbound-same d i (variable n) h = ap (λ (b : Bool). cond (not b) (some i) none) (clamp-below n d (omega arith))
@@ -241,7 +236,7 @@ closed-same p i (conjunction φ χ) =
     (ap (λ (n : ℕ). lowest-closed p (suc i + n) (clamp-formula χ)) (size-same φ) ∙ closed-same p (suc i + size φ) χ)
 closed-same p i (greatest φ) = closed-same closed-to-variable (suc i) φ
 
-variables-same : (φ : Formula ℕ) → size φ ≤ 256 → variables-refusal (clamp-formula φ) ≡ variables-refusal φ
+variables-same : (φ : Formula ℕ) → size φ ≤ node-limit → variables-refusal (clamp-formula φ) ≡ variables-refusal φ
 unfolding variables-refusal
 variables-same φ h =
     ap₂ (λ (x y : Option ℕ). or-else (at-found x 8) (at-found y 9)) (unbound-same 0 0 φ (omega arith)) (closed-same closed-to-variable 0 φ)
@@ -249,11 +244,11 @@ variables-same φ h =
 -- ---- nodes reached through accessors
 
 -- within 256 nodes the formula has at most 256
-pub read-size : (kind first value : ℕ → ℕ) (count : ℕ) → count ≤ 256 → size (formula-read kind first value count) ≤ 256
+pub read-size : (kind first value : ℕ → ℕ) (count : ℕ) → count ≤ node-limit → size (formula-read kind first value count) ≤ node-limit
 unfolding formula-read
 read-size kind first value count h =
     let ns = nodes-from kind first value count 0 in
-    first-size (formulas ns) 256 (omega (arith, formulas-size ns, length-from kind first value count 0)) (omega arith)
+    first-size (formulas ns) node-limit (omega (arith, formulas-size ns, length-from kind first value count 0)) (omega arith)
 
 module _ (kind first value kind′ first′ value′ : ℕ → ℕ) (hk : (i : ℕ) → kind′ i ≡ clamp (kind i)) (hf : (i : ℕ) → first′ i ≡ clamp (first i))
     (hv : (i : ℕ) → value′ i ≡ clamp (value i)) where
@@ -284,7 +279,7 @@ module _ (kind first value kind′ first′ value′ : ℕ → ℕ) (hk : (i : �
       ∙ end-same left (awaited (kind-of (kind i)) k) (suc i)
 
   nodes-same :
-      (count events values : ℕ) → count ≤ 256 → events ≤ 255 → values ≤ 255
+      (count events values : ℕ) → count ≤ node-limit → events ≤ 255 → values ≤ 255
       → nodes-refusal kind′ first′ value′ count (λ v. ltb v values) events ≡ nodes-refusal kind first value count (λ v. ltb v values) events
   unfolding nodes-refusal misfit-place structure-refusal
   nodes-same count events values h he hv′ =
@@ -300,41 +295,50 @@ module _ (kind first value kind′ first′ value′ : ℕ → ℕ) (hk : (i : �
       ∙ ap₂ (λ (x y : ℕ). fields-fit events (kind-of (kind j)) x y (ltb y values)) (hf j) (hv j)
       ∙ fit-same events values he hv′ (kind-of (kind j)) (first j) (value j))))
       (ap₂ (λ (o : Option ℕ) (φ : Formula ℕ). or-else (at-found o 7) (variables-refusal φ)) (end-same count 1 0) (read-same count)
-      ∙ ap (λ (l : Option Refusal). or-else (at-found (end-fault kind 1 count 0) 7) l) (variables-same (formula-read kind first value count) (read-size kind first value count h)))
+      ∙ ap (λ (l : Option Refusal). or-else (at-found (end-fault kind 1 count 0) 7) l) (variables-same (formula-read kind first value count)
+      (read-size kind first value count h)))
 
 -- ---- a rule in numbers
-module _ (rule : List ℕ) where
-  at-same : (i : ℕ) → getD (map clamp rule) i 0 ≡ clamp (getD rule i 0)
+module _ (values : ℕ) (rule : List ℕ) where
+  abbrev K : ValueKind
+  K = Numbered values
+
+  abbrev clamped : List ℕ
+  clamped = map clamp rule
+
+  at-same : (i : ℕ) → getD clamped i 0 ≡ clamp (getD rule i 0)
   at-same i = List·getD-map clamp rule i 0
 
-  formula-same : formula-of (map clamp rule) ≡ clamp-formula (formula-of rule)
+  formula-same : formula-of K clamped ≡ clamp-formula (formula-of K rule)
   unfolding formula-of
   formula-same =
-      ap (λ (n : ℕ). formula-read (kind-at (map clamp rule)) (first-at (map clamp rule)) (second-at (map clamp rule)) (n / 3)) (length-map rule clamp)
-      ∙ read-same (kind-at rule) (first-at rule) (second-at rule) (kind-at (map clamp rule)) (first-at (map clamp rule)) (second-at (map clamp rule))
+      ap (λ (n : ℕ). formula-read (kind-at K clamped) (first-at K clamped) (value-at K clamped) (n / 3)) (length-map rule clamp)
+      ∙ read-same (kind-at K rule) (first-at K rule) (value-at K rule) (kind-at K clamped) (first-at K clamped) (value-at K clamped)
       (λ i. at-same (i * 3)) (λ i. at-same (i * 3 + 1)) (λ i. at-same (i * 3 + 2)) (length rule / 3)
 
-  rule-same : (events values : ℕ) → events ≤ 255 → values ≤ 255 → rule-refusal events values (map clamp rule) ≡ rule-refusal events values rule
+  -- 5, then what the nodes of a rule meet
+  abbrev judged : List ℕ → ℕ → ℕ → Bool → Option Refusal
+  judged bytes events n b =
+      or-else (plain-unless b 5) (nodes-refusal (kind-at K bytes) (first-at K bytes) (value-at K bytes) (n / 3) (λ v. ltb v values) events)
+
+  pub rule-same : (events : ℕ) → events ≤ 255 → values ≤ 255 → rule-refusal events K clamped ≡ rule-refusal events K rule
   unfolding rule-refusal or-else plain-unless
-  rule-same events values he hv =
-      ap (λ (n : ℕ). or-else (plain-unless (count-fits 3 256 n) 5) (nodes-refusal (kind-at (map clamp rule)) (first-at (map clamp rule)) (second-at (map clamp rule)) (n / 3) (λ v. ltb v values) events)) (length-map rule clamp)
-      ∙ go (count-fits 3 256 (length rule)) refl
+  rule-same events he hv =
+      ap (λ (n : ℕ). judged clamped events n (count-fits 3 node-limit n)) (length-map rule clamp) ∙ go (count-fits 3 node-limit (length rule)) refl
     where
-      go : (b : Bool) → count-fits 3 256 (length rule) ≡ b
-          → or-else (plain-unless (count-fits 3 256 (length rule)) 5) (nodes-refusal (kind-at (map clamp rule)) (first-at (map clamp rule)) (second-at (map clamp rule)) (length rule / 3) (λ v. ltb v values) events)
-          ≡ or-else (plain-unless (count-fits 3 256 (length rule)) 5) (nodes-refusal (kind-at rule) (first-at rule) (second-at rule) (length rule / 3) (λ v. ltb v values) events)
+      go : (b : Bool) → count-fits 3 node-limit (length rule) ≡ b
+          → judged clamped events (length rule) (count-fits 3 node-limit (length rule))
+          ≡ judged rule events (length rule) (count-fits 3 node-limit (length rule))
       go true e =
-          ap (or-else (plain-unless (count-fits 3 256 (length rule)) 5))
-          (nodes-same (kind-at rule) (first-at rule) (second-at rule) (kind-at (map clamp rule)) (first-at (map clamp rule)) (second-at (map clamp rule))
+          ap (or-else (plain-unless (count-fits 3 node-limit (length rule)) 5))
+          (nodes-same (kind-at K rule) (first-at K rule) (value-at K rule) (kind-at K clamped) (first-at K clamped) (value-at K clamped)
           (λ i. at-same (i * 3)) (λ i. at-same (i * 3 + 1)) (λ i. at-same (i * 3 + 2)) (length rule / 3) events values
-          (let w : CountFits 3 256 (length rule) = count-facts 3 256 (length rule) e in w .within) he hv)
-      go false e =
-          ap (λ (b : Bool). or-else (plain-unless b 5) (nodes-refusal (kind-at (map clamp rule)) (first-at (map clamp rule)) (second-at (map clamp rule)) (length rule / 3) (λ v. ltb v values) events)) e
-          ∙ sym (ap (λ (b : Bool). or-else (plain-unless b 5) (nodes-refusal (kind-at rule) (first-at rule) (second-at rule) (length rule / 3) (λ v. ltb v values) events)) e)
+          (let w : CountFits 3 node-limit (length rule) = count-facts 3 node-limit (length rule) e in w .within) he hv)
+      go false e = ap (judged clamped events (length rule)) e ∙ sym (ap (judged rule events (length rule)) e)
 
 -- a closed formula within 256 nodes whose events and values fit has no number above 255
 formula-kept :
-    (events values d : ℕ) → events ≤ 255 → values ≤ 255 → (φ : Formula ℕ) → d + size φ ≤ 256 → FreeBelow d φ → Fits events (Below values) φ
+    (events values d : ℕ) → events ≤ 255 → values ≤ 255 → (φ : Formula ℕ) → d + size φ ≤ node-limit → FreeBelow d φ → Fits events (Below values) φ
     → clamp-formula φ ≡ φ
 formula-kept events values d he hv truth h f g = refl
 formula-kept events values d he hv (variable n) h f g = ap variable (clamp-small n (omega arith))
@@ -350,19 +354,20 @@ formula-kept events values d he hv (conjunction φ χ) h f g =
     (formula-kept events values d he hv χ (omega arith) (f .1) (g .1))
 formula-kept events values d he hv (greatest φ) h f g = ap greatest (formula-kept events values (suc d) he hv φ (omega arith) f g)
 
-pub rule-kept : (events values : ℕ) (rule : List ℕ) → events ≤ 255 → values ≤ 255 → rule-refusal events values rule ≡ none → map clamp rule ≡ rule
+pub rule-kept : (events values : ℕ) (rule : List ℕ) → events ≤ 255 → values ≤ 255 → rule-refusal events (Numbered values) rule ≡ none → map clamp rule ≡ rule
 rule-kept events values rule he hv e =
-    let w = accepted-formula-of events values rule e in
-    let v = accepted-formula-of events values (map clamp rule) (rule-same rule events values he hv ∙ e) in
+    let w = accepted-formula-of events (Numbered values) rule e in
+    let v = accepted-formula-of events (Numbered values) (map clamp rule) (rule-same values rule events he hv ∙ e) in
     let a = w .accepted in
+    let s : size (formula-of (Numbered values) rule) ≤ node-limit = a .within in
     v .written
-    ∙ ap (encode-formula three-bytes)
-    (formula-same rule ∙ formula-kept events values 0 he hv (formula-of rule) (let s : size (formula-of rule) ≤ 256 = a .within in omega arith) (a .closed) (a .fits))
+    ∙ ap (encode-formula (node-bytes (Numbered values)))
+    (formula-same values rule ∙ formula-kept events values 0 he hv (formula-of (Numbered values) rule) (omega arith) (a .closed) (a .fits))
     ∙ sym (w .written)
 
 -- ---- a file
 
-meet-clamped : (l : List ℕ) → encoded entry l ≡ map clamp l
+pub meet-clamped : (l : List ℕ) → encoded entry l ≡ map clamp l
 meet-clamped [] = refl
 meet-clamped (v ∷ l) = ap (λ (y : List ℕ). clamp v ∷ y) (meet-clamped l)
 
@@ -374,39 +379,38 @@ token-clamped (token-X n) = refl
 token-clamped (token-G e) = refl
 token-clamped (token-O e v) = refl
 
-rule-clamped : (xs : List Token) → encoded node xs ≡ map clamp (encoded node-numbers xs)
+pub rule-clamped : (xs : List Token) → encoded node xs ≡ map clamp (encoded node-numbers xs)
 rule-clamped [] = refl
 rule-clamped (x ∷ xs) = ap₂ (λ (u v : List ℕ). u ++ v) (token-clamped x) (rule-clamped xs)
 
 -- what an accepted set-up is within
-pub limits : (events values top : ℕ) (meet : List ℕ) → setup-refusal (setup events values top meet) ≡ none → (events ≤ 16) × (values ≤ 16)
-unfolding setup
-limits events values top meet e = let w : WellFormed (setup events values top meet) = setup-accepted (setup events values top meet) .0 e in (w .few-events, w .few-values)
+pub limits : (events values top : ℕ) (meet : List ℕ) → setup-refusal (setup events values top meet) ≡ none → (events ≤ event-limit) × (values ≤ value-limit)
+limits events values top meet e =
+    let w : WellFormed (setup events values top meet) = setup-accepted (setup events values top meet) .0 e in (w .few-events, w .of-kind .few-values)
 
 pub pair-same :
-    (events values top : ℕ) (meet rule : List ℕ) → pair-refusal events values top (map clamp meet) (map clamp rule) ≡ pair-refusal events values top meet rule
+    (events values top : ℕ) (meet rule : List ℕ)
+    → pair-refusal (setup events values top (map clamp meet)) (map clamp rule) ≡ pair-refusal (setup events values top meet) rule
 unfolding pair-refusal or-else
 pair-same events values top meet rule =
-    ap (λ (o : Option Refusal). or-else o (rule-refusal events values (map clamp rule))) (setup-same events values top meet)
+    ap (λ (o : Option Refusal). or-else o (rule-refusal events (Numbered values) (map clamp rule))) (setup-same events values top meet)
     ∙ go (setup-refusal (setup events values top meet)) refl
   where
     go : (o : Option Refusal) → setup-refusal (setup events values top meet) ≡ o
-        → or-else (setup-refusal (setup events values top meet)) (rule-refusal events values (map clamp rule))
-        ≡ or-else (setup-refusal (setup events values top meet)) (rule-refusal events values rule)
+        → or-else (setup-refusal (setup events values top meet)) (rule-refusal events (Numbered values) (map clamp rule))
+        ≡ or-else (setup-refusal (setup events values top meet)) (rule-refusal events (Numbered values) rule)
     go none e =
         let h = limits events values top meet e in
-        ap (or-else (setup-refusal (setup events values top meet))) (rule-same rule events values (omega (arith, h .0)) (omega (arith, h .1)))
-    go (some r) e =
-        ap (λ (o : Option Refusal). or-else o (rule-refusal events values (map clamp rule))) e
-        ∙ sym (ap (λ (o : Option Refusal). or-else o (rule-refusal events values rule)) e)
+        ap (or-else (setup-refusal (setup events values top meet))) (rule-same values rule events (omega (arith, h .0)) (omega (arith, h .1)))
+    go (some r) e = rw e
 
-pub file-same : (c : Contents) → pair-refusal (c .events) (c .values) (c .top) (meet-bytes c) (rule-bytes c) ≡ contents-refusal c
+pub file-same : (c : Contents) → pair-refusal (setup (c .events) (c .values) (c .top) (meet-bytes c)) (rule-bytes c) ≡ contents-refusal c
 file-same c =
-    ap₂ (λ (m r : List ℕ). pair-refusal (c .events) (c .values) (c .top) m r) (meet-clamped (c .meet)) (rule-clamped (c .rule))
+    ap₂ (λ (m r : List ℕ). pair-refusal (setup (c .events) (c .values) (c .top) m) r) (meet-clamped (c .meet)) (rule-clamped (c .rule))
     ∙ pair-same (c .events) (c .values) (c .top) (c .meet) (rule-numbers c)
 
 pub meet-kept : (events values top : ℕ) (meet : List ℕ) → setup-refusal (setup events values top meet) ≡ none → map clamp meet ≡ meet
-unfolding setup-refusal setup meet-test
+unfolding setup-refusal kind-refusal meet-test
 meet-kept events values top meet e =
     let h = limits events values top meet e in
     let later = or-else-none (plain-unless (events-test events) 1) _ e .1 in
@@ -418,7 +422,7 @@ meet-kept events values top meet e =
 pub nothing-clamped : (c : Contents) → contents-refusal c ≡ none → (meet-bytes c ≡ c .meet) × (rule-bytes c ≡ rule-numbers c)
 unfolding pair-refusal
 nothing-clamped c e =
-    let w = or-else-none (setup-refusal (setup (c .events) (c .values) (c .top) (c .meet))) (rule-refusal (c .events) (c .values) (rule-numbers c)) e in
+    let w = or-else-none (setup-refusal (setup-of c)) (rule-refusal (c .events) (Numbered (c .values)) (rule-numbers c)) e in
     let h = limits (c .events) (c .values) (c .top) (c .meet) (w .0) in (
       meet-clamped (c .meet) ∙ meet-kept (c .events) (c .values) (c .top) (c .meet) (w .0),
       rule-clamped (c .rule) ∙ rule-kept (c .events) (c .values) (rule-numbers c) (omega (arith, h .0)) (omega (arith, h .1)) (w .1),
@@ -428,7 +432,7 @@ pub clamped-claim : ClampedClaim
 clamped-claim =
     record {
       setup-same = setup-same;
-      rule-same = λ events values rule he hv. rule-same rule events values he hv;
+      rule-same = λ events values rule he hv. rule-same values rule events he hv;
       file-same = file-same;
       nothing-clamped = nothing-clamped;
     }

@@ -1,6 +1,9 @@
--- Numbers held in bytes; then what the functions' proofs share; then the claims.
+-- Numbers held in bytes, and which of them are judged; then what the functions' proofs share; then the claims.
 pub mod Clamping
-pub mod Storing
-pub mod RefusalClaims
-pub mod Writing
+pub mod ShownBytes
+pub mod Pairs
+pub mod TablePairs
+pub mod Claims
+pub mod Callers
+pub mod WriteAnswers
 pub mod WriteClaims

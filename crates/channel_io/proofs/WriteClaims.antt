@@ -1,25 +1,19 @@
 -- What is written reads back, and what was read is written again as the same bytes.
--- Assumes nothing.
 use Prim.Native.Nat.{ℕ, _≤_}
-use mathlib.Core.Path.{_≡_, refl, sym, ap, ap₂, _∙_, subst}
-use mathlib.Core.List.{List, [], _∷_}
-use mathlib.Core.Option.{none}
+use mathlib.Core.{Path.{_≡_, refl, sym, ap, ap₂, _∙_, subst}, List.{List, [], _∷_}, Option.{none}}
 use native.Mathlib.Omega.{arith}
 use lib.ListN.{length}
+use Rattle.limits.specs.Limits.{file-limit}
+use Rattle.values.specs.Setup.{setup}
 use Rattle.text_format.specs.Format.{contents}
-use Rattle.channel_file.specs.ChannelFile.{Token, Contents, text, Form}
-use Rattle.channel_file.specs.FileFormat.{first, second}
-use Rattle.channel_file.specs.Bytes.{clamp, entry, node, encoded}
+use Rattle.channel_file.specs.{ChannelFile.{Token, Contents, text, Form}, FileFormat.{first, second}, Bytes.{clamp, entry, node, encoded}}
 use Rattle.channel_file.specs.Reading.{read-file}
 use Rattle.channel_file.proofs.Claims.{read-back-claim}
-use Rattle.channel_writer.specs.Writing.{node-tokens, contents-of}
-use Rattle.channel_writer.specs.Claims.{All, none-left, one-more, Byte, ByteToken}
+use Rattle.channel_writer.specs.{Writing.{node-tokens, contents-of}, Claims.{All, none-left, one-more, Byte, ByteToken}}
 use Rattle.channel_writer.proofs.Claims.{again-claim}
-use Rattle.channel_io.specs.FileJudgement.{node-numbers, rule-numbers, pair-refusal, contents-refusal}
-use Rattle.channel_io.specs.FileWriting.{text-or-empty, file-text}
-use Rattle.channel_io.specs.Claims.{ReadsBack, WriteClaim}
-use Rattle.channel_io.proofs.Clamping.{nothing-clamped}
-use Rattle.channel_io.proofs.Writing.{textual}
+use Rattle.channel_io.specs.FileJudgement.{node-numbers, rule-numbers, text-or-empty, file-text}
+use Rattle.channel_io.specs.{FileRefusals.{pair-refusal, contents-refusal}, Claims.{ReadsBack, WriteClaim}}
+use Rattle.channel_io.proofs.{Clamping.{nothing-clamped}, WriteAnswers.{textual}}
 
 -- ---- numbers that were not clamped are bytes
 
@@ -48,7 +42,7 @@ again t c e a =
     (ap₂ (λ (m r : List ℕ). contents-of (c .events) (c .values) (c .top) m (node-tokens r)) (sym (n .0)) (sym (n .1)) ∙ same)
     ∙ again-claim .same-text t c e
 
-module _ (events values top : ℕ) (meet rule : List ℕ) (a : pair-refusal events values top meet rule ≡ none) where
+module _ (events values top : ℕ) (meet rule : List ℕ) (a : pair-refusal (setup events values top meet) rule ≡ none) where
   written : file-text events values top meet rule ≡ text (textual events values top meet rule a .inside)
   unfolding file-text
   written = ap text-or-empty (textual events values top meet rule a .is)
@@ -58,8 +52,8 @@ module _ (events values top : ℕ) (meet rule : List ℕ) (a : pair-refusal even
       let v = textual events values top meet rule a in
       subst Form (sym written) (v .inside, record { small = v .small; printed = refl })
 
-  within-limit : length (file-text events values top meet rule) ≤ 4096
-  within-limit = subst (λ (l : List ℕ). length l ≤ 4096) (sym written) (textual events values top meet rule a .short)
+  within-limit : length (file-text events values top meet rule) ≤ file-limit
+  within-limit = subst (λ (l : List ℕ). length l ≤ file-limit) (sym written) (textual events values top meet rule a .short)
 
   reads-back : ReadsBack events values top meet rule
   reads-back =

@@ -1,25 +1,23 @@
--- What a channel file says, judged (document 01, "Channel file" and "Who can cause a refusal"): refusal 4, then 1 to 3 and 5 to 9
--- on the file's own numbers, none of them clamped, and 13 last. "Reading or writing a file alone makes none" of 10.
--- Assumes nothing.
+-- What a channel file says, judged (document 01, "Channel file" and "Who can cause a refusal"): the conditions that a text, its
+-- contents, and a set-up and rule to write meet. 4 first, then 1 to 3 and 5 to 9 on the file's own numbers, none of them clamped; 10
+-- where its table is made, "reading or writing a file alone makes none"; 13 last.
 use Prim.Native.Nat.{ℕ, _<_}
 use mathlib.Core.List.{List, [], _∷_, _++_}
-use mathlib.Core.Bool.{Bool, _&&_}
-use mathlib.Core.Option.{Option, some}
-use lib.Dec.{leb}
+use mathlib.Core.Option.{Option, none, some}
 use lib.ListN.{length}
-use Rattle.theory.specs.ValueSets.{Below}
-use Rattle.refusal.specs.declared.Refusal.{Refusal}
-use Rattle.refusal.specs.declared.Refusal.the-variants.{At}
-use Rattle.refusal.specs.Refusal.{Condition, plain, First, or-else, plain-unless}
-use Rattle.values.specs.Setup.{Setup, setup, setup-conditions, setup-refusal}
-use Rattle.formulas.specs.NodeBytes.{three-bytes}
-use Rattle.formulas.specs.RuleConditions.{rule-conditions}
-use Rattle.formulas.specs.RuleRefusal.{node-width, node-limit, rule-refusal}
+use Rattle.limits.specs.Limits.{state-limit}
+use Rattle.refusal.specs.Refusal.{Condition, plain, at-lowest}
+use Rattle.values.specs.Setup.{Setup, setup, setup-meet, setup-top, setup-conditions}
+use Rattle.formulas.specs.NodeBytes.{node-bytes}
+use Rattle.formulas.specs.RuleConditions.{OfFormula}
+use Rattle.formulas.specs.Claims.{byte-conditions}
+use Rattle.synthesis.specs.Claims.{Short as TableShort, states-condition}
 use Rattle.text_format.specs.Format.{Outcome, contents, refused}
-use Rattle.channel_file.specs.ChannelFile.{Token, Contents}
+use Rattle.channel_file.specs.ChannelFile.{Token, Contents, text}
 use Rattle.channel_file.specs.FileFormat.{first, second}
 use Rattle.channel_file.specs.Bytes.{kind, encoded}
-use Rattle.channel_file.specs.Reading.{Refused4, AnswersFile}
+use Rattle.channel_file.specs.Reading.{Refused4, read-file}
+use Rattle.channel_writer.specs.Writing.{node-tokens, contents-of}
 
 -- The set-up of a file.
 abbrev pub setup-of : Contents → Setup
@@ -33,49 +31,69 @@ node-numbers x = kind x ∷ first x ∷ second x ∷ []
 abbrev pub rule-numbers : Contents → List ℕ
 rule-numbers c = encoded node-numbers (c .rule)
 
+-- ---- a set-up and a rule
+
 -- 1 to 3 for a set-up, then 5 to 9 for a rule.
-abbrev pub pair-conditions : ℕ → ℕ → ℕ → List ℕ → List ℕ → List Condition
-pair-conditions events values top meet rule =
-    setup-conditions (setup events values top meet) ++ rule-conditions node-width three-bytes node-limit events (Below values) rule
+abbrev pub pair-conditions : Setup → List ℕ → List Condition
+pair-conditions s rule = setup-conditions s ++ byte-conditions (s .events) (s .kind) rule
+
+-- The same where the rule's table is made: then 10.
+abbrev pub pair-table-conditions : Setup → List ℕ → List Condition
+pair-table-conditions s rule =
+    setup-conditions s
+    ++ (byte-conditions (s .events) (s .kind) rule
+    ++ (states-condition (setup-meet s) (setup-top s) (s .events) (s .kind) rule state-limit ∷ []))
+
+-- ---- a file's contents
 
 abbrev pub contents-conditions : Contents → List Condition
-contents-conditions c = pair-conditions (c .events) (c .values) (c .top) (c .meet) (rule-numbers c)
+contents-conditions c = pair-conditions (setup-of c) (rule-numbers c)
 
--- 13: a lent buffer shorter than the output, for either buffer.
+abbrev pub contents-table-conditions : Contents → List Condition
+contents-table-conditions c = pair-table-conditions (setup-of c) (rule-numbers c)
+
+-- 13, where a file is read: a lent buffer shorter than the output, for either buffer.
 pub data Short (c : Contents) (meet rule : List ℕ) : Type 0 where
   short-meet : length meet < length (c .meet) → Short c meet rule
   short-rule : length rule < length (rule-numbers c) → Short c meet rule
 
--- The conditions of reading a text with these contents into two buffers, in order.
+-- The same where its table is made.
+pub data ShortForTable (c : Contents) (meet to : List ℕ) : Type 0 where
+  short-entries : length meet < length (c .meet) → ShortForTable c meet to
+  short-table :
+      OfFormula (node-bytes (setup-of c .kind)) (rule-numbers c)
+      (λ φ. TableShort (setup-meet (setup-of c)) (setup-top (setup-of c)) (c .events) (setup-of c .kind) φ to)
+      → ShortForTable c meet to
+
+-- The conditions of reading a text with these contents into two buffers, and of making the table.
 abbrev pub read-conditions : Contents → List ℕ → List ℕ → List Condition
 read-conditions c meet rule = contents-conditions c ++ (plain 13 (Short c meet rule) ∷ [])
 
--- The answer to reading a text: 4 with its place, or the first of the others that its contents meet.
-pub data FileJudged (t meet rule : List ℕ) : Option Refusal → Type 0 where
-  off-form : (p : ℕ) → Refused4 t p → FileJudged t meet rule (some (At 4 p))
-  of-contents :
-      (c : Contents) (answer : Option Refusal) → AnswersFile t (contents c) → First (read-conditions c meet rule) answer
-      → FileJudged t meet rule answer
+abbrev pub file-conditions : Contents → List ℕ → List ℕ → List Condition
+file-conditions c meet to = contents-table-conditions c ++ (plain 13 (ShortForTable c meet to) ∷ [])
 
--- The computing twins.
-unfoldable pub pair-refusal : ℕ → ℕ → ℕ → List ℕ → List ℕ → Option Refusal
-pair-refusal events values top meet rule = or-else (setup-refusal (setup events values top meet)) (rule-refusal events values rule)
+-- ---- a text
 
-abbrev pub contents-refusal : Contents → Option Refusal
-contents-refusal c = pair-refusal (c .events) (c .values) (c .top) (c .meet) (rule-numbers c)
+-- 4 first, then the conditions on what the text shows (channel_file's AnswerClaim and OneAnswerClaim); none where 4 is met.
+abbrev pub shown-conditions : (Contents → List Condition) → Outcome Contents → List Condition
+shown-conditions conditions (contents c) = conditions c
+shown-conditions conditions (refused p) = []
 
--- Both buffers have room for their outputs.
-unfoldable pub has-room : List ℕ → List ℕ → List ℕ → List ℕ → Bool
-has-room entries nodes meet rule = leb (length entries) (length meet) && leb (length nodes) (length rule)
+abbrev pub text-conditions : (Contents → List Condition) → List ℕ → List Condition
+text-conditions conditions t = at-lowest 4 (Refused4 t) ∷ shown-conditions conditions (read-file t)
 
--- 1 to 3, 5 to 9, then 13, for a set-up and a rule that go into two buffers.
-unfoldable pub stored-refusal : ℕ → ℕ → ℕ → List ℕ → List ℕ → List ℕ → List ℕ → Option Refusal
-stored-refusal events values top entries nodes meet rule =
-    or-else (pair-refusal events values top entries nodes) (plain-unless (has-room entries nodes meet rule) 13)
+-- ---- writing
 
-abbrev pub contents-read-refusal : Contents → List ℕ → List ℕ → Option Refusal
-contents-read-refusal c meet rule = stored-refusal (c .events) (c .values) (c .top) (c .meet) (rule-numbers c) meet rule
+-- The text of contents; empty where there are none, which is never so where 1 to 3 and 5 to 9 are not met (Claims).
+abbrev pub text-or-empty : Option Contents → List ℕ
+text-or-empty none = []
+text-or-empty (some c) = text c
 
-unfoldable pub read-refusal : Outcome Contents → List ℕ → List ℕ → Option Refusal
-read-refusal (refused p) meet rule = some (At 4 p)
-read-refusal (contents c) meet rule = contents-read-refusal c meet rule
+-- The text of a set-up and the nodes of a rule.
+unfoldable pub file-text : ℕ → ℕ → ℕ → List ℕ → List ℕ → List ℕ
+file-text events values top meet rule = text-or-empty (contents-of events values top meet (node-tokens rule))
+
+-- The conditions of writing a file into a buffer: 1 to 3, 5 to 9, then 13, "lent buffer shorter than the output".
+abbrev pub write-conditions : ℕ → ℕ → ℕ → List ℕ → List ℕ → List ℕ → List Condition
+write-conditions events values top meet rule old =
+    pair-conditions (setup events values top meet) rule ++ (plain 13 (length old < length (file-text events values top meet rule)) ∷ [])

@@ -1,6 +1,5 @@
 -- Reading a channel file (document 01, "Channel file", refusals 4, 1 to 3, 5 to 9 and 13): the answer, and what two lent buffers
 -- hold afterwards.
--- Assumes nothing.
 use Prim.Native.Nat.{ℕ}
 use mathlib.Core.Path.{_≡_}
 use mathlib.Core.List.{List}
@@ -12,14 +11,11 @@ use Rattle.refusal.specs.LentBuffers.{put-unless}
 use Rattle.text_format.specs.Format.{Outcome, contents, refused}
 use Rattle.channel_file.specs.ChannelFile.{Contents}
 use Rattle.channel_file.specs.Reading.{read-file}
-use Rattle.channel_file.specs.Bytes.{stored-reply}
-use Rattle.channel_file.specs.declared.Stored.{Stored}
 use Rattle.channel_io.specs.declared.FileNumbers.{FileNumbers}
 use Rattle.channel_io.specs.declared.FileRead.{FileRead}
 use Rattle.channel_io.specs.declared.FileRead.the-variants.{Accepted, Refused}
-use Rattle.channel_io.specs.declared.Attempt.{Attempt}
-use Rattle.channel_io.specs.declared.Attempt.the-variants.{Answered, Short}
-use Rattle.channel_io.specs.FileJudgement.{rule-numbers, stored-refusal, contents-read-refusal}
+use Rattle.channel_io.specs.FileJudgement.{rule-numbers}
+use Rattle.channel_io.specs.FileRefusals.{contents-read-refusal}
 
 -- The numbers of a file: those of its set-up, and how many meet entries and nodes it has.
 unfoldable pub numbers : ℕ → ℕ → ℕ → ℕ → ℕ → FileNumbers
@@ -52,17 +48,3 @@ pub record Reads (t meet rule meet′ rule′ : List ℕ) (r : FileRead) : Type 
   pub answer : r ≡ read-answer (read-file t) meet rule
   pub meet-is : meet′ ≡ meet-after (read-file t) meet rule
   pub rule-is : rule′ ≡ rule-after (read-file t) meet rule
-
--- The same of the private function that stores entries and nodes which were read.
-pub record Keeps (events values top count : ℕ) (entries nodes meet rule meet′ rule′ : List ℕ) (r : FileRead) : Type 0 where
-  pub answer :
-      r ≡ accepted-or (stored-refusal events values top entries nodes meet rule) (numbers events values top (length entries) count)
-  pub meet-is : meet′ ≡ put-unless (stored-refusal events values top entries nodes meet rule) entries meet
-  pub rule-is : rule′ ≡ put-unless (stored-refusal events values top entries nodes meet rule) nodes rule
-
--- And of the one that stores a text in two buffers first, unless one of them is too short.
-pub data TriesReading (t entries nodes meet rule meet′ rule′ : List ℕ) : Attempt → Type 0 where
-  answered : (r : FileRead) → Reads t meet rule meet′ rule′ r → TriesReading t entries nodes meet rule meet′ rule′ (Answered r)
-  short :
-      stored-reply (read-file t) entries nodes ≡ Stored.Short → meet′ ≡ meet → rule′ ≡ rule →
-      TriesReading t entries nodes meet rule meet′ rule′ Short

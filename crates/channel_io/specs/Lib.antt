@@ -1,9 +1,13 @@
 -- In reading order.
--- What a file says, judged on its own numbers.
+-- What a file says, judged on its own numbers: the conditions.
 pub mod FileJudgement
--- The answer to reading a file, and the buffers afterwards.
+-- The same computed, and the table of a file's rule.
+pub mod FileRefusals
+-- The answer to reading a file, to making its table, to writing one, and the buffers afterwards.
 pub mod FileReading
--- The text of a set-up and a rule, the answer to writing it, and the buffer afterwards.
+pub mod FileCompilation
 pub mod FileWriting
 -- What is claimed of them.
 pub mod Claims
+-- What the private functions of src/ say.
+pub mod Steps

@@ -1,24 +1,34 @@
-// Channel files read and written, with all their refusals: 4, 1 to 3, 5 to 9 and 13.
+// Channel files read, written and compiled, with all their refusals: 4, 1 to 3, 5 to 10 and 13.
 use channel_file::Stored;
 use channel_file::read_text;
 use channel_writer::Written;
 use channel_writer::write_text;
 use formulas::check_rule;
+use limits::MEET_LIMIT;
+use limits::NODE_LIMIT;
 use refusal::BUFFER_LENGTH;
 use refusal::Counted;
 use refusal::Judgement;
 use refusal::NODE_COUNT;
 use refusal::Refusal;
 use refusal::TEXT_FORM;
+use synthesis::compile;
+use text_output::put_word;
+use values::ValueKind;
 use values::check_setup;
 ghost use mathlib.Core.Path.{_≡_};
-ghost use Prim.Native.Nat.{_≤_};
+ghost use mathlib.Core.Bool.{cond};
+ghost use Prim.Native.Nat.{_*_};
+ghost use lib.Dec.{leb, ltb};
 ghost use lib.ListN.{length};
+ghost use Rattle.limits.specs.Limits.{meet-limit, node-limit};
 ghost use Rattle.refusal.specs.Refusal.{judgement};
-ghost use Rattle.refusal.specs.LentBuffers.{put};
-ghost use Rattle.channel_io.specs.FileJudgement.{pair-refusal};
-ghost use Rattle.channel_io.specs.FileReading.{Reads, Keeps, TriesReading};
+ghost use Rattle.values.specs.Setup.{setup};
+ghost use Rattle.channel_io.specs.FileRefusals.{pair-refusal};
+ghost use Rattle.channel_io.specs.FileReading.{Reads};
+ghost use Rattle.channel_io.specs.FileCompilation.{CompilesFile};
 ghost use Rattle.channel_io.specs.FileWriting.{WritesFile};
+ghost use Rattle.channel_io.specs.Steps.{Holds, Keeps, CompilesPair};
 
 // The numbers of a file: those of its set-up, and how many meet entries and nodes it has.
 pub struct FileNumbers {
@@ -35,59 +45,77 @@ pub enum FileRead {
     Refused(Refusal),
 }
 
-// The answer, or that a buffer for the text's entries or nodes is too short.
-enum Attempt {
-    Answered(FileRead),
-    Short,
+// A file's numbers and the states of its rule's table, or the refusal.
+pub enum FileTable {
+    Made(FileNumbers, usize),
+    Refused(Refusal),
 }
 
-// No set-up has more meet entries and no rule more nodes, three bytes each.
-const ENTRY_COUNT: usize = 256;
+// What is held of a text: its numbers, and how many bytes of its entries and of its nodes are judged; or 4.
+enum Held {
+    File(FileNumbers, usize, usize),
+    Refused(Refusal),
+}
 
-const NODE_BYTES: usize = 768;
-
-// A text within the limit has at most 2,048 entries and at most 2,048 nodes, three bytes each.
-const ENTRY_ROOM: usize = 2048;
-
-const NODE_ROOM: usize = 6144;
+// No rule has more nodes, three bytes each.
+const NODE_BYTES: usize = NODE_LIMIT * 3;
 
 // 1 to 3 for a set-up, then 5 to 9 for a rule.
 fn check_pair(events: usize, values: usize, top: usize, meet: &[u8], rule: &[u8]) -> Judgement
-    ensures { λ r. ⌜ r ≡ judgement (pair-refusal events values top (now (meet .entry)) (now (rule .entry))) ⌝ }
+    ensures { λ r. ⌜ r ≡ judgement (pair-refusal (setup events values top (now (meet .entry))) (now (rule .entry))) ⌝ }
 {
     let judged = check_setup(events, values, top, meet);
     if let Judgement::Refused(refusal) = judged {
         return Judgement::Refused(refusal);
     }
-    check_rule(events, values, rule)
+    check_rule(events, ValueKind::Numbered(values as u32), rule)
 }
 
-// Puts bytes at the front of a buffer.
-fn copy_in(from: &[u8], to: &mut [u8])
-    requires { ⌜ length (now from) ≤ length (now to) ⌝ }
-    ensures { λ _. ⌜ now (to .exit) ≡ put (now (from .entry)) (now (to .entry)) ⌝ }
+// A count within a limit, and none above it: entries and nodes over the limit are at fault by their count, as none are.
+fn shown(count: usize, limit: usize) -> usize
+    ensures { λ r. ⌜ r ≡ cond (leb count limit) count 0 ⌝ }
 {
-    let mut i: usize = 0;
-    while i < from.len() {
-        to[i] = from[i];
-        i += 1;
+    if count <= limit { count } else { 0 }
+}
+
+// Stores the entries and nodes of a text.
+fn store_text(text: &[u8], entries: &mut [u8], nodes: &mut [u8]) -> Held
+    requires { ⌜ (length (now entries) ≡ meet-limit) × (length (now nodes) ≡ node-limit * 3) ⌝ }
+    ensures { λ r. ⌜ Holds (now (text .entry)) (now (entries .exit)) (now (nodes .exit)) r ⌝ }
+{
+    match read_text(text, entries, nodes) {
+        Stored::Refused(p) => Held::Refused(Refusal::At(TEXT_FORM, p)),
+        Stored::Form {
+            events,
+            values,
+            top,
+            entries: m,
+            items: n,
+        } => {
+            let numbers = FileNumbers {
+                events,
+                values,
+                top,
+                entries: m,
+                nodes: n,
+            };
+            Held::File(numbers, shown(m, MEET_LIMIT), 3 * shown(n, NODE_LIMIT))
+        }
     }
 }
 
 // Entries and nodes of a file, judged and put into two buffers; both are looked at before any is written.
-fn store_pair(
-    events: usize,
-    values: usize,
-    top: usize,
-    count: usize,
+fn keep_pair(
+    numbers: FileNumbers,
     entries: &[u8],
     nodes: &[u8],
     meet: &mut [u8],
     rule: &mut [u8],
 ) -> FileRead
-    ensures { λ r. ⌜ Keeps events values top count (now (entries .entry)) (now (nodes .entry)) (now (meet .entry)) (now (rule .entry)) (now (meet .exit)) (now (rule .exit)) r ⌝ }
+    ensures { λ r. ⌜ Keeps numbers (now (entries .entry)) (now (nodes .entry)) (now (meet .entry)) (now (rule .entry))
+        (now (meet .exit)) (now (rule .exit)) r ⌝ }
 {
-    let judged = check_pair(events, values, top, entries, nodes);
+    let judged = check_pair(numbers.events, numbers.values, numbers.top, entries, nodes);
     if let Judgement::Refused(refusal) = judged {
         return FileRead::Refused(refusal);
     }
@@ -97,76 +125,70 @@ fn store_pair(
     if rule.len() < nodes.len() {
         return FileRead::Refused(Refusal::Plain(BUFFER_LENGTH));
     }
-    copy_in(entries, meet);
-    copy_in(nodes, rule);
-    FileRead::Accepted(FileNumbers {
-        events,
-        values,
-        top,
-        entries: entries.len(),
-        nodes: count,
-    })
-}
-
-// Stores the entries and nodes of a text in two buffers, judges them and puts them into two others.
-fn read_within(
-    text: &[u8],
-    entry_bytes: &mut [u8],
-    node_bytes: &mut [u8],
-    meet: &mut [u8],
-    rule: &mut [u8],
-) -> Attempt
-    ensures { λ r. ⌜ TriesReading (now (text .entry)) (now («entry_bytes» .entry)) (now («node_bytes» .entry)) (now (meet .entry)) (now (rule .entry)) (now (meet .exit)) (now (rule .exit)) r ⌝ }
-{
-    match read_text(text, entry_bytes, node_bytes) {
-        Stored::Refused(p) => Attempt::Answered(FileRead::Refused(Refusal::At(TEXT_FORM, p))),
-        Stored::Short => Attempt::Short,
-        Stored::Form {
-            events,
-            values,
-            top,
-            entries,
-            items,
-        } => {
-            let size = 3 * items;
-            let read = store_pair(
-                events,
-                values,
-                top,
-                items,
-                &entry_bytes[..entries],
-                &node_bytes[..size],
-                meet,
-                rule,
-            );
-            Attempt::Answered(read)
-        }
-    }
-}
-
-// For a text that has more entries or nodes than a set-up and a rule may have: buffers that are never too short.
-fn read_long(text: &[u8], meet: &mut [u8], rule: &mut [u8]) -> FileRead
-    ensures { λ r. ⌜ Reads (now (text .entry)) (now (meet .entry)) (now (rule .entry)) (now (meet .exit)) (now (rule .exit)) r ⌝ }
-{
-    let mut entry_bytes = [0u8; ENTRY_ROOM];
-    let mut node_bytes = [0u8; NODE_ROOM];
-    let attempt = read_within(text, &mut entry_bytes, &mut node_bytes, meet, rule);
-    match attempt {
-        Attempt::Answered(read) => read,
-        Attempt::Short => FileRead::Refused(Refusal::Plain(BUFFER_LENGTH)),
-    }
+    put_word(meet, 0, entries);
+    put_word(rule, 0, nodes);
+    FileRead::Accepted(numbers)
 }
 
 // Reads a channel file: its meet entries into one buffer and its rule's nodes, three bytes each, into the other.
 pub fn read_file(text: &[u8], meet: &mut [u8], rule: &mut [u8]) -> FileRead
     ensures { λ r. ⌜ Reads (now (text .entry)) (now (meet .entry)) (now (rule .entry)) (now (meet .exit)) (now (rule .exit)) r ⌝ }
 {
-    let mut entry_bytes = [0u8; ENTRY_COUNT];
-    let mut node_bytes = [0u8; NODE_BYTES];
-    let attempt = read_within(text, &mut entry_bytes, &mut node_bytes, meet, rule);
-    match attempt {
-        Attempt::Answered(read) => read,
-        Attempt::Short => read_long(text, meet, rule),
+    let mut entries = [0u8; MEET_LIMIT];
+    let mut nodes = [0u8; NODE_BYTES];
+    match store_text(text, &mut entries, &mut nodes) {
+        Held::Refused(refusal) => FileRead::Refused(refusal),
+        Held::File(numbers, m, n) => keep_pair(numbers, &entries[..m], &nodes[..n], meet, rule),
+    }
+}
+
+// The room for a table: none where so many entries have no room.
+fn table_room(entries: usize, meet: usize, to: usize) -> usize
+    ensures { λ r. ⌜ r ≡ cond (ltb meet entries) 0 to ⌝ }
+{
+    if meet < entries { 0 } else { to }
+}
+
+// The table of entries and nodes, and the entries, put into two buffers. A table has at least one byte, so that it has no room where
+// the entries have none.
+fn compile_pair(
+    numbers: FileNumbers,
+    entries: &[u8],
+    nodes: &[u8],
+    meet: &mut [u8],
+    to: &mut [u8],
+) -> FileTable
+    ensures { λ r. ⌜ CompilesPair numbers (now (entries .entry)) (now (nodes .entry)) (now (meet .entry)) (now (to .entry))
+        (now (meet .exit)) (now (to .exit)) r ⌝ }
+{
+    let room = table_room(entries.len(), meet.len(), to.len());
+    let compiled = compile(
+        numbers.events,
+        numbers.values,
+        numbers.top,
+        entries,
+        nodes,
+        &mut to[..room],
+    );
+    match compiled {
+        Counted::Refused(refusal) => FileTable::Refused(refusal),
+        Counted::Count(states) => {
+            put_word(meet, 0, entries);
+            FileTable::Made(numbers, states)
+        }
+    }
+}
+
+// The table of a channel file's rule, two bytes an entry, into one buffer, and the file's meet entries into the other: 4, 1 to 3,
+// 5 to 10, 13.
+pub fn compile_file(text: &[u8], meet: &mut [u8], to: &mut [u8]) -> FileTable
+    ensures { λ r. ⌜ CompilesFile (now (text .entry)) (now (meet .entry)) (now (to .entry)) (now (meet .exit)) (now (to .exit)) r ⌝ }
+{
+    let mut entries = [0u8; MEET_LIMIT];
+    let mut nodes = [0u8; NODE_BYTES];
+    match store_text(text, &mut entries, &mut nodes) {
+        Held::Refused(refusal) => FileTable::Refused(refusal),
+        Held::File(numbers, m, n) => compile_pair(numbers, &entries[..m], &nodes[..n], meet, to),
     }
 }
 

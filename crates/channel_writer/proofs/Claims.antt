@@ -1,20 +1,12 @@
 -- The claims of specs/Claims.
--- Assumes nothing.
 use Prim.Native.Nat.{ℕ, _≤_, _<_, min}
-use mathlib.Core.Path.{_≡_, refl, sym, ap, ap₂, _∙_, subst}
-use mathlib.Core.List.{List, [], _∷_, _++_}
-use mathlib.Core.Bool.{Bool, true, false, cond}
-use mathlib.Core.Option.{Option, some, none}
+use mathlib.Core.{Path.{_≡_, refl, sym, ap₂, _∙_, subst}, List.{List, [], _∷_}, Bool.{Bool, true, false, cond}, Option.{Option, some, none}}
 use native.Mathlib.Omega.{arith}
 use lib.Dec.{eqb}
 use borrow.Author.Tests.{eqb-true}
-use lib.ListN.{length}
-use Rattle.text_format.specs.Format.{contents}
-use Rattle.text_format.specs.Series.{OneOrMore}
-use Rattle.channel_file.specs.ChannelFile.{Token, token-T, token-A, token-V, token-X, token-G, token-O, Contents, Small, SmallToken, text, SmallContents}
-use Rattle.channel_file.specs.FileFormat.{first, second}
-use Rattle.channel_file.specs.Reading.{read-file}
-use Rattle.channel_file.specs.Bytes.{clamp, kind, node, entry, encoded, meet-bytes, rule-bytes}
+use Rattle.text_format.specs.{Format.{contents}, Series.{OneOrMore}}
+use Rattle.channel_file.specs.ChannelFile.{Token, token-T, token-A, token-V, token-X, token-G, token-O, Contents, Small, SmallToken, SmallContents}
+use Rattle.channel_file.specs.{FileFormat.{first, second}, Reading.{read-file}, Bytes.{clamp, kind, node, entry, encoded, meet-bytes, rule-bytes}}
 use Rattle.channel_file.proofs.Claims as read
 use Rattle.channel_writer.specs.Writing.{bare-token, token-of-one, node-token, with-token, node-tokens, contents-of}
 use Rattle.channel_writer.specs.Claims.{All, none-left, one-more, Byte, ByteToken, ByteContents, NodeClaim, WrittenClaim, AgainClaim}
@@ -116,7 +108,8 @@ small-bytes : (s : List ℕ) → All Byte s → All Small s
 small-bytes [] h = none-left
 small-bytes (b ∷ s) (one-more h g) = let l : b ≤ 255 = h in one-more {a = b} (omega arith) (small-bytes s g)
 
-of-the-form₁ : (e v p : ℕ) (meet nodes : List ℕ) (y : Option (List Token)) → node-tokens nodes ≡ y → (c : Contents) → Byte e → Byte v → Byte p → All Byte meet → All Byte nodes
+of-the-form₁ : (e v p : ℕ) (meet nodes : List ℕ) (y : Option (List Token)) → node-tokens nodes ≡ y → (c : Contents) → Byte e → Byte v → Byte p
+    → All Byte meet → All Byte nodes
     → contents-of e v p meet y ≡ some c → SmallContents c
 of-the-form₁ e v p [] nodes y f c he hv hp hm hn h = let z : _≡_ {A = ℕ} 0 1 = cc in absurd (omega arith)
 of-the-form₁ e v p (m ∷ ms) nodes none f c he hv hp hm hn h = let z : _≡_ {A = ℕ} 0 1 = cc in absurd (omega arith)
@@ -175,7 +168,8 @@ same-contents : (t : List ℕ) (c : Contents) → read-file t ≡ contents c →
     → contents-of (c .events) (c .values) (c .top) (meet-bytes c) (node-tokens (rule-bytes c)) ≡ some c
 same-contents t c e b =
     let s : SmallContents c = read.shown t c e .1 .small in
-    ap₂ (λ (m : List ℕ) (y : Option (List Token)). contents-of (c .events) (c .values) (c .top) m y) (same-meet (c .meet) (b .meet)) (same-nodes (c .rule) (b .rule))
+    ap₂ (λ (m : List ℕ) (y : Option (List Token)). contents-of (c .events) (c .values) (c .top) m y) (same-meet (c .meet) (b .meet))
+    (same-nodes (c .rule) (b .rule))
     ∙ both-some (c .events) (c .values) (c .top) (c .meet) (c .rule) (s .meet) (s .rule)
 
 pub again-claim : AgainClaim

@@ -1,17 +1,12 @@
 -- Which nodes have tokens, and their texts, by the tests of the code.
--- Assumes nothing.
 use Prim.Native.Nat.{ℕ, _+_, _-_, _≤_, _<_}
-use mathlib.Core.Path.{_≡_, refl, sym, ap, _∙_}
-use mathlib.Core.List.{List, [], _∷_, _++_}
-use mathlib.Core.Bool.{Bool, true, false, cond}
-use mathlib.Core.Option.{Option, some, none}
+use mathlib.Core.{Path.{_≡_, refl, sym, ap, _∙_}, List.{List, [], _∷_, _++_}, Bool.{Bool, true, false, cond}, Option.{Option, some, none}}
 use native.Mathlib.Omega.{arith}
 use borrow.Author.Tests.{ne-eqb}
 use lib.ListN.{length, drop, getD, length-drop}
 use Rattle.channel_file.specs.ChannelFile.{Token, token-T, token-A, token-V, token-X, token-G, token-O, number}
 use Rattle.channel_file.proofs.Offsets.{here, over}
-use Rattle.channel_writer.specs.Writing.{bare-token, token-of-one, node-token, with-token, node-tokens}
-use Rattle.channel_writer.specs.Steps.{is-some, IsSome, node-text}
+use Rattle.channel_writer.specs.{Writing.{bare-token, token-of-one, node-token, with-token, node-tokens}, Steps.{is-some, IsSome, node-text}}
 
 -- which token stands there, by the tests of the code
 pub bare-0 : (k : ℕ) → k ≡ 0 → bare-token k ≡ some token-T

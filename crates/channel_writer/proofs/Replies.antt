@@ -1,21 +1,16 @@
--- What is written, and the reply, from the text in an array.
--- Assumes nothing.
+-- What is written, and the reply.
 use Prim.Native.Nat.{ℕ, _+_, _≤_, _<_, min}
-use mathlib.Core.Path.{_≡_, refl, sym, ap, ap₂, _∙_, subst}
-use mathlib.Core.List.{List, [], _∷_, _++_, map}
-use mathlib.Core.Bool.{Bool, true, false, cond}
-use mathlib.Core.Option.{Option, some, none}
+use mathlib.Core.{Path.{_≡_, refl, sym, ap, ap₂, _∙_}, List.{List, [], _∷_, _++_, map}, Bool.{Bool, false, cond}, Option.{Option, some, none}}
 use native.Mathlib.Omega.{arith}
 use borrow.Author.Tests.{lt-ltb, le-ltb}
-use lib.ListN.{length, take}
+use lib.ListN.{length}
+use Rattle.limits.specs.Limits.{file-limit}
 use Rattle.refusal.specs.LentBuffers.{put}
-use Rattle.text_format.specs.Format.{ascii}
-use Rattle.text_format.specs.Series.{number-item, separated, OneOrMore}
+use Rattle.text_format.specs.{Format.{ascii}, Series.{number-item, separated, OneOrMore}}
 use Rattle.text_format.proofs.Series.{series-text}
-use Rattle.text_output.specs.Output.{Puts}
-use Rattle.text_output.proofs.Outputs.{puts-as, puts-copied}
-use Rattle.channel_file.specs.ChannelFile.{Token, Contents, number, token-text, line, text}
-use Rattle.channel_file.specs.FileFormat.{token-item, tokens, entries}
+use Rattle.text_output.specs.Output.{offset-limit, Puts}
+use Rattle.text_output.proofs.Outputs.{puts-as, puts-long, puts-again}
+use Rattle.channel_file.specs.{ChannelFile.{Token, Contents, number, token-text, line, text}, FileFormat.{token-item, tokens, entries}}
 use Rattle.channel_file.proofs.FileFormat.{token-print}
 use Rattle.channel_writer.specs.Writing.{node-tokens, contents-of, written-reply, written-buffer, Writes}
 use Rattle.channel_writer.specs.Steps.{is-some, IsSome, items-of, nodes-text, lines-text}
@@ -76,26 +71,29 @@ no-tokens e v p (m ∷ ms) (some xs) h = let z : _≡_ {A = ℕ} 0 1 = ap (λ (b
 pub writes-none : (o : Option Contents) (old : List ℕ) → o ≡ none → Writes o old old Written.Malformed
 writes-none o old e = record { reply = sym (ap (written-reply old) e); buffer = sym (ap (written-buffer old) e) }
 
-pub writes-long : (o : Option Contents) (old : List ℕ) (c : Contents) → o ≡ some c → min 4096 (length old) < length (text c) → Writes o old old Written.Long
+pub writes-long : (o : Option Contents) (old : List ℕ) (c : Contents) → o ≡ some c → min file-limit (length old) < length (text c)
+    → Writes o old old Written.Long
 writes-long o old c e h =
     record {
-      reply = sym (ap (written-reply old) e ∙ ap (λ (b : Bool). cond b Written.Long (Written.Text (length (text c)))) (lt-ltb (min 4096 (length old)) (length (text c)) h));
-      buffer = sym (ap (written-buffer old) e ∙ ap (λ (b : Bool). cond b old (put (text c) old)) (lt-ltb (min 4096 (length old)) (length (text c)) h));
+      reply = sym (ap (written-reply old) e ∙ ap (λ (b : Bool). cond b Written.Long (Written.Text (length (text c))))
+          (lt-ltb (min file-limit (length old)) (length (text c)) h));
+      buffer = sym (ap (written-buffer old) e ∙ ap (λ (b : Bool). cond b old (put (text c) old)) (lt-ltb (min file-limit (length old)) (length (text c)) h));
     }
 
-pub writes-all : (o : Option Contents) (old new : List ℕ) (c : Contents) (n : ℕ) → o ≡ some c → length (text c) ≤ min 4096 (length old) → n ≡ length (text c)
+pub writes-all : (o : Option Contents) (old new : List ℕ) (c : Contents) (n : ℕ) → o ≡ some c → length (text c) ≤ min file-limit (length old) → n
+    ≡ length (text c)
     → new ≡ put (text c) old → Writes o old new (Written.Text n)
 writes-all o old new c n e h l w =
     record {
       reply = ap (λ (z : ℕ). Written.Text z) l
-          ∙ sym (ap (written-reply old) e ∙ ap (λ (b : Bool). cond b Written.Long (Written.Text (length (text c)))) (le-ltb (min 4096 (length old)) (length (text c)) h));
+          ∙ sym (ap (written-reply old) e ∙ ap (λ (b : Bool). cond b Written.Long (Written.Text (length (text c))))
+          (le-ltb (min file-limit (length old)) (length (text c)) h));
       buffer = w
-          ∙ sym (ap (written-buffer old) e ∙ ap (λ (b : Bool). cond b old (put (text c) old)) (le-ltb (min 4096 (length old)) (length (text c)) h));
+          ∙ sym (ap (written-buffer old) e ∙ ap (λ (b : Bool). cond b old (put (text c) old)) (le-ltb (min file-limit (length old)) (length (text c)) h));
     }
 
--- the text was put into an array of 4,097 bytes, up to the offset n
-module _ (e v p : ℕ) (meet nodes l l′ : List ℕ) (n : ℕ) (f : Fine e v p meet nodes) (room : length l ≡ 4097)
-    (w : Puts l (lines-text e v p meet nodes) l′ 0 n) where
+-- the text was put into some buffer, whose answer n is its length
+module _ (e v p : ℕ) (meet nodes l l′ : List ℕ) (n : ℕ) (f : Fine e v p meet nodes) (w : Puts l (lines-text e v p meet nodes) l′ 0 n) where
   abbrev t : List ℕ
   t = text (f .inside)
 
@@ -105,17 +103,18 @@ module _ (e v p : ℕ) (meet nodes l l′ : List ℕ) (n : ℕ) (f : Fine e v p 
   put-all : Puts l t l′ 0 n
   put-all = puts-as (sym (f .same-text)) w
 
-  size : n ≡ min (length t) 4097
-  size = let q : n ≡ min (0 + length t) (length l) = put-all .next in omega arith
-
-  pub over-limit : (old : List ℕ) → 4096 < n → Writes o old old Written.Long
-  over-limit old h = writes-long o old (f .inside) (f .is) (omega (arith, size))
+  pub over-limit : (old : List ℕ) → file-limit < n → Writes o old old Written.Long
+  over-limit old h =
+      let q : n ≡ min (0 + length t) offset-limit = put-all .next in
+      writes-long o old (f .inside) (f .is) (omega arith)
 
   pub over-buffer : (old : List ℕ) → length old < n → Writes o old old Written.Long
-  over-buffer old h = writes-long o old (f .inside) (f .is) (omega (arith, size))
+  over-buffer old h = writes-long o old (f .inside) (f .is) (omega (arith, puts-long put-all old h))
 
-  pub copied : (old new : List ℕ) (r : ℕ) → n ≤ 4096 → n ≤ length old → Puts old (take n l′) new 0 r → Writes o old new (Written.Text n)
+  pub written : (old new : List ℕ) (r : ℕ) → n ≤ file-limit → n ≤ length old → Puts old (lines-text e v p meet nodes) new 0 r
+      → Writes o old new (Written.Text n)
   unfolding put
-  copied old new r h g k =
-      writes-all o old new (f .inside) n (f .is) (omega (arith, size)) (omega (arith, size))
-      (puts-copied put-all (omega (arith, size)) (omega (arith, size)) k)
+  written old new r h g k =
+      let a = puts-again put-all g (puts-as (sym (f .same-text)) k) in
+      let m : n ≡ length t = a .0 .behind in
+      writes-all o old new (f .inside) n (f .is) (omega (arith, a .1)) m (a .0 .whole)

@@ -1,21 +1,16 @@
 -- The texts of series from an item on.
--- Assumes nothing.
-use Prim.Native.Nat.{ℕ, suc, _+_, _≤_, _<_}
-use mathlib.Core.Path.{_≡_, refl, sym, ap, _∙_, subst}
-use mathlib.Core.List.{List, [], _∷_, _++_, append-assoc, append-nil}
-use mathlib.Core.Bool.{Bool, true, false, cond}
+use Prim.Native.Nat.{ℕ, _+_, _≤_, _<_}
+use mathlib.Core.{Path.{_≡_, refl, sym, ap, _∙_, subst}, List.{List, [], _∷_, _++_, append-assoc}, Bool.{Bool, true, false, cond}}
 use mathlib.Core.Option.{Option, some, none}
 use native.Mathlib.Omega.{arith}
-use lib.Dec.{eqb, ltb}
+use lib.{Dec.{eqb, ltb}, ListN.{length, drop, getD, length-drop}}
 use borrow.Author.Tests.{eqb-true, ltb-true, ltb-false}
-use lib.ListN.{length, drop, getD, length-drop}
 use Rattle.text_format.specs.Series.{space, newline}
 use Rattle.text_output.specs.Output.{numeral, Puts}
 use Rattle.text_output.proofs.Outputs.{puts-as, puts-rest, numeral-within}
 use Rattle.channel_file.specs.ChannelFile.{Token, token-T, token-A, token-V, token-X, token-G, token-O, number, token-text}
 use Rattle.channel_file.specs.FileFormat.{tokens, entries}
-use Rattle.channel_file.proofs.FileFormat.{token-print}
-use Rattle.channel_file.proofs.Offsets.{here, over}
+use Rattle.channel_file.proofs.{FileFormat.{token-print}, Offsets.{here, over}}
 use Rattle.channel_writer.specs.Writing.{bare-token, token-of-one, node-token, with-token, node-tokens}
 use Rattle.channel_writer.specs.Steps.{node-text, IsSome, items-of, nodes-text, behind}
 use Rattle.channel_writer.proofs.Nodes.{here-three}
@@ -49,7 +44,8 @@ bare-text k a b x h = go (eqb k 0) refl h
     go₄ true e h = let ex : token-A ≡ x = cc in rw (eqb-true k 4 e) (ap token-text ex)
     go₄ false e h = go₅ (eqb k 5) refl h
 
-    go : (t : Bool) → eqb k 0 ≡ t → cond t (some token-T) (cond (eqb k 4) (some token-A) (cond (eqb k 5) (some token-V) none)) ≡ some x → node-text k a b ≡ token-text x
+    go : (t : Bool) → eqb k 0 ≡ t → cond t (some token-T) (cond (eqb k 4) (some token-A) (cond (eqb k 5) (some token-V) none)) ≡ some x → node-text k a b
+        ≡ token-text x
     go true e h = let ex : token-T ≡ x = cc in rw (eqb-true k 0 e) (ap token-text ex)
     go false e h = go₄ (eqb k 4) refl h
 
@@ -64,7 +60,8 @@ one-text k a b x h = go (eqb k 1) refl h
     go₂ true e h = let ex : token-G a ≡ x = cc in rw (eqb-true k 2 e) (ap token-text ex)
     go₂ false e h = go₀ (eqb a 0) h
 
-    go : (t : Bool) → eqb k 1 ≡ t → cond t (some (token-X a)) (cond (eqb k 2) (some (token-G a)) (cond (eqb a 0) (bare-token k) none)) ≡ some x → node-text k a b ≡ token-text x
+    go : (t : Bool) → eqb k 1 ≡ t → cond t (some (token-X a)) (cond (eqb k 2) (some (token-G a)) (cond (eqb a 0) (bare-token k) none)) ≡ some x
+        → node-text k a b ≡ token-text x
     go true e h = let ex : token-X a ≡ x = cc in rw (eqb-true k 1 e) (ap token-text ex)
     go false e h = go₂ (eqb k 2) refl h
 
@@ -95,7 +92,8 @@ some-left : (s : List ℕ) (x : Token) (xs : List Token) → node-tokens s ≡ s
 some-left [] x xs h = let z : _≡_ {A = ℕ} 0 1 = cc in absurd (omega arith)
 some-left (k ∷ s) x xs h = refl
 
-nodes-step₁ : (k a b : ℕ) (s : List ℕ) (x : Token) → node-text k a b ≡ token-text x → (y : Option (List Token)) → node-tokens s ≡ y → IsSome (with-token (some x) y)
+nodes-step₁ : (k a b : ℕ) (s : List ℕ) (x : Token) → node-text k a b ≡ token-text x → (y : Option (List Token)) → node-tokens s ≡ y
+    → IsSome (with-token (some x) y)
     → IsSome y × (tokens .print (items-of (with-token (some x) y)) ≡ node-text k a b ++ (behind s ∷ tokens .print (items-of y)))
 nodes-step₁ k a b s x e (some []) f h =
     (tt, token-print x newline ∙ ap (λ (z : List ℕ). z ++ (10 ∷ [])) (sym e) ∙ ap (λ (z : List ℕ). node-text k a b ++ (behind z ∷ [])) (sym (none-left s f)))
@@ -141,13 +139,15 @@ module _ (s : List ℕ) (j : ℕ) (some-tokens : IsSome (node-tokens (drop j s))
       omega (arith, length-drop j s)
 
   pub tokens-on : IsSome (node-tokens (drop (j + 3) s))
-  tokens-on = nodes-step (getD s j 0) (getD s (j + 1) 0) (getD s (j + 2) 0) (drop (j + 3) s) (subst (λ (z : List ℕ). IsSome (node-tokens z)) (here-three s j whole-node) some-tokens) .0
+  tokens-on = nodes-step (getD s j 0) (getD s (j + 1) 0) (getD s (j + 2) 0) (drop (j + 3) s)
+      (subst (λ (z : List ℕ). IsSome (node-tokens z)) (here-three s j whole-node) some-tokens) .0
 
   pub nodes-at : (b : ℕ) → b ≡ cond (ltb (j + 3) (length s)) 32 10
       → nodes-text (drop j s) ≡ node-at s j ++ (b ∷ nodes-text (drop (j + 3) s))
   nodes-at b e =
       ap nodes-text (here-three s j whole-node)
-      ∙ nodes-step (getD s j 0) (getD s (j + 1) 0) (getD s (j + 2) 0) (drop (j + 3) s) (subst (λ (z : List ℕ). IsSome (node-tokens z)) (here-three s j whole-node) some-tokens) .1
+      ∙ nodes-step (getD s j 0) (getD s (j + 1) 0) (getD s (j + 2) 0) (drop (j + 3) s)
+      (subst (λ (z : List ℕ). IsSome (node-tokens z)) (here-three s j whole-node) some-tokens) .1
       ∙ ap (λ (x : ℕ). node-at s j ++ (x ∷ nodes-text (drop (j + 3) s))) (behind-at s (j + 3) ∙ sym e)
 
 -- ---- numbers of one byte

@@ -1,14 +1,14 @@
 -- What is claimed of writing; each claim is inhabited in proofs/Claims.
--- Assumes nothing.
-use Prim.Native.Nat.{ℕ, _≤_, _<_}
+use Prim.Native.Nat.{ℕ, _≤_}
 use mathlib.Core.Path.{_≡_}
 use mathlib.Core.List.{List, [], _∷_}
-use mathlib.Core.Option.{Option, some, none}
+use mathlib.Core.Option.{some}
 use lib.ListN.{length}
+use Rattle.limits.specs.Limits.{file-limit}
 use Rattle.text_format.specs.Format.{contents}
 use Rattle.channel_file.specs.ChannelFile.{Token, Contents, text, SmallContents}
 use Rattle.channel_file.specs.FileFormat.{first, second}
-use Rattle.channel_file.specs.Reading.{file-limit, read-file}
+use Rattle.channel_file.specs.Reading.{read-file}
 use Rattle.channel_file.specs.Bytes.{kind, meet-bytes, rule-bytes}
 use Rattle.channel_writer.specs.Writing.{node-token, node-tokens, contents-of}
 

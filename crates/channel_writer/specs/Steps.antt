@@ -1,5 +1,4 @@
 -- What the private functions of src/ say: which nodes have tokens, and their texts.
--- Assumes nothing.
 use Prim.Native.Nat.{ℕ}
 use mathlib.Core.List.{List, [], _∷_, _++_}
 use mathlib.Core.Bool.{Bool, true, false, cond}

@@ -1,15 +1,14 @@
 -- Writing a channel file from numbers, meet entries and node bytes.
--- Assumes nothing.
 use Prim.Native.Nat.{ℕ, min}
 use mathlib.Core.Path.{_≡_}
-use mathlib.Core.List.{List, [], _∷_, _++_}
+use mathlib.Core.List.{List, [], _∷_}
 use mathlib.Core.Bool.{cond}
 use mathlib.Core.Option.{Option, some, none}
 use lib.Dec.{ltb, eqb}
 use lib.ListN.{length}
+use Rattle.limits.specs.Limits.{file-limit}
 use Rattle.refusal.specs.LentBuffers.{put}
 use Rattle.channel_file.specs.ChannelFile.{Token, token-T, token-A, token-V, token-X, token-G, token-O, Contents, text}
-use Rattle.channel_file.specs.Reading.{file-limit}
 use Rattle.channel_writer.specs.declared.Written.{Written}
 
 -- The token of a node, for bytes: none for an unknown kind, or where an unused field is not 0 (Claims, NodeClaim).

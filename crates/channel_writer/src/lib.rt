@@ -10,6 +10,7 @@ ghost use Rattle.channel_file.specs.ChannelFile.{number, line};
 ghost use Rattle.channel_file.specs.FileFormat.{entries};
 ghost use Rattle.channel_writer.specs.Writing.{bare-token, token-of-one, node-token, node-tokens, contents-of, Writes};
 ghost use Rattle.channel_writer.specs.Steps.{is-some, IsSome, node-text, nodes-text, lines-text};
+use limits::FILE_LIMIT;
 use text_output::put;
 use text_output::put_field;
 use text_output::put_word;
@@ -183,15 +184,15 @@ pub fn write_text(
     if !has_tokens(nodes) {
         return Written::Malformed;
     }
-    // one byte more than the limit, so that a text over it is seen
-    let mut text = [0u8; 4097];
-    let size = put_lines(&mut text, events, values, top, meet, nodes);
-    if 4096 < size {
+    // into no buffer first, for its length
+    let mut none = [0u8; 0];
+    let size = put_lines(&mut none, events, values, top, meet, nodes);
+    if FILE_LIMIT < size {
         return Written::Long;
     }
     if out.len() < size {
         return Written::Long;
     }
-    put_word(out, 0, &text[..size]);
+    put_lines(out, events, values, top, meet, nodes);
     Written::Text(size)
 }

@@ -1,9 +1,6 @@
 -- The combinators keep the laws of formats.
--- Assumes nothing.
-use Prim.Native.Nat.{ℕ, zero, suc, _+_, _-_, _*_, _≤_, _<_}
-use mathlib.Core.Path.{_≡_, refl, sym, ap, _∙_, subst}
-use mathlib.Core.List.{List, [], _∷_, _++_, append-assoc, append-nil}
-use mathlib.Core.Bool.{Bool, true, false, cond}
+use Prim.Native.Nat.{ℕ}
+use mathlib.Core.{Path.{_≡_, refl, sym, ap, _∙_, subst}, List.{List, [], _∷_, _++_, append-assoc}, Bool.{Bool, true, false, cond}}
 use mathlib.Core.Option.{Option, some, none}
 use native.Mathlib.Omega.{arith}
 use lib.Dec.{eqb}
@@ -28,8 +25,11 @@ module _ {A B : Type 0} (F : Format A) (G : A → Format B) (LF : Laws F) (LG : 
       let hr : q ≡ r′ = cc in
       let f1 = LF .sound s a r e in
       let g1 = LG a .sound r b q f in
-      subst (λ (z : A × B). FG .Fits z × (s ≡ FG .print z ++ r′)) hp
-      ((f1 .0, g1 .0), f1 .1 ∙ ap (λ (z : List ℕ). F .print a ++ z) (g1 .1 ∙ ap (λ (z : List ℕ). G a .print b ++ z) hr) ∙ sym (append-assoc (F .print a) (G a .print b) r′))
+      subst (λ (z : A × B). FG .Fits z × (s ≡ FG .print z ++ r′)) hp (
+        (f1 .0, g1 .0),
+        f1 .1 ∙ ap (λ (z : List ℕ). F .print a ++ z) (g1 .1 ∙ ap (λ (z : List ℕ). G a .print b ++ z) hr) ∙ sym
+            (append-assoc (F .print a) (G a .print b) r′),
+      )
   sequence-sound₂ s a r e (bad q) f p r′ h = not-both h refl
 
   sequence-sound₁ : (s : List ℕ) (x : Parsed A) → F .parse s ≡ x → (p : A × B) (r : List ℕ)
@@ -209,7 +209,8 @@ module _ {K B : Type 0} (byte : K → ℕ) (k₀ : K) (ks : List K) (body : K �
       mapped-laws (sequence (letter byte k₀ ks) body) (λ p. p .1) (λ q. (kind q, q)) (sequence-laws (letter byte k₀ ks) body (letter-laws byte k₀ ks all) LB)
       (λ a h. ap (λ (k : K). (k, a .1)) (of-kind (a .0) (a .1) (h .1)))
 
-collapse : {A B : Type 0} (k : A) (x : Parsed B) → _≡_ {A = Parsed B} (bind {A = A × B} {B = B} (bind {A = B} {B = A × B} x (λ b r. ok (k, b) r)) (λ p r. ok (p .1) r)) x
+collapse : {A B : Type 0} (k : A) (x : Parsed B) → _≡_ {A = Parsed B} (bind {A = A × B} {B = B} (bind {A = B} {B = A × B} x (λ b r. ok (k, b) r))
+    (λ p r. ok (p .1) r)) x
 collapse k (ok b r) = refl
 collapse k (bad r) = refl
 
@@ -238,9 +239,11 @@ the-byte-laws b = letter-laws (the b) tt [] (self-test b)
 pub word-laws : (w : List ℕ) → Laws (word w)
 word-laws [] = empty-laws
 word-laws (b ∷ w) =
-    mapped-laws (sequence (the-byte b) (λ _. word w)) (λ _. tt) (λ _. (tt, tt)) (sequence-laws (the-byte b) (λ _. word w) (the-byte-laws b) (λ _. word-laws w)) (λ a h. refl)
+    mapped-laws (sequence (the-byte b) (λ _. word w)) (λ _. tt) (λ _. (tt, tt))
+    (sequence-laws (the-byte b) (λ _. word w) (the-byte-laws b) (λ _. word-laws w)) (λ a h. refl)
 
-word-collapse : (x : Parsed (Unit {0})) → _≡_ {A = Parsed (Unit {0})} (bind {A = Unit {0} × Unit {0}} {B = Unit {0}} (bind {A = Unit {0}} {B = Unit {0} × Unit {0}} x (λ b r. ok (tt, b) r)) (λ p r. ok tt r)) x
+word-collapse : (x : Parsed (Unit {0})) → _≡_ {A = Parsed (Unit {0})} (bind {A = Unit {0} × Unit {0}} {B = Unit {0}}
+    (bind {A = Unit {0}} {B = Unit {0} × Unit {0}} x (λ b r. ok (tt, b) r)) (λ p r. ok tt r)) x
 word-collapse (ok b r) = refl
 word-collapse (bad r) = refl
 
@@ -255,7 +258,8 @@ word-miss b c w s h = rw (ne-eqb c b h)
 
 module _ {A : Type 0} (key : List ℕ) (F : Format A) where
   pub keyed-laws : Laws F → Laws (keyed key F)
-  keyed-laws LF = mapped-laws (sequence (word key) (λ _. F)) (λ p. p .1) (λ a. (tt, a)) (sequence-laws (word key) (λ _. F) (word-laws key) (λ _. LF)) (λ a h. refl)
+  keyed-laws LF = mapped-laws (sequence (word key) (λ _. F)) (λ p. p .1) (λ a. (tt, a)) (sequence-laws (word key) (λ _. F) (word-laws key) (λ _. LF))
+      (λ a h. refl)
 
   pub keyed-fits : (a : A) → F .Fits a → keyed key F .Fits a
   keyed-fits a h = ((word-laws key .sample-fits, h), refl)

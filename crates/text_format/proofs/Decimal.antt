@@ -1,20 +1,15 @@
 -- The laws of numbers in decimal: what a numeral is, and that numbers are read as they are printed.
--- Assumes nothing.
 use Prim.Native.Nat.{ℕ, zero, suc, _+_, _-_, _*_, _/_, _%_, _≤_, _<_}
-use mathlib.Core.Path.{_≡_, refl, sym, ap, _∙_, subst}
-use mathlib.Core.List.{List, [], _∷_, _++_, append-assoc, append-nil}
-use mathlib.Core.Bool.{Bool, true, false, cond}
+use mathlib.Core.{Path.{_≡_, refl, sym, ap, _∙_, subst}, List.{List, [], _∷_, _++_, append-assoc, append-nil}, Bool.{Bool, true, false, cond}}
 use mathlib.Core.Option.{Option, some, none}
 use native.Mathlib.Omega.{arith}
-use lib.Dec.{ltb, leb, eqb}
-use borrow.Author.Tests.{eqb-true, eqb-false, eq-eqb, ne-eqb, ltb-true, ltb-false, lt-ltb, le-ltb}
-use lib.ListN.{length, length-append}
-use Rattle.text_format.specs.Format.{Parsed, ok, bad, bind, Format, Stuck, Laws}
-use Rattle.text_format.specs.Combinators.{find-in, letter-of, letter-parse, letter, Alphabet}
-use Rattle.text_format.specs.Decimal.{limit, decimal, is-digit, Digits, one-more, value-from, Numeral, more, number, numbered-parse, numbered}
-use Rattle.text_format.specs.Decimal as D
+use lib.{Dec.{ltb, eqb}, ListN.{length, length-append}}
+use borrow.Author.Tests.{eqb-true, eqb-false, ne-eqb, ltb-true, ltb-false, lt-ltb, le-ltb}
+use Rattle.text_format.specs.{Format.{Parsed, ok, bad, bind, Format, Stuck, Laws}, Combinators.{find-in, letter-of, letter-parse, Alphabet}}
+use Rattle.text_format.specs.Decimal.{limit, decimal, is-digit, Digits, one-more, value-from, Numeral, more, number, numbered}
 use Rattle.text_format.specs.Claims.{NumeralClaim}
-use Rattle.text_format.proofs.Combinators.{letter-sound, letter-full, not-both}
+use Rattle.text_format.specs.Decimal as D
+use Rattle.text_format.proofs.Combinators.{letter-sound, letter-full}
 
 digit-cases : (t : Bool) (b : ℕ) → ltb b 48 ≡ t → cond t false (ltb b 58) ≡ true → (48 ≤ b) × (b < 58)
 digit-cases true b e h = let z : _≡_ {A = ℕ} 0 1 = cc in absurd (omega arith)
@@ -419,13 +414,16 @@ numeral-large k v (c ∷ s) h n =
       no-leading-zero = λ u e.
           let hc : c ≡ 48 = cc in
           let hs : s ≡ [] = n .no-leading-zero s (ap (λ (z : ℕ). z ∷ s) hc) in
-          let hv : value-from 0 (48 ∷ []) ≡ v / 10 = sym (ap (λ (z : List ℕ). value-from 0 z) (ap (λ (z : ℕ). z ∷ s) hc ∙ ap (λ (z : List ℕ). 48 ∷ z) hs)) ∙ n .value in
+          let hv : value-from 0 (48 ∷ []) ≡ v / 10 = sym (ap (λ (z : List ℕ). value-from 0 z) (ap (λ (z : ℕ). z ∷ s) hc ∙ ap (λ (z : List ℕ). 48 ∷ z) hs))
+          ∙ n .value in
           absurd (omega arith);
       value =
-          value-append 0 (c ∷ s) ((48 + v % 10) ∷ []) ∙ ap (λ (z : ℕ). z * 10 + (48 + v % 10 - 48)) (n .value) ∙ (let e : v / 10 * 10 + (48 + v % 10 - 48) ≡ v = omega arith in e);
+          value-append 0 (c ∷ s) ((48 + v % 10) ∷ []) ∙ ap (λ (z : ℕ). z * 10 + (48 + v % 10 - 48)) (n .value)
+          ∙ (let e : v / 10 * 10 + (48 + v % 10 - 48) ≡ v = omega arith in e);
     }
 
-decimal-numeral₁ : (t : Bool) (k v : ℕ) → ltb v 10 ≡ t → (10 ≤ v → Numeral k (v / 10) (decimal k (v / 10))) → Numeral (suc k) v (cond t ((48 + v) ∷ []) (decimal k (v / 10) ++ ((48 + v % 10) ∷ [])))
+decimal-numeral₁ : (t : Bool) (k v : ℕ) → ltb v 10 ≡ t → (10 ≤ v → Numeral k (v / 10) (decimal k (v / 10))) → Numeral (suc k) v
+    (cond t ((48 + v) ∷ []) (decimal k (v / 10) ++ ((48 + v % 10) ∷ [])))
 decimal-numeral₁ true k v e ih = numeral-small (suc k) v (ltb-true v 10 e)
 decimal-numeral₁ false k v e ih = numeral-large k v (decimal k (v / 10)) (ltb-false v 10 e) (ih (ltb-false v 10 e))
 

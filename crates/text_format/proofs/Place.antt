@@ -1,11 +1,8 @@
 -- The answer of a format's parser is the place that document 01 defines, or the contents; and there is no other answer.
--- Assumes nothing.
-use Prim.Native.Nat.{ℕ, zero, suc, _+_, _-_, _≤_, _<_}
-use mathlib.Core.Path.{_≡_, refl, sym, ap, _∙_, subst}
-use mathlib.Core.List.{List, [], _∷_, _++_, append-assoc, append-nil}
+use Prim.Native.Nat.{ℕ, suc, _+_, _-_, _≤_, _<_}
+use mathlib.Core.{Path.{_≡_, refl, sym, ap, _∙_, subst}, List.{List, [], _∷_, _++_, append-assoc, append-nil}}
 use native.Mathlib.Omega.{arith}
-use lib.ListN.{length, take, drop, length-append, take-append-drop}
-use lib.Seq.{take-at, take-append-le}
+use lib.{ListN.{length, take, drop, length-append, take-append-drop}, Seq.{take-at, take-append-le}}
 use Rattle.text_format.specs.Format.{Parsed, ok, bad, bind, Format, Stuck, Laws, Outcome, contents, refused, at-end, whole, outcome, read}
 use Rattle.text_format.specs.Place.{Begins, Refused, at, early, FormOf, Answers}
 use Rattle.text_format.specs.Claims.{Renders, AnswerClaim, OneAnswerClaim, PlaceClaim, ReadBackClaim}
@@ -76,7 +73,8 @@ module _ {A : Type 0} (F : Format A) (LF : Laws F) where
       subst (λ (z : A). F .Fits z × (t ≡ F .print z)) ha (s .0, s .1 ∙ append-nil (F .print a))
   whole-sound₂ t a (b ∷ q) e a′ r h = not-both h refl
 
-  whole-sound₁ : (t : List ℕ) (x : Parsed A) → F .parse t ≡ x → (a : A) (r : List ℕ) → _≡_ {A = Parsed A} (bind x (λ a r. at-end a r)) (ok a r) → F .Fits a × (t ≡ F .print a)
+  whole-sound₁ : (t : List ℕ) (x : Parsed A) → F .parse t ≡ x → (a : A) (r : List ℕ) → _≡_ {A = Parsed A} (bind x (λ a r. at-end a r)) (ok a r) → F .Fits a
+      × (t ≡ F .print a)
   whole-sound₁ t (ok a q) e a′ r h = whole-sound₂ t a q e a′ r h
   whole-sound₁ t (bad q) e a r h = not-both h refl
 

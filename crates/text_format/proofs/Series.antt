@@ -1,18 +1,12 @@
 -- A series keeps the laws of formats if its items do, and each item has at least one byte.
--- Assumes nothing.
-use Prim.Native.Nat.{ℕ, zero, suc, _+_, _-_, _*_, _≤_, _<_}
-use mathlib.Core.Path.{_≡_, refl, sym, ap, _∙_, subst}
-use mathlib.Core.List.{List, [], _∷_, _++_, map, append-assoc, append-nil}
-use mathlib.Core.Option.{Option, some, none}
-use mathlib.Core.Bool.{false}
+use Prim.Native.Nat.{ℕ, zero, suc, _+_, _<_}
+use mathlib.Core.{Path.{_≡_, refl, sym, ap, _∙_, subst}, List.{List, [], _∷_, _++_, map, append-assoc, append-nil}, Bool.{false}}
 use native.Mathlib.Omega.{arith}
 use lib.ListN.{length, length-append}
-use Rattle.text_format.specs.Format.{Parsed, ok, bad, bind, Format, Stuck, Laws, ascii}
-use Rattle.text_format.specs.Combinators.{find-in, letter, Alphabet}
-use Rattle.text_format.specs.Decimal.{is-digit, decimal}
-use Rattle.text_format.specs.Series.{Separator, space, newline, separator-byte, separator, number-item, series-print, series-fits, series-go, series-within, series-parse, series, separated, OneOrMore}
-use Rattle.text_format.proofs.Combinators.{letter-laws, not-both}
-use Rattle.text_format.proofs.Decimal.{numbered-laws}
+use Rattle.text_format.specs.{Format.{Parsed, ok, bad, bind, Format, Stuck, Laws, ascii}, Combinators.{Alphabet}, Decimal.{is-digit, decimal}}
+use Rattle.text_format.specs.Series.{Separator, space, newline, separator-byte, separator, number-item, series-print, series-fits, series-go}
+use Rattle.text_format.specs.Series.{series-within, series-parse, series, separated, OneOrMore}
+use Rattle.text_format.proofs.{Combinators.{letter-laws, not-both}, Decimal.{numbered-laws}}
 
 -- ---- separators
 
@@ -44,7 +38,8 @@ module _ {A : Type 0} (F : Format (A × Separator)) (one : A) (LF : Laws F) (sol
       let h : 0 < length (F .print p) = solid p in
       omega (arith, ap length (g .1), length-append (F .print p) r)
 
-  go-eq : (n m : ℕ) (a : A) (e : Separator) (r : List ℕ) → series-within F n r ≡ series-within F m r → series-go (series-within F n) a e r ≡ series-go (series-within F m) a e r
+  go-eq : (n m : ℕ) (a : A) (e : Separator) (r : List ℕ) → series-within F n r ≡ series-within F m r → series-go (series-within F n) a e r ≡ series-go
+      (series-within F m) a e r
   go-eq n m a space r h = ap (λ (z : Parsed (List A)). bind z (λ xs q. ok (a ∷ xs) q)) h
   go-eq n m a newline r h = refl
 
@@ -93,7 +88,8 @@ module _ {A : Type 0} (F : Format (A × Separator)) (one : A) (LF : Laws F) (sol
   abbrev Sound : List ℕ → List A → List ℕ → Type 0
   Sound s xs r = series-fits F xs × (s ≡ series-print F xs ++ r)
 
-  series-cons : (s : List ℕ) (a : A) (q : List ℕ) → F .Fits (a, space) × (s ≡ F .print (a, space) ++ q) → (xs : List A) (r : List ℕ) → Sound q xs r → Sound s (a ∷ xs) r
+  series-cons : (s : List ℕ) (a : A) (q : List ℕ) → F .Fits (a, space) × (s ≡ F .print (a, space) ++ q) → (xs : List A) (r : List ℕ) → Sound q xs r → Sound
+      s (a ∷ xs) r
   series-cons s a q f [] r g = absurd (g .0)
   series-cons s a q f (a′ ∷ xs) r g =
       ((f .0, g .0), f .1 ∙ ap (λ (z : List ℕ). F .print (a, space) ++ z) (g .1) ∙ sym (append-assoc (F .print (a, space)) (series-print F (a′ ∷ xs)) r))
@@ -132,8 +128,15 @@ module _ {A : Type 0} (F : Format (A × Separator)) (one : A) (LF : Laws F) (sol
   -- a value can be the last one, or another can follow it
   ended : (e : Separator) (a : A) → F .Fits (a, e) → (p u : List ℕ) → p ++ u ≡ F .print (a, e)
       → (xs : List A) × series-fits F xs × ((w : List ℕ) × (p ++ w ≡ series-print F xs))
-  ended space a h p u g =
-      (a ∷ one ∷ [], (h, one-fits), (u ++ F .print (one, newline), sym (append-assoc p u (F .print (one, newline))) ∙ ap (λ (z : List ℕ). z ++ F .print (one, newline)) g))
+  ended space a h p u g = (
+    a ∷ one ∷ [],
+    (h, one-fits),
+    (
+      u ++ F .print (one, newline),
+      sym (append-assoc p u (F .print (one, newline))) ∙ ap
+          (λ (z : List ℕ). z ++ F .print (one, newline)) g,
+    ),
+  )
   ended newline a h p u g = (a ∷ [], h, (u, g))
 
   series-stop : (s r : List ℕ) → F .parse s ≡ bad r → Stops s r
@@ -152,7 +155,8 @@ module _ {A : Type 0} (F : Format (A × Separator)) (one : A) (LF : Laws F) (sol
 
   series-on : (s : List ℕ) (a : A) (q r : List ℕ) → F .Fits (a, space) × (s ≡ F .print (a, space) ++ q) → Stops q r → Stops s r
   series-on s a q r f k =
-      let g = series-cons (F .print (a, space) ++ k .before ++ k .ending) a (k .before ++ k .ending) (f .0, append-assoc (F .print (a, space)) (k .before) (k .ending)) (k .value) [] (k .fits, k .viable ∙ sym (append-nil (series-print F (k .value)))) in
+      let g = series-cons (F .print (a, space) ++ k .before ++ k .ending) a (k .before ++ k .ending)
+      (f .0, append-assoc (F .print (a, space)) (k .before) (k .ending)) (k .value) [] (k .fits, k .viable ∙ sym (append-nil (series-print F (k .value)))) in
       record {
         before = F .print (a, space) ++ k .before;
         splits = f .1 ∙ ap (λ (z : List ℕ). F .print (a, space) ++ z) (k .splits) ∙ sym (append-assoc (F .print (a, space)) (k .before) r);

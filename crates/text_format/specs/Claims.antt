@@ -1,11 +1,10 @@
 -- What is claimed of numbers (inhabited in proofs/Decimal) and of every format that keeps the laws (in proofs/Place).
--- Assumes nothing.
 use Prim.Native.Nat.{ℕ, _<_}
 use mathlib.Core.Path.{_≡_}
 use mathlib.Core.List.{List}
 use Rattle.text_format.specs.Format.{Format, Laws, Outcome, contents, read}
 use Rattle.text_format.specs.Decimal.{limit, decimal, Numeral}
-use Rattle.text_format.specs.Place.{FormOf, Refused, Answers}
+use Rattle.text_format.specs.Place.{Refused, Answers}
 
 -- What is printed for a number is its numeral, and the only one.
 pub record NumeralClaim : Type 0 where

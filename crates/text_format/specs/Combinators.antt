@@ -1,5 +1,4 @@
 -- Formats put together from formats. Their laws are in proofs/Combinators.
--- Assumes nothing.
 use Prim.Native.Nat.{ℕ}
 use mathlib.Core.Path.{_≡_}
 use mathlib.Core.List.{List, [], _∷_, _++_}

@@ -1,10 +1,9 @@
 -- Numbers in decimal without leading zero. The parameter k is how many digits may follow the first: 2 for the numbers of a
 -- channel file, 4 for masks of five digits. Their laws are in proofs/Decimal.
--- Assumes nothing.
 use Prim.Native.Nat.{ℕ, zero, suc, _+_, _-_, _*_, _/_, _%_, _≤_, _<_}
 use mathlib.Core.Path.{_≡_}
 use mathlib.Core.List.{List, [], _∷_, _++_}
-use mathlib.Core.Bool.{Bool, true, false, cond}
+use mathlib.Core.Bool.{Bool, false, cond}
 use lib.Dec.{ltb, eqb}
 use lib.ListN.{length}
 use Rattle.text_format.specs.Format.{Parsed, ok, bad, bind, Format}

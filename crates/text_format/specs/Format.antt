@@ -1,8 +1,7 @@
 -- Two-way formats: how the values of a type stand as text (print), a parser that reads a value from the front of a text
 -- (parse), and the laws that tie the two together. A text is a list of byte values.
--- Assumes nothing.
 use Prim.Native.Nat.{ℕ, _-_}
-use Prim.Native.Char.{Char, code}
+use Prim.Native.Char.{code}
 use Prim.Native.String.{String}
 use Prim.Native.String as Str
 use mathlib.Core.Path.{_≡_}

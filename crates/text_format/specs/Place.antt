@@ -1,8 +1,6 @@
 -- Where a text is refused, for any form of text (document 01, refusal 4: "place = least offset p where the first p + 1
 -- bytes begin no text of the form, or the length if it ends early"). Form t says that t is a text of the form.
--- Assumes nothing.
-use Prim.Native.Nat.{ℕ, _+_, _≤_, _<_}
-use mathlib.Core.Path.{_≡_}
+use Prim.Native.Nat.{ℕ, _+_, _<_}
 use mathlib.Core.List.{List, _++_}
 use lib.ListN.{length, take}
 use Rattle.text_format.specs.Format.{Outcome, contents, refused}

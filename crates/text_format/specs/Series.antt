@@ -1,5 +1,4 @@
 -- Separators, and series: one or more items with one space between and byte 10 behind the last.
--- Assumes nothing.
 use Prim.Native.Nat.{ℕ, zero, suc}
 use mathlib.Core.List.{List, [], _∷_, _++_}
 use lib.ListN.{length}

@@ -1,57 +1,39 @@
 -- `channel_file::check_text` meets its contract. Assumes nothing.
 use Prim.Native.Nat.{ℕ, _+_}
-use mathlib.Core.List.{List}
-use mathlib.Core.Path.{refl, sym, ap, _∙_, subst}
+use mathlib.Core.{List.{List}, Path.{refl, sym, ap, _∙_, subst}}
 use native.Mathlib.Omega.{arith}
 use lib.ListN.{drop, getD}
 use Rattle.text_format.specs.Format.{ok, bad}
-use Rattle.channel_file.specs.FileFormat.{meet-line, rule-line}
-use Rattle.channel_file.specs.Steps.{SawHead, SawNumber, count-of}
-use Rattle.channel_file.proofs.Offsets.{here, over}
-use Rattle.channel_file.proofs.Reading.{refuse, bad₁, bad₂, bad₃, bad₄, good}
+use Rattle.channel_file.specs.{FileFormat.{meet-line, rule-line}, Steps.{SawHead, SawNumber, count-of}}
+use Rattle.channel_file.proofs.{Offsets.{here, over}, Reading.{refuse, bad₁, bad₂, bad₃, bad₄, good}}
 use borrow.Author.Needs.{needs}
 use Rattle.channel_file.proofs.check_text.Statement.{statement}
 use Rattle.channel_file.proofs.check_text.Tie as tie
-use Rattle.channel_file.proofs.check_text.Reads as reads
-use Rattle.channel_file.proofs.check_text.Lts as lts
-use Rattle.channel_file.proofs.head_at.Reads as head-at-reads
-use Rattle.channel_file.proofs.read_line.Reads as read-line-reads
-
-head-at-requires : tie.Need-head-at-requires
-head-at-requires c κs = search needs
-
-enum-known-p : tie.Need-enum-known-p
-enum-known-p c = search needs
-
-enum-known-events : tie.Need-enum-known-events
-enum-known-events c = search needs
 
 read-line-requires : tie.Need-read-line-requires
-read-line-requires c κs = subst (SawHead (c .before .before .before .before .before .args .text .now) 0) (c .before .events .given .1) (c .before .before .before .head-at .ensures) .within
-
-enum-known-p-2 : tie.Need-enum-known-p-2
-enum-known-p-2 c = search needs
-
-enum-known-entries : tie.Need-enum-known-entries
-enum-known-entries c = search needs
+read-line-requires c κs = subst (SawHead (c .before .before .before .before .before .args .text .now) 0) (c .before .events .given .1)
+    (c .before .before .before .head-at .ensures) .within
 
 read-line-requires-2 : tie.Need-read-line-requires-2
-read-line-requires-2 c κs = subst (SawNumber (count-of meet-line) (c .before .before .before .before .before .before .before .before .before .args .text .now) (c .before .before .before .before .before .events .given .0 .1 .1 .1 .0)) (c .before .entries .given .1) (c .before .before .before .read-line .ensures) .within
-
-enum-known-p-3 : tie.Need-enum-known-p-3
-enum-known-p-3 c = search needs
-
-enum-known-items : tie.Need-enum-known-items
-enum-known-items c = search needs
+read-line-requires-2 c κs = subst (SawNumber (count-of meet-line)
+    (c .before .before .before .before .before .before .before .before .before .args .text .now)
+    (c .before .before .before .before .before .events .given .0 .1 .1 .1 .0)) (c .before .entries .given .1)
+    (c .before .before .before .read-line .ensures) .within
 
 add-t24 : tie.Need-add-t24
 add-t24 c =
-    let w = subst (SawHead (c .before .before .before .before .before .before .before .before .before .before .before .before .before .before .args .text .now) 0) (c .before .before .before .before .before .before .before .before .before .before .events .given .1) (c .before .before .before .before .before .before .before .before .before .before .before .before .head-at .ensures) .within in
+    let w = subst (SawHead (c .before .before .before .before .before .before .before .before .before .before .before .before .before .before .args .text
+    .now) 0) (c .before .before .before .before .before .before .before .before .before .before .events .given .1)
+    (c .before .before .before .before .before .before .before .before .before .before .before .before .head-at .ensures) .within in
     omega arith
 
 add-t25 : tie.Need-add-t25
 add-t25 c =
-    let w = subst (SawNumber (count-of meet-line) (c .before .before .before .before .before .before .before .before .before .before .before .before .before .before .args .text .now) (c .before .before .before .before .before .before .before .before .before .before .events .given .0 .1 .1 .1 .0)) (c .before .before .before .before .before .before .entries .given .1) (c .before .before .before .before .before .before .before .before .read-line .ensures) .within in
+    let w = subst (SawNumber (count-of meet-line)
+    (c .before .before .before .before .before .before .before .before .before .before .before .before .before .before .args .text .now)
+    (c .before .before .before .before .before .before .before .before .before .before .events .given .0 .1 .1 .1 .0))
+    (c .before .before .before .before .before .before .entries .given .1)
+    (c .before .before .before .before .before .before .before .before .read-line .ensures) .within in
     omega arith
 
 returns : tie.Need-returns
@@ -64,19 +46,24 @@ returns-2 : tie.Need-returns-2
 returns-2 c =
     let t = c .before .before .before .before .before .before .before .before .before .args .text .now in
     let x = c .before .before .before .before .before .events .given .0 in
-    let q = subst (SawHead t 0) (c .before .before .before .before .before .events .given .1) (c .before .before .before .before .before .before .before .head-at .ensures) in
+    let q = subst (SawHead t 0) (c .before .before .before .before .before .events .given .1)
+    (c .before .before .before .before .before .before .before .head-at .ensures) in
     let n = subst (SawNumber (count-of meet-line) t (x .1 .1 .1 .0)) (c .before .p2 .given .1) (c .before .before .before .read-line .ensures) in
-    refuse t (c .before .p2 .given .0 .0) (n .within) (bad₂ t (x .0, (x .1 .0, x .1 .1 .0)) (x .1 .1 .1 .0) (q .within) (q .same) (drop (c .before .p2 .given .0 .0) t) (n .same))
+    refuse t (c .before .p2 .given .0 .0) (n .within) (bad₂ t (x .0, (x .1 .0, x .1 .1 .0)) (x .1 .1 .1 .0) (q .within) (q .same)
+    (drop (c .before .p2 .given .0 .0) t) (n .same))
 
 returns-3 : tie.Need-returns-3
 returns-3 c =
     let t = c .before .before .before .before .before .before .before .before .before .before .before .before .before .args .text .now in
     let x = c .before .before .before .before .before .before .before .before .before .events .given .0 in
     let y = c .before .before .before .before .before .entries .given .0 in
-    let q = subst (SawHead t 0) (c .before .before .before .before .before .before .before .before .before .events .given .1) (c .before .before .before .before .before .before .before .before .before .before .before .head-at .ensures) in
-    let n = subst (SawNumber (count-of meet-line) t (x .1 .1 .1 .0)) (c .before .before .before .before .before .entries .given .1) (c .before .before .before .before .before .before .before .read-line .ensures) in
+    let q = subst (SawHead t 0) (c .before .before .before .before .before .before .before .before .before .events .given .1)
+    (c .before .before .before .before .before .before .before .before .before .before .before .head-at .ensures) in
+    let n = subst (SawNumber (count-of meet-line) t (x .1 .1 .1 .0)) (c .before .before .before .before .before .entries .given .1)
+    (c .before .before .before .before .before .before .before .read-line .ensures) in
     let r = subst (SawNumber (count-of rule-line) t (y .1 .0)) (c .before .p3 .given .1) (c .before .before .before .read-line2 .ensures) in
-    refuse t (c .before .p3 .given .0 .0) (r .within) (bad₃ t (x .0, (x .1 .0, x .1 .1 .0)) (x .1 .1 .1 .0) (q .within) (q .same) (y .0) (y .1 .0) (n .within) (n .same) (drop (c .before .p3 .given .0 .0) t) (r .same))
+    refuse t (c .before .p3 .given .0 .0) (r .within) (bad₃ t (x .0, (x .1 .0, x .1 .1 .0)) (x .1 .1 .1 .0) (q .within) (q .same) (y .0) (y .1 .0)
+    (n .within) (n .same) (drop (c .before .p3 .given .0 .0) t) (r .same))
 
 returns-4 : tie.Need-returns-4
 returns-4 c =
@@ -85,8 +72,10 @@ returns-4 c =
     let y = c .before .before .before .before .before .before .entries .given .0 in
     let z = c .before .before .items .given .0 in
     let d : ℕ = z .1 .0 in
-    let q = subst (SawHead t 0) (c .before .before .before .before .before .before .before .before .before .before .events .given .1) (c .before .before .before .before .before .before .before .before .before .before .before .before .head-at .ensures) in
-    let n = subst (SawNumber (count-of meet-line) t (x .1 .1 .1 .0)) (c .before .before .before .before .before .before .entries .given .1) (c .before .before .before .before .before .before .before .before .read-line .ensures) in
+    let q = subst (SawHead t 0) (c .before .before .before .before .before .before .before .before .before .before .events .given .1)
+    (c .before .before .before .before .before .before .before .before .before .before .before .before .head-at .ensures) in
+    let n = subst (SawNumber (count-of meet-line) t (x .1 .1 .1 .0)) (c .before .before .before .before .before .before .entries .given .1)
+    (c .before .before .before .before .before .before .before .before .read-line .ensures) in
     let r = subst (SawNumber (count-of rule-line) t (y .1 .0)) (c .before .before .items .given .1) (c .before .before .before .before .read-line2 .ensures) in
     let e = here t d (c .if1 .taken) in
     refuse t d (r .within)
@@ -99,29 +88,14 @@ returns-5 c =
     let x = c .before .before .before .before .before .before .before .before .before .before .events .given .0 in
     let y = c .before .before .before .before .before .before .entries .given .0 in
     let z = c .before .before .items .given .0 in
-    let q = subst (SawHead t 0) (c .before .before .before .before .before .before .before .before .before .before .events .given .1) (c .before .before .before .before .before .before .before .before .before .before .before .before .head-at .ensures) in
-    let n = subst (SawNumber (count-of meet-line) t (x .1 .1 .1 .0)) (c .before .before .before .before .before .before .entries .given .1) (c .before .before .before .before .before .before .before .before .read-line .ensures) in
+    let q = subst (SawHead t 0) (c .before .before .before .before .before .before .before .before .before .before .events .given .1)
+    (c .before .before .before .before .before .before .before .before .before .before .before .before .head-at .ensures) in
+    let n = subst (SawNumber (count-of meet-line) t (x .1 .1 .1 .0)) (c .before .before .before .before .before .before .entries .given .1)
+    (c .before .before .before .before .before .before .before .before .read-line .ensures) in
     let r = subst (SawNumber (count-of rule-line) t (y .1 .0)) (c .before .before .items .given .1) (c .before .before .before .before .read-line2 .ensures) in
     good t (x .0, (x .1 .0, x .1 .1 .0)) (x .1 .1 .1 .0) (q .within) (q .same) (y .0) (y .1 .0) (n .within) (n .same)
     (x .1 .1 .1 .0 + 5) (z .0) (y .1 .0 + 5) refl refl (r .same ∙ ap (λ (s : List ℕ). ok (z .0) s) (over t (z .1 .0) (c .if1 .left)))
 
 pub check-text-spec : {M : Type 1} → statement M
-check-text-spec =
-    tie.close
-    (tie.spec
-    head-at-requires
-    enum-known-p
-    enum-known-events
-    read-line-requires
-    enum-known-p-2
-    enum-known-entries
-    read-line-requires-2
-    enum-known-p-3
-    enum-known-items
-    add-t24
-    add-t25
-    returns
-    returns-2
-    returns-3
-    returns-4
-    returns-5)
+check-text-spec = tie.close (tie.spec (λ c κs. search needs) (λ c. search needs) (λ c. search needs) read-line-requires (λ c. search needs)
+    (λ c. search needs) read-line-requires-2 (λ c. search needs) (λ c. search needs) add-t24 add-t25 returns returns-2 returns-3 returns-4 returns-5)

@@ -1,106 +1,91 @@
--- `channel_file::entries_at` meets its contract. Assumes nothing.
-use Rattle.text_format.specs.Format.{ok}
-use Rattle.channel_file.specs.FileFormat.{entries}
-use Rattle.channel_file.specs.Steps.{separator-of, SawEntry, counted}
-use Rattle.channel_file.specs.declared.Behind.{Behind}
-use Rattle.channel_file.proofs.Offsets.{entries-bad, entries-last, entries-next, entry-forward}
-use mathlib.Core.List.{List}
-use denote.Ref.{now}
-use Prim.Native.Nat.{_+_, _-_, _≤_}
-use mathlib.Core.Path.{_≡_, refl, sym, ap, _∙_, subst}
-use lib.ListN.{length, drop}
-use borrow.Author.Needs.{needs}
+-- `channel_file::entries_at` meets its contract: each entry is stored as far as there is room, and counted.
+use Prim.Native.Nat.{ℕ, _-_, _≤_}
+use mathlib.Core.{Path.{ap, _∙_, subst}, List.{[], _∷_}}
 use native.Mathlib.Omega.{arith}
+use lib.ListN.{length, drop}
+use Rattle.text_format.specs.Format.{ok}
+use Rattle.text_output.proofs.Outputs.{puts-none, puts-as, puts-length}
+use Rattle.channel_file.specs.Steps.{separator-of, SawEntry}
+use Rattle.channel_file.specs.declared.Behind.{Behind}
+use Rattle.channel_file.proofs.{Offsets.{entry-forward}, Storing.{TookEntries, entries-none, entries-stuck, entries-next, entries-end}}
+use borrow.Author.Needs.{needs}
 use Rattle.channel_file.proofs.entries_at.Statement.{statement}
 use Rattle.channel_file.proofs.entries_at.Tie as tie
-use Rattle.channel_file.proofs.entries_at.Reads as reads
-use Rattle.channel_file.proofs.entries_at.Lts as lts
-use Rattle.channel_file.proofs.entry_at.Reads as entry-at-reads
 
 abbrev Inv-loop : tie.InvT-loop
-Inv-loop text at i₀ n₀ i n = (i ≤ length text) × (n ≤ i) × (counted 0 (entries .parse (drop at text)) ≡ counted n (entries .parse (drop i text)))
+Inv-loop text at out₀ i₀ n₀ k₀ out i n k = (i ≤ length text) × (n ≤ i) × TookEntries text at i out₀ out n k
 
 abbrev μ-loop : tie.MeasureT-loop
-μ-loop text at i₀ n₀ i n = length text - i
+μ-loop text at out₀ i₀ n₀ k₀ out i n k = length text - i
 
 loop-holds : tie.Need-loop-holds Inv-loop μ-loop
-loop-holds c = (c .before .pre, omega arith, refl)
+loop-holds c =
+    let a = c .before .before .args in
+    (c .before .before .pre, omega arith, entries-none (a .text .now) (a .at) (a .out .now) (puts-none _ 0 (omega arith) (omega arith)))
 
 entry-at-requires : tie.Need-entry-at-requires Inv-loop μ-loop
 entry-at-requires c κs = c .loop .inv .0
 
-enum-known-p : tie.Need-enum-known-p Inv-loop μ-loop
-enum-known-p c = search needs
+same-length : tie.Need-same-length Inv-loop μ-loop
+same-length c = puts-length (c .before .before .before .before .loop .inv .2 .bytes)
 
 returns : tie.Need-returns Inv-loop μ-loop
 returns c =
-    let q = subst (SawEntry (now (c .before .before .before .before .before .before .args .text)) (c .before .before .before .before .loop .i)) (c .before .p .given .1) (c .before .before .before .entry-at .ensures) in
-    record {
-      same = c .before .before .before .before .loop .inv .2 ∙ entries-bad (c .before .before .before .before .loop .n) (drop (c .before .before .before .before .loop .i) (c .before .before .before .before .before .before .args .text .now)) (drop (c .before .p .given .0 .0) (c .before .before .before .before .before .before .args .text .now)) (q .same);
-      within = q .within;
-    }
+    let a = c .before .before .before .before .before .before .before .args in
+    let l = c .before .before .before .before .loop in
+    entries-stuck (a .text .now) (a .at) (l .i) (l .inv .2) _ (subst (SawEntry (a .text .now) (l .i)) (c .before .p .given .1)
+    (c .before .before .before .entry-at .ensures))
 
-enum-known-e : tie.Need-enum-known-e Inv-loop μ-loop
-enum-known-e c = search needs
-
-enum-told : tie.Need-enum-told Inv-loop μ-loop
-enum-told c = search needs
-
-add-t9 : tie.Need-add-t9 Inv-loop μ-loop
-add-t9 c = omega arith
+same-length-2 : tie.Need-same-length-2 Inv-loop μ-loop
+same-length-2 c = c .before .before .before .before .put .kept .0
+    ∙ puts-length (c .before .before .before .before .before .before .before .before .before .before .before .loop .inv .2 .bytes)
 
 returns-2 : tie.Need-returns-2 Inv-loop μ-loop
 returns-2 c =
-    let q = subst (SawEntry (now (c .before .before .before .before .before .before .before .before .args .text)) (c .before .before .before .before .before .before .loop .i)) (c .before .before .before .e .given .1) (c .before .before .before .before .before .entry-at .ensures) in
-    let x = c .before .before .before .e .given .0 in
-    record {
-      same = c .before .before .before .before .before .before .loop .inv .2
-          ∙ entries-last (c .before .before .before .before .before .before .loop .n) (drop (c .before .before .before .before .before .before .loop .i) (c .before .before .before .before .before .before .before .before .args .text .now)) (x .0) (drop (x .1 .1 .0) (c .before .before .before .before .before .before .before .before .args .text .now))
-          (q .same ∙ ap (λ (z : Behind). ok (x .0, separator-of z) (drop (x .1 .1 .0) (c .before .before .before .before .before .before .before .before .args .text .now))) (c .enum-told .given .1));
+    let d = c .before .before .before .before .before .before .before .before in
+    let a = d .before .before .before .before .before .before .args in
+    let l = d .before .before .before .loop in
+    let x = d .v .given in
+    let q = subst (SawEntry (a .text .now) (l .i)) (x .1) (d .before .before .entry-at .ensures) in
+    entries-end (a .text .now) (a .at) (l .i) (l .inv .2) (x .0 .0) (x .0 .1 .1 .0)
+    (puts-as (ap (λ (z : ℕ). z ∷ []) (c .before .before .before .before .before .clip .ensures)) (c .before .before .before .before .put .ensures))
+    (record {
+      same = q .same ∙ ap (λ (z : Behind). ok (x .0 .0, separator-of z) (drop (x .0 .1 .1 .0) (a .text .now))) (c .enum-told .given .1);
       within = q .within;
-    }
-
-enum-told-2 : tie.Need-enum-told-2 Inv-loop μ-loop
-enum-told-2 c = search needs
-
-add-n : tie.Need-add-n Inv-loop μ-loop
-add-n c = omega arith
+    })
 
 loop-less : tie.Need-loop-less Inv-loop μ-loop
 loop-less c =
-    let q = subst (SawEntry (now (c .before .before .before .before .before .before .before .before .args .text)) (c .before .before .before .before .before .before .loop .i)) (c .before .before .before .e .given .1) (c .before .before .before .before .before .entry-at .ensures) in
-    let x = c .before .before .before .e .given .0 in
-    let l = entry-forward (c .before .before .before .before .before .before .before .before .args .text .now) (c .before .before .before .before .before .before .loop .i) (x .1 .1 .0) (x .0, separator-of (x .1 .0)) (q .within) (q .same) in
+    let d = c .before .before .before .before .before .before .before .before in
+    let a = d .before .before .before .before .before .before .args in
+    let l = d .before .before .before .loop in
+    let x = d .v .given .0 in
+    let q = subst (SawEntry (a .text .now) (l .i)) (d .v .given .1) (d .before .before .entry-at .ensures) in
     let w = q .within in
+    let f = entry-forward (a .text .now) (l .i) (x .1 .1 .0) (x .0, separator-of (x .1 .0)) w (q .same) in
     omega arith
 
 loop-again : tie.Need-loop-again Inv-loop μ-loop
 loop-again c =
-    let q = subst (SawEntry (now (c .before .before .before .before .before .before .before .before .args .text)) (c .before .before .before .before .before .before .loop .i)) (c .before .before .before .e .given .1) (c .before .before .before .before .before .entry-at .ensures) in
-    let x = c .before .before .before .e .given .0 in
-    let l = entry-forward (c .before .before .before .before .before .before .before .before .args .text .now) (c .before .before .before .before .before .before .loop .i) (x .1 .1 .0) (x .0, separator-of (x .1 .0)) (q .within) (q .same) in (
-      q .within,
+    let d = c .before .before .before .before .before .before .before .before in
+    let a = d .before .before .before .before .before .before .args in
+    let l = d .before .before .before .loop in
+    let x = d .v .given .0 in
+    let q = subst (SawEntry (a .text .now) (l .i)) (d .v .given .1) (d .before .before .entry-at .ensures) in
+    let w = q .within in
+    let f = entry-forward (a .text .now) (l .i) (x .1 .1 .0) (x .0, separator-of (x .1 .0)) w (q .same) in
+    let n = l .inv .1 in (
+      w,
       omega arith,
-      c .before .before .before .before .before .before .loop .inv .2
-          ∙ entries-next (c .before .before .before .before .before .before .loop .n) (drop (c .before .before .before .before .before .before .loop .i) (c .before .before .before .before .before .before .before .before .args .text .now)) (x .0) (drop (x .1 .1 .0) (c .before .before .before .before .before .before .before .before .args .text .now))
-          (q .same ∙ ap (λ (z : Behind). ok (x .0, separator-of z) (drop (x .1 .1 .0) (c .before .before .before .before .before .before .before .before .args .text .now))) (c .enum-told2 .given .1)),
+      entries-next (a .text .now) (a .at) (l .i) (l .inv .2) (x .0) (x .1 .1 .0)
+          (puts-as (ap (λ (z : ℕ). z ∷ []) (c .before .before .before .before .before .clip .ensures)) (c .before .before .before .before .put .ensures))
+          (record {
+            same = q .same ∙ ap (λ (z : Behind). ok (x .0, separator-of z) (drop (x .1 .1 .0) (a .text .now))) (c .enum-told2 .given .1);
+            within = w;
+          }),
     )
 
 pub entries-at-spec : {M : Type 1} → statement M
-entries-at-spec =
-    tie.close
-    (tie.spec
-    Inv-loop
-    μ-loop
-    loop-holds
-    entry-at-requires
-    enum-known-p
-    returns
-    enum-known-e
-    enum-told
-    add-t9
-    returns-2
-    enum-told-2
-    add-n
-    loop-less
+entries-at-spec = tie.close (tie.spec Inv-loop μ-loop loop-holds entry-at-requires (λ c. search needs) same-length returns (λ c. search needs)
+    (λ c κs. search needs) (λ c κs. search needs) (λ c. omega arith) (λ c. search needs) same-length-2 returns-2 (λ c. search needs) loop-less
     loop-again)

@@ -1,84 +1,61 @@
 -- `channel_file::head_at` meets its contract. Assumes nothing.
 use mathlib.Core.Path.{subst}
 use Rattle.text_format.specs.Format.{ascii}
-use Rattle.channel_file.specs.FileFormat.{field}
-use Rattle.channel_file.specs.Steps.{SawNumber}
+use Rattle.channel_file.specs.{FileFormat.{field}, Steps.{SawNumber}}
 use borrow.Author.Needs.{needs}
 use Rattle.channel_file.proofs.head_at.Statement.{statement}
 use Rattle.channel_file.proofs.head_at.Tie as tie
-use Rattle.channel_file.proofs.head_at.Reads as reads
-use Rattle.channel_file.proofs.head_at.Lts as lts
-use Rattle.channel_file.proofs.read_line.Reads as read-line-reads
-
-read-line-requires : tie.Need-read-line-requires
-read-line-requires c κs = search needs
-
-enum-known-p : tie.Need-enum-known-p
-enum-known-p c = search needs
-
-enum-known-events : tie.Need-enum-known-events
-enum-known-events c = search needs
 
 read-line-requires-2 : tie.Need-read-line-requires-2
-read-line-requires-2 c κs = subst (SawNumber (field (ascii "events=") .parse) (c .before .before .before .before .before .args .text .now) 0) (c .before .events .given .1) (c .before .before .before .read-line .ensures) .within
-
-enum-known-p-2 : tie.Need-enum-known-p-2
-enum-known-p-2 c = search needs
-
-enum-known-values : tie.Need-enum-known-values
-enum-known-values c = search needs
+read-line-requires-2 c κs = subst (SawNumber (field (ascii "events=") .parse) (c .before .before .before .before .before .args .text .now) 0)
+    (c .before .events .given .1) (c .before .before .before .read-line .ensures) .within
 
 read-line-requires-3 : tie.Need-read-line-requires-3
-read-line-requires-3 c κs = subst (SawNumber (field (ascii "values=") .parse) (c .before .before .before .before .before .before .before .before .before .args .text .now) (c .before .before .before .before .before .events .given .0 .1 .0)) (c .before .values .given .1) (c .before .before .before .read-line2 .ensures) .within
-
-enum-known-p-3 : tie.Need-enum-known-p-3
-enum-known-p-3 c = search needs
-
-enum-known-top : tie.Need-enum-known-top
-enum-known-top c = search needs
+read-line-requires-3 c κs = subst (SawNumber (field (ascii "values=") .parse)
+    (c .before .before .before .before .before .before .before .before .before .args .text .now)
+    (c .before .before .before .before .before .events .given .0 .1 .0)) (c .before .values .given .1) (c .before .before .before .read-line2 .ensures) .within
 
 returns : tie.Need-returns
 returns c =
-    let q = subst (SawNumber (field (ascii "events=") .parse) (c .before .before .before .before .before .args .text .now) 0) (c .before .p .given .1) (c .before .before .before .read-line .ensures) in
+    let q = subst (SawNumber (field (ascii "events=") .parse) (c .before .before .before .before .before .args .text .now) 0) (c .before .p .given .1)
+    (c .before .before .before .read-line .ensures) in
     record { same = rw (q .same); within = q .within }
 
 returns-2 : tie.Need-returns-2
 returns-2 c =
     let t = c .before .before .before .before .before .before .before .before .before .args .text .now in
-    let q = subst (SawNumber (field (ascii "events=") .parse) t 0) (c .before .before .before .before .before .events .given .1) (c .before .before .before .before .before .before .before .read-line .ensures) in
-    let n = subst (SawNumber (field (ascii "values=") .parse) t (c .before .before .before .before .before .events .given .0 .1 .0)) (c .before .p2 .given .1) (c .before .before .before .read-line2 .ensures) in
+    let q = subst (SawNumber (field (ascii "events=") .parse) t 0) (c .before .before .before .before .before .events .given .1)
+    (c .before .before .before .before .before .before .before .read-line .ensures) in
+    let n = subst (SawNumber (field (ascii "values=") .parse) t (c .before .before .before .before .before .events .given .0 .1 .0))
+    (c .before .p2 .given .1) (c .before .before .before .read-line2 .ensures) in
     record { same = rw (q .same) (rw (n .same)); within = n .within }
 
 returns-3 : tie.Need-returns-3
 returns-3 c =
     let t = c .before .before .before .before .before .before .before .before .before .before .before .before .before .args .text .now in
-    let q = subst (SawNumber (field (ascii "events=") .parse) t 0) (c .before .before .before .before .before .before .before .before .before .events .given .1) (c .before .before .before .before .before .before .before .before .before .before .before .read-line .ensures) in
-    let n = subst (SawNumber (field (ascii "values=") .parse) t (c .before .before .before .before .before .before .before .before .before .events .given .0 .1 .0)) (c .before .before .before .before .before .values .given .1) (c .before .before .before .before .before .before .before .read-line2 .ensures) in
-    let p = subst (SawNumber (field (ascii "top=") .parse) t (c .before .before .before .before .before .values .given .0 .1 .0)) (c .before .p3 .given .1) (c .before .before .before .read-line3 .ensures) in
+    let q = subst (SawNumber (field (ascii "events=") .parse) t 0)
+    (c .before .before .before .before .before .before .before .before .before .events .given .1)
+    (c .before .before .before .before .before .before .before .before .before .before .before .read-line .ensures) in
+    let n = subst (SawNumber (field (ascii "values=") .parse) t
+    (c .before .before .before .before .before .before .before .before .before .events .given .0 .1 .0))
+    (c .before .before .before .before .before .values .given .1) (c .before .before .before .before .before .before .before .read-line2 .ensures) in
+    let p = subst (SawNumber (field (ascii "top=") .parse) t (c .before .before .before .before .before .values .given .0 .1 .0)) (c .before .p3 .given .1)
+    (c .before .before .before .read-line3 .ensures) in
     record { same = rw (q .same) (rw (n .same) (rw (p .same))); within = p .within }
 
 returns-4 : tie.Need-returns-4
 returns-4 c =
     let t = c .before .before .before .before .before .before .before .before .before .before .before .before .before .args .text .now in
-    let q = subst (SawNumber (field (ascii "events=") .parse) t 0) (c .before .before .before .before .before .before .before .before .before .events .given .1) (c .before .before .before .before .before .before .before .before .before .before .before .read-line .ensures) in
-    let n = subst (SawNumber (field (ascii "values=") .parse) t (c .before .before .before .before .before .before .before .before .before .events .given .0 .1 .0)) (c .before .before .before .before .before .values .given .1) (c .before .before .before .before .before .before .before .read-line2 .ensures) in
-    let p = subst (SawNumber (field (ascii "top=") .parse) t (c .before .before .before .before .before .values .given .0 .1 .0)) (c .before .top .given .1) (c .before .before .before .read-line3 .ensures) in
+    let q = subst (SawNumber (field (ascii "events=") .parse) t 0)
+    (c .before .before .before .before .before .before .before .before .before .events .given .1)
+    (c .before .before .before .before .before .before .before .before .before .before .before .read-line .ensures) in
+    let n = subst (SawNumber (field (ascii "values=") .parse) t
+    (c .before .before .before .before .before .before .before .before .before .events .given .0 .1 .0))
+    (c .before .before .before .before .before .values .given .1) (c .before .before .before .before .before .before .before .read-line2 .ensures) in
+    let p = subst (SawNumber (field (ascii "top=") .parse) t (c .before .before .before .before .before .values .given .0 .1 .0)) (c .before .top .given .1)
+    (c .before .before .before .read-line3 .ensures) in
     record { same = rw (q .same) (rw (n .same) (rw (p .same))); within = p .within }
 
 pub head-at-spec : {M : Type 1} → statement M
-head-at-spec =
-    tie.close
-    (tie.spec
-    read-line-requires
-    enum-known-p
-    enum-known-events
-    read-line-requires-2
-    enum-known-p-2
-    enum-known-values
-    read-line-requires-3
-    enum-known-p-3
-    enum-known-top
-    returns
-    returns-2
-    returns-3
-    returns-4)
+head-at-spec = tie.close (tie.spec (λ c κs. search needs) (λ c. search needs) (λ c. search needs) read-line-requires-2 (λ c. search needs)
+    (λ c. search needs) read-line-requires-3 (λ c. search needs) (λ c. search needs) returns returns-2 returns-3 returns-4)

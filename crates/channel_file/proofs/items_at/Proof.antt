@@ -1,21 +1,16 @@
 -- `channel_file::items_at` meets its contract. Assumes nothing.
 use Rattle.text_format.specs.Format.{ok}
-use Rattle.channel_file.specs.FileFormat.{token-item, tokens}
-use Rattle.channel_file.specs.Steps.{token-of, separator-of, SawItem, counted}
+use Rattle.channel_file.specs.{FileFormat.{tokens}, Steps.{token-of, separator-of, SawItem, counted}}
 use Rattle.channel_file.specs.declared.Behind.{Behind}
 use Rattle.channel_file.proofs.Offsets.{tokens-bad, tokens-last, tokens-next, token-forward}
-use mathlib.Core.List.{List}
 use denote.Ref.{now}
-use Prim.Native.Nat.{_+_, _-_, _≤_}
-use mathlib.Core.Path.{_≡_, refl, sym, ap, _∙_, subst}
+use Prim.Native.Nat.{_-_, _≤_}
+use mathlib.Core.Path.{_≡_, refl, ap, _∙_, subst}
 use lib.ListN.{length, drop}
 use borrow.Author.Needs.{needs}
 use native.Mathlib.Omega.{arith}
 use Rattle.channel_file.proofs.items_at.Statement.{statement}
 use Rattle.channel_file.proofs.items_at.Tie as tie
-use Rattle.channel_file.proofs.items_at.Reads as reads
-use Rattle.channel_file.proofs.items_at.Lts as lts
-use Rattle.channel_file.proofs.item_at.Reads as item-at-reads
 
 abbrev Inv-loop : tie.InvT-loop
 Inv-loop text at i₀ n₀ i n = (i ≤ length text) × (n ≤ i) × (counted 0 (tokens .parse (drop at text)) ≡ counted n (tokens .parse (drop i text)))
@@ -29,78 +24,62 @@ loop-holds c = (c .before .pre, omega arith, refl)
 item-at-requires : tie.Need-item-at-requires Inv-loop μ-loop
 item-at-requires c κs = c .loop .inv .0
 
-enum-known-p : tie.Need-enum-known-p Inv-loop μ-loop
-enum-known-p c = search needs
-
 returns : tie.Need-returns Inv-loop μ-loop
 returns c =
-    let q = subst (SawItem token-item (now (c .before .before .before .before .before .before .args .text)) (c .before .before .before .before .loop .i)) (c .before .p .given .1) (c .before .before .before .item-at .ensures) in
+    let q = subst (SawItem (now (c .before .before .before .before .before .before .args .text)) (c .before .before .before .before .loop .i))
+    (c .before .p .given .1) (c .before .before .before .item-at .ensures) in
     record {
-      same = c .before .before .before .before .loop .inv .2 ∙ tokens-bad (c .before .before .before .before .loop .n) (drop (c .before .before .before .before .loop .i) (c .before .before .before .before .before .before .args .text .now)) (drop (c .before .p .given .0 .0) (c .before .before .before .before .before .before .args .text .now)) (q .same);
+      same = c .before .before .before .before .loop .inv .2 ∙ tokens-bad (c .before .before .before .before .loop .n)
+          (drop (c .before .before .before .before .loop .i) (c .before .before .before .before .before .before .args .text .now))
+          (drop (c .before .p .given .0 .0) (c .before .before .before .before .before .before .args .text .now)) (q .same);
       within = q .within;
     }
-
-enum-known-e : tie.Need-enum-known-e Inv-loop μ-loop
-enum-known-e c = search needs
-
-enum-told : tie.Need-enum-told Inv-loop μ-loop
-enum-told c = search needs
-
-add-t9 : tie.Need-add-t9 Inv-loop μ-loop
-add-t9 c = omega arith
 
 returns-2 : tie.Need-returns-2 Inv-loop μ-loop
 returns-2 c =
-    let q = subst (SawItem token-item (now (c .before .before .before .before .before .before .before .before .args .text)) (c .before .before .before .before .before .before .loop .i)) (c .before .before .before .e .given .1) (c .before .before .before .before .before .item-at .ensures) in
+    let q = subst (SawItem (now (c .before .before .before .before .before .before .before .before .args .text))
+    (c .before .before .before .before .before .before .loop .i)) (c .before .before .before .e .given .1)
+    (c .before .before .before .before .before .item-at .ensures) in
     let x = c .before .before .before .e .given .0 in
     record {
       same = c .before .before .before .before .before .before .loop .inv .2
-          ∙ tokens-last (c .before .before .before .before .before .before .loop .n) (drop (c .before .before .before .before .before .before .loop .i) (c .before .before .before .before .before .before .before .before .args .text .now)) (token-of (x .0)) (drop (x .1 .1 .0) (c .before .before .before .before .before .before .before .before .args .text .now))
-          (q .same ∙ ap (λ (z : Behind). ok (token-of (x .0), separator-of z) (drop (x .1 .1 .0) (c .before .before .before .before .before .before .before .before .args .text .now))) (c .enum-told .given .1));
+          ∙ tokens-last (c .before .before .before .before .before .before .loop .n) (drop (c .before .before .before .before .before .before .loop .i)
+          (c .before .before .before .before .before .before .before .before .args .text .now)) (token-of (x .0))
+          (drop (x .1 .1 .0) (c .before .before .before .before .before .before .before .before .args .text .now))
+          (q .same ∙ ap (λ (z : Behind). ok (token-of (x .0), separator-of z)
+          (drop (x .1 .1 .0) (c .before .before .before .before .before .before .before .before .args .text .now))) (c .enum-told .given .1));
       within = q .within;
     }
 
-enum-told-2 : tie.Need-enum-told-2 Inv-loop μ-loop
-enum-told-2 c = search needs
-
-add-n : tie.Need-add-n Inv-loop μ-loop
-add-n c = omega arith
-
 loop-less : tie.Need-loop-less Inv-loop μ-loop
 loop-less c =
-    let q = subst (SawItem token-item (now (c .before .before .before .before .before .before .before .before .args .text)) (c .before .before .before .before .before .before .loop .i)) (c .before .before .before .e .given .1) (c .before .before .before .before .before .item-at .ensures) in
+    let q = subst (SawItem (now (c .before .before .before .before .before .before .before .before .args .text))
+    (c .before .before .before .before .before .before .loop .i)) (c .before .before .before .e .given .1)
+    (c .before .before .before .before .before .item-at .ensures) in
     let x = c .before .before .before .e .given .0 in
-    let l = token-forward (c .before .before .before .before .before .before .before .before .args .text .now) (c .before .before .before .before .before .before .loop .i) (x .1 .1 .0) (token-of (x .0), separator-of (x .1 .0)) (q .within) (q .same) in
+    let l = token-forward (c .before .before .before .before .before .before .before .before .args .text .now)
+    (c .before .before .before .before .before .before .loop .i) (x .1 .1 .0) (token-of (x .0), separator-of (x .1 .0)) (q .within) (q .same) in
     let w = q .within in
     omega arith
 
 loop-again : tie.Need-loop-again Inv-loop μ-loop
 loop-again c =
-    let q = subst (SawItem token-item (now (c .before .before .before .before .before .before .before .before .args .text)) (c .before .before .before .before .before .before .loop .i)) (c .before .before .before .e .given .1) (c .before .before .before .before .before .item-at .ensures) in
+    let q = subst (SawItem (now (c .before .before .before .before .before .before .before .before .args .text))
+    (c .before .before .before .before .before .before .loop .i)) (c .before .before .before .e .given .1)
+    (c .before .before .before .before .before .item-at .ensures) in
     let x = c .before .before .before .e .given .0 in
-    let l = token-forward (c .before .before .before .before .before .before .before .before .args .text .now) (c .before .before .before .before .before .before .loop .i) (x .1 .1 .0) (token-of (x .0), separator-of (x .1 .0)) (q .within) (q .same) in (
+    let l = token-forward (c .before .before .before .before .before .before .before .before .args .text .now)
+    (c .before .before .before .before .before .before .loop .i) (x .1 .1 .0) (token-of (x .0), separator-of (x .1 .0)) (q .within) (q .same) in (
       q .within,
       omega arith,
       c .before .before .before .before .before .before .loop .inv .2
-          ∙ tokens-next (c .before .before .before .before .before .before .loop .n) (drop (c .before .before .before .before .before .before .loop .i) (c .before .before .before .before .before .before .before .before .args .text .now)) (token-of (x .0)) (drop (x .1 .1 .0) (c .before .before .before .before .before .before .before .before .args .text .now))
-          (q .same ∙ ap (λ (z : Behind). ok (token-of (x .0), separator-of z) (drop (x .1 .1 .0) (c .before .before .before .before .before .before .before .before .args .text .now))) (c .enum-told2 .given .1)),
+          ∙ tokens-next (c .before .before .before .before .before .before .loop .n) (drop (c .before .before .before .before .before .before .loop .i)
+          (c .before .before .before .before .before .before .before .before .args .text .now)) (token-of (x .0))
+          (drop (x .1 .1 .0) (c .before .before .before .before .before .before .before .before .args .text .now))
+          (q .same ∙ ap (λ (z : Behind). ok (token-of (x .0), separator-of z)
+          (drop (x .1 .1 .0) (c .before .before .before .before .before .before .before .before .args .text .now))) (c .enum-told2 .given .1)),
     )
 
 pub items-at-spec : {M : Type 1} → statement M
-items-at-spec =
-    tie.close
-    (tie.spec
-    Inv-loop
-    μ-loop
-    loop-holds
-    item-at-requires
-    enum-known-p
-    returns
-    enum-known-e
-    enum-told
-    add-t9
-    returns-2
-    enum-told-2
-    add-n
-    loop-less
-    loop-again)
+items-at-spec = tie.close (tie.spec Inv-loop μ-loop loop-holds item-at-requires (λ c. search needs) returns (λ c. search needs) (λ c. search needs)
+    (λ c. omega arith) returns-2 (λ c. search needs) (λ c. omega arith) loop-less loop-again)

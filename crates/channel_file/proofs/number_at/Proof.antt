@@ -1,23 +1,14 @@
 -- `channel_file::number_at` meets its contract. The loop's invariant: what is left to read of the number from here is what the number is.
--- Assumes nothing.
-use Rattle.text_format.specs.Combinators.{the}
 use Rattle.text_format.specs.Decimal.{is-digit, number, more}
 use Rattle.text_format.proofs.Decimal.{digit-range, more-done, more-over, more-on, more-stop, number-zero, number-go, number-not}
 use Rattle.channel_file.proofs.Offsets.{here, over}
 use Prim.Native.Nat.{ℕ, _+_, _-_, _*_, _≤_, _<_}
-use mathlib.Core.Path.{_≡_, refl, sym, ap, _∙_}
-use mathlib.Core.List.{List, [], _∷_}
-use mathlib.Core.Bool.{true, false}
+use mathlib.Core.{Path.{_≡_, sym, ap, _∙_}, Bool.{true}}
 use native.Mathlib.Omega.{arith}
-use borrow.Author.Needs.{needs}
-use borrow.Author.Tests.{ne-eqb, not-true, not-false}
+use borrow.Author.{Needs.{needs}, Tests.{ne-eqb, not-true, not-false}}
 use lib.ListN.{length, drop, getD}
 use Rattle.channel_file.proofs.number_at.Statement.{statement}
 use Rattle.channel_file.proofs.number_at.Tie as tie
-use Rattle.channel_file.proofs.number_at.Reads as reads
-use Rattle.channel_file.proofs.number_at.Lts as lts
-use Rattle.channel_file.proofs.digit.Reads as digit-reads
-use Rattle.channel_file.proofs.wide.Reads as wide-reads
 
 abbrev Inv-loop : tie.InvT-loop
 Inv-loop text at b v₀ i₀ k₀ v i k =
@@ -29,35 +20,27 @@ abbrev μ-loop : tie.MeasureT-loop
 returns : tie.Need-returns Inv-loop μ-loop
 returns c = record { same = rw (over _ _ (c .if1 .taken)); within = search needs }
 
-shared-slice-read-b : tie.Need-shared-slice-read-b Inv-loop μ-loop
-shared-slice-read-b c = search needs
-
-digit-requires : tie.Need-digit-requires Inv-loop μ-loop
-digit-requires c κs = search needs
-
 returns-2 : tie.Need-returns-2 Inv-loop μ-loop
-returns-2 c = record { same = rw (here _ _ (c .before .before .before .if1 .left)) (number-not 2 _ _ (sym (c .before .digit .ensures) ∙ not-true _ (c .if2 .taken))); within = search needs }
-
-add-t13 : tie.Need-add-t13 Inv-loop μ-loop
-add-t13 c = search needs
+returns-2 c = record {
+  same = rw (here _ _ (c .before .before .before .if1 .left)) (number-not 2 _ _ (sym (c .before .digit .ensures)
+      ∙ not-true _ (c .if2 .taken)));
+  within = search needs;
+}
 
 returns-3 : tie.Need-returns-3 Inv-loop μ-loop
 returns-3 c = record { same = rw (here _ _ (c .before .before .before .before .if1 .left)) (number-zero 2 _ _ (c .if3 .taken)); within = omega arith }
 
-wide-requires : tie.Need-wide-requires Inv-loop μ-loop
-wide-requires c κs = search needs
-
 sub-v : tie.Need-sub-v Inv-loop μ-loop
 sub-v c =
-    let d = digit-range (getD (c .before .before .before .before .before .before .before .args .text .now) (c .before .before .before .before .before .before .before .args .at) 0) (sym (c .before .before .before .digit .ensures) ∙ not-false _ (c .before .before .if2 .left)) in
+    let d = digit-range (getD (c .before .before .before .before .before .before .before .args .text .now)
+    (c .before .before .before .before .before .before .before .args .at) 0) (sym (c .before .before .before .digit .ensures)
+    ∙ not-false _ (c .before .before .if2 .left)) in
     omega arith
-
-add-i : tie.Need-add-i Inv-loop μ-loop
-add-i c = search needs
 
 loop-holds : tie.Need-loop-holds Inv-loop μ-loop
 loop-holds c =
-    let b : ℕ = getD (c .before .before .before .before .before .before .before .args .text .now) (c .before .before .before .before .before .before .before .args .at) 0 in
+    let b : ℕ = getD (c .before .before .before .before .before .before .before .args .text .now)
+    (c .before .before .before .before .before .before .before .args .at) 0 in
     let h : is-digit b ≡ true = sym (c .before .before .before .digit .ensures) ∙ not-false _ (c .before .before .if2 .left) in
     let d = digit-range b h in
     let e : c .wide .result ≡ b = c .wide .ensures in (
@@ -66,49 +49,42 @@ loop-holds c =
       omega arith,
       (λ _. omega arith),
       (λ _. omega arith),
-      (rw (here _ _ (c .before .before .before .before .before .if1 .left)) (number-go 2 b _ h (ne-eqb b 48 (c .before .if3 .left)) ∙ ap (λ (z : ℕ). more 2 (z - 48) (drop (c .before .before .before .before .before .before .before .args .at + 1) (c .before .before .before .before .before .before .before .args .text .now))) (sym e))),
+      (rw (here _ _ (c .before .before .before .before .before .if1 .left)) (number-go 2 b _ h (ne-eqb b 48 (c .before .if3 .left))
+          ∙ ap (λ (z : ℕ). more 2 (z - 48) (drop (c .before .before .before .before .before .before .before .args .at + 1)
+          (c .before .before .before .before .before .before .before .args .text .now))) (sym e))),
     )
 
 returns-4 : tie.Need-returns-4 Inv-loop μ-loop
-returns-4 c = record { same = c .before .before .loop .inv .5 ∙ rw (over _ _ (c .if4 .taken)) (more-over (c .before .before .loop .k) (c .before .before .loop .v)); within = search needs }
-
-shared-slice-read-d : tie.Need-shared-slice-read-d Inv-loop μ-loop
-shared-slice-read-d c = search needs
-
-digit-requires-2 : tie.Need-digit-requires-2 Inv-loop μ-loop
-digit-requires-2 c κs = search needs
+returns-4 c = record {
+  same = c .before .before .loop .inv .5
+      ∙ rw (over _ _ (c .if4 .taken)) (more-over (c .before .before .loop .k) (c .before .before .loop .v));
+  within = search needs;
+}
 
 returns-5 : tie.Need-returns-5 Inv-loop μ-loop
-returns-5 c = record { same = c .before .before .before .before .before .loop .inv .5 ∙ rw (here _ _ (c .before .before .before .if4 .left)) (more-stop (c .before .before .before .before .before .loop .k) (c .before .before .before .before .before .loop .v) _ _ (sym (c .before .digit2 .ensures) ∙ not-true _ (c .if5 .taken))); within = search needs }
-
-mul-v : tie.Need-mul-v Inv-loop μ-loop
-mul-v c = search needs
-
-wide-requires-2 : tie.Need-wide-requires-2 Inv-loop μ-loop
-wide-requires-2 c κs = search needs
+returns-5 c = record {
+  same = c .before .before .before .before .before .loop .inv .5
+      ∙ rw (here _ _ (c .before .before .before .if4 .left)) (more-stop (c .before .before .before .before .before .loop .k)
+      (c .before .before .before .before .before .loop .v) _ _ (sym (c .before .digit2 .ensures) ∙ not-true _ (c .if5 .taken)));
+  within = search needs;
+}
 
 sub-v-2 : tie.Need-sub-v-2 Inv-loop μ-loop
 sub-v-2 c =
-    let d = digit-range (getD (c .before .before .before .before .before .before .before .before .before .before .before .before .before .before .args .text .now) (c .before .before .before .before .before .before .loop .i) 0) (sym (c .before .before .digit2 .ensures) ∙ not-false _ (c .before .if5 .left)) in
+    let d = digit-range (getD (c .before .before .before .before .before .before .before .before .before .before .before .before .before .before .args .text
+    .now) (c .before .before .before .before .before .before .loop .i) 0) (sym (c .before .before .digit2 .ensures) ∙ not-false _ (c .before .if5 .left)) in
     omega arith
 
 add-v : tie.Need-add-v Inv-loop μ-loop
 add-v c =
-    let d = digit-range (getD (c .before .before .before .before .before .before .before .before .before .before .before .before .before .before .args .text .now) (c .before .before .before .before .before .before .loop .i) 0) (sym (c .before .before .digit2 .ensures) ∙ not-false _ (c .before .if5 .left)) in
+    let d = digit-range (getD (c .before .before .before .before .before .before .before .before .before .before .before .before .before .before .args .text
+    .now) (c .before .before .before .before .before .before .loop .i) 0) (sym (c .before .before .digit2 .ensures) ∙ not-false _ (c .before .if5 .left)) in
     omega arith
-
-add-i-2 : tie.Need-add-i-2 Inv-loop μ-loop
-add-i-2 c = search needs
-
-sub-k : tie.Need-sub-k Inv-loop μ-loop
-sub-k c = search needs
-
-loop-less : tie.Need-loop-less Inv-loop μ-loop
-loop-less c = search needs
 
 loop-again : tie.Need-loop-again Inv-loop μ-loop
 loop-again c =
-    let b : ℕ = getD (c .before .before .before .before .before .before .before .before .before .before .before .before .before .before .args .text .now) (c .before .before .before .before .before .before .loop .i) 0 in
+    let b : ℕ = getD (c .before .before .before .before .before .before .before .before .before .before .before .before .before .before .args .text .now)
+    (c .before .before .before .before .before .before .loop .i) 0 in
     let h : is-digit b ≡ true = sym (c .before .before .digit2 .ensures) ∙ not-false _ (c .before .if5 .left) in
     let d = digit-range b h in
     let e : c .wide2 .result ≡ b = c .wide2 .ensures in
@@ -119,38 +95,17 @@ loop-again c =
       omega arith,
       (λ g. let v2 : c .before .before .before .before .before .before .loop .v < 10 = v .4 (omega arith) in omega arith),
       (λ g. omega arith),
-      (v .5 ∙ rw (here _ _ (c .before .before .before .before .if4 .left)) (more-on (c .before .before .before .before .before .before .loop .k) (c .before .before .before .before .before .before .loop .v) b _ (c .before .before .before .before .before .loop-test .taken) h ∙ ap (λ (z : ℕ). more (c .before .before .before .before .before .before .loop .k - 1) (c .before .before .before .before .before .before .loop .v * 10 + (z - 48)) (drop (c .before .before .before .before .before .before .loop .i + 1) (c .before .before .before .before .before .before .before .before .before .before .before .before .before .before .args .text .now))) (sym e))),
+      (v .5 ∙ rw (here _ _ (c .before .before .before .before .if4 .left)) (more-on (c .before .before .before .before .before .before .loop .k)
+          (c .before .before .before .before .before .before .loop .v) b _ (c .before .before .before .before .before .loop-test .taken) h
+          ∙ ap (λ (z : ℕ). more (c .before .before .before .before .before .before .loop .k - 1) (c .before .before .before .before .before .before .loop .v
+          * 10 + (z - 48)) (drop (c .before .before .before .before .before .before .loop .i + 1)
+          (c .before .before .before .before .before .before .before .before .before .before .before .before .before .before .args .text .now))) (sym e))),
     )
 
 returns-6 : tie.Need-returns-6 Inv-loop μ-loop
 returns-6 c = record { same = c .before .loop .inv .5 ∙ more-done _ _ _ (c .loop-test .left); within = search needs }
 
 pub number-at-spec : {M : Type 1} → statement M
-number-at-spec =
-    tie.close
-    (tie.spec
-    Inv-loop
-    μ-loop
-    returns
-    shared-slice-read-b
-    digit-requires
-    returns-2
-    add-t13
-    returns-3
-    wide-requires
-    sub-v
-    add-i
-    loop-holds
-    returns-4
-    shared-slice-read-d
-    digit-requires-2
-    returns-5
-    mul-v
-    wide-requires-2
-    sub-v-2
-    add-v
-    add-i-2
-    sub-k
-    loop-less
-    loop-again
-    returns-6)
+number-at-spec = tie.close (tie.spec Inv-loop μ-loop returns (λ c. search needs) (λ c κs. search needs) returns-2 (λ c. search needs) returns-3
+    (λ c κs. search needs) sub-v (λ c. search needs) loop-holds returns-4 (λ c. search needs) (λ c κs. search needs) returns-5 (λ c. search needs)
+    (λ c κs. search needs) sub-v-2 add-v (λ c. search needs) (λ c. search needs) (λ c. search needs) loop-again returns-6)

@@ -2,37 +2,25 @@
 use mathlib.Core.Path.{ap, subst}
 use lib.ListN.{drop}
 use Rattle.text_format.specs.Format.{ascii}
-use Rattle.channel_file.specs.FileFormat.{tokens}
-use Rattle.channel_file.specs.Steps.{SawWord, counted}
+use Rattle.channel_file.specs.{FileFormat.{tokens}, Steps.{SawWord, counted}}
 use Rattle.channel_file.proofs.Offsets.{keyed-bad, listed}
 use borrow.Author.Needs.{needs}
 use Rattle.channel_file.proofs.rule_line_at.Statement.{statement}
 use Rattle.channel_file.proofs.rule_line_at.Tie as tie
-use Rattle.channel_file.proofs.rule_line_at.Reads as reads
-use Rattle.channel_file.proofs.rule_line_at.Lts as lts
-use Rattle.channel_file.proofs.items_at.Reads as items-at-reads
-use Rattle.channel_file.proofs.word_at.Reads as word-at-reads
-
-slice-aggregate-word-at : tie.Need-slice-aggregate-word-at
-slice-aggregate-word-at c = search needs
-
-word-at-requires : tie.Need-word-at-requires
-word-at-requires c κs = search needs
-
-enum-known-p : tie.Need-enum-known-p
-enum-known-p c = search needs
-
-enum-known-a : tie.Need-enum-known-a
-enum-known-a c = search needs
 
 items-at-requires : tie.Need-items-at-requires
-items-at-requires c κs = subst (SawWord (ascii "rule=") (c .before .before .before .before .before .before .args .text .now) (c .before .before .before .before .before .before .args .at)) (c .before .a .given .1) (c .before .before .before .word-at .ensures) .within
+items-at-requires c κs = subst (SawWord (ascii "rule=") (c .before .before .before .before .before .before .args .text .now)
+    (c .before .before .before .before .before .before .args .at)) (c .before .a .given .1) (c .before .before .before .word-at .ensures) .within
 
 returns : tie.Need-returns
 returns c =
     let a = c .before .before .before .before .before .before .args in
     let q = subst (SawWord (ascii "rule=") (a .text .now) (a .at)) (c .before .p .given .1) (c .before .before .before .word-at .ensures) in
-    record { same = ap (counted 0) (keyed-bad (ascii "rule=") tokens (drop (a .at) (a .text .now)) (drop (c .before .p .given .0 .0) (a .text .now)) (q .same)); within = q .within }
+    record {
+      same = ap (counted 0) (keyed-bad (ascii "rule=") tokens (drop (a .at) (a .text .now)) (drop (c .before .p .given .0 .0) (a .text .now))
+          (q .same));
+      within = q .within;
+    }
 
 returns-2 : tie.Need-returns-2
 returns-2 c =
@@ -41,13 +29,5 @@ returns-2 c =
     listed (ascii "rule=") tokens (a .text .now) (a .at) (c .before .before .a .given .0 .0) (q .same) (c .items-at .result) (c .items-at .ensures)
 
 pub rule-line-at-spec : {M : Type 1} → statement M
-rule-line-at-spec =
-    tie.close
-    (tie.spec
-    slice-aggregate-word-at
-    word-at-requires
-    enum-known-p
-    enum-known-a
-    items-at-requires
-    returns
+rule-line-at-spec = tie.close (tie.spec (λ c. search needs) (λ c κs. search needs) (λ c. search needs) (λ c. search needs) items-at-requires returns
     returns-2)

@@ -1,37 +1,27 @@
 -- `channel_file::token_span` meets its contract. Assumes nothing.
 use Rattle.channel_file.proofs.Accepted.{accepted, not-accepted, spans-refused, spans-tokens, some-text}
 use denote.Ref.{now}
-use lib.ListN.{length}
 use native.Mathlib.Omega.{arith}
-use mathlib.Core.Path.{_≡_, sym, _∙_, subst}
-use Prim.Native.Nat.{ℕ, _+_, _≤_}
+use mathlib.Core.Path.{sym, _∙_}
 use borrow.Author.Needs.{needs}
 use Rattle.channel_file.proofs.token_span.Statement.{statement}
 use Rattle.channel_file.proofs.token_span.Tie as tie
-use Rattle.channel_file.proofs.token_span.Reads as reads
-use Rattle.channel_file.proofs.token_span.Lts as lts
-use Rattle.channel_file.proofs.check_form.Reads as check-form-reads
-
-check-form-requires : tie.Need-check-form-requires
-check-form-requires c κs = search needs
-
-enum-told : tie.Need-enum-told
-enum-told c = search needs
-
-enum-known-rule-at : tie.Need-enum-known-rule-at
-enum-known-rule-at c = search needs
 
 sub-t6 : tie.Need-sub-t6
 sub-t6 c =
-    let h = some-text (now (c .before .before .before .before .before .args .text)) (accepted (now (c .before .before .before .before .before .args .text)) (sym (c .before .rule-at .given .1) ∙ c .before .before .before .check-form .ensures)) in
+    let h = some-text (now (c .before .before .before .before .before .args .text)) (accepted (now (c .before .before .before .before .before .args .text))
+    (sym (c .before .rule-at .given .1) ∙ c .before .before .before .check-form .ensures)) in
     omega arith
 
 returns : tie.Need-returns
-returns c = spans-refused (now (c .before .before .before .before .args .text)) _ (not-accepted (now (c .before .before .before .before .args .text)) _ (sym (c .enum-told .given .1) ∙ c .before .before .check-form .ensures))
+returns c = spans-refused (now (c .before .before .before .before .args .text)) _ (not-accepted (now (c .before .before .before .before .args .text)) _
+    (sym (c .enum-told .given .1) ∙ c .before .before .check-form .ensures))
 
 returns-2 : tie.Need-returns-2
-returns-2 c = spans-tokens (now (c .before .before .before .before .before .args .text)) (accepted (now (c .before .before .before .before .before .args .text)) (sym (c .before .rule-at .given .1) ∙ c .before .before .before .check-form .ensures))
+returns-2 c = spans-tokens (now (c .before .before .before .before .before .args .text))
+    (accepted (now (c .before .before .before .before .before .args .text)) (sym (c .before .rule-at .given .1)
+    ∙ c .before .before .before .check-form .ensures))
 
 pub token-span-spec : {M : Type 1} → statement M
 token-span-spec =
-    tie.close (tie.spec check-form-requires enum-told enum-known-rule-at sub-t6 returns returns-2)
+    tie.close (tie.spec (λ c κs. search needs) (λ c. search needs) (λ c. search needs) sub-t6 returns returns-2)

@@ -1,59 +1,52 @@
--- `read_file` meets its contract: where the small buffers are too short nothing has changed, and the large ones answer.
--- Assumes nothing.
-use Rattle.channel_io.proofs.Storing.{tried-answered, tried-again}
+-- `read_file` meets its contract: 4, or what is answered of the bytes that are judged.
+use mathlib.Core.Path.{sym, subst}
+use native.Mathlib.Omega.{arith}
+use lib.Seq.{length-take-le}
+use Rattle.channel_io.specs.Steps.{Holds}
+use Rattle.channel_io.proofs.Pairs.{reads-off-form, reads-held}
 use borrow.Author.Needs.{needs}
 use Rattle.channel_io.proofs.read_file.Statement.{statement}
 use Rattle.channel_io.proofs.read_file.Tie as tie
 
-slice-aggregate-read-within : tie.Need-slice-aggregate-read-within
-slice-aggregate-read-within c = search needs
+array-share-prefix-entries : tie.Need-array-share-prefix-entries
+array-share-prefix-entries c =
+    let h = subst (Holds (c .before .before .before .before .before .before .before .before .before .before .before .args .text .now) _ _)
+    (c .before .numbers .given .1) (c .before .before .before .before .before .store-text .ensures) in
+    omega (arith, h .few-entries)
 
-slice-aggregate-read-within-2 : tie.Need-slice-aggregate-read-within-2
-slice-aggregate-read-within-2 c = search needs
+slice-aggregate-keep-pair : tie.Need-slice-aggregate-keep-pair
+slice-aggregate-keep-pair c =
+    let h = subst (Holds (c .before .before .before .before .before .before .before .before .before .before .before .before .args .text .now) _ _)
+    (c .before .before .numbers .given .1) (c .before .before .before .before .before .before .store-text .ensures) in
+    sym (length-take-le _ _ (omega (arith, h .few-entries)))
 
-read-within-requires : tie.Need-read-within-requires
-read-within-requires c κs = search needs
+array-share-prefix-nodes : tie.Need-array-share-prefix-nodes
+array-share-prefix-nodes c =
+    let h = subst (Holds (c .before .before .before .before .before .before .before .before .before .before .before .before .args .text .now) _ _)
+    (c .before .before .numbers .given .1) (c .before .before .before .before .before .before .store-text .ensures) in
+    omega (arith, h .few-nodes)
 
-enum-known-attempt : tie.Need-enum-known-attempt
-enum-known-attempt c = search needs
-
-enum-told : tie.Need-enum-told
-enum-told c = search needs
-
-read-long-requires : tie.Need-read-long-requires
-read-long-requires c κs = search needs
-
-same-length : tie.Need-same-length
-same-length c = search needs
-
-same-length-2 : tie.Need-same-length-2
-same-length-2 c = search needs
+slice-aggregate-keep-pair-2 : tie.Need-slice-aggregate-keep-pair-2
+slice-aggregate-keep-pair-2 c =
+    let h = subst (Holds (c .before .before .before .before .before .before .before .before .before .before .before .before .before .args .text .now) _ _)
+    (c .before .before .before .numbers .given .1) (c .before .before .before .before .before .before .before .store-text .ensures) in
+    sym (length-take-le _ _ (omega (arith, h .few-nodes)))
 
 returns : tie.Need-returns
-returns c = tried-answered (c .before .before .before .before .before .before .before .before .before .read-within .ensures) (c .before .attempt .given .1)
-
-same-length-3 : tie.Need-same-length-3
-same-length-3 c = search needs
-
-same-length-4 : tie.Need-same-length-4
-same-length-4 c = search needs
+returns c =
+    let a = c .before .before .before .before .before .before .before .before .before .before .before .args in
+    reads-off-form (a .meet .now) (a .rule .now) (subst (Holds (a .text .now) _ _) (c .before .refusal .given .1)
+    (c .before .before .before .before .before .store-text .ensures))
 
 returns-2 : tie.Need-returns-2
-returns-2 c = tried-again (c .before .before .before .before .before .before .before .before .before .before .before .before .before .before .before .read-within .ensures) (c .before .before .before .before .before .before .before .enum-told .given .1) (c .before .before .before .before .read-long .ensures)
+returns-2 c =
+    let d = c .before .before .before .before .before .before .before .before .before .before in
+    let a = d .before .before .before .before .before .before .before .before .before .before .args in
+    reads-held (a .meet .now) (a .rule .now) _ _ _ (subst (Holds (a .text .now) _ _) (d .numbers .given .1)
+    (d .before .before .before .before .store-text .ensures))
+    (c .before .before .before .before .keep-pair .ensures)
 
 pub read-file-spec : {M : Type 1} → statement M
-read-file-spec =
-    tie.close
-    (tie.spec
-    slice-aggregate-read-within
-    slice-aggregate-read-within-2
-    read-within-requires
-    enum-known-attempt
-    enum-told
-    read-long-requires
-    same-length
-    same-length-2
-    returns
-    same-length-3
-    same-length-4
-    returns-2)
+read-file-spec = tie.close (tie.spec (λ c. search needs) (λ c. search needs) (λ c κs. search needs) (λ c. search needs) (λ c. search needs)
+    array-share-prefix-entries slice-aggregate-keep-pair array-share-prefix-nodes slice-aggregate-keep-pair-2 (λ c κs. search needs) returns
+    (λ c. search needs) (λ c. search needs) returns-2)

@@ -1,12 +1,7 @@
--- `behind` meets its contract.
--- Assumes nothing.
-use mathlib.Core.Path.{sym, ap}
-use mathlib.Core.Bool.{Bool, cond}
+use mathlib.Core.{Path.{sym, ap}, Bool.{Bool, cond}}
 use borrow.Author.Tests.{lt-ltb, le-ltb}
 use Rattle.channel_writer.proofs.behind.Statement.{statement}
 use Rattle.channel_writer.proofs.behind.Tie as tie
-use Rattle.channel_writer.proofs.behind.Reads as reads
-use Rattle.channel_writer.proofs.behind.Lts as lts
 
 returns : tie.Need-returns
 returns c = sym (ap (λ (t : Bool). cond t 32 10) (lt-ltb _ _ (c .if1 .taken)))

@@ -1,12 +1,8 @@
--- `has_bare_token` meets its contract.
--- Assumes nothing.
 use mathlib.Core.Path.{sym, ap}
 use Rattle.channel_writer.specs.Steps.{is-some}
 use Rattle.channel_writer.proofs.Nodes.{bare-0, bare-4, bare-5, bare-not}
 use Rattle.channel_writer.proofs.has_bare_token.Statement.{statement}
 use Rattle.channel_writer.proofs.has_bare_token.Tie as tie
-use Rattle.channel_writer.proofs.has_bare_token.Reads as reads
-use Rattle.channel_writer.proofs.has_bare_token.Lts as lts
 
 returns : tie.Need-returns
 returns c = sym (ap is-some (bare-0 _ (c .if1 .taken)))

@@ -1,26 +1,19 @@
--- `has_token` meets its contract.
--- Assumes nothing.
 use mathlib.Core.Path.{sym, ap, _∙_}
 use Rattle.channel_writer.specs.Steps.{is-some}
 use Rattle.channel_writer.proofs.Nodes.{node-3, node-one, node-not}
 use borrow.Author.Needs.{needs}
 use Rattle.channel_writer.proofs.has_token.Statement.{statement}
 use Rattle.channel_writer.proofs.has_token.Tie as tie
-use Rattle.channel_writer.proofs.has_token.Reads as reads
-use Rattle.channel_writer.proofs.has_token.Lts as lts
-use Rattle.channel_writer.proofs.has_token_of_one.Reads as has-token-of-one-reads
 
 returns : tie.Need-returns
 returns c = sym (ap is-some (node-3 _ (c .before .args .a) (c .before .args .b) (c .if1 .taken)))
 
-has-token-of-one-requires : tie.Need-has-token-of-one-requires
-has-token-of-one-requires c κs = search needs
-
 returns-2 : tie.Need-returns-2
-returns-2 c = c .has-token-of-one .ensures ∙ sym (ap is-some (node-one _ (c .before .before .before .args .a) _ (c .before .before .if1 .left) (c .before .if2 .taken)))
+returns-2 c = c .has-token-of-one .ensures
+    ∙ sym (ap is-some (node-one _ (c .before .before .before .args .a) _ (c .before .before .if1 .left) (c .before .if2 .taken)))
 
 returns-3 : tie.Need-returns-3
 returns-3 c = sym (ap is-some (node-not _ (c .before .before .args .a) _ (c .before .if1 .left) (c .if2 .left)))
 
 pub has-token-spec : {M : Type 1} → statement M
-has-token-spec = tie.close (tie.spec returns has-token-of-one-requires returns-2 returns-3)
+has-token-spec = tie.close (tie.spec returns (λ c κs. search needs) returns-2 returns-3)

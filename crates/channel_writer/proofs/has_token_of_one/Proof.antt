@@ -1,14 +1,9 @@
--- `has_token_of_one` meets its contract.
--- Assumes nothing.
 use mathlib.Core.Path.{sym, ap, _∙_}
 use Rattle.channel_writer.specs.Steps.{is-some}
 use Rattle.channel_writer.proofs.Nodes.{one-1, one-2, one-bare, one-not}
 use borrow.Author.Needs.{needs}
 use Rattle.channel_writer.proofs.has_token_of_one.Statement.{statement}
 use Rattle.channel_writer.proofs.has_token_of_one.Tie as tie
-use Rattle.channel_writer.proofs.has_token_of_one.Reads as reads
-use Rattle.channel_writer.proofs.has_token_of_one.Lts as lts
-use Rattle.channel_writer.proofs.has_bare_token.Reads as has-bare-token-reads
 
 returns : tie.Need-returns
 returns c = sym (ap is-some (one-1 _ (c .before .args .a) (c .if1 .taken)))
@@ -16,15 +11,13 @@ returns c = sym (ap is-some (one-1 _ (c .before .args .a) (c .if1 .taken)))
 returns-2 : tie.Need-returns-2
 returns-2 c = sym (ap is-some (one-2 _ (c .before .before .args .a) (c .if2 .taken)))
 
-has-bare-token-requires : tie.Need-has-bare-token-requires
-has-bare-token-requires c κs = search needs
-
 returns-3 : tie.Need-returns-3
-returns-3 c = c .has-bare-token .ensures ∙ sym (ap is-some (one-bare _ _ (c .before .before .before .if1 .left) (c .before .before .if2 .left) (c .before .if3 .taken)))
+returns-3 c = c .has-bare-token .ensures ∙ sym
+    (ap is-some (one-bare _ _ (c .before .before .before .if1 .left) (c .before .before .if2 .left) (c .before .if3 .taken)))
 
 returns-4 : tie.Need-returns-4
 returns-4 c = sym (ap is-some (one-not _ _ (c .before .before .if1 .left) (c .before .if2 .left) (c .if3 .left)))
 
 pub has-token-of-one-spec : {M : Type 1} → statement M
 has-token-of-one-spec =
-    tie.close (tie.spec returns returns-2 has-bare-token-requires returns-3 returns-4)
+    tie.close (tie.spec returns returns-2 (λ c κs. search needs) returns-3 returns-4)

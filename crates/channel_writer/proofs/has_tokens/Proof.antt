@@ -1,19 +1,13 @@
 -- `has_tokens` meets its contract. The invariant: all nodes have tokens exactly if those from here on have.
--- Assumes nothing.
 use Prim.Native.Nat.{_-_, _≤_}
 use mathlib.Core.Path.{_≡_, refl, sym, _∙_}
 use native.Mathlib.Omega.{arith}
 use lib.ListN.{length, drop}
-use borrow.Author.Tests.{not-true, not-false}
-use Rattle.channel_writer.specs.Writing.{node-tokens}
-use Rattle.channel_writer.specs.Steps.{is-some}
+use borrow.Author.{Tests.{not-true, not-false}, Needs.{needs}}
+use Rattle.channel_writer.specs.{Writing.{node-tokens}, Steps.{is-some}}
 use Rattle.channel_writer.proofs.Nodes.{some-on, some-not, some-over, some-end}
-use borrow.Author.Needs.{needs}
 use Rattle.channel_writer.proofs.has_tokens.Statement.{statement}
 use Rattle.channel_writer.proofs.has_tokens.Tie as tie
-use Rattle.channel_writer.proofs.has_tokens.Reads as reads
-use Rattle.channel_writer.proofs.has_tokens.Lts as lts
-use Rattle.channel_writer.proofs.has_token.Reads as has-token-reads
 
 abbrev Inv-loop : tie.InvT-loop
 Inv-loop nodes at₀ at = (at ≤ length nodes) × (is-some (node-tokens nodes) ≡ is-some (node-tokens (drop at nodes)))
@@ -24,62 +18,34 @@ abbrev μ-loop : tie.MeasureT-loop
 loop-holds : tie.Need-loop-holds Inv-loop μ-loop
 loop-holds c = (omega arith, refl)
 
-sub-if1 : tie.Need-sub-if1 Inv-loop μ-loop
-sub-if1 c = search needs
-
 returns : tie.Need-returns Inv-loop μ-loop
 returns c = sym (c .before .before .loop .inv .1 ∙ some-over _ _ (c .before .loop-test .taken) (c .if1 .taken))
-
-shared-slice-read-has-token : tie.Need-shared-slice-read-has-token Inv-loop μ-loop
-shared-slice-read-has-token c = search needs
-
-add-has-token : tie.Need-add-has-token Inv-loop μ-loop
-add-has-token c = search needs
 
 shared-slice-read-has-token-2 : tie.Need-shared-slice-read-has-token-2 Inv-loop μ-loop
 shared-slice-read-has-token-2 c = omega (arith, c .before .before .if1 .left)
 
-add-has-token-2 : tie.Need-add-has-token-2 Inv-loop μ-loop
-add-has-token-2 c = search needs
-
 shared-slice-read-has-token-3 : tie.Need-shared-slice-read-has-token-3 Inv-loop μ-loop
 shared-slice-read-has-token-3 c = omega (arith, c .before .before .before .if1 .left)
 
-has-token-requires : tie.Need-has-token-requires Inv-loop μ-loop
-has-token-requires c κs = search needs
-
 returns-2 : tie.Need-returns-2 Inv-loop μ-loop
-returns-2 c = sym (c .before .before .before .before .before .before .before .loop .inv .1 ∙ some-not (c .before .before .before .before .before .before .before .before .before .args .nodes .now) (c .before .before .before .before .before .before .before .loop .at) (omega (arith, c .before .before .before .before .before .if1 .left)) (sym (c .before .has-token .ensures) ∙ not-true _ (c .if2 .taken)))
-
-add-at : tie.Need-add-at Inv-loop μ-loop
-add-at c = search needs
-
-loop-less : tie.Need-loop-less Inv-loop μ-loop
-loop-less c = omega arith
+returns-2 c = sym (c .before .before .before .before .before .before .before .loop .inv .1
+    ∙ some-not (c .before .before .before .before .before .before .before .before .before .args .nodes .now)
+    (c .before .before .before .before .before .before .before .loop .at) (omega (arith, c .before .before .before .before .before .if1 .left))
+    (sym (c .before .has-token .ensures) ∙ not-true _ (c .if2 .taken)))
 
 loop-again : tie.Need-loop-again Inv-loop μ-loop
-loop-again c = (omega (arith, c .before .before .before .before .before .if1 .left), c .before .before .before .before .before .before .before .loop .inv .1 ∙ some-on (c .before .before .before .before .before .before .before .before .before .args .nodes .now) (c .before .before .before .before .before .before .before .loop .at) (omega (arith, c .before .before .before .before .before .if1 .left)) (sym (c .before .has-token .ensures) ∙ not-false _ (c .if2 .left)))
+loop-again c = (
+  omega (arith, c .before .before .before .before .before .if1 .left),
+  c .before .before .before .before .before .before .before .loop .inv .1
+      ∙ some-on (c .before .before .before .before .before .before .before .before .before .args .nodes .now)
+      (c .before .before .before .before .before .before .before .loop .at) (omega (arith, c .before .before .before .before .before .if1 .left))
+      (sym (c .before .has-token .ensures) ∙ not-false _ (c .if2 .left)),
+)
 
 returns-3 : tie.Need-returns-3 Inv-loop μ-loop
 returns-3 c = sym (c .before .loop .inv .1 ∙ some-end _ _ (c .loop-test .left))
 
 pub has-tokens-spec : {M : Type 1} → statement M
-has-tokens-spec =
-    tie.close
-    (tie.spec
-    Inv-loop
-    μ-loop
-    loop-holds
-    sub-if1
-    returns
-    shared-slice-read-has-token
-    add-has-token
-    shared-slice-read-has-token-2
-    add-has-token-2
-    shared-slice-read-has-token-3
-    has-token-requires
-    returns-2
-    add-at
-    loop-less
-    loop-again
-    returns-3)
+has-tokens-spec = tie.close (tie.spec Inv-loop μ-loop loop-holds (λ c. search needs) returns (λ c. search needs) (λ c. search needs)
+    shared-slice-read-has-token-2 (λ c. search needs) shared-slice-read-has-token-3 (λ c κs. search needs) returns-2 (λ c. search needs)
+    (λ c. omega arith) loop-again returns-3)

@@ -1,27 +1,14 @@
--- `put_line` meets its contract.
--- Assumes nothing.
 use mathlib.Core.List.{[], _∷_, append-assoc}
 use Rattle.channel_file.specs.ChannelFile.{number}
 use Rattle.text_output.proofs.Outputs.{puts-as, puts-then}
 use borrow.Author.Needs.{needs}
 use Rattle.channel_writer.proofs.put_line.Statement.{statement}
 use Rattle.channel_writer.proofs.put_line.Tie as tie
-use Rattle.channel_writer.proofs.put_line.Reads as reads
-use Rattle.channel_writer.proofs.put_line.Lts as lts
-use Rattle.channel_writer.proofs.put_keyed.Reads as put-keyed-reads
-use Rattle.text_output.proofs.put.Reads as put-reads
-
-put-keyed-requires : tie.Need-put-keyed-requires
-put-keyed-requires c κs = search needs
-
-put-requires : tie.Need-put-requires
-put-requires c κs = search needs
-
-same-length : tie.Need-same-length
-same-length c = search needs
 
 returns : tie.Need-returns
-returns c = puts-as (append-assoc (c .before .before .before .before .before .before .before .before .before .before .args .key .now) (number (c .before .before .before .before .before .before .before .before .before .before .args .v)) (10 ∷ [])) (puts-then (c .before .before .before .before .before .before .put-keyed .ensures) (c .before .before .put .ensures))
+returns c = puts-as (append-assoc (c .before .before .before .before .before .before .before .before .before .before .args .key .now)
+    (number (c .before .before .before .before .before .before .before .before .before .before .args .v)) (10 ∷ []))
+    (puts-then (c .before .before .before .before .before .before .put-keyed .ensures) (c .before .before .put .ensures))
 
 pub put-line-spec : {M : Type 1} → statement M
-put-line-spec = tie.close (tie.spec put-keyed-requires put-requires same-length returns)
+put-line-spec = tie.close (tie.spec (λ c κs. search needs) (λ c κs. search needs) (λ c. search needs) returns)

@@ -1,0 +1,138 @@
+-- The entries of a meet line and the tokens of a text, stored one by one.
+use Prim.Native.Nat.{ℕ, _+_, _-_, _≤_, _<_}
+use mathlib.Core.{Path.{_≡_, refl, sym, ap, _∙_}, List.{List, [], _∷_, _++_}, Bool.{Bool, true, false}}
+use native.Mathlib.Omega.{arith}
+use borrow.Author.Tests.{eqb-true, ne-eqb}
+use lib.{Dec.{eqb}, ListN.{length, drop, getD, length-append, length-drop}}
+use Rattle.text_format.specs.{Format.{Parsed, ok, bad, bind, Outcome, contents, refused, at-end, outcome}, Series.{space, newline, number-item}}
+use Rattle.text_format.proofs.{Combinators.{not-both}, Series.{shorter, number-item-laws, number-item-solid}}
+use Rattle.text_output.specs.Output.{Puts}
+use Rattle.channel_file.specs.{ChannelFile.{Token, token-T}, FileFormat.{token-item, tokens}, Reading.{read-tokens}}
+use Rattle.channel_file.specs.Bytes.{entry, node, encoded, put-front, token-reply, stored-nodes, ReadsTokens}
+use Rattle.channel_file.specs.Steps.{Saw, counted, left, with-separator, StoresEntries, StoresTokens}
+use Rattle.channel_file.specs.declared.{Number.{Number}, TokenList.{TokenList}}
+use Rattle.channel_file.proofs.{FileFormat.{token-item-laws, token-solid, T-fits, zero-fits}, Offsets.{here, here-is, over}}
+use Rattle.channel_file.proofs.Buffers.{Took, took-none, took-next, took-last, took-bad, Last}
+
+-- ---- the entries from an offset on, of which those up to i are stored
+abbrev pub TookEntries : List ℕ → ℕ → ℕ → List ℕ → List ℕ → ℕ → ℕ → Type 0
+TookEntries t at i old new n k =
+    Took (number-item 2) 0 (number-item-laws 2) (number-item-solid 2) zero-fits entry (drop at t) (drop i t) old new n k
+
+pub entries-none : (t : List ℕ) (at : ℕ) (old : List ℕ) → Puts old [] old 0 0 → TookEntries t at at old old 0 0
+entries-none t at old p = took-none (number-item 2) 0 (number-item-laws 2) (number-item-solid 2) zero-fits entry (drop at t) old p
+
+module _ (t : List ℕ) (at i : ℕ) {old new : List ℕ} {n k : ℕ} (g : TookEntries t at i old new n k) where
+  pub entries-stuck : (p : ℕ) → Saw (number-item 2 .parse (drop i t)) (bad (drop p t)) t p → StoresEntries t at old new (Number.Bad p)
+  entries-stuck p q =
+      let e = took-bad (number-item 2) 0 (number-item-laws 2) (number-item-solid 2) zero-fits entry (drop p t) g (q .same) in
+      record { reply = record { same = ap (counted 0) e; within = q .within }; buffer = λ xs rest f. not-both f e }
+
+  module _ (v m : ℕ) {new′ : List ℕ} {q : ℕ} (p : Puts new (entry v) new′ k q) where
+    pub entries-next : Saw (number-item 2 .parse (drop i t)) (ok (v, space) (drop m t)) t m → TookEntries t at m old new′ (n + 1) q
+    entries-next s = took-next (number-item 2) 0 (number-item-laws 2) (number-item-solid 2) zero-fits entry v (drop m t) g (s .same) p
+
+    pub entries-end : Saw (number-item 2 .parse (drop i t)) (ok (v, newline) (drop m t)) t m → StoresEntries t at old new′ (Number.Value (n + 1) m)
+    entries-end s =
+        let l = took-last (number-item 2) 0 (number-item-laws 2) (number-item-solid 2) zero-fits entry v (drop m t) g (s .same) p in
+        let c : n + 1 ≡ length (l .items) = l .count in
+        let d : 0 + length (l .items) ≡ n + 1 = omega arith in
+        record {
+          reply = record { same = ap (counted 0) (l .same) ∙ ap (λ (z : ℕ). ok z (drop m t)) d; within = s .within };
+          buffer = λ xs rest f.
+              let e : ok (l .items) (drop m t) ≡ ok xs rest = sym (l .same) ∙ f in
+              let same : l .items ≡ xs = cc in
+              l .bytes ∙ ap (λ (z : List ℕ). put-front (encoded entry z) old) same;
+        }
+
+-- ---- the tokens of a text, of which those up to i are stored
+abbrev pub TookTokens : List ℕ → ℕ → List ℕ → List ℕ → ℕ → ℕ → Type 0
+TookTokens t i old new n k = Took token-item token-T token-item-laws token-solid T-fits node (left true t 0) (left true t i) old new n k
+
+pub tokens-none : (t old : List ℕ) → Puts old [] old 0 0 → TookTokens t 0 old old 0 0
+tokens-none t old p = took-none token-item token-T token-item-laws token-solid T-fits node (left true t 0) old p
+
+-- what is read of the whole text
+answered : (t : List ℕ) (y : Parsed (List Token)) → tokens .parse (left true t 0) ≡ y → read-tokens t ≡ outcome (left true t 0) (bind y (λ a r. at-end a r))
+answered t y e = ap (λ (z : Parsed (List Token)). outcome (left true t 0) (bind z (λ a r. at-end a r))) e
+
+not-both-ways : {C : Type 0} (x : Outcome (List Token)) (p : ℕ) (xs : List Token) → x ≡ refused p → x ≡ contents xs → C
+not-both-ways x p xs e f = let z : _≡_ {A = ℕ} 0 1 = cc in absurd (omega arith)
+
+left-over : (s : List ℕ) (xs : List Token) (r : List ℕ) → 0 < length r → outcome s (at-end xs r) ≡ refused (length s - length r)
+left-over s xs [] h = absurd (omega arith)
+left-over s xs (b ∷ r) h = refl
+
+malformed : (t old new : List ℕ) (p : ℕ) → read-tokens t ≡ refused p → StoresTokens t old new TokenList.Malformed
+malformed t old new p e = record { reply = sym (ap token-reply e); buffer = λ xs f. not-both-ways (read-tokens t) p xs e f }
+
+module _ (t : List ℕ) (i : ℕ) {old new : List ℕ} {n k : ℕ} (g : TookTokens t i old new n k) where
+  pub tokens-stuck : (any r : List ℕ) → token-item .parse (left true t i) ≡ bad r → StoresTokens t old any TokenList.Malformed
+  tokens-stuck any r e =
+      malformed t old any _ (answered t (bad r) (took-bad token-item token-T token-item-laws token-solid T-fits node r g e))
+
+  module _ (x : Token) (m : ℕ) (e : token-item .parse (left true t i) ≡ with-separator x (left true t m))
+      {new′ : List ℕ} {q : ℕ} (p : Puts new (node x) new′ k q) where
+    -- a space
+    spaced : m < length t → getD t m 0 ≡ 32 → token-item .parse (left true t i) ≡ ok (x, space) (left true t (m + 1))
+    spaced h b = e ∙ ap (λ (s : List ℕ). with-separator x (s ++ (10 ∷ []))) (here-is t m 32 h b)
+
+    pub tokens-next : m < length t → getD t m 0 ≡ 32 → TookTokens t (m + 1) old new′ (n + 1) q
+    tokens-next h b =
+        took-next token-item token-T token-item-laws token-solid T-fits node x (left true t (m + 1)) g (spaced h b) p
+
+    -- and reading goes on
+    pub tokens-forward : m < length t → getD t m 0 ≡ 32 → i ≤ length t → i < m + 1
+    tokens-forward h b w =
+        let l : length (left true t (m + 1)) < length (left true t i) =
+        shorter token-item token-T token-item-laws token-solid T-fits (left true t i) (x, space) (left true t (m + 1)) (spaced h b) in
+        omega (arith, length-append (drop (m + 1) t) (10 ∷ []), length-append (drop i t) (10 ∷ []), length-drop (m + 1) t, length-drop i t)
+
+    last : (r : List ℕ) → with-separator x (left true t m) ≡ ok (x, newline) r
+        → Last token-item token-T token-item-laws token-solid T-fits node (left true t 0) old new′ r (n + 1)
+    last r f = took-last token-item token-T token-item-laws token-solid T-fits node x r g (e ∙ f) p
+
+    -- the end
+    pub tokens-end : length t ≤ m → StoresTokens t old new′ (TokenList.Nodes (n + 1))
+    tokens-end h =
+        let l = last [] (ap (λ (s : List ℕ). with-separator x (s ++ (10 ∷ []))) (over t m h)) in
+        let f : read-tokens t ≡ contents (l .items) = answered t (ok (l .items) []) (l .same) in
+        record {
+          reply = ap (λ (z : ℕ). TokenList.Nodes z) (l .count) ∙ sym (ap token-reply f);
+          buffer = λ xs f′.
+              let d : contents (l .items) ≡ contents xs = sym f ∙ f′ in
+              let same : l .items ≡ xs = cc in
+              l .bytes ∙ ap (λ (z : List Token). put-front (encoded node z) old) same;
+        }
+
+    -- any other byte: byte 10, behind which something is left, or one that is no separator
+    pub tokens-cut : m < length t → ¬ (getD t m 0 ≡ 32) → StoresTokens t old new′ TokenList.Malformed
+    tokens-cut h other = go (eqb (getD t m 0) 10) refl
+      where
+        go : (f : Bool) → eqb (getD t m 0) 10 ≡ f → StoresTokens t old new′ TokenList.Malformed
+        go true d =
+            let b : getD t m 0 ≡ 10 = eqb-true (getD t m 0) 10 d in
+            let r = drop (m + 1) t ++ (10 ∷ []) in
+            let l = last r (ap (λ (s : List ℕ). with-separator x (s ++ (10 ∷ []))) (here-is t m 10 h b)) in
+            malformed t old new′ _ (answered t (ok (l .items) r) (l .same)
+            ∙ left-over (left true t 0) (l .items) r (omega (arith, length-append (drop (m + 1) t) (10 ∷ []))))
+        go false d =
+            tokens-stuck new′ (left true t m)
+            (e ∙ rw (here t m h, d, ne-eqb (getD t m 0) 32 other))
+
+-- ---- a text of tokens, read once for its form and once to store it
+
+pub reads-none : (t old : List ℕ) → TokenList.Malformed ≡ token-reply (read-tokens t) → ReadsTokens t old old TokenList.Malformed
+reads-none t old e = record { reply = e; buffer = go (read-tokens t) e }
+  where
+    go : (x : Outcome (List Token)) → TokenList.Malformed ≡ token-reply x → old ≡ stored-nodes x old
+    go (contents xs) e = let z : _≡_ {A = ℕ} 0 1 = cc in absurd (omega arith)
+    go (refused p) e = refl
+
+pub reads-all : (t old new : List ℕ) (r : TokenList) (n : ℕ) → TokenList.Nodes n ≡ token-reply (read-tokens t) → StoresTokens t old new r
+    → ReadsTokens t old new r
+reads-all t old new r n e s = record { reply = s .reply; buffer = go (read-tokens t) refl e }
+  where
+    go : (x : Outcome (List Token)) → read-tokens t ≡ x → TokenList.Nodes n ≡ token-reply x → new ≡ stored-nodes x old
+    go (contents xs) f e = s .buffer xs f
+    go (refused p) f e = let z : _≡_ {A = ℕ} 0 1 = cc in absurd (omega arith)

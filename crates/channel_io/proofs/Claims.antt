@@ -1,0 +1,234 @@
+-- The answers to reading and writing a file and to making its table are those that document 01 asks for, and the only ones.
+use Prim.Native.Nat.{ℕ, _<_}
+use mathlib.Core.{Path.{_≡_, refl, subst}, Logic.{inl, inr, ⊎-elim}, List.{List, [], _∷_, _++_}, Bool.{true, false}, Option.{Option, none}}
+use native.Mathlib.{Omega.{arith}, Nat.{mul-le-mul}}
+use lib.{Dec.{leb}, ListN.{length}}
+use borrow.Author.Tests.{leb-true, leb-false}
+use Rattle.limits.specs.Limits.{node-limit, state-limit, table-limit}
+use Rattle.theory.proofs.{Claims.{grammar, table-values}, ValueSets.{and-left, and-right, and-cases}}
+use Rattle.refusal.specs.declared.Refusal.{Refusal}
+use Rattle.refusal.specs.declared.Refusal.the-variants.{Plain, At}
+use Rattle.refusal.specs.Refusal.{Condition, plain, at-lowest, First, has-place, part-of, order, condition-numbers, right-places, Judged, or-else}
+use Rattle.refusal.specs.{Refusal.{plain-unless}, RefusalClaims.{NoneMet}}
+use Rattle.refusal.proofs.{Refusals.{only-place, plain-first, judged, accepted-exactly, first-then, first-append}, Refusals.{first-rest}}
+use Rattle.values.specs.declared.ValueKind.the-variants.{Numbered}
+use Rattle.values.specs.Setup.{Setup, SetupValue, setup, setup-meet, setup-top, setup-conditions, kind-conditions, WellFormed}
+use Rattle.values.specs.SetupTests.{setup-refusal}
+use Rattle.values.proofs.Setups.{square-small, setup-first, setup-accepted, accepted-events}
+use Rattle.formulas.specs.Claims.{byte-conditions}
+use Rattle.formulas.proofs.RuleClaims.{rule-judged}
+use Rattle.machines.specs.{TableBytes.{machine-of}, TableRefusal.{table-refusal}}
+use Rattle.machines.proofs.TableRefusals.{in-order-none}
+use Rattle.synthesis.specs.{Compilation.{rule-table-refusal, compile-rule-refusal}, Claims.{states-condition, buffer-condition}}
+use Rattle.synthesis.proofs.CompileClaims.{compile-rule-claim, compile-refusal-claim}
+use Rattle.text_format.specs.Format.{Outcome, contents, refused}
+use Rattle.channel_file.specs.{ChannelFile.{Contents}, Reading.{Refused4, AnswersFile, read-file}}
+use Rattle.channel_file.proofs.Claims.{answer-claim, one-answer-claim}
+use Rattle.channel_io.specs.FileJudgement.{setup-of, rule-numbers, pair-conditions, pair-table-conditions, contents-table-conditions}
+use Rattle.channel_io.specs.FileJudgement.{Short, short-meet, short-rule, ShortForTable, short-entries, short-table, read-conditions, file-conditions}
+use Rattle.channel_io.specs.FileJudgement.{shown-conditions, text-conditions, file-text, write-conditions}
+use Rattle.channel_io.specs.FileRefusals.{pair-refusal, has-room, stored-refusal, contents-read-refusal, pair-table-refusal}
+use Rattle.channel_io.specs.FileRefusals.{has-table-room, pair-compile-refusal, file-states, file-table, contents-table-refusal, file-refusal}
+use Rattle.channel_io.specs.FileRefusals.{text-refusal, write-refusal}
+use Rattle.channel_io.specs.Claims.{ReadClaim, WriteRefusalClaim, FileTableClaim, ContentsTableClaim, FileTableMadeClaim}
+use Rattle.channel_io.proofs.TablePairs.{rows-length, compile-passed, few-states, table-made, setup-passed}
+
+-- ---- 1 to 3, then 5 to 9, and 10
+module _ (s : Setup) (rule : List ℕ) where
+  pair-first : First (pair-conditions s rule) (pair-refusal s rule)
+  unfolding pair-refusal
+  pair-first = first-append (setup-conditions s) (byte-conditions (s .events) (s .kind) rule) _ _ (setup-first s)
+      (rule-judged (s .events) (s .kind) rule .first)
+
+  pub table-first : First (pair-table-conditions s rule) (pair-table-refusal s rule)
+  unfolding pair-table-refusal compile-rule-refusal or-else plain-unless
+  table-first = first-then (setup-conditions s) _ (setup-refusal s) _ (setup-first s) later
+    where
+      later : setup-refusal s ≡ none
+          → First (byte-conditions (s .events) (s .kind) rule ++ (states-condition (setup-meet s) (setup-top s) (s .events) (s .kind) rule state-limit ∷ []))
+          (rule-table-refusal (s .kind) (s .events) (setup-top s) (s .meet) rule state-limit)
+      later ok =
+          let w : WellFormed s = setup-accepted s .0 ok in
+          let f = compile-rule-claim state-limit (s .kind) (s .events) (setup-top s) (s .meet) rule (omega arith) (w .laws) .0 .first in
+          let e : compile-rule-refusal (s .kind) (s .events) (setup-top s) (s .meet) rule state-limit
+          ≡ rule-table-refusal (s .kind) (s .events) (setup-top s) (s .meet) rule state-limit = rw (accepted-events s ok) in
+          subst (First _) e (first-rest _ _ _ (λ r g. g .0 (w .some-events, w .few-events)) f)
+
+-- ---- 4, then what a text's contents meet
+module _ (conditions : Contents → List Condition) (refusal : Contents → Option Refusal) (first : (c : Contents) → First (conditions c) (refusal c))
+    (t : List ℕ) where
+  text-first : (x : Outcome Contents) → AnswersFile t x → First (at-lowest 4 (Refused4 t) ∷ shown-conditions conditions x) (text-refusal refusal x)
+  unfolding text-refusal First
+  text-first (contents c) a =
+      inr (
+        (λ r g.
+            let e = one-answer-claim t (contents c) (refused (g .0)) a (g .1 .holds) in
+            let z : _≡_ {A = ℕ} 0 1 = cc in
+            absurd (omega arith)),
+        first c,
+      )
+  text-first (refused p) a =
+      inl (
+        At 4 p,
+        (
+          p,
+          only-place (Refused4 t) p a (λ q h.
+              let e = one-answer-claim t (refused q) (refused p) h a in cc),
+          refl,
+        ),
+        refl,
+      )
+
+  pub text-judged :
+      ((c : Contents) → part-of (4 ∷ condition-numbers (conditions c)) order ≡ true) → ((c : Contents) → right-places (conditions c) ≡ true)
+      → Judged (text-conditions conditions t) (text-refusal refusal (read-file t))
+  unfolding condition-numbers right-places has-place part-of order
+  text-judged ordered placed =
+      judged (text-conditions conditions t) (text-refusal refusal (read-file t)) (text-first (read-file t) (answer-claim t)) (in-order (read-file t))
+      (in-place (read-file t))
+    where
+      in-order : (x : Outcome Contents) → part-of (condition-numbers (at-lowest 4 (Refused4 t) ∷ shown-conditions conditions x)) order ≡ true
+      in-order (contents c) = ordered c
+      in-order (refused p) = refl
+
+      in-place : (x : Outcome Contents) → right-places (at-lowest 4 (Refused4 t) ∷ shown-conditions conditions x) ≡ true
+      in-place (contents c) = placed c
+      in-place (refused p) = refl
+
+-- ---- a file is read into two buffers
+module _ (c : Contents) (meet rule : List ℕ) where
+  read-short : has-room (setup-of c) (rule-numbers c) meet rule ≡ false → Short c meet rule
+  unfolding has-room
+  read-short e =
+      ⊎-elim (λ h. short-meet (leb-false (length (c .meet)) (length meet) h)) (λ h. short-rule (leb-false (length (rule-numbers c)) (length rule) h))
+      (and-cases (leb (length (c .meet)) (length meet)) (leb (length (rule-numbers c)) (length rule)) e)
+
+  read-room : has-room (setup-of c) (rule-numbers c) meet rule ≡ true → ¬ Short c meet rule
+  unfolding has-room
+  read-room e (short-meet h) =
+      let l = leb-true (length (c .meet)) (length meet) (and-left (leb (length (c .meet)) (length meet)) _ e) in omega arith
+  read-room e (short-rule h) =
+      let l = leb-true (length (rule-numbers c)) (length rule) (and-right (leb (length (c .meet)) (length meet)) _ e) in omega arith
+
+  read-first : First (read-conditions c meet rule) (contents-read-refusal c meet rule)
+  unfolding stored-refusal
+  read-first =
+      first-append (pair-conditions (setup-of c) (rule-numbers c)) (plain 13 (Short c meet rule) ∷ []) _ _ (pair-first (setup-of c) (rule-numbers c))
+      (plain-first 13 (Short c meet rule) (has-room (setup-of c) (rule-numbers c) meet rule) read-short read-room)
+
+pub read-claim : ReadClaim
+unfolding setup-conditions kind-conditions condition-numbers right-places has-place part-of order
+read-claim t meet rule =
+    text-judged (λ c. read-conditions c meet rule) (λ c. contents-read-refusal c meet rule) (λ c. read-first c meet rule) t (λ c. refl) (λ c. refl)
+
+-- ---- a file is written into one
+pub write-refusal-claim : WriteRefusalClaim
+unfolding write-refusal setup-conditions kind-conditions condition-numbers right-places has-place part-of order
+write-refusal-claim events values top meet rule old =
+    let size = length (file-text events values top meet rule) in
+    judged (write-conditions events values top meet rule old) (write-refusal events values top meet rule old)
+    (first-append (pair-conditions (setup events values top meet) rule) (plain 13 (length old < size) ∷ []) _ _ (pair-first (setup events values top meet) rule)
+    (plain-first 13 (length old < size) (leb size (length old)) (λ e. leb-false size (length old) e) (λ e h. let l = leb-true size (length old) e in omega
+    arith)))
+    refl refl
+
+-- ---- a file's table is made
+
+pub contents-table-claim : ContentsTableClaim
+unfolding setup-conditions kind-conditions condition-numbers right-places has-place part-of order
+contents-table-claim c =
+    judged (contents-table-conditions c) (contents-table-refusal c) (table-first (setup-of c) (rule-numbers c)) refl refl
+
+pub file-table-made : FileTableMadeClaim
+file-table-made c ok =
+    let s = setup-of c in
+    let w = setup-passed s (rule-numbers c) ok in
+    let few = few-states s (rule-numbers c) ok in
+    record {
+      few-states = few;
+      few-bytes = omega (arith, rows-length s (rule-numbers c), mul-le-mul few (w .few-events));
+      few-entries = omega (arith, w .of-kind .whole, square-small (w .of-kind .few-values));
+      table = table-made s (rule-numbers c) ok;
+    }
+
+-- what follows conditions that are not met
+none-later : (cs ds : List Condition) → NoneMet (cs ++ ds) → NoneMet ds
+unfolding NoneMet
+none-later [] ds x = x
+none-later (C ∷ cs) ds x = none-later cs ds (x .1)
+
+module _ (c : Contents) (meet to : List ℕ) where
+  abbrev s : Setup
+  s = setup-of c
+
+  abbrev rows : List ℕ
+  rows = file-table c
+
+  abbrev ten : Condition
+  ten = states-condition (setup-meet s) (setup-top s) (s .events) (s .kind) (rule-numbers c) state-limit
+
+  -- of the table's buffer alone
+  abbrev thirteen : Condition
+  thirteen = buffer-condition (setup-meet s) (setup-top s) (s .events) (s .kind) (rule-numbers c) to
+
+  module _ (ok : contents-table-refusal c ≡ none) where
+    table-room : has-table-room s (rule-numbers c) meet to ≡ true → ¬ ShortForTable c meet to
+    unfolding has-table-room NoneMet
+    table-room e (short-entries h) =
+        let l = leb-true (length (c .meet)) (length meet) (and-left (leb (length (c .meet)) (length meet)) _ e) in omega arith
+    table-room e (short-table h) =
+        let l = leb-true (length rows) (length to) (and-right (leb (length (c .meet)) (length meet)) _ e) in
+        let none-met = accepted-exactly _ _ (compile-refusal-claim state-limit s (rule-numbers c) to .first) .0 (compile-passed s (rule-numbers c) ok to l) in
+        let last : NoneMet (ten ∷ thirteen ∷ []) =
+        none-later (byte-conditions (s .events) (s .kind) (rule-numbers c)) (ten ∷ thirteen ∷ []) (none-later (setup-conditions s) _ none-met) in
+        last .1 .0 (Plain 13) (h, refl)
+
+    table-short : has-table-room s (rule-numbers c) meet to ≡ false → ShortForTable c meet to
+    unfolding has-table-room
+    table-short e =
+        let made = table-made s (rule-numbers c) ok in
+        ⊎-elim
+        (λ h. short-entries (leb-false (length (c .meet)) (length meet) h))
+        (λ h. short-table (
+          made .formula,
+          made .code .written,
+          record {
+            states = file-states c;
+            table = machine-of (s .kind) (c .events) rows;
+            is-table = made .is-table;
+            shorter = (let l = leb-false (length rows) (length to) h in omega (arith, rows-length s (rule-numbers c)));
+          },
+        ))
+        (and-cases (leb (length (c .meet)) (length meet)) (leb (length rows) (length to)) e)
+
+  file-first : First (file-conditions c meet to) (file-refusal c meet to)
+  unfolding pair-compile-refusal
+  file-first =
+      first-then (contents-table-conditions c) (plain 13 (ShortForTable c meet to) ∷ []) (contents-table-refusal c) _ (table-first s (rule-numbers c))
+      (λ ok. plain-first 13 (ShortForTable c meet to) (has-table-room s (rule-numbers c) meet to) (table-short ok) (table-room ok))
+
+pub file-table-claim : FileTableClaim
+unfolding setup-conditions kind-conditions condition-numbers right-places has-place part-of order
+file-table-claim t meet to =
+    text-judged (λ c. file-conditions c meet to) (λ c. file-refusal c meet to) (λ c. file-first c meet to) t (λ c. refl) (λ c. refl)
+
+-- It passes as a table handed in.
+pub file-table-accepted :
+    (c : Contents) → contents-table-refusal c ≡ none →
+    table-refusal table-limit (c .events) (Numbered (c .values)) (file-states c) 0 (file-table c) ≡ none
+file-table-accepted c passed =
+    let made = file-table-made c passed in
+    let t = made .table in
+    let w = setup-passed (setup-of c) (rule-numbers c) passed in
+    let runs =
+    table-values (SetupValue (setup-of c)) (setup-meet (setup-of c)) (setup-top (setup-of c)) (c .events) (w .laws) (t .formula)
+    (grammar ℕ node-limit (c .events) (SetupValue (setup-of c)) (t .formula) (t .code .accepted)) _ _ (t .is-table) in
+    in-order-none table-limit (c .events) (Numbered (c .values)) (file-states c) 0 (file-table c)
+    record {
+      some-states = runs .0;
+      few-states = made .few-states;
+      entry-count = rows-length (setup-of c) (rule-numbers c);
+      start-in = runs .0;
+      values-in = λ l e hl he. runs .1 .value-in l hl e he;
+      nexts-in = λ l e hl he. runs .1 .next-in l hl e he;
+    }

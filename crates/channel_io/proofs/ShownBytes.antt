@@ -1,0 +1,200 @@
+-- The bytes of a file that are judged: entries and nodes above the limits are not, and yet the refusal is that of the file's numbers.
+use Prim.Native.Nat.{ℕ, _*_, _/_, _≤_, _<_}
+use mathlib.Core.{Path.{_≡_, refl, sym, ap, _∙_}, List.{List, []}, Bool.{Bool, true, false, cond}, Option.{Option, none, some}}
+use native.Mathlib.{Omega.{arith}, Nat.{mul-le-mul}}
+use borrow.Author.Tests.{le-leb, leb-true, leb-false}
+use lib.{Dec.{leb}, ListN.{length, take, drop}, Seq.{take-at}}
+use Rattle.theory.proofs.ValueSets.{and-left}
+use Rattle.limits.specs.Limits.{meet-limit, node-limit}
+use Rattle.refusal.specs.declared.Refusal.{Refusal}
+use Rattle.refusal.specs.{Refusal.{or-else, plain-unless}, LentBuffers.{put}}
+use Rattle.refusal.proofs.Refusals.{or-else-none, plain-none}
+use Rattle.values.specs.declared.ValueKind.the-variants.{Numbered}
+use Rattle.values.specs.{Setup.{setup, WellFormed}, SetupTests.{events-test, values-test, meet-test, kind-refusal, setup-refusal}}
+use Rattle.values.proofs.Setups.{values-small, square-small, meet-test-length, setup-accepted}
+use Rattle.formulas.specs.RuleRefusal.{count-fits, rule-refusal}
+use Rattle.formulas.proofs.Decoding.{CountFits, count-facts}
+use Rattle.text_format.specs.Format.{Outcome, contents, refused}
+use Rattle.channel_file.specs.{ChannelFile.{Contents}, Reading.{read-file}}
+use Rattle.channel_file.specs.Bytes.{entry, node, meet-bytes, rule-bytes, put-front, stored-reply, stored-meet, stored-rule, Stores}
+use Rattle.channel_file.specs.declared.Stored.{Stored}
+use Rattle.channel_file.proofs.Buffers.{encoded-length, front-whole}
+use Rattle.channel_io.specs.{FileJudgement.{setup-of, node-numbers, rule-numbers}, FileRefusals.{pair-refusal, contents-refusal}}
+use Rattle.channel_io.specs.{FileReading.{numbers}, Steps.{shown-entries, shown-nodes, Holding}}
+use Rattle.channel_io.proofs.Clamping.{meet-clamped, rule-clamped, setup-same, rule-same, limits, nothing-clamped}
+
+-- ---- lengths
+
+entries-length : (c : Contents) → length (meet-bytes c) ≡ length (c .meet)
+entries-length c = omega (arith, encoded-length entry 1 (λ a. refl) (c .meet))
+
+nodes-length : (c : Contents) → length (rule-bytes c) ≡ 3 * length (c .rule)
+nodes-length c = omega (arith, encoded-length node 3 (λ a. refl) (c .rule))
+
+numbers-length : (c : Contents) → length (rule-numbers c) ≡ 3 * length (c .rule)
+numbers-length c = omega (arith, encoded-length node-numbers 3 (λ a. refl) (c .rule))
+
+-- ---- 1 to 3
+
+-- a table that is not whole is one whatever its entries are
+length-at-fault :
+    (events values top : ℕ) (meet other : List ℕ) → (values-test values top ≡ true → meet-test values top meet ≡ false)
+    → (values-test values top ≡ true → meet-test values top other ≡ false) → setup-refusal (setup events values top meet)
+    ≡ setup-refusal (setup events values top other)
+unfolding setup-refusal kind-refusal or-else plain-unless
+length-at-fault events values top meet other h g = ap (or-else (plain-unless (events-test events) 1)) (go (values-test values top) refl)
+  where
+    go : (b : Bool) → values-test values top ≡ b → kind-refusal (Numbered values) top meet ≡ kind-refusal (Numbered values) top other
+    go true e = rw (h e, g e)
+    go false e = rw e
+
+some-values : (values top : ℕ) → values-test values top ≡ true → 1 ≤ values
+unfolding values-test
+some-values values top e = leb-true 1 values (and-left (leb 1 values) _ e)
+
+shown-setup : (c : Contents) → setup-refusal (setup (c .events) (c .values) (c .top) (shown-entries c)) ≡ setup-refusal (setup-of c)
+shown-setup c = go (leb (length (c .meet)) meet-limit) refl
+  where
+    go : (b : Bool) → leb (length (c .meet)) meet-limit ≡ b
+        → setup-refusal (setup (c .events) (c .values) (c .top) (cond b (meet-bytes c) [])) ≡ setup-refusal (setup-of c)
+    go true e =
+        ap (λ (m : List ℕ). setup-refusal (setup (c .events) (c .values) (c .top) m)) (meet-clamped (c .meet))
+        ∙ setup-same (c .events) (c .values) (c .top) (c .meet)
+    go false e =
+        let long = leb-false (length (c .meet)) meet-limit e in
+        length-at-fault (c .events) (c .values) (c .top) [] (c .meet)
+        (λ v. meet-test-length (c .values) (c .top) [] (λ z.
+        let some = some-values (c .values) (c .top) v in omega (arith, mul-le-mul some some)))
+        (λ v. meet-test-length (c .values) (c .top) (c .meet) (λ z. omega (arith, square-small (values-small (c .values) (c .top) v))))
+
+-- ---- 5 to 9
+
+-- over the limit, or no nodes
+count-at-fault : (events values : ℕ) (rule other : List ℕ) → count-fits 3 node-limit (length rule) ≡ false → count-fits 3 node-limit (length other) ≡ false
+    → rule-refusal events (Numbered values) rule ≡ rule-refusal events (Numbered values) other
+unfolding rule-refusal or-else plain-unless
+count-at-fault events values rule other h g = rw (h, g)
+
+many-nodes : (n : ℕ) → node-limit < n / 3 → count-fits 3 node-limit n ≡ false
+many-nodes n h = go (count-fits 3 node-limit n) refl
+  where
+    go : (b : Bool) → count-fits 3 node-limit n ≡ b → b ≡ false
+    go true e = let w : CountFits 3 node-limit n = count-facts 3 node-limit n e in absurd (omega (arith, w .within))
+    go false e = refl
+
+no-nodes : count-fits 3 node-limit 0 ≡ false
+unfolding count-fits
+no-nodes = refl
+
+shown-rule : (c : Contents) → c .events ≤ 255 → c .values ≤ 255
+    → rule-refusal (c .events) (Numbered (c .values)) (shown-nodes c) ≡ rule-refusal (c .events) (Numbered (c .values)) (rule-numbers c)
+shown-rule c he hv = go (leb (length (c .rule)) node-limit) refl
+  where
+    go : (b : Bool) → leb (length (c .rule)) node-limit ≡ b
+        → rule-refusal (c .events) (Numbered (c .values)) (cond b (rule-bytes c) []) ≡ rule-refusal (c .events) (Numbered (c .values)) (rule-numbers c)
+    go true e =
+        ap (rule-refusal (c .events) (Numbered (c .values))) (rule-clamped (c .rule)) ∙ rule-same (c .values) (rule-numbers c) (c .events) he hv
+    go false e =
+        let long = leb-false (length (c .rule)) node-limit e in
+        count-at-fault (c .events) (c .values) [] (rule-numbers c) no-nodes (many-nodes (length (rule-numbers c)) (omega (arith, numbers-length c)))
+
+-- ---- a file
+
+pub file-shown : (c : Contents) → pair-refusal (setup (c .events) (c .values) (c .top) (shown-entries c)) (shown-nodes c) ≡ contents-refusal c
+unfolding pair-refusal or-else
+file-shown c =
+    ap (λ (o : Option Refusal). or-else o (rule-refusal (c .events) (Numbered (c .values)) (shown-nodes c))) (shown-setup c)
+    ∙ go (setup-refusal (setup-of c)) refl
+  where
+    go : (o : Option Refusal) → setup-refusal (setup-of c) ≡ o
+        → or-else (setup-refusal (setup-of c)) (rule-refusal (c .events) (Numbered (c .values)) (shown-nodes c))
+        ≡ or-else (setup-refusal (setup-of c)) (rule-refusal (c .events) (Numbered (c .values)) (rule-numbers c))
+    go none e =
+        let h = limits (c .events) (c .values) (c .top) (c .meet) e in
+        ap (or-else (setup-refusal (setup-of c))) (shown-rule c (omega (arith, h .0)) (omega (arith, h .1)))
+    go (some r) e = rw e
+
+-- of an accepted one all is judged, and nothing is clamped
+pub all-shown : (c : Contents) → contents-refusal c ≡ none → (shown-entries c ≡ c .meet) × (shown-nodes c ≡ rule-numbers c)
+unfolding pair-refusal rule-refusal
+all-shown c e =
+    let p = or-else-none (setup-refusal (setup-of c)) (rule-refusal (c .events) (Numbered (c .values)) (rule-numbers c)) e in
+    let w : WellFormed (setup-of c) = setup-accepted (setup-of c) .0 (p .0) in
+    let whole : length (c .meet) ≡ c .values * c .values = w .of-kind .whole in
+    let few = square-small (w .of-kind .few-values) in
+    let fits : CountFits 3 node-limit (length (rule-numbers c)) =
+    count-facts 3 node-limit (length (rule-numbers c))
+    (plain-none (count-fits 3 node-limit (length (rule-numbers c))) 5 (or-else-none (plain-unless (count-fits 3 node-limit (length (rule-numbers c))) 5) _
+    (p .1) .0)) in
+    let n = nothing-clamped c e in (
+      ap (λ (b : Bool). cond b (meet-bytes c) []) (le-leb (length (c .meet)) meet-limit (omega arith)) ∙ n .0,
+      ap (λ (b : Bool). cond b (rule-bytes c) []) (le-leb (length (c .rule)) node-limit (omega (arith, fits .within, numbers-length c))) ∙ n .1,
+    )
+
+-- ---- what is held of a text
+
+-- the bytes that were stored stand at the front
+front : (s old new : List ℕ) (n : ℕ) → new ≡ put-front s old → length s ≤ length old → n ≡ length s → take n new ≡ s
+unfolding put
+front s old new n e h l = ap (take n) (e ∙ front-whole s old h) ∙ take-at s (drop (length s) old) n (sym l)
+
+module _ (c : Contents) (entries nodes entries′ nodes′ : List ℕ) (m n j k : ℕ) where
+  held-entries : length entries ≡ meet-limit → entries′ ≡ put-front (meet-bytes c) entries → j ≡ cond (leb (length (c .meet)) meet-limit) (length (c .meet)) 0
+      → take j entries′ ≡ shown-entries c
+  held-entries l e d = ap (λ (i : ℕ). take i entries′) d ∙ go (leb (length (c .meet)) meet-limit) refl
+    where
+      go : (b : Bool) → leb (length (c .meet)) meet-limit ≡ b → take (cond b (length (c .meet)) 0) entries′ ≡ cond b (meet-bytes c) []
+      go true f =
+          let h = leb-true (length (c .meet)) meet-limit f in
+          front (meet-bytes c) entries entries′ (length (c .meet)) e (omega (arith, entries-length c)) (sym (entries-length c))
+      go false f = refl
+
+  held-nodes : length nodes ≡ node-limit * 3 → nodes′ ≡ put-front (rule-bytes c) nodes → k ≡ 3 * cond (leb (length (c .rule)) node-limit) (length (c .rule)) 0
+      → take k nodes′ ≡ shown-nodes c
+  held-nodes l e d = ap (λ (i : ℕ). take i nodes′) d ∙ go (leb (length (c .rule)) node-limit) refl
+    where
+      go : (b : Bool) → leb (length (c .rule)) node-limit ≡ b → take (3 * cond b (length (c .rule)) 0) nodes′ ≡ cond b (rule-bytes c) []
+      go true f =
+          let h = leb-true (length (c .rule)) node-limit f in
+          front (rule-bytes c) nodes nodes′ (3 * length (c .rule)) e (omega (arith, nodes-length c)) (sym (nodes-length c))
+      go false f = refl
+
+-- a count that is judged is within its limit
+pub shown-few : (count limit r : ℕ) → r ≡ cond (leb count limit) count 0 → r ≤ limit
+shown-few count limit r e = go (leb count limit) refl e
+  where
+    go : (b : Bool) → leb count limit ≡ b → r ≡ cond b count 0 → r ≤ limit
+    go true f d = let h = leb-true count limit f in omega arith
+    go false f d = omega arith
+
+module _ {t entries nodes entries′ nodes′ : List ℕ} {r : Stored} (s : Stores t entries nodes entries′ nodes′ r) where
+  -- 4
+  pub off-form : {p : ℕ} → r ≡ Stored.Refused p → read-file t ≡ refused p
+  off-form {p} d = go (read-file t) (sym d ∙ s .reply)
+    where
+      go : (x : Outcome Contents) → Stored.Refused p ≡ stored-reply x → x ≡ refused p
+      go (contents c) e = let z : _≡_ {A = ℕ} 0 1 = cc in absurd (omega arith)
+      go (refused q) e = cc
+
+  pub holds : {e v p m n : ℕ} (j i : ℕ) → length entries ≡ meet-limit → length nodes ≡ node-limit * 3 → length entries′ ≡ meet-limit
+      → length nodes′ ≡ node-limit * 3 → r ≡ Stored.Form e v p m n → j ≡ cond (leb m meet-limit) m 0 → i ≡ cond (leb n node-limit) n 0
+      → Holding t entries′ nodes′ (numbers e v p m n) j (3 * i)
+  holds {e} {v} {p} {m} {n} j i le ln le′ ln′ d dj di = go (read-file t) refl (sym d ∙ s .reply) (s .meet-is) (s .rule-is)
+    where
+      go : (x : Outcome Contents) → read-file t ≡ x → Stored.Form e v p m n ≡ stored-reply x → entries′ ≡ stored-meet x entries → nodes′ ≡ stored-rule x nodes
+          → Holding t entries′ nodes′ (numbers e v p m n) j (3 * i)
+      go (contents c) f q x y =
+          let em : m ≡ length (c .meet) = cc in
+          let en : n ≡ length (c .rule) = cc in
+          record {
+            inside = c;
+            answer = f;
+            numbers-are = cc;
+            few-entries = omega (arith, shown-few m meet-limit j dj);
+            few-nodes = omega (arith, shown-few n node-limit i di);
+            entries-are = held-entries c entries nodes entries′ nodes′ m n j (3 * i) le x (dj ∙ ap (λ (z : ℕ). cond (leb z meet-limit) z 0) em);
+            nodes-are =
+                held-nodes c entries nodes entries′ nodes′ m n j (3 * i) ln y
+                (ap (λ (z : ℕ). 3 * z) (di ∙ ap (λ (z : ℕ). cond (leb z node-limit) z 0) en));
+          }
+      go (refused q) f d x y = let z : _≡_ {A = ℕ} 0 1 = cc in absurd (omega arith)

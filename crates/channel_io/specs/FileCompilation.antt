@@ -1,0 +1,41 @@
+-- The table of a channel file's rule (document 01, "Channel file" and "Table of a rule"; refusals 4, 1 to 3, 5 to 10 and 13): the
+-- answer, and what two lent buffers hold afterwards.
+use Prim.Native.Nat.{ℕ}
+use mathlib.Core.Path.{_≡_}
+use mathlib.Core.List.{List}
+use mathlib.Core.Option.{Option, none, some}
+use Rattle.refusal.specs.declared.Refusal.{Refusal}
+use Rattle.refusal.specs.declared.Refusal.the-variants.{At}
+use Rattle.refusal.specs.LentBuffers.{put-unless}
+use Rattle.text_format.specs.Format.{Outcome, contents, refused}
+use Rattle.channel_file.specs.ChannelFile.{Contents}
+use Rattle.channel_file.specs.Reading.{read-file}
+use Rattle.channel_io.specs.declared.FileNumbers.{FileNumbers}
+use Rattle.channel_io.specs.declared.FileTable.{FileTable}
+use Rattle.channel_io.specs.declared.FileTable.the-variants.{Made, Refused}
+use Rattle.channel_io.specs.FileReading.{file-numbers}
+use Rattle.channel_io.specs.FileRefusals.{file-states, file-table, file-refusal}
+
+unfoldable pub made-or : Option Refusal → FileNumbers → ℕ → FileTable
+made-or none n states = Made n states
+made-or (some refusal) n states = Refused refusal
+
+-- The answer to a text.
+unfoldable pub compile-answer : Outcome Contents → List ℕ → List ℕ → FileTable
+compile-answer (refused p) meet to = Refused (At 4 p)
+compile-answer (contents c) meet to = made-or (file-refusal c meet to) (file-numbers c) (file-states c)
+
+-- The buffers afterwards: the meet entries, and the table.
+unfoldable pub entries-after : Outcome Contents → List ℕ → List ℕ → List ℕ
+entries-after (refused p) meet to = meet
+entries-after (contents c) meet to = put-unless (file-refusal c meet to) (c .meet) meet
+
+unfoldable pub table-after : Outcome Contents → List ℕ → List ℕ → List ℕ
+table-after (refused p) meet to = to
+table-after (contents c) meet to = put-unless (file-refusal c meet to) (file-table c) to
+
+-- Answer and later contents of a call that makes the table of the text t.
+pub record CompilesFile (t meet to meet′ to′ : List ℕ) (r : FileTable) : Type 0 where
+  pub answer : r ≡ compile-answer (read-file t) meet to
+  pub meet-is : meet′ ≡ entries-after (read-file t) meet to
+  pub table-is : to′ ≡ table-after (read-file t) meet to
