@@ -1,5 +1,4 @@
 -- A table as a digraph of the Graphviz language: an arrow a line, by state, then event, labelled with event and value.
--- Assumes nothing.
 use Prim.Native.Nat.{ℕ, _+_, _*_, _/_, _%_}
 use mathlib.Core.Bool.{cond}
 use mathlib.Core.List.{List, _++_}

@@ -1,26 +1,22 @@
 // A table rendered as a Graphviz digraph in a lent buffer.
-ghost use mathlib.Core.Path.{_≡_};
 ghost use Rattle.text_output.specs.Output.{Puts};
-ghost use Rattle.refusal.specs.Refusal.{judgement};
 ghost use Rattle.table_graph.specs.GraphText.{value-text, arrow-line, graph-text};
-ghost use Rattle.table_graph.specs.Graph.{handed-refusal, FewEntries, Draws};
-use machines::check_table;
+ghost use Rattle.table_rows.specs.Rows.{FewEntries};
+ghost use Rattle.table_graph.specs.Graph.{Draws};
+use limits::ENTRY_LIMIT;
 use machines::next_at;
 use machines::value_at;
 use refusal::BUFFER_LENGTH;
 use refusal::Counted;
 use refusal::Judgement;
 use refusal::Refusal;
-use refusal::SETUP_EVENTS;
+use table_rows::check_handed;
 use text_output::put_field;
 use text_output::put_word;
-
-const STATE_LIMIT: usize = 64;
-
-const EVENT_LIMIT: usize = 16;
+use values::ValueKind;
 
 // Every digraph has room in so many bytes.
-pub const GRAPH_LENGTH: usize = 65554;
+pub const GRAPH_LENGTH: usize = ENTRY_LIMIT * 64 + 18;
 
 // A value behind a slash, `open` for the top value. This and the functions below put their texts as those of text_output do.
 fn put_value(out: &mut [u8], at: usize, top: usize, value: usize) -> usize
@@ -59,28 +55,16 @@ fn put_graph(out: &mut [u8], events: usize, states: usize, top: usize, table: &[
     let count = states * events;
     let mut i = 0;
     while i < count {
-        let value = value_at(table, i) as usize;
-        let next = next_at(table, i);
+        // how numbers are read does not depend on their count
+        let value = value_at(ValueKind::Numbered(0), table, i) as usize;
+        let next = next_at(ValueKind::Numbered(0), table, i);
         n = put_arrow(out, n, top, i / events, i % events, value, next);
         i += 1;
     }
     put_word(out, n, b"}\n")
 }
 
-// 1 for the events, then 11.
-fn check_handed(events: usize, values: usize, states: usize, table: &[u8]) -> Judgement
-    ensures { λ r. ⌜ r ≡ judgement (handed-refusal events values states (now (table .entry))) ⌝ }
-{
-    if events < 1 {
-        return Judgement::Refused(Refusal::Plain(SETUP_EVENTS));
-    }
-    if EVENT_LIMIT < events {
-        return Judgement::Refused(Refusal::Plain(SETUP_EVENTS));
-    }
-    check_table(STATE_LIMIT, events, values, states, 0, table)
-}
-
-// Renders a table as a digraph: an arrow a line, by state, then event. The length of the text, or 1, 11, 13.
+// Renders a table as a digraph: an arrow a line, by state, then event. The length of the text, or 1, 2, 11, 13.
 pub fn dot(
     events: usize,
     values: usize,
@@ -91,15 +75,15 @@ pub fn dot(
 ) -> Counted
     ensures { λ r. ⌜ Draws events values top states (now (table .entry)) (now (to .entry)) (now (to .exit)) r ⌝ }
 {
-    let handed = check_handed(events, values, states, table);
+    let handed = check_handed(events, values, top, states, table);
     if let Judgement::Refused(reason) = handed {
         return Counted::Refused(reason);
     }
-    let mut out = [0u8; GRAPH_LENGTH];
-    let n = put_graph(&mut out, events, states, top, table);
+    let mut none = [0u8; 0];
+    let n = put_graph(&mut none, events, states, top, table);
     if to.len() < n {
         return Counted::Refused(Refusal::Plain(BUFFER_LENGTH));
     }
-    put_word(to, 0, &out[..n]);
+    put_graph(to, events, states, top, table);
     Counted::Count(n)
 }

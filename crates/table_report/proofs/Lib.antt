@@ -1,5 +1,5 @@
--- Texts put piece by piece, how long they are, the answers, and the claims.
+-- The line of a refusal, the table of a file, the answers, and the claims.
 pub mod Texts
-pub mod Lengths
+pub mod Tables
 pub mod Answers
 pub mod ReportClaims

@@ -1,6 +1,4 @@
 -- In reading order.
--- What is printed for a table and for a refusal.
-pub mod TableText
 -- What is printed for a text.
 pub mod Report
 -- What is claimed of it.

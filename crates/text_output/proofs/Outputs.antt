@@ -1,19 +1,12 @@
 -- Texts put one after another, numerals digit by digit, and the texts of items.
--- Assumes nothing.
 use Prim.Native.Nat.{ℕ, zero, suc, _+_, _*_, _/_, _%_, _≤_, _<_, min}
-use mathlib.Core.Path.{_≡_, refl, sym, ap, ap₂, _∙_, subst}
-use mathlib.Core.List.{List, [], _∷_, _++_, append-assoc, append-nil}
-use mathlib.Core.Bool.{Bool, true, false, cond}
-use native.Mathlib.Omega.{arith}
-use native.Mathlib.Numerals.{add-one}
-use native.Mathlib.Nat.{suc-mul}
-use lib.Dec.{ltb, leb}
-use lib.ListN.{length, getD, take, drop, set, length-append}
-use lib.Seq.{take-suc, take-at, set-out, sets, sets-eq, length-sets}
+use mathlib.Core.{Path.{_≡_, refl, sym, ap, ap₂, _∙_, subst}, List.{List, [], _∷_, _++_, append-assoc, append-nil}, Bool.{Bool, true, false, cond}}
+use native.Mathlib.{Omega.{arith}, Numerals.{add-one}, Nat.{suc-mul}}
+use lib.{Dec.{ltb, leb}, ListN.{length, getD, take, drop, set, length-append}, Seq.{take-suc, set-out, sets, sets-eq, length-sets}}
 use borrow.Author.Tests.{leb-true, leb-false}
 use Rattle.text_format.specs.Decimal.{limit, decimal}
 use Rattle.text_format.proofs.Decimal.{decimal-small, decimal-large, decimal-more}
-use Rattle.text_output.specs.Output.{numeral, Puts, each}
+use Rattle.text_output.specs.Output.{numeral, offset-limit, Puts, each}
 
 -- ---- buffers
 
@@ -29,37 +22,45 @@ sets-then l i (b ∷ s) u =
     sets-then (set l i b) (suc i) s u ∙ ap (λ (n : ℕ). sets (sets (set l i b) (suc i) s) n u) e
 
 -- the offset may be clipped
-sets-from : (l : List ℕ) (i : ℕ) (s : List ℕ) → sets l (min i (length l)) s ≡ sets l i s
-sets-from l i s = go (leb i (length l)) refl
+sets-from : (l : List ℕ) (i : ℕ) (s : List ℕ) → length l < offset-limit → sets l (min i offset-limit) s ≡ sets l i s
+sets-from l i s n = go (leb i offset-limit) refl
   where
-    go : (b : Bool) → leb i (length l) ≡ b → sets l (min i (length l)) s ≡ sets l i s
+    go : (b : Bool) → leb i offset-limit ≡ b → sets l (min i offset-limit) s ≡ sets l i s
     go true e =
-        let h = leb-true i (length l) e in
-        let n : min i (length l) ≡ i = omega arith in
-        ap (λ (k : ℕ). sets l k s) n
+        let h = leb-true i offset-limit e in
+        let d : min i offset-limit ≡ i = omega arith in
+        ap (λ (k : ℕ). sets l k s) d
     go false e =
-        let h = leb-false i (length l) e in
-        sets-behind l (min i (length l)) s (omega arith) ∙ sym (sets-behind l i s (omega arith))
+        let h = leb-false i offset-limit e in
+        sets-behind l (min i offset-limit) s (omega arith) ∙ sym (sets-behind l i s (omega arith))
 
 -- ---- texts put one after another
 
 pub puts-length : {l s l′ : List ℕ} {i r : ℕ} → Puts l s l′ i r → length l′ ≡ length l
 puts-length {l} {s} {l′} {i} h = ap length (h .same) ∙ length-sets l i s
 
-pub puts-none : (l : List ℕ) (i r : ℕ) → r ≡ min i (length l) → Puts l [] l i r
-puts-none l i r e = record { same = refl; next = omega arith }
+pub puts-within : {l s l′ : List ℕ} {i r : ℕ} → Puts l s l′ i r → r ≤ offset-limit
+puts-within {l} {s} {l′} {i} {r} h = let e : r ≡ min (i + length s) offset-limit = h .next in omega arith
+
+pub puts-none : (l : List ℕ) (i : ℕ) → length l < offset-limit → i ≤ offset-limit → Puts l [] l i i
+puts-none l i n h = record { same = refl; next = omega arith; end = n }
+
+-- nothing is put yet behind what was put
+pub puts-start : {l s l′ : List ℕ} {i r : ℕ} → Puts l s l′ i r → Puts l′ [] l′ r r
+puts-start {l′ = l′} {r = r} h = puts-none l′ r (let n = h .end in omega (arith, puts-length h)) (puts-within h)
 
 pub puts-then : {l s l′ u l″ : List ℕ} {i r q : ℕ} → Puts l s l′ i r → Puts l′ u l″ r q → Puts l (s ++ u) l″ i q
 puts-then {l} {s} {l′} {u} {l″} {i} {r} {q} h g =
     let n : length (sets l i s) ≡ length l = length-sets l i s in
-    let e : r ≡ min (i + length s) (length (sets l i s)) = h .next ∙ ap (λ (k : ℕ). min (i + length s) k) (sym n) in
-    let d : q ≡ min (r + length u) (length l′) = g .next in
-    let f : r ≡ min (i + length s) (length l) = h .next in
+    let d : q ≡ min (r + length u) offset-limit = g .next in
+    let f : r ≡ min (i + length s) offset-limit = h .next in
+    let b : length l < offset-limit = h .end in
     record {
       same =
-          g .same ∙ ap (λ (z : List ℕ). sets z r u) (h .same) ∙ ap (λ (k : ℕ). sets (sets l i s) k u) e
-          ∙ sets-from (sets l i s) (i + length s) u ∙ sym (sets-then l i s u);
-      next = omega (arith, puts-length h, length-append s u);
+          g .same ∙ ap (λ (z : List ℕ). sets z r u) (h .same) ∙ ap (λ (k : ℕ). sets (sets l i s) k u) f
+          ∙ sets-from (sets l i s) (i + length s) u (omega arith) ∙ sym (sets-then l i s u);
+      next = omega (arith, length-append s u);
+      end = b;
     }
 
 -- the same text
@@ -67,8 +68,8 @@ pub puts-as : {l s u l′ : List ℕ} {i r : ℕ} → s ≡ u → Puts l s l′ 
 puts-as {l} {s} {u} {l′} {i} {r} e h = subst (λ (z : List ℕ). Puts l z l′ i r) e h
 
 -- a byte behind the end
-pub puts-out : (l : List ℕ) (i b r : ℕ) → length l ≤ i → r ≡ length l → Puts l (b ∷ []) l i r
-puts-out l i b r h e = record { same = sym (set-out l i b h); next = omega arith }
+pub puts-out : (l : List ℕ) (i b r : ℕ) → length l ≤ i → r ≡ min (i + 1) offset-limit → length l < offset-limit → Puts l (b ∷ []) l i r
+puts-out l i b r h e n = record { same = sym (set-out l i b h); next = e; end = n }
 
 -- one byte more of a word
 pub puts-on : {l l′ l″ : List ℕ} {i r q : ℕ} (w : List ℕ) (j : ℕ) → j < length w → Puts l (take j w) l′ i r
@@ -82,43 +83,50 @@ puts-on w j h g k =
 -- a part of a text is put: the rest gives what the whole text gives
 pub puts-rest : {l T l′ : List ℕ} {i z r : ℕ} (s u : List ℕ) → Puts l (s ++ u) T i z → Puts l s l′ i r → Puts l′ u T r z
 puts-rest {l} {T} {l′} {i} {z} {r} s u g h =
-    let k : Puts l (s ++ u) (sets l′ r u) i (min (r + length u) (length l′)) = puts-then h (record { same = refl; next = refl }) in
-    record { same = g .same ∙ sym (k .same); next = g .next ∙ sym (k .next) }
+    let n : length l′ < offset-limit = let m = h .end in omega (arith, puts-length h) in
+    let k : Puts l (s ++ u) (sets l′ r u) i (min (r + length u) offset-limit) = puts-then h (record { same = refl; next = refl; end = n }) in
+    record { same = g .same ∙ sym (k .same); next = g .next ∙ sym (k .next); end = n }
+
+-- nothing of a text is put yet, behind what was put
+pub puts-open : {l s l′ : List ℕ} {i r : ℕ} → Puts l s l′ i r → (u : List ℕ) → Puts l′ u (sets l′ r u) r (min (r + length u) offset-limit)
+puts-open h u = record { same = refl; next = refl; end = let n = h .end in omega (arith, puts-length h) }
 
 -- the rest is empty
-pub puts-done : {l s l′ : List ℕ} {i r : ℕ} → Puts l′ [] (sets l i s) r (min (i + length s) (length l)) → r ≤ length l′ → Puts l s l′ i r
+pub puts-done : {l s l′ : List ℕ} {i r : ℕ} → Puts l′ [] (sets l i s) r (min (i + length s) offset-limit) → r ≤ offset-limit → Puts l s l′ i r
 puts-done {l} {s} {l′} {i} {r} g h =
-    let e : min (i + length s) (length l) ≡ min (r + 0) (length l′) = g .next in
-    record { same = sym (g .same); next = omega arith }
-
-pub puts-within : {l s l′ : List ℕ} {i r : ℕ} → Puts l s l′ i r → r ≤ length l′
-puts-within {l} {s} {l′} {i} {r} h =
-    let e : r ≡ min (i + length s) (length l) = h .next in
-    omega (arith, puts-length h)
+    let e : min (i + length s) offset-limit ≡ min (r + 0) offset-limit = g .next in
+    let n : length l′ < offset-limit = g .end in
+    record { same = sym (g .same); next = omega arith; end = omega (arith, ap length (g .same), length-sets l i s) }
 
 -- ---- a text that has room
 
 -- It stands at the front, and what lies behind it is as it was.
 pub record Front (l s l′ : List ℕ) (r : ℕ) : Type 0 where
-  pub end : r ≡ length s
   pub whole : l′ ≡ s ++ drop (length s) l
+  pub behind : r ≡ length s
 
 pub puts-front : {l s l′ : List ℕ} {r : ℕ} → Puts l s l′ 0 r → length s ≤ length l → Front l s l′ r
 puts-front {l} {s} {l′} {r} h fits =
-    let n : r ≡ min (0 + length s) (length l) = h .next in
+    let n : r ≡ min (0 + length s) offset-limit = h .next in
+    let b : length l < offset-limit = h .end in
     let e : 0 + length s ≡ length s = omega arith in
     record {
-      end = omega arith;
       whole = h .same ∙ sets-eq s l 0 (omega arith) ∙ ap (λ (k : ℕ). s ++ drop k l) e;
+      behind = omega arith;
     }
 
--- a text put into an array and copied from there
-pub puts-copied : {l s l′ old new : List ℕ} {n r : ℕ} → Puts l s l′ 0 n → length s ≤ length l → length s ≤ length old
-    → Puts old (take n l′) new 0 r → new ≡ s ++ drop (length s) old
-puts-copied {l} {s} {l′} {old} {new} {n} h room fits g =
-    let f = puts-front h room in
-    let e : take n l′ ≡ s = ap (take n) (f .whole) ∙ take-at s (drop (length s) l) n (sym (f .end)) in
-    puts-front (puts-as e g) fits .whole
+-- ---- a text put into any buffer, as an empty one, to learn its length n, and then into one that is compared with n
+module _ {l s l′ : List ℕ} {n : ℕ} (w : Puts l s l′ 0 n) where
+  pub puts-long : (old : List ℕ) → length old < n → length old < length s
+  puts-long old h = let e : n ≡ min (0 + length s) offset-limit = w .next in omega arith
+
+  pub puts-again : {old new : List ℕ} {r : ℕ} → n ≤ length old → Puts old s new 0 r → Front old s new n × (length s ≤ length old)
+  puts-again {old} {new} {r} h g =
+      let e : n ≡ min (0 + length s) offset-limit = w .next in
+      let b : length old < offset-limit = g .end in
+      let m : n ≡ length s = omega arith in
+      let f : length s ≤ length old = omega arith in
+      (record { whole = puts-front g f .whole; behind = m }, f)
 
 -- ---- numerals
 
@@ -179,7 +187,8 @@ each-more text (suc c) i =
 pub puts-each : {l l′ l″ s : List ℕ} {i r q : ℕ} (text : ℕ → List ℕ) (c : ℕ) → s ≡ text c → Puts l (each text c 0) l′ i r
     → Puts l′ s l″ r q → Puts l (each text (c + 1) 0) l″ i q
 puts-each text c e h g =
-    puts-as (each-more text c 0 ∙ ap (λ (n : ℕ). each text n 0) (sym (add-one c))) (puts-then h (puts-as (e ∙ (let d : c ≡ 0 + c = omega arith in ap text d)) g))
+    puts-as (each-more text c 0 ∙ ap (λ (n : ℕ). each text n 0) (sym (add-one c)))
+    (puts-then h (puts-as (e ∙ (let d : c ≡ 0 + c = omega arith in ap text d)) g))
 
 -- equal items
 pub each-same : (f g : ℕ → List ℕ) (c i : ℕ) → ((j : ℕ) → i ≤ j → j < i + c → f j ≡ g j) → each f c i ≡ each g c i

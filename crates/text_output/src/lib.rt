@@ -1,15 +1,18 @@
-// Texts put into a lent buffer, piece by piece. Each function puts its text at an offset and answers the offset behind it. Bytes
-// that would lie behind the buffer's end are left out, and the answer is then the end.
+// Texts put into a lent buffer, piece by piece. Each function puts its text at an offset and answers the offset behind it, also where
+// that lies behind the buffer's end: what would lie there is left out. So a text put at 0 into an empty buffer answers its length.
 ghost use mathlib.Core.Path.{_≡_};
 ghost use mathlib.Core.List.{_∷_, [], _++_};
 ghost use Prim.Native.Nat.{_+_, _<_, min};
-ghost use lib.ListN.{length};
-ghost use Rattle.text_output.specs.Output.{numeral, Puts};
+ghost use Rattle.text_output.specs.Output.{numeral, offset-limit, Puts};
 
-fn lesser(a: usize, b: usize) -> usize
-    ensures { λ r. ⌜ r ≡ min a b ⌝ }
+// The greatest offset.
+const OFFSET_LIMIT: usize = 18446744073709551615;
+
+// The offset behind a byte.
+fn behind(at: usize) -> usize
+    ensures { λ r. ⌜ r ≡ min (at + 1) offset-limit ⌝ }
 {
-    if a < b { a } else { b }
+    if at < OFFSET_LIMIT { at + 1 } else { at }
 }
 
 fn digit(v: usize) -> u8
@@ -27,14 +30,14 @@ pub fn put(out: &mut [u8], at: usize, b: u8) -> usize
         out[at] = b;
         return at + 1;
     }
-    out.len()
+    behind(at)
 }
 
 // The bytes of a word.
 pub fn put_word(out: &mut [u8], at: usize, w: &[u8]) -> usize
     ensures { λ r. ⌜ Puts (now (out .entry)) (now (w .entry)) (now (out .exit)) at r ⌝ }
 {
-    let mut n = lesser(at, out.len());
+    let mut n = at;
     let mut i = 0;
     while i < w.len() {
         n = put(out, n, w[i]);
@@ -60,4 +63,12 @@ pub fn put_field(out: &mut [u8], at: usize, key: &[u8], v: usize) -> usize
 {
     let n = put_word(out, at, key);
     put_number(out, n, v)
+}
+
+// A word, a number behind it and byte 10.
+pub fn put_line(out: &mut [u8], at: usize, key: &[u8], v: usize) -> usize
+    ensures { λ r. ⌜ Puts (now (out .entry)) (now (key .entry) ++ (numeral v ++ (10 ∷ []))) (now (out .exit)) at r ⌝ }
+{
+    let n = put_field(out, at, key, v);
+    put(out, n, 10)
 }

@@ -1,52 +1,49 @@
--- `report` meets its contract: the text put into an array is copied where it has room.
--- Assumes nothing.
+-- `report` meets its contract: the line of the refusal, or the rows of the table that was made.
 use Prim.Native.Nat.{ℕ}
 use mathlib.Core.Path.{sym}
-use lib.ListN.{length-replicate}
-use lib.Seq.{length-take-le}
-use Rattle.text_output.proofs.Outputs.{puts-within}
-use Rattle.table_report.proofs.Answers.{report-short, report-all}
+use native.Mathlib.Omega.{arith}
+use lib.{ListN.{length-replicate}, Seq.{length-take-le}}
+use Rattle.limits.specs.Limits.{meet-limit, table-bytes-limit}
+use Rattle.channel_io.proofs.Callers.{unmade, made-of}
+use Rattle.table_report.proofs.Answers.{refused-reports, made-reports}
 use borrow.Author.Needs.{needs}
 use Rattle.table_report.proofs.report.Statement.{statement}
 use Rattle.table_report.proofs.report.Tie as tie
 
-slice-aggregate-put-report : tie.Need-slice-aggregate-put-report
-slice-aggregate-put-report c = search needs
+mul-size : tie.Need-mul-size
+mul-size c =
+    let compiled = c .before .before .before .before .before .compile-file in
+    omega (arith, made-of (compiled .ensures) (c .before .made2 .given .1) .table-in)
 
-put-report-requires : tie.Need-put-report-requires
-put-report-requires c κs = search needs
+mul-size-2 : tie.Need-mul-size-2
+mul-size-2 c =
+    let compiled = c .before .before .before .before .before .compile-file in
+    omega (arith, made-of (compiled .ensures) (c .before .made2 .given .1) .table-in)
+
+array-share-prefix-table : tie.Need-array-share-prefix-table
+array-share-prefix-table c =
+    let compiled = c .before .before .before .before .before .compile-file in
+    made-of (compiled .ensures) (c .before .made2 .given .1) .table-in
+
+slice-aggregate-rows : tie.Need-slice-aggregate-rows
+slice-aggregate-rows c =
+    let compiled = c .before .before .before .before .before .before .compile-file in
+    sym (length-take-le _ _ (made-of (compiled .ensures) (c .before .before .made2 .given .1) .table-in))
 
 returns : tie.Need-returns
 returns c =
-    let a = c .before .before .before .before .before .before .args in
-    report-short (a .text .now) (a .to .now) _ _ _ (length-replicate {A = ℕ} 24600 0) (c .before .before .put-report .ensures) (c .if1 .taken)
-
-array-share-prefix-out : tie.Need-array-share-prefix-out
-array-share-prefix-out c = search needs
-
-slice-aggregate-put-word : tie.Need-slice-aggregate-put-word
-slice-aggregate-put-word c = sym (length-take-le _ _ (puts-within (c .before .before .before .before .put-report .ensures)))
-
-put-word-requires : tie.Need-put-word-requires
-put-word-requires c κs = search needs
-
-same-length : tie.Need-same-length
-same-length c = search needs
+    let compiled = c .before .before .before .before .before .before .before .before .before .compile-file in
+    let made = c .before .before .before .before .before .made in
+    refused-reports (omega (arith, length-replicate {A = ℕ} meet-limit 0)) (omega (arith, length-replicate {A = ℕ} table-bytes-limit 0))
+    (unmade (compiled .ensures) (made .given .1) .0) (c .before .before .report-refusal .ensures)
 
 returns-2 : tie.Need-returns-2
 returns-2 c =
-    let a = c .before .before .before .before .before .before .before .before .before .before .before .args in
-    report-all (a .text .now) (a .to .now) _ _ _ (length-replicate {A = ℕ} 24600 0) (c .before .before .before .before .before .before .before .put-report .ensures) _ _ (c .before .before .before .before .before .if1 .left) (c .before .before .put-word .ensures)
+    let compiled = c .before .before .before .before .before .before .before .before .before .before .compile-file in
+    let made2 = c .before .before .before .before .before .before .made2 in
+    made-reports (made-of (compiled .ensures) (made2 .given .1)) (c .before .before .rows .ensures)
 
 pub report-spec : {M : Type 1} → statement M
-report-spec =
-    tie.close
-    (tie.spec
-    slice-aggregate-put-report
-    put-report-requires
-    returns
-    array-share-prefix-out
-    slice-aggregate-put-word
-    put-word-requires
-    same-length
-    returns-2)
+report-spec = tie.close (tie.spec (λ c. search needs) (λ c. search needs) (λ c κs. search needs) (λ c. search needs) (λ c κs. search needs)
+    (λ c. search needs) mul-size mul-size-2 array-share-prefix-table slice-aggregate-rows (λ c κs. search needs) (λ c. search needs) returns
+    (λ c. search needs) returns-2)

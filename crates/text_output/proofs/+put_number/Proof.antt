@@ -1,8 +1,6 @@
 -- `put_number` meets its contract: the digits above the last, then the last. The number falls.
--- Assumes nothing.
 use native.Mathlib.Omega.{arith}
-use mathlib.Core.Path.{sym, ap, _∙_}
-use mathlib.Core.List.{List, [], _∷_, _++_}
+use mathlib.Core.{Path.{sym, ap, _∙_}, List.{[], _∷_, _++_}}
 use Prim.Native.Nat.{_/_}
 use Rattle.text_output.specs.Output.{numeral}
 use Rattle.text_output.proofs.Outputs.{puts-as, puts-then, numeral-digit, numeral-more}
@@ -29,36 +27,6 @@ abbrev put-number-below : ℕ → In 1 put-number-kinds.ps
 put-number-below t =
     and 1 put-number-kinds.ps (falls 1 put-number-kinds.ps _<_ μ-put-number t) put-number.Pre
 
-put-number-digit-requires : (t : ℕ) → put-number-lts.Need-digit-requires (
-  digit-reads.Asked,
-  digit-reads.Learnt,
-  put-reads.Asked,
-  put-reads.Learnt,
-  put-number-below t,
-  put-number.Post,
-) (put-number-at t) put-number.Post
-put-number-digit-requires t c κs = search needs
-
-put-number-put-requires : (t : ℕ) → put-number-lts.Need-put-requires (
-  digit-reads.Asked,
-  digit-reads.Learnt,
-  put-reads.Asked,
-  put-reads.Learnt,
-  put-number-below t,
-  put-number.Post,
-) (put-number-at t) put-number.Post
-put-number-put-requires t c κs = search needs
-
-put-number-same-length : (t : ℕ) → put-number-lts.Need-same-length (
-  digit-reads.Asked,
-  digit-reads.Learnt,
-  put-reads.Asked,
-  put-reads.Learnt,
-  put-number-below t,
-  put-number.Post,
-) (put-number-at t) put-number.Post
-put-number-same-length t c = search needs
-
 put-number-returns : (t : ℕ) → put-number-lts.Need-returns (
   digit-reads.Asked,
   digit-reads.Learnt,
@@ -67,7 +35,11 @@ put-number-returns : (t : ℕ) → put-number-lts.Need-returns (
   put-number-below t,
   put-number.Post,
 ) (put-number-at t) put-number.Post
-put-number-returns t c = puts-as (ap (λ (d : ℕ). d ∷ []) (c .before .before .before .digit .ensures) ∙ sym (numeral-digit (c .before .before .before .before .before .before .before .args .v) (c .before .before .before .before .before .if1 .taken))) (c .before .before .put .ensures)
+put-number-returns t c =
+    let args = c .before .before .before .before .before .before .before .args in
+    let if1 = c .before .before .before .before .before .if1 in
+    let digit = c .before .before .before .digit in
+    puts-as (ap (λ (d : ℕ). d ∷ []) (digit .ensures) ∙ sym (numeral-digit (args .v) (if1 .taken))) (c .before .before .put .ensures)
 
 put-number-put-number-requires : (t : ℕ) → put-number-lts.Need-put-number-requires (
   digit-reads.Asked,
@@ -79,36 +51,6 @@ put-number-put-number-requires : (t : ℕ) → put-number-lts.Need-put-number-re
 ) (put-number-at t) put-number.Post
 put-number-put-number-requires t c κs = (omega arith, tt)
 
-put-number-digit-requires-2 : (t : ℕ) → put-number-lts.Need-digit-requires-2 (
-  digit-reads.Asked,
-  digit-reads.Learnt,
-  put-reads.Asked,
-  put-reads.Learnt,
-  put-number-below t,
-  put-number.Post,
-) (put-number-at t) put-number.Post
-put-number-digit-requires-2 t c κs = search needs
-
-put-number-put-requires-2 : (t : ℕ) → put-number-lts.Need-put-requires-2 (
-  digit-reads.Asked,
-  digit-reads.Learnt,
-  put-reads.Asked,
-  put-reads.Learnt,
-  put-number-below t,
-  put-number.Post,
-) (put-number-at t) put-number.Post
-put-number-put-requires-2 t c κs = search needs
-
-put-number-same-length-2 : (t : ℕ) → put-number-lts.Need-same-length-2 (
-  digit-reads.Asked,
-  digit-reads.Learnt,
-  put-reads.Asked,
-  put-reads.Learnt,
-  put-number-below t,
-  put-number.Post,
-) (put-number-at t) put-number.Post
-put-number-same-length-2 t c = search needs
-
 put-number-returns-2 : (t : ℕ) → put-number-lts.Need-returns-2 (
   digit-reads.Asked,
   digit-reads.Learnt,
@@ -118,9 +60,13 @@ put-number-returns-2 : (t : ℕ) → put-number-lts.Need-returns-2 (
   put-number.Post,
 ) (put-number-at t) put-number.Post
 put-number-returns-2 t c =
-    let v = c .before .before .before .before .before .before .before .before .before .before .before .args .v in
-    puts-as (ap (λ (d : ℕ). numeral (v / 10) ++ (d ∷ [])) (c .before .before .before .digit2 .ensures) ∙ sym (numeral-more v (c .before .before .before .before .before .before .before .before .before .if1 .left) (omega arith)))
-    (puts-then (c .before .before .before .before .before .before .before .put-number .ensures) (c .before .before .put2 .ensures))
+    let args = c .before .before .before .before .before .before .before .before .before .before .before .args in
+    let if1 = c .before .before .before .before .before .before .before .before .before .if1 in
+    let put-number = c .before .before .before .before .before .before .before .put-number in
+    let digit2 = c .before .before .before .digit2 in
+    let v = args .v in
+    puts-as (ap (λ (d : ℕ). numeral (v / 10) ++ (d ∷ [])) (digit2 .ensures) ∙ sym (numeral-more v (if1 .left) (omega arith)))
+    (puts-then (put-number .ensures) (c .before .before .put2 .ensures))
 
 pub +put-number-spec : {M : Type 1} → statement M
 +put-number-spec = close μ-put-number λ t. put-number-lts.spec (
@@ -133,12 +79,12 @@ pub +put-number-spec : {M : Type 1} → statement M
 )
     (put-number-at t)
     put-number.Post
-    (put-number-digit-requires t)
-    (put-number-put-requires t)
-    (put-number-same-length t)
+    (λ c κs. search needs)
+    (λ c κs. search needs)
+    (λ c. search needs)
     (put-number-returns t)
     (put-number-put-number-requires t)
-    (put-number-digit-requires-2 t)
-    (put-number-put-requires-2 t)
-    (put-number-same-length-2 t)
+    (λ c κs. search needs)
+    (λ c κs. search needs)
+    (λ c. search needs)
     (put-number-returns-2 t)

@@ -1,10 +1,7 @@
--- What the program prints (document 01, "Channel file"): the lines of a table, or the one line of a refusal. Each ends in byte 10.
--- Assumes nothing.
+-- What is printed for a table (document 01, "Channel file"): its lines, each ended by byte 10.
 use Prim.Native.Nat.{ℕ, _*_, _/_, _%_}
 use mathlib.Core.List.{List, [], _∷_, _++_}
 use Rattle.theory.specs.MealyMachine.{Machine}
-use Rattle.refusal.specs.declared.Refusal.{Refusal}
-use Rattle.refusal.specs.declared.Refusal.the-variants.{Plain, At}
 use Rattle.text_format.specs.Format.{ascii}
 use Rattle.text_format.specs.Series.{separated}
 use Rattle.text_output.specs.Output.{numeral, each}
@@ -25,8 +22,3 @@ unfoldable pub table-text : ℕ → ℕ → Machine ℕ ℕ → List ℕ
 table-text events n m =
     line (ascii "events=") (numeral events)
     ++ (line (ascii "states=") (numeral n) ++ each (entry-line events m) (n * events) 0)
-
--- "The single line `refused=` with the number and, if there is a place, a space and the place."
-unfoldable pub refusal-text : Refusal → List ℕ
-refusal-text (Plain n) = line (ascii "refused=") (numeral n)
-refusal-text (At n p) = line (ascii "refused=") (separated (numeral n ∷ numeral p ∷ []))
