@@ -1,27 +1,21 @@
 -- A proof of each claim of specs/Claims.
--- Assumes nothing.
 use Prim.Native.Nat.{ℕ, zero, suc, _+_, _-_, _*_, _≤_}
 use mathlib.Core.Path.{_≡_, refl, sym, ap, ap₂, _∙_, subst}
 use mathlib.Core.List.{List, [], _∷_, _++_, append-assoc, append-nil, List·Memᴰ, List·Memᴰ·head, List·Memᴰ·tail}
-use mathlib.Core.Bool.{Bool, true, false, cond, _&&_}
-use mathlib.Core.Option.{Option, none, some}
-use mathlib.Core.Logic.{_⊎_, inl, inr, ⊎-elim}
+use mathlib.Core.{Bool.{Bool, true, false, cond, _&&_}, Option.{Option, none, some}, Logic.{_⊎_, inl, inr, ⊎-elim}}
 use native.Mathlib.Omega.{arith}
-use lib.Dec.{eqb}
-use lib.ListN.{length, take, take-append-drop, length-drop}
+use lib.{Dec.{eqb}, ListN.{length, take, take-append-drop, length-drop}}
 use borrow.Author.Tests.{eqb-true, eqb-false, ne-eqb}
 use Rattle.text_format.specs.Decimal.{is-digit, Digits, value-from}
 use Rattle.text_format.specs.Decimal as D
 use Rattle.text_format.proofs.Decimal.{digit-range, digit-in-range}
 use Rattle.command_line.specs.declared.Command.{Command}
-use Rattle.command_line.specs.Words.{NoSpace, Ends, Words, at-end, at-space, end, space, next-word, is-space, words, led, lengthened, after-spaces, after-word, rest}
-use Rattle.command_line.specs.Words as W
-use Rattle.command_line.specs.Numbers.{IsNumber, number, other, digits-from, number-of}
-use Rattle.command_line.specs.Lists.{Numbers, and-then, numbers-from}
-use Rattle.command_line.specs.Lists as L
-use Rattle.command_line.specs.Names.{names, equal, found, named}
-use Rattle.command_line.specs.Steps.{gap, letters}
+use Rattle.command_line.specs.Words.{NoSpace, Ends, Words, at-end, at-space, end, space, next-word, is-space, words, led, lengthened}
+use Rattle.command_line.specs.{Words.{after-spaces, after-word, rest}, Numbers.{IsNumber, number, other, digits-from, number-of}}
+use Rattle.command_line.specs.{Lists.{Numbers, and-then, numbers-from}, Names.{names, equal, found, named}, Steps.{gap, letters}}
 use Rattle.command_line.specs.Claims.{WordsClaim, EndOf, RestClaim, NumberClaim, NumbersClaim, NamesClaim}
+use Rattle.command_line.specs.Words as W
+use Rattle.command_line.specs.Lists as L
 use Rattle.command_line.proofs.Words.{words-of, led-first, rest-led, rest-words, drop-gap, drop-letters}
 
 -- ---- words
@@ -57,7 +51,8 @@ word-first b s e r =
 word-shorter : (s : List ℕ) → length (after-word s) ≤ length s
 word-shorter s = omega (arith, ap length (drop-letters s), length-drop (letters s) s)
 
-words-there₁ : (t : Bool) (b : ℕ) (s : List ℕ) → is-space b ≡ t → Words s (words s) → Words (after-word s) (words (after-word s)) → Words (b ∷ s) (words (b ∷ s))
+words-there₁ : (t : Bool) (b : ℕ) (s : List ℕ) → is-space b ≡ t → Words s (words s) → Words (after-word s) (words (after-word s))
+    → Words (b ∷ s) (words (b ∷ s))
 unfolding words
 words-there₁ true b s e h r = subst (λ (z : ℕ). Words (z ∷ s) (words (z ∷ s))) (sym (eqb-true b 32 e)) (space h)
 words-there₁ false b s e h r = word-first b s e r
@@ -137,7 +132,8 @@ unfolding digits-from
 digits-said v [] D.none = refl
 digits-said v (b ∷ s) (D.one-more l h d) = rw (digit-in-range b l h) (digits-said (v * 10 + (b - 48)) s d)
 
-digits-none₁ : (t : Bool) (v b : ℕ) (s : List ℕ) → is-digit b ≡ t → (Digits (b ∷ s) → ⊥) → ((Digits s → ⊥) → digits-from (v * 10 + (b - 48)) s ≡ none) → digits-from v (b ∷ s) ≡ none
+digits-none₁ : (t : Bool) (v b : ℕ) (s : List ℕ) → is-digit b ≡ t → (Digits (b ∷ s) → ⊥)
+    → ((Digits s → ⊥) → digits-from (v * 10 + (b - 48)) s ≡ none) → digits-from v (b ∷ s) ≡ none
 unfolding digits-from
 digits-none₁ true v b s e n f = rw e (f (λ d. n (D.one-more (digit-range b e .0) (digit-range b e .1) d)))
 digits-none₁ false v b s e n f = rw e

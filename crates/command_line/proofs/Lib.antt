@@ -1,5 +1,6 @@
 -- Words, numbers and names, then the claims.
 pub mod Words
+pub mod Writes
 pub mod Numbers
 pub mod Names
 pub mod Claims

@@ -1,26 +1,19 @@
 -- Numbers of words, and lists of them.
--- Assumes nothing.
 use Prim.Native.Nat.{ℕ, suc, _+_, _-_, _*_, _≤_, _<_, min}
-use mathlib.Core.Path.{_≡_, refl, sym, ap, _∙_}
-use mathlib.Core.List.{List, [], _∷_, _++_, map}
-use mathlib.Core.Bool.{true, false}
-use mathlib.Core.Option.{Option, none, some}
+use mathlib.Core.{Path.{_≡_, refl, sym, ap, _∙_}, List.{List, [], _∷_, _++_, map}, Bool.{true, false}, Option.{Option, none, some}}
 use native.Mathlib.Omega.{arith}
 use lib.ListN.{length, getD, take, drop, set, length-append, length-drop, length-map}
 use borrow.Author.Tests.{lt-ltb, le-ltb}
 use Rattle.refusal.specs.LentBuffers.{put}
 use Rattle.text_format.specs.Decimal.{is-digit}
 use Rattle.channel_file.specs.Bytes.{clamp}
-use Rattle.channel_file.specs.Steps.{Wrote, puts}
 use Rattle.channel_file.proofs.Offsets.{here, over}
-use Rattle.channel_file.proofs.Buffers.{wrote-none, wrote-then, puts-whole}
-use Rattle.command_line.specs.declared.Number.{Number}
-use Rattle.command_line.specs.declared.Listed.{Listed}
-use Rattle.command_line.specs.Words.{words, after-word}
-use Rattle.command_line.specs.Numbers.{digits-from, number-of, capped, number-answer}
+use Rattle.command_line.proofs.Writes.{puts, Wrote, wrote-none, wrote-then, puts-whole}
+use Rattle.command_line.specs.declared.{Number.{Number}, Listed.{Listed}}
+use Rattle.command_line.specs.{Words.{words}, Numbers.{digits-from, number-of, capped, number-answer}}
 use Rattle.command_line.specs.Lists.{and-then, numbers-from, numbers-of, listed, buffer-after, Lists}
 use Rattle.command_line.specs.Steps.{gap, letters, Skips, count-answer, Storable, Stores}
-use Rattle.command_line.proofs.Words.{Led, led-words, led-letters, words-after, after-spaces-led, skipped-spaces, skipped-word, word-there}
+use Rattle.command_line.proofs.Words.{Led, led-words, words-ahead, word-ahead, led-behind, same-words}
 
 -- ---- one number: the digits passed stand for `whole`, of which v is kept
 
@@ -103,41 +96,30 @@ pub record Counting (text : List ℕ) (at n : ℕ) : Type 0 where
 pub counting-none : (text : List ℕ) (r : ℕ) → Skips gap text 0 r → Counting text r 0
 unfolding numbers-of
 counting-none text r k =
-    let e = skipped-spaces text 0 r k in
     record {
       within = k .within;
-      no-space = rw e (after-spaces-led text);
+      no-space = led-behind text 0 r k;
       list = [];
       counted = refl;
       few = omega arith;
-      same = ap (numbers-from []) (ap words e ∙ words-after text);
+      same = ap (numbers-from []) (same-words text 0 r k);
     }
 
 module _ (text : List ℕ) (at n q : ℕ) (h : at < length text) (p : Counting text at n) (w : Skips letters text at q) where
-  words-ahead : words (drop at text) ≡ take (q - at) (drop at text) ∷ words (drop q text)
-  words-ahead =
-      led-words (drop at text) (p .no-space) (omega (arith, length-drop at text))
-      ∙ ap (λ (l : List ℕ). l ∷ words (after-word (drop at text))) (sym (word-there text at q w))
-      ∙ ap (λ (l : List ℕ). take (q - at) (drop at text) ∷ words l) (sym (skipped-word text at q w))
-
-  pub word-ahead : at < q
-  word-ahead = omega (arith, w .same, led-letters (drop at text) (p .no-space) (omega (arith, length-drop at text)))
-
   numbers-ahead : and-then (number-of (take (q - at) (drop at text))) (λ v. numbers-from (p .list ++ (v ∷ [])) (words (drop q text))) ≡ numbers-of text
   unfolding numbers-from
-  numbers-ahead = sym (ap (numbers-from (p .list)) words-ahead) ∙ p .same
+  numbers-ahead = sym (ap (numbers-from (p .list)) (words-ahead text at q h (p .no-space) w)) ∙ p .same
 
   pub counting-more : (r v : ℕ) → Skips gap text q r → number-of (take (q - at) (drop at text)) ≡ some v → Counting text r (n + 1)
   counting-more r v k e =
-      let d = skipped-spaces text q r k in
       record {
         within = k .within;
-        no-space = rw d (after-spaces-led (drop q text));
+        no-space = led-behind text q r k;
         list = p .list ++ (v ∷ []);
         counted = omega (arith, p .counted, length-append (p .list) (v ∷ []));
-        few = omega (arith, p .few, word-ahead, k .from);
+        few = omega (arith, p .few, word-ahead text at q h (p .no-space) w, k .from);
         same =
-            ap (numbers-from (p .list ++ (v ∷ []))) (ap words d ∙ words-after (drop q text))
+            ap (numbers-from (p .list ++ (v ∷ []))) (same-words text q r k)
             ∙ ap (λ (o : Option ℕ). and-then o (λ u. numbers-from (p .list ++ (u ∷ [])) (words (drop q text)))) (sym e)
             ∙ numbers-ahead;
       }
@@ -231,6 +213,10 @@ module _ (text old : List ℕ) (n : ℕ) (e : Number.Value n ≡ count-answer (n
   lists-stored new h f =
       let g : length (all .list) ≤ length old = omega (arith, all .counted) in
       record {
-        answer = ap (λ (k : ℕ). Listed.Count k) (all .counted) ∙ sym (ap (λ (o : Option (List ℕ)). listed o old) (all .same) ∙ rw (le-ltb (length old) (length (all .list)) g));
-        buffer = f (all .list) (all .same) ∙ sym (ap (λ (o : Option (List ℕ)). buffer-after o old) (all .same) ∙ rw (le-ltb (length old) (length (all .list)) g));
+        answer =
+            ap (λ (k : ℕ). Listed.Count k) (all .counted)
+            ∙ sym (ap (λ (o : Option (List ℕ)). listed o old) (all .same) ∙ rw (le-ltb (length old) (length (all .list)) g));
+        buffer =
+            f (all .list) (all .same)
+            ∙ sym (ap (λ (o : Option (List ℕ)). buffer-after o old) (all .same) ∙ rw (le-ltb (length old) (length (all .list)) g));
       }

@@ -1,16 +1,11 @@
 -- The words of a line, and the line from a word on.
--- Assumes nothing.
 use Prim.Native.Nat.{ℕ, zero, suc, _+_, _-_, _≤_, _<_}
-use mathlib.Core.Path.{_≡_, refl, sym, ap, _∙_}
-use mathlib.Core.List.{List, [], _∷_}
-use mathlib.Core.Bool.{Bool, true, false, cond}
+use mathlib.Core.{Path.{_≡_, refl, sym, ap, _∙_}, List.{List, [], _∷_}, Bool.{Bool, true, false, cond}}
 use native.Mathlib.Omega.{arith}
-use lib.ListN.{length, getD, take, drop, length-drop}
-use lib.Seq.{take-all, drop-drop, drop-nil, getD-drop}
+use lib.{ListN.{length, getD, take, drop, length-drop}, Seq.{take-all, drop-drop, drop-nil, getD-drop}}
 use borrow.Author.Tests.{eq-eqb, ne-eqb}
 use Rattle.channel_file.proofs.Offsets.{here, over}
-use Rattle.command_line.specs.Words.{words, led, is-space, after-spaces, after-word, rest, word}
-use Rattle.command_line.specs.Steps.{gap, letters, Skips, Starts}
+use Rattle.command_line.specs.{Words.{words, led, is-space, after-spaces, after-word, rest, word}, Steps.{gap, letters, Skips, Starts}}
 
 -- ---- a byte that is a space, and one that is none
 
@@ -93,7 +88,8 @@ word-there text at q w = let e : q - at ≡ letters (drop at text) = omega (arit
 abbrev pub Led : List ℕ → Type 0
 Led s = after-spaces s ≡ s
 
-led₁ : (t : Bool) (b : ℕ) (s : List ℕ) → is-space b ≡ t → Led (after-spaces s) → after-spaces (cond t (after-spaces s) (b ∷ s)) ≡ cond t (after-spaces s) (b ∷ s)
+led₁ : (t : Bool) (b : ℕ) (s : List ℕ) → is-space b ≡ t → Led (after-spaces s)
+    → after-spaces (cond t (after-spaces s) (b ∷ s)) ≡ cond t (after-spaces s) (b ∷ s)
 unfolding after-spaces
 led₁ true b s e h = h
 led₁ false b s e h = rw e
@@ -103,7 +99,8 @@ unfolding after-spaces
 after-spaces-led [] = refl
 after-spaces-led (b ∷ s) = led₁ (is-space b) b s refl (after-spaces-led s)
 
-words-after₁ : (t : Bool) (b : ℕ) (s : List ℕ) → is-space b ≡ t → words (after-spaces s) ≡ words s → words (cond t (after-spaces s) (b ∷ s)) ≡ cond t (words s) (led b s (words s))
+words-after₁ : (t : Bool) (b : ℕ) (s : List ℕ) → is-space b ≡ t → words (after-spaces s) ≡ words s
+    → words (cond t (after-spaces s) (b ∷ s)) ≡ cond t (words s) (led b s (words s))
 unfolding words
 words-after₁ true b s e h = h
 words-after₁ false b s e h = rw e
@@ -151,6 +148,25 @@ pub led-letters : (s : List ℕ) → Led s → 0 < length s → 0 < letters s
 unfolding letters
 led-letters [] h l = absurd (omega arith)
 led-letters (b ∷ s) h l = rw (led-first b s h) (omega arith)
+
+-- the words of a text from the offset of one on: that word, up to the offset behind it, and the words behind
+module _ (text : List ℕ) (at q : ℕ) (h : at < length text) (p : Led (drop at text)) (w : Skips letters text at q) where
+  pub words-ahead : words (drop at text) ≡ take (q - at) (drop at text) ∷ words (drop q text)
+  words-ahead =
+      led-words (drop at text) p (omega (arith, length-drop at text))
+      ∙ ap (λ (l : List ℕ). l ∷ words (after-word (drop at text))) (sym (word-there text at q w))
+      ∙ ap (λ (l : List ℕ). take (q - at) (drop at text) ∷ words l) (sym (skipped-word text at q w))
+
+  pub word-ahead : at < q
+  word-ahead = omega (arith, w .same, led-letters (drop at text) p (omega (arith, length-drop at text)))
+
+-- spaces passed
+module _ (text : List ℕ) (q r : ℕ) (k : Skips gap text q r) where
+  pub led-behind : Led (drop r text)
+  led-behind = rw (skipped-spaces text q r k) (after-spaces-led (drop q text))
+
+  pub same-words : words (drop r text) ≡ words (drop q text)
+  same-words = ap words (skipped-spaces text q r k) ∙ words-after (drop q text)
 
 first-word : (s : List ℕ) → Led s → getD (words s) 0 [] ≡ take (letters s) s
 unfolding words letters
@@ -208,7 +224,8 @@ passing-none line n r k =
       same = ap (rest n) e ∙ rest-after n line;
     }
 
-pub passing-more : (line : List ℕ) (n at left q r : ℕ) → 0 < left → Passing line n at left → Skips letters line at q → Skips gap line q r → Passing line n r (left - 1)
+pub passing-more : (line : List ℕ) (n at left q r : ℕ) → 0 < left → Passing line n at left → Skips letters line at q → Skips gap line q r
+    → Passing line n r (left - 1)
 unfolding rest
 passing-more line n at zero q r l p w k = absurd (omega arith)
 passing-more line n at (suc left) q r l p w k =

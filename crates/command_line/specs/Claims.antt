@@ -1,9 +1,8 @@
 -- What is claimed of lines; each claim is inhabited in proofs/Claims.
--- Assumes nothing.
 use Prim.Native.Nat.{ℕ}
 use mathlib.Core.Path.{_≡_}
 use mathlib.Core.List.{List, [], _∷_, _++_, List·Memᴰ}
-use mathlib.Core.Option.{Option, none, some}
+use mathlib.Core.Option.{Option, some}
 use lib.ListN.{drop}
 use Rattle.command_line.specs.declared.Command.{Command}
 use Rattle.command_line.specs.Words.{Words, words, rest}

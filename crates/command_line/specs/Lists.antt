@@ -1,5 +1,4 @@
 -- A text whose words are all numbers, and its numbers stored in a lent buffer, one byte each; a number above 255 stands as 255.
--- Assumes nothing.
 use Prim.Native.Nat.{ℕ}
 use mathlib.Core.Path.{_≡_}
 use mathlib.Core.List.{List, [], _∷_, _++_, map}

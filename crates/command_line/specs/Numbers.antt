@@ -1,5 +1,4 @@
 -- A number of a line: one or more digits, in decimal; leading zeros say nothing.
--- Assumes nothing.
 use Prim.Native.Nat.{ℕ, _+_, _-_, _*_, _≤_, min}
 use mathlib.Core.List.{List, [], _∷_}
 use mathlib.Core.Bool.{cond}

@@ -1,16 +1,17 @@
 -- What the private functions of src/ say.
--- Assumes nothing.
 use Prim.Native.Nat.{ℕ, suc, _+_, _≤_}
 use mathlib.Core.Path.{_≡_}
 use mathlib.Core.List.{List, [], _∷_, map}
 use mathlib.Core.Bool.{cond}
 use mathlib.Core.Option.{Option, none, some}
-use lib.ListN.{length, drop}
+use lib.ListN.{length, getD, drop}
 use Rattle.refusal.specs.LentBuffers.{put}
 use Rattle.channel_file.specs.Bytes.{clamp}
 use Rattle.command_line.specs.declared.Number.{Number}
+use Rattle.command_line.specs.declared.Command.{Command}
 use Rattle.command_line.specs.Words.{is-space, rest}
 use Rattle.command_line.specs.Lists.{numbers-of}
+use Rattle.command_line.specs.Names.{names, equal}
 
 -- How many spaces lead a text, and how many other bytes.
 unfoldable pub gap : List ℕ → ℕ
@@ -42,3 +43,15 @@ pub record Storable (text to : List ℕ) : Type 0 where
 
 abbrev pub Stores : List ℕ → List ℕ → List ℕ → Type 0
 Stores text old new = (vs : List ℕ) → numbers-of text ≡ some vs → new ≡ put (map clamp vs) old
+
+-- The place of a word in a list; the list's length where it stands nowhere.
+unfoldable pub place : List ℕ → List (List ℕ) → ℕ
+place w [] = 0
+place w (v ∷ vs) = cond (equal w v) 0 (suc (place w vs))
+
+-- The command at a place in the list of names.
+abbrev pub second : List ℕ × Command → Command
+second p = p .1
+
+abbrev pub command-at : ℕ → Command
+command-at n = getD (map second names) n Command.Unknown

@@ -4,11 +4,11 @@ ghost use Prim.Native.Nat.{_+_, _-_, _*_, _≤_, _<_};
 ghost use lib.ListN.{length, take};
 ghost use Rattle.text_format.specs.Decimal.{is-digit};
 ghost use Rattle.channel_file.specs.Bytes.{clamp};
-ghost use Rattle.command_line.specs.Words.{rest, word};
+ghost use Rattle.command_line.specs.Words.{words, rest, word};
 ghost use Rattle.command_line.specs.Numbers.{number-of, capped, number-answer};
 ghost use Rattle.command_line.specs.Lists.{numbers-of, Lists};
 ghost use Rattle.command_line.specs.Names.{equal, named};
-ghost use Rattle.command_line.specs.Steps.{gap, letters, Skips, Starts, count-answer, Storable, Stores};
+ghost use Rattle.command_line.specs.Steps.{gap, letters, Skips, Starts, count-answer, Storable, Stores, place, command-at};
 
 // A number above this one stands as this one.
 pub const NUMBER_LIMIT: usize = 65535;
@@ -233,48 +233,55 @@ pub fn equal(a: &[u8], b: &[u8]) -> bool
     true
 }
 
+// The place of a word among the words of a line; their count where it is none of them.
+fn place_of(w: &[u8], line: &[u8]) -> usize
+    ensures { λ r. ⌜ r ≡ place (now (w .entry)) (words (now (line .entry))) ⌝ }
+{
+    let mut at = skip_spaces(line, 0);
+    let mut n: usize = 0;
+    while at < line.len() {
+        let end = skip_word(line, at);
+        if equal(w, &line[at..end]) {
+            return n;
+        }
+        at = skip_spaces(line, end);
+        n += 1;
+    }
+    n
+}
+
+// The command at a place in the list of names.
+fn command_at(place: usize) -> Command
+    ensures { λ r. ⌜ r ≡ command-at place ⌝ }
+{
+    let commands = [
+        Command::Setup,
+        Command::Table,
+        Command::Load,
+        Command::Event,
+        Command::Events,
+        Command::Restart,
+        Command::Clear,
+        Command::Show,
+        Command::Device,
+        Command::Trial,
+        Command::Write,
+        Command::Dot,
+        Command::Help,
+    ];
+    if place < 13 {
+        return commands[place];
+    }
+    Command::Unknown
+}
+
 // The command that a word names.
 pub fn read_command(word: &[u8]) -> Command
     ensures { λ r. ⌜ r ≡ named (now (word .entry)) ⌝ }
 {
-    if equal(word, b"setup") {
-        return Command::Setup;
-    }
-    if equal(word, b"table") {
-        return Command::Table;
-    }
-    if equal(word, b"load") {
-        return Command::Load;
-    }
-    if equal(word, b"event") {
-        return Command::Event;
-    }
-    if equal(word, b"events") {
-        return Command::Events;
-    }
-    if equal(word, b"restart") {
-        return Command::Restart;
-    }
-    if equal(word, b"clear") {
-        return Command::Clear;
-    }
-    if equal(word, b"show") {
-        return Command::Show;
-    }
-    if equal(word, b"device") {
-        return Command::Device;
-    }
-    if equal(word, b"trial") {
-        return Command::Trial;
-    }
-    if equal(word, b"write") {
-        return Command::Write;
-    }
-    if equal(word, b"dot") {
-        return Command::Dot;
-    }
-    if equal(word, b"help") {
-        return Command::Help;
-    }
-    Command::Unknown
+    let place = place_of(
+        word,
+        b"setup table load event events restart clear show device trial write dot help",
+    );
+    command_at(place)
 }

@@ -5,6 +5,7 @@ use crate::answers::say_field;
 use crate::answers::say_list;
 use crate::answers::say_number;
 use crate::answers::say_refusal;
+use crate::rules::NODE_ROOM;
 use crate::rules::Nodes;
 use crate::rules::meet_of;
 use crate::rules::read_rule;
@@ -17,6 +18,7 @@ use command_line::read_number;
 use command_line::read_numbers;
 use command_line::rest;
 use command_line::word;
+use limits::CHANNEL_LIMIT;
 use recorder::Answer;
 use recorder::Reply;
 use recorder::Tool;
@@ -24,8 +26,6 @@ use refusal::Refusal;
 
 // Most numbers of a line.
 const LIST_ROOM: usize = 4096;
-
-const NODE_ROOM: usize = 12288;
 
 // Numbers of a line: what they are, that there are too few or too many words, or that one is no number.
 pub enum Numbers {
@@ -138,16 +138,16 @@ fn say_reply(reply: Reply) {
 }
 
 // The states that a channel has.
-fn states_of(states: [u16; 8], channel: usize) -> usize {
-    if channel < 8 {
+fn states_of(states: [u16; CHANNEL_LIMIT], channel: usize) -> usize {
+    if channel < CHANNEL_LIMIT {
         let n = states[channel];
         return n as usize;
     }
     0
 }
 
-fn state_of(current: [u8; 8], channel: usize) -> usize {
-    if channel < 8 {
+fn state_of(current: [u8; CHANNEL_LIMIT], channel: usize) -> usize {
+    if channel < CHANNEL_LIMIT {
         let n = current[channel];
         return n as usize;
     }
@@ -173,11 +173,11 @@ pub fn load(tool: Tool, line: &[u8]) -> Tool {
         say_wrong(numbers);
         return tool;
     };
-    let setup = setup_of(tool.events, tool.values, tool.top);
+    let setup = setup_of(tool.setup.events, tool.setup.values, tool.setup.top);
     let mut nodes = [0u8; NODE_ROOM];
     let read = read_rule(
         setup,
-        meet_of(&tool.meet, setup.values),
+        meet_of(&tool.setup.meet, setup.values),
         rest(line, 2),
         &mut nodes,
     );
@@ -293,7 +293,7 @@ pub fn show(tool: Tool, line: &[u8]) {
         say_wrong(numbers);
         return;
     };
-    if 7 < channel {
+    if CHANNEL_LIMIT <= channel {
         say_refusal(Refusal::Plain(refusal::CHANNEL_NUMBER));
         return;
     }

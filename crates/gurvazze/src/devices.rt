@@ -8,9 +8,10 @@ use crate::calls::say_wrong;
 use crate::calls::two_numbers;
 use crate::rules::Made;
 use crate::rules::Setup;
+use crate::rules::entries_of;
 use crate::rules::make_table;
 use crate::rules::meet_of;
-use crate::rules::product;
+use crate::rules::say_unmade;
 use crate::rules::setup_of;
 use channel_file::tokens;
 use channel_io::write_file;
@@ -20,6 +21,10 @@ use command_line::front;
 use command_line::read_numbers;
 use command_line::rest;
 use conformance::Verdict;
+use limits::FILE_LIMIT;
+use limits::NODE_LIMIT;
+use limits::TABLE_BYTES;
+use limits::WORD_LIMIT;
 use recorder::Tool;
 use refusal::Counted;
 
@@ -70,7 +75,7 @@ fn try_table(
     device: Device,
     entries: &[u8],
 ) {
-    let mut word = [0u8; conformance::WORD_LIMIT];
+    let mut word = [0u8; WORD_LIMIT];
     let verdict = conformance::trial(
         setup.events,
         setup.values,
@@ -90,27 +95,22 @@ fn try_table(
     }
 }
 
-// The entries of a table, two bytes each.
-fn entries_of(table: &[u8], states: usize, events: usize) -> &[u8] {
-    front(table, product(states, events) * 2)
-}
-
 // The trial of a device against a rule in tokens.
 fn try_rule(setup: Setup, meet: &[u8], tokens: &[u8], device: Device, entries: &[u8]) {
-    let mut table = [0u8; 2048];
+    let mut table = [0u8; TABLE_BYTES];
     let made = make_table(setup, meet, tokens, &mut table);
-    match made {
-        Made::States(states) => try_table(
-            setup,
-            meet,
-            states,
-            entries_of(&table, states, setup.events),
-            device,
-            front(entries, device.size),
-        ),
-        Made::Refused(refusal) => say_refusal(refusal),
-        Made::Malformed => say_error(b"tokens"),
-    }
+    let Made::States(states) = made else {
+        say_unmade(made);
+        return;
+    };
+    try_table(
+        setup,
+        meet,
+        states,
+        entries_of(&table, states, setup.events),
+        device,
+        front(entries, device.size),
+    );
 }
 
 // trial TOKENS
@@ -119,10 +119,10 @@ pub fn trial(tool: Tool, device: Device, line: &[u8], entries: &[u8]) {
         say_error(b"device");
         return;
     }
-    let setup = setup_of(tool.events, tool.values, tool.top);
+    let setup = setup_of(tool.setup.events, tool.setup.values, tool.setup.top);
     try_rule(
         setup,
-        meet_of(&tool.meet, setup.values),
+        meet_of(&tool.setup.meet, setup.values),
         rest(line, 1),
         device,
         entries,
@@ -138,7 +138,7 @@ fn say_rule(text: &[u8]) {
 
 // A rule as tokens.
 fn say_nodes(setup: Setup, meet: &[u8], nodes: &[u8]) {
-    let mut text = [0u8; 4096];
+    let mut text = [0u8; FILE_LIMIT];
     let written = write_file(
         setup.events,
         setup.values,
@@ -155,12 +155,12 @@ fn say_nodes(setup: Setup, meet: &[u8], nodes: &[u8]) {
 
 // The bytes of so many nodes; 0 beyond the limit.
 fn node_bytes(count: usize) -> usize {
-    if count <= 256 { count * 3 } else { 0 }
+    if count <= NODE_LIMIT { count * 3 } else { 0 }
 }
 
 // The rule of a device.
 fn write_device(setup: Setup, meet: &[u8], device: Device, entries: &[u8]) {
-    let mut nodes = [0u8; 768];
+    let mut nodes = [0u8; NODE_LIMIT * 3];
     let written = write_rule(
         setup.events,
         setup.values,
@@ -187,6 +187,11 @@ pub fn write(tool: Tool, device: Device, line: &[u8], entries: &[u8]) {
         say_error(b"device");
         return;
     }
-    let setup = setup_of(tool.events, tool.values, tool.top);
-    write_device(setup, meet_of(&tool.meet, setup.values), device, entries);
+    let setup = setup_of(tool.setup.events, tool.setup.values, tool.setup.top);
+    write_device(
+        setup,
+        meet_of(&tool.setup.meet, setup.values),
+        device,
+        entries,
+    );
 }

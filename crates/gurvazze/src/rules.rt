@@ -1,23 +1,26 @@
-// Rules written as tokens, judged as the last line of a channel file with the tool's set-up; their tables.
+// Rules written as tokens, which have to fit a channel file with the tool's set-up; their tables.
 ghost use Prim.Native.Nat.{_≤_};
 use crate::answers::say;
 use crate::answers::say_error;
 use crate::answers::say_refusal;
-use channel_file::Checked;
-use channel_file::Stored;
-use channel_file::check_form;
-use channel_file::read_text;
+use channel_file::TokenList;
+use channel_file::read_tokens;
 use channel_io::write_file;
 use command_line::front;
 use command_line::rest;
+use limits::FILE_LIMIT;
+use limits::TABLE_BYTES;
 use recorder::Tool;
 use refusal::Counted;
 use refusal::Refusal;
 use synthesis::compile;
-use table_report::report;
+use table_graph::GRAPH_LENGTH;
+use table_graph::dot as digraph;
+use table_rows::ROWS_LENGTH;
+use table_rows::rows;
 
-// A channel file's limit and the longest line.
-const TEXT_ROOM: usize = 12288;
+// A channel file has fewer tokens than bytes, and a node three bytes.
+pub const NODE_ROOM: usize = FILE_LIMIT * 3;
 
 // The numbers of a set-up; its meet table is kept beside.
 pub struct Setup {
@@ -52,45 +55,32 @@ pub fn meet_of(meet: &[u8], values: usize) -> &[u8] {
     front(meet, product(values, values))
 }
 
-// Puts bytes into a buffer from an offset on, as far as there is room; the offset behind them.
-fn put(bytes: &[u8], to: &mut [u8], at: usize) -> usize {
-    let mut n = at;
-    for i in 0..bytes.len() {
-        if to.len() <= n {
-            return n;
-        }
-        to[n] = bytes[i];
-        n += 1;
-    }
-    n
+// The entries of a table, two bytes each.
+pub fn entries_of(table: &[u8], states: usize, events: usize) -> &[u8] {
+    front(table, product(states, events) * 2)
 }
 
-// The text of a set-up and the rule T, up to its tokens: its length.
-fn put_head(setup: Setup, meet: &[u8], text: &mut [u8]) -> usize {
+// How many bytes of tokens a channel file of a set-up has room for.
+fn token_room(setup: Setup, meet: &[u8]) -> usize {
+    let mut text = [0u8; FILE_LIMIT];
+    // the shortest rule, T, and byte 10
     let written = write_file(
         setup.events,
         setup.values,
         setup.top,
         meet,
         &[0, 0, 0],
-        text,
+        &mut text,
     );
     let Counted::Count(n) = written else {
         return 0;
     };
-    // the token and the byte 10 go
-    if n < 2 { 0 } else { n - 2 }
+    if n <= FILE_LIMIT {
+        FILE_LIMIT - n + 1
+    } else {
+        0
+    }
 }
-
-// The channel file of a set-up and tokens: its length.
-fn put_text(setup: Setup, meet: &[u8], tokens: &[u8], text: &mut [u8]) -> usize {
-    let a = put_head(setup, meet, text);
-    let b = put(tokens, text, a);
-    put(b"\n", text, b)
-}
-
-// Entries of a meet line that a channel file has room for.
-const ENTRY_ROOM: usize = 2048;
 
 // The answer to tokens: the bytes of their nodes, or that they are not in the form.
 pub enum Nodes {
@@ -98,22 +88,20 @@ pub enum Nodes {
     Malformed,
 }
 
-// The bytes of so many nodes; a text has no more than 4,096.
+// The bytes of so many nodes; a text has no more than the limit.
 fn node_bytes(nodes: usize) -> usize {
-    if nodes < 4097 { 3 * nodes } else { 0 }
+    if nodes <= FILE_LIMIT { 3 * nodes } else { 0 }
 }
 
 // The nodes of a rule in tokens.
 pub fn read_rule(setup: Setup, meet: &[u8], tokens: &[u8], nodes: &mut [u8]) -> Nodes {
-    let mut text = [0u8; TEXT_ROOM];
-    let mut entries = [0u8; ENTRY_ROOM];
-    let n = put_text(setup, meet, tokens, &mut text);
-    let stored = read_text(front(&text, n), &mut entries, nodes);
-    match stored {
-        Stored::Form { items, .. } => Nodes::Bytes(node_bytes(items)),
-        // the buffers have room for every text within the limit
-        Stored::Short => Nodes::Malformed,
-        Stored::Refused(_) => Nodes::Malformed,
+    if token_room(setup, meet) < tokens.len() {
+        return Nodes::Malformed;
+    }
+    let read = read_tokens(tokens, nodes);
+    match read {
+        TokenList::Nodes(n) => Nodes::Bytes(node_bytes(n)),
+        TokenList::Malformed => Nodes::Malformed,
     }
 }
 
@@ -135,12 +123,21 @@ fn compile_rule(setup: Setup, meet: &[u8], rule: &[u8], table: &mut [u8]) -> Mad
 
 // The table of a rule in tokens.
 pub fn make_table(setup: Setup, meet: &[u8], tokens: &[u8], table: &mut [u8]) -> Made {
-    let mut nodes = [0u8; TEXT_ROOM];
+    let mut nodes = [0u8; NODE_ROOM];
     let read = read_rule(setup, meet, tokens, &mut nodes);
     let Nodes::Bytes(n) = read else {
         return Made::Malformed;
     };
     compile_rule(setup, meet, front(&nodes, n), table)
+}
+
+// Why there is no table.
+pub fn say_unmade(made: Made) {
+    match made {
+        Made::Refused(refusal) => say_refusal(refusal),
+        Made::Malformed => say_error(b"tokens"),
+        Made::States(_) => {}
+    }
 }
 
 // Where the second line of a text starts.
@@ -153,49 +150,31 @@ fn second_line(text: &[u8]) -> usize {
     0
 }
 
-// A report, without the line of its events where it is a table.
-fn say_report(text: &[u8]) {
+// The lines of a table, without that of its events.
+fn say_lines(text: &[u8]) {
     let at = second_line(text);
     if at < text.len() {
         say(&text[at..]);
-    } else {
-        say(text);
     }
 }
 
-// The report on a channel file.
-fn say_table(text: &[u8]) {
-    let checked = check_form(text);
-    if let Checked::Refused(_) = checked {
-        say_error(b"tokens");
-        return;
+fn say_rows(setup: Setup, states: usize, table: &[u8]) {
+    let mut out = [0u8; ROWS_LENGTH];
+    let printed = rows(setup.events, setup.values, states, table, &mut out);
+    if let Counted::Count(n) = printed {
+        say_lines(front(&out, n));
     }
-    let mut out = [0u8; 24600];
-    let answer = report(text, &mut out);
-    if let Counted::Count(n) = answer {
-        say_report(front(&out, n));
-    }
-}
-
-// table TOKENS
-pub fn table(tool: Tool, line: &[u8]) {
-    let setup = setup_of(tool.events, tool.values, tool.top);
-    let meet = meet_of(&tool.meet, setup.values);
-    let mut text = [0u8; TEXT_ROOM];
-    let n = put_text(setup, meet, rest(line, 1), &mut text);
-    say_table(front(&text, n));
 }
 
 // A table as a Graphviz digraph.
 fn say_digraph(setup: Setup, states: usize, table: &[u8]) {
-    let mut out = [0u8; 65554];
-    let entries = product(states, setup.events);
-    let drawn = table_graph::dot(
+    let mut out = [0u8; GRAPH_LENGTH];
+    let drawn = digraph(
         setup.events,
         setup.values,
         setup.top,
         states,
-        front(table, 2 * entries),
+        table,
         &mut out,
     );
     if let Counted::Count(n) = drawn {
@@ -203,15 +182,35 @@ fn say_digraph(setup: Setup, states: usize, table: &[u8]) {
     }
 }
 
+// How a table is shown.
+enum Form {
+    Rows,
+    Digraph,
+}
+
+// The table of a rule in tokens.
+fn show(form: Form, tool: Tool, tokens: &[u8]) {
+    let setup = setup_of(tool.setup.events, tool.setup.values, tool.setup.top);
+    let meet = meet_of(&tool.setup.meet, setup.values);
+    let mut table = [0u8; TABLE_BYTES];
+    let made = make_table(setup, meet, tokens, &mut table);
+    let Made::States(states) = made else {
+        say_unmade(made);
+        return;
+    };
+    let entries = entries_of(&table, states, setup.events);
+    match form {
+        Form::Rows => say_rows(setup, states, entries),
+        Form::Digraph => say_digraph(setup, states, entries),
+    }
+}
+
+// table TOKENS
+pub fn table(tool: Tool, line: &[u8]) {
+    show(Form::Rows, tool, rest(line, 1));
+}
+
 // dot TOKENS
 pub fn dot(tool: Tool, line: &[u8]) {
-    let setup = setup_of(tool.events, tool.values, tool.top);
-    let meet = meet_of(&tool.meet, setup.values);
-    let mut table = [0u8; 2048];
-    let made = make_table(setup, meet, rest(line, 1), &mut table);
-    match made {
-        Made::States(states) => say_digraph(setup, states, &table),
-        Made::Refused(refusal) => say_refusal(refusal),
-        Made::Malformed => say_error(b"tokens"),
-    }
+    show(Form::Digraph, tool, rest(line, 1));
 }

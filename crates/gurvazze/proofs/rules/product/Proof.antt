@@ -1,16 +1,8 @@
 -- `product` keeps within its type.
--- Assumes nothing.
-use native.Mathlib.Nat.{mul-le-mul-left}
-use native.Mathlib.Omega.{arith}
+use native.Mathlib.{Nat.{mul-le-mul-left}, Omega.{arith}}
 use borrow.Author.Needs.{needs}
 use Rattle.gurvazze.proofs.rules.product.Statement.{statement}
 use Rattle.gurvazze.proofs.rules.product.Tie as tie
-
-returns : tie.Need-returns
-returns c = search needs
-
-returns-2 : tie.Need-returns-2
-returns-2 c = search needs
 
 mul-result : tie.Need-mul-result
 mul-result c = omega (arith, mul-le-mul-left (c .before .before .args .a) (c .if2 .left))
@@ -19,4 +11,4 @@ returns-3 : tie.Need-returns-3
 returns-3 c = omega (arith, mul-le-mul-left (c .before .before .args .a) (c .if2 .left))
 
 pub product-spec : {M : Type 1} → statement M
-product-spec = tie.close (tie.spec returns returns-2 mul-result returns-3)
+product-spec = tie.close (tie.spec (λ c. search needs) (λ c. search needs) mul-result returns-3)
