@@ -1,38 +1,28 @@
 -- The calls on a file, from what was made of it.
--- Assumes nothing.
-use mathlib.Core.Path.{_≡_, sym, _∙_, ap, ap₂, subst}
-use mathlib.Core.Bool.{Bool, true, false}
-use mathlib.Core.Option.{Option, none, some}
-use mathlib.Core.List.{List, []}
+use mathlib.Core.{Path.{_≡_, sym, _∙_, ap, ap₂, subst}, Bool.{Bool, true, false}, Option.{Option, none, some}, List.{List, []}}
 use Prim.Native.Nat.{ℕ, _*_, _≤_, _<_}
 use native.Mathlib.Omega.{arith}
 use borrow.Author.Tests.{le-leb, lt-leb, ltb-true}
-use lib.Dec.{leb, ltb}
-use lib.ListN.{length, getD, take}
-use lib.Seq.{length-take-le}
-use Rattle.theory.specs.MealyMachine.{Machine}
-use Rattle.theory.specs.ValueSetClaims.{every}
+use lib.{Dec.{leb, ltb}, ListN.{length, getD, take}, Seq.{length-take-le}}
+use Rattle.limits.specs.Limits.{device-limit, table-limit}
+use Rattle.theory.specs.{MealyMachine.{Machine, word-values}, ValueSetClaims.{every}}
 use Rattle.theory.proofs.ValueSets.{every-at}
 use Rattle.refusal.specs.declared.Refusal.{Refusal}
 use Rattle.refusal.specs.declared.Refusal.the-variants.{Plain}
-use Rattle.refusal.specs.Refusal.{or-else, plain-unless}
-use Rattle.refusal.specs.LentBuffers.{put, put-unless}
+use Rattle.refusal.specs.{Refusal.{or-else, plain-unless}, LentBuffers.{put, put-unless}}
 use Rattle.values.specs.Setup.{Setup, setup}
-use Rattle.text_format.specs.Format.{Outcome, contents, refused}
-use Rattle.channel_file.specs.ChannelFile.{Contents}
-use Rattle.channel_file.specs.Reading.{read-file}
-use Rattle.machines.specs.TableBytes.{machine-of}
+use Rattle.text_format.specs.Format.{Outcome}
+use Rattle.channel_file.specs.{ChannelFile.{Contents}, Reading.{read-file}}
 use Rattle.conformance.specs.declared.Verdict.{Verdict}
 use Rattle.conformance.specs.Trial.{TrialInput, input, trial-refusal, trial-answer, trial-buffer, first-failure, answer-unless, buffer-unless}
 use Rattle.channel_io.specs.declared.FileNumbers.{FileNumbers}
-use Rattle.channel_io.specs.FileJudgement.{setup-of}
-use Rattle.channel_io.specs.FileReading.{numbers}
-use Rattle.file_table.specs.FileCompilation.{file-states, file-table, contents-table-refusal}
-use Rattle.file_table.specs.Claims.{FileTableMade}
-use Rattle.file_table.proofs.Claims.{file-table-made}
-use Rattle.file_table.proofs.Callers.{meet-fits, table-fits, Unmade, off-form, turned-away, MadeOf, limits, events-are}
+use Rattle.channel_io.specs.{FileJudgement.{setup-of}, FileReading.{numbers}, FileRefusals.{file-states, file-table, contents-table-refusal}}
+use Rattle.channel_io.specs.Claims.{FileTableMade}
+use Rattle.channel_io.proofs.{Claims.{file-table-made}, Callers.{meet-fits, table-fits, Unmade, off-form, turned-away, MadeOf, limits, events-are}}
 use Rattle.gurvazze_host.specs.Codes.{refusal-code, yield-code, code, verdict-code, table-numbers, SmallPlace, SmallNumbers}
-use Rattle.gurvazze_host.specs.FileCalls.{table-call-refusal, table-code, table-after, file-machine, outputs, word-refusal, replay-refusal, replay-code, replay-after, file-trial, file-trial-refusal, file-trial-answer, file-trial-buffer, Playable, Runnable, Replays}
+use Rattle.gurvazze_host.specs.FileCalls.{number-machine, table-call-refusal, table-code, table-after, file-machine, word-refusal, replay-refusal}
+use Rattle.gurvazze_host.specs.FileCalls.{replay-code, replay-after, file-trial, file-trial-refusal, file-trial-answer, file-trial-buffer, Playable}
+use Rattle.gurvazze_host.specs.FileCalls.{Runnable, Replays}
 use Rattle.gurvazze_host.proofs.Places.{SmallAnswer, file-small, text-small}
 
 or-some : (b : Option Refusal) (a : Option Refusal) (r : Refusal) → a ≡ some r → or-else a b ≡ some r
@@ -75,7 +65,7 @@ module _ {t meet old : List ℕ} (wide : 256 ≤ length meet) where
         or-some (word-refusal (c .events) word to) (contents-table-refusal c) r (sym (table-fits c meet old wide room) ∙ f) in (
           sym (ap (λ (o : Outcome Contents). replay-code o word to) e ∙ ap (λ (o : Option Refusal). code o 0) a),
           sym (ap (λ (o : Outcome Contents). replay-after o word to) e
-              ∙ ap (λ (o : Option Refusal). put-unless o (outputs (file-machine c) 0 word) to) a),
+              ∙ ap (λ (o : Option Refusal). put-unless o (word-values (file-machine c) 0 word) to) a),
         )
 
     pub trial-stopped :
@@ -89,7 +79,8 @@ module _ {t meet old : List ℕ} (wide : 256 ≤ length meet) where
     )
     trial-stopped (turned-away c r e f) states start device word =
         let a : file-trial-refusal c states start device word ≡ some r =
-        or-some (trial-refusal 64 64 (file-trial c states start device) word) (contents-table-refusal c) r (sym (table-fits c meet old wide room) ∙ f) in (
+        or-some (trial-refusal device-limit table-limit (file-trial c states start device) word) (contents-table-refusal c) r
+        (sym (table-fits c meet old wide room) ∙ f) in (
           sym (ap (λ (o : Outcome Contents). verdict-code (file-trial-answer o states start device word)) e
               ∙ ap (λ (o : Option Refusal). verdict-code (answer-unless o (first-failure (file-trial c states start device)))) a),
           sym (ap (λ (o : Outcome Contents). file-trial-buffer o states start device word) e
@@ -122,8 +113,8 @@ module _ {t meet old meet′ new : List ℕ} {n : FileNumbers} {k : ℕ} (w : Ma
             ∙ sym (ap (λ (o : Outcome Contents). table-after o old) (w .reads) ∙ ap (λ (o : Option Refusal). put-unless o (file-table c) old) a),
       )
 
-  same-machine : machine-of (n .events) (take (k * n .events * 2) new) ≡ file-machine c
-  same-machine = ap₂ machine-of (events-are w) (w .table-taken)
+  same-machine : number-machine (n .events) (take (k * n .events * 2) new) ≡ file-machine c
+  same-machine = ap₂ number-machine (events-are w) (w .table-taken)
 
   pub playable : Playable (n .events) k (take (k * n .events * 2) new)
   playable =
@@ -136,7 +127,7 @@ module _ {t meet old meet′ new : List ℕ} {n : FileNumbers} {k : ℕ} (w : Ma
         whole = omega (arith, length-take-le (k * n .events * 2) new (w .table-in));
         nexts = λ q e hq he.
             let r = rows .nexts q e (omega (arith, w .states-are)) (omega (arith, events-are w)) .0 in
-            let z : machine-of (n .events) (take (k * n .events * 2) new) .next q e ≡ file-machine c .next q e =
+            let z : number-machine (n .events) (take (k * n .events * 2) new) .next q e ≡ file-machine c .next q e =
             ap (λ (m : Machine ℕ ℕ). m .next q e) same-machine in
             omega (arith, w .states-are, r, z);
       }
@@ -149,9 +140,9 @@ module _ {t meet old meet′ new : List ℕ} {n : FileNumbers} {k : ℕ} (w : Ma
       let a : replay-refusal c word to ≡ word-refusal (n .events) word to =
       or-none (word-refusal (c .events) word to) (contents-table-refusal c) (w .passed) ∙ ap (λ (x : ℕ). word-refusal x word to) (sym (events-are w)) in (
         h .answer ∙ sym (ap (λ (o : Outcome Contents). replay-code o word to) (w .reads) ∙ ap (λ (o : Option Refusal). code o 0) a),
-        h .buffer ∙ ap (λ (x : Machine ℕ ℕ). put-unless (word-refusal (n .events) word to) (outputs x 0 word) to) same-machine
+        h .buffer ∙ ap (λ (x : Machine ℕ ℕ). put-unless (word-refusal (n .events) word to) (word-values x 0 word) to) same-machine
             ∙ sym (ap (λ (o : Outcome Contents). replay-after o word to) (w .reads)
-            ∙ ap (λ (o : Option Refusal). put-unless o (outputs (file-machine c) 0 word) to) a),
+            ∙ ap (λ (o : Option Refusal). put-unless o (word-values (file-machine c) 0 word) to) a),
       )
 
   -- ---- trial
@@ -168,18 +159,20 @@ module _ {t meet old meet′ new : List ℕ} {n : FileNumbers} {k : ℕ} (w : Ma
 
   pub trial-made :
       (states start : ℕ) (device word word′ : List ℕ) (v : Verdict)
-      → v ≡ trial-answer 64 64 (input (setup (n .events) (n .values) (n .top) (take (n .entries) meet′)) k (take (k * n .events * 2) new) states start device) word
-      → word′ ≡ trial-buffer 64 64 (input (setup (n .events) (n .values) (n .top) (take (n .entries) meet′)) k (take (k * n .events * 2) new) states start device) word
+      → v ≡ trial-answer device-limit table-limit (input (setup (n .events) (n .values) (n .top) (take (n .entries) meet′)) k
+      (take (k * n .events * 2) new) states start device) word
+      → word′ ≡ trial-buffer device-limit table-limit (input (setup (n .events) (n .values) (n .top) (take (n .entries) meet′)) k
+      (take (k * n .events * 2) new) states start device) word
       → (v ≡ file-trial-answer (read-file t) states start device word) × (word′ ≡ file-trial-buffer (read-file t) states start device word)
   unfolding file-trial-answer file-trial-buffer file-trial-refusal trial-answer trial-buffer
   trial-made states start device word word′ v e f =
       let x = same-trial states start device in
-      let a : file-trial-refusal c states start device word ≡ trial-refusal 64 64 (file-trial c states start device) word =
-      or-none (trial-refusal 64 64 (file-trial c states start device) word) (contents-table-refusal c) (w .passed) in (
-        e ∙ ap (λ (z : TrialInput). trial-answer 64 64 z word) x
+      let a : file-trial-refusal c states start device word ≡ trial-refusal device-limit table-limit (file-trial c states start device) word =
+      or-none (trial-refusal device-limit table-limit (file-trial c states start device) word) (contents-table-refusal c) (w .passed) in (
+        e ∙ ap (λ (z : TrialInput). trial-answer device-limit table-limit z word) x
             ∙ sym (ap (λ (o : Outcome Contents). file-trial-answer o states start device word) (w .reads)
             ∙ ap (λ (o : Option Refusal). answer-unless o (first-failure (file-trial c states start device))) a),
-        f ∙ ap (λ (z : TrialInput). trial-buffer 64 64 z word) x
+        f ∙ ap (λ (z : TrialInput). trial-buffer device-limit table-limit z word) x
             ∙ sym (ap (λ (o : Outcome Contents). file-trial-buffer o states start device word) (w .reads)
             ∙ ap (λ (o : Option Refusal). buffer-unless o (first-failure (file-trial c states start device)) word) a),
       )
@@ -194,7 +187,7 @@ module _ (events : ℕ) (table word old : List ℕ) where
       ap (λ (b : Bool). or-else (plain-unless b 16) (plain-unless (leb (length word) (length old)) 13)) e in
       record {
         answer = sym (ap (λ (o : Option Refusal). code o 0) a);
-        buffer = sym (ap (λ (o : Option Refusal). put-unless o (outputs (machine-of events table) 0 word) old) a);
+        buffer = sym (ap (λ (o : Option Refusal). put-unless o (word-values (number-machine events table) 0 word) old) a);
       }
 
   pub replays-13 :
@@ -205,19 +198,19 @@ module _ (events : ℕ) (table word old : List ℕ) where
       ap₂ (λ (b d : Bool). or-else (plain-unless b 16) (plain-unless d 13)) e (lt-leb (length word) (length old) h) in
       record {
         answer = sym (ap (λ (o : Option Refusal). code o 0) a);
-        buffer = sym (ap (λ (o : Option Refusal). put-unless o (outputs (machine-of events table) 0 word) old) a);
+        buffer = sym (ap (λ (o : Option Refusal). put-unless o (word-values (number-machine events table) 0 word) old) a);
       }
 
   pub replays-all :
       (new : List ℕ) → every (length word) (λ i. ltb (getD word i 0) events) ≡ true → length word ≤ length old
-      → new ≡ put (outputs (machine-of events table) 0 word) old → Replays events table word old new 0
+      → new ≡ put (word-values (number-machine events table) 0 word) old → Replays events table word old new 0
   unfolding word-refusal plain-unless or-else code yield-code put-unless put
   replays-all new e h i =
       let a : word-refusal events word old ≡ none =
       ap₂ (λ (b d : Bool). or-else (plain-unless b 16) (plain-unless d 13)) e (le-leb (length word) (length old) h) in
       record {
         answer = sym (ap (λ (o : Option Refusal). code o 0) a);
-        buffer = i ∙ sym (ap (λ (o : Option Refusal). put-unless o (outputs (machine-of events table) 0 word) old) a);
+        buffer = i ∙ sym (ap (λ (o : Option Refusal). put-unless o (word-values (number-machine events table) 0 word) old) a);
       }
 
   pub runnable :

@@ -1,43 +1,31 @@
 -- The claims on codes, on replay and on trial.
--- Assumes nothing.
-use mathlib.Core.Path.{_≡_, sym, _∙_, ap, subst}
-use mathlib.Core.Option.{Option, none, some}
-use mathlib.Core.List.{List, [], _∷_}
+use mathlib.Core.{Path.{_≡_, refl, sym, _∙_, ap, subst}, Option.{Option, none, some}, List.{List, [], _∷_}}
 use Prim.Native.Nat.{ℕ, zero, suc, _/_, _%_, _<_}
-use native.Mathlib.Nat.{not-suc-le-zero, le-of-suc-le-suc}
-use native.Mathlib.Omega.{arith}
+use native.Mathlib.{Nat.{not-suc-le-zero, le-of-suc-le-suc}, Omega.{arith}}
 use borrow.Author.Tests.{ltb-true, ltb-false, leb-true, leb-false}
-use lib.Dec.{leb, ltb}
-use lib.ListN.{length, getD, take}
-use Rattle.theory.specs.MealyMachine.{Word}
-use Rattle.theory.specs.ValueSetClaims.{every}
-use Rattle.theory.specs.ValueSets.{Below, meetAt}
-use Rattle.theory.specs.Semantics.{Answers}
-use Rattle.theory.proofs.Claims.{grammar, table-values}
-use Rattle.theory.proofs.ValueSets.{every-at, every-some}
+use lib.{Dec.{leb, ltb}, ListN.{length, getD, take}}
+use Rattle.theory.proofs.{Words.{length-word-values, word-values-at}, Claims.{grammar}, ValueSets.{every-at, every-some}}
+use Rattle.limits.specs.Limits.{node-limit, device-limit, table-limit, word-limit}
+use Rattle.theory.specs.{MealyMachine.{Word}, ValueSetClaims.{every}, ValueSets.{Below}, Semantics.{Answers}}
 use Rattle.refusal.specs.declared.Refusal.{Refusal}
 use Rattle.refusal.specs.declared.Refusal.the-variants.{Plain, At}
-use Rattle.refusal.specs.Refusal.{First, plain, number, or-else, plain-unless}
-use Rattle.refusal.specs.RefusalClaims.{NoneMet}
-use Rattle.refusal.proofs.Refusals.{or-else-none, plain-none, plain-first, first-then, first-append, accepted-exactly}
-use Rattle.values.specs.ValueKind.{meetOf}
-use Rattle.values.specs.Setup.{setup, setup-refusal}
+use Rattle.refusal.specs.Refusal.{First, plain, number, or-else, plain-unless, has-place, part-of, order, condition-numbers, right-places}
+use Rattle.refusal.proofs.Refusals.{or-else-none, plain-none, plain-first, first-then, first-append, first-unique, judged}
+use Rattle.values.specs.{ValueKind.{meetOf}, Setup.{setup-meet, setup-conditions, kind-conditions}, SetupTests.{setup-refusal}}
+use Rattle.values.specs.declared.ValueKind.the-variants.{Numbered}
 use Rattle.text_format.specs.Format.{contents}
 use Rattle.channel_file.specs.ChannelFile.{Contents}
-use Rattle.machines.specs.TableBytes.{TableInOrder}
 use Rattle.machines.specs.TableRefusal.{table-refusal}
 use Rattle.machines.proofs.TableRefusals.{table-refusal-first}
-use Rattle.channel_io.specs.FileJudgement.{setup-of, rule-numbers}
-use Rattle.conformance.specs.Trial.{input, trial-refusal, trial-answer, first-failure, answer-unless}
+use Rattle.channel_io.specs.{FileJudgement.{setup-of}, FileRefusals.{pair-table-refusal, file-states, file-table, contents-table-refusal}}
+use Rattle.channel_io.specs.FileJudgement.{contents-table-conditions}
+use Rattle.conformance.specs.Trial.{input, tables-refusal, trial-refusal, trial-answer, first-failure, answer-unless, Passed}
 use Rattle.conformance.proofs.TrialClaims.{trial-satisfies}
-use Rattle.file_table.specs.FileCompilation.{pair-table-refusal, file-states, file-table, contents-table-refusal}
-use Rattle.file_table.specs.Claims.{contents-table-conditions}
-use Rattle.file_table.proofs.Answers.{rows-length}
-use Rattle.file_table.proofs.Claims.{setup-passed, contents-table-claim, file-table-made}
+use Rattle.channel_io.proofs.Claims.{contents-table-claim, file-table-made, file-table-accepted}
 use Rattle.gurvazze_host.specs.Codes.{refusal-code, yield-code, code}
 use Rattle.gurvazze_host.specs.FileCalls.{file-machine, word-refusal, replay-refusal, file-trial, file-trial-refusal, file-trial-answer}
-use Rattle.gurvazze_host.specs.Claims.{CodeClaim, ReplayRefusalClaim, ReplayClaim, FileTrialRefusalClaim, FileTrialClaim}
-use Rattle.gurvazze_host.proofs.Runs.{length-outputs, outputs-at}
+use Rattle.gurvazze_host.specs.Claims.{CodeClaim, replay-conditions, file-trial-conditions, ReplayRefusalClaim, ReplayClaim, FileTrialRefusalClaim}
+use Rattle.gurvazze_host.specs.Claims.{FileTrialClaim}
 
 low-byte : (r : Refusal) → number r < 256 → refusal-code r % 256 ≡ number r
 unfolding refusal-code number
@@ -66,7 +54,7 @@ word-of events [] h (suc j) = tt
 word-of events (e ∷ w) h (suc j) = (h 0 (omega arith), word-of events w (λ i l. h (suc i) (omega arith)) j)
 
 pub replay-claim : ReplayClaim
-unfolding replay-refusal word-refusal setup
+unfolding replay-refusal word-refusal
 replay-claim c word old e =
     let a = or-else-none (contents-table-refusal c) _ e in
     let b = or-else-none (plain-unless (every (length word) (λ i. ltb (getD word i 0) (c .events))) 16) _ (a .1) .0 in
@@ -77,10 +65,10 @@ replay-claim c word old e =
     record {
       rule = made .formula;
       rule-is = made .code;
-      same-length = length-outputs (file-machine c) 0 word;
+      same-length = length-word-values (file-machine c) 0 word;
       answers = λ i l.
-          subst (λ (v : ℕ). Answers (meetAt (c .values) (c .meet)) (c .top) (made .formula) (take i word) (getD word i 0) v)
-          (sym (outputs-at (file-machine c) 0 word i l))
+          subst (λ (v : ℕ). Answers (setup-meet (setup-of c)) (c .top) (made .formula) (take i word) (getD word i 0) v)
+          (sym (word-values-at (file-machine c) 0 word i l))
           (made .answers (take i word) (word-of (c .events) word below i) (getD word i 0) (below i l));
     }
 
@@ -93,78 +81,67 @@ whole-word : (events : ℕ) (w : List ℕ) → ((i : ℕ) → i < length w → g
 whole-word events [] h = tt
 whole-word events (e ∷ w) h = (h 0 (omega arith), whole-word events w (λ i l. h (suc i) (omega arith)))
 
-pub replay-refusal-claim : ReplayRefusalClaim
+replay-first : (c : Contents) (word old : List ℕ) → First (replay-conditions c word old) (replay-refusal c word old)
 unfolding replay-refusal word-refusal
-replay-refusal-claim c word old =
+replay-first c word old =
     let test = every (length word) (λ i. ltb (getD word i 0) (c .events)) in
-    first-append _ _ _ _ (contents-table-claim .first c)
+    first-append _ _ _ _ (contents-table-claim c .first)
     (first-append (plain 16 (¬ Word (c .events) word) ∷ []) _ _ _
     (plain-first 16 (¬ Word (c .events) word) test
-    (λ e h. let s = every-some (length word) (λ i. ltb (getD word i 0) (c .events)) e in omega (arith, word-at (c .events) word h (s .0) (s .1), ltb-false (getD word (s .0) 0) (c .events) (s .2)))
-    (λ e h. h (whole-word (c .events) word (λ i l. ltb-true (getD word i 0) (c .events) (every-at (length word) (λ j. ltb (getD word j 0) (c .events)) e i l)))))
+    (λ e h. let s = every-some (length word) (λ i. ltb (getD word i 0) (c .events)) e in omega
+    (arith, word-at (c .events) word h (s .0) (s .1), ltb-false (getD word (s .0) 0) (c .events) (s .2)))
+    (λ e h. h (whole-word (c .events) word (λ i l. ltb-true (getD word i 0) (c .events)
+    (every-at (length word) (λ j. ltb (getD word j 0) (c .events)) e i l)))))
     (plain-first 13 (length old < length word) (leb (length word) (length old))
     (λ e. leb-false (length word) (length old) e)
     (λ e h. let l = leb-true (length word) (length old) e in omega arith)))
 
+pub replay-refusal-claim : ReplayRefusalClaim
+replay-refusal-claim =
+    record { first = replay-first; only = λ c word old answer x. first-unique _ answer (replay-refusal c word old) x (replay-first c word old) }
+
 -- ---- trial
 
--- the table of a rule is within the limits of 11
-module _ (c : Contents) (ok : contents-table-refusal c ≡ none) where
-  table-in-order : TableInOrder 2 64 (c .events) (Below (c .values)) (file-states c) 0 (file-table c) (file-machine c)
-  unfolding setup
-  table-in-order =
-      let made = file-table-made c ok in
-      let t = made .table in
-      let rows = t .is-table .3 in
-      let first = rows .numbering .complete [] tt in
-      let some-states : 0 < file-states c = omega (arith, first .1, rows .count) in
-      let runs =
-      table-values (Below (c .values)) (meetAt (c .values) (c .meet)) (c .top) (c .events) (setup-passed c ok .laws) (t .formula)
-      (grammar ℕ 256 (c .events) (Below (c .values)) (t .formula) (t .code .accepted)) _ _ (t .is-table) .1 in
-      record {
-        some-states = some-states;
-        few-states = made .few-states;
-        entry-count = rows-length (c .events) (c .values) (c .top) (c .meet) (rule-numbers c);
-        start-in = some-states;
-        values-in = λ l e hl he. runs .value-in l hl e he;
-        nexts-in = λ l e hl he. runs .next-in l hl e he;
-      }
-
-  table-accepted : table-refusal 64 (c .events) (c .values) (file-states c) 0 (file-table c) ≡ none
-  unfolding NoneMet
-  table-accepted =
-      accepted-exactly _ _ (table-refusal-first 64 (c .events) (c .values) (file-states c) 0 (file-table c)) .1
-      ((λ r m. m .0 table-in-order), tt)
-
-trial-behind : (a b d e : Option Refusal) → a ≡ none → d ≡ none → or-else b e ≡ or-else a (or-else b (or-else d e))
+or-nothing : (a : Option Refusal) → or-else a none ≡ a
 unfolding or-else
-trial-behind a none d e p q = sym (ap (λ (o : Option Refusal). or-else o (or-else d e)) p ∙ ap (λ (o : Option Refusal). or-else o e) q)
-trial-behind a (some r) d e p q = sym (ap (λ (o : Option Refusal). or-else o (some r)) p)
+or-nothing none = refl
+or-nothing (some r) = refl
 
-pub file-trial-refusal-claim : FileTrialRefusalClaim
-unfolding file-trial-refusal trial-refusal input setup pair-table-refusal
-file-trial-refusal-claim c states start device old =
-    first-then (contents-table-conditions c) _ (contents-table-refusal c) _ (contents-table-claim .first c)
+trial-behind : (a b d e : Option Refusal) → a ≡ none → d ≡ none → or-else b e ≡ or-else a (or-else (or-else b d) e)
+unfolding or-else
+trial-behind a b d e p q = rw (p, q, or-nothing b)
+
+file-trial-first :
+    (c : Contents) (states start : ℕ) (device old : List ℕ) →
+    First (file-trial-conditions c states start device old) (file-trial-refusal c states start device old)
+unfolding file-trial-refusal trial-refusal tables-refusal input pair-table-refusal
+file-trial-first c states start device old =
+    first-then (contents-table-conditions c) _ (contents-table-refusal c) _ (contents-table-claim c .first)
     (λ ok.
     subst (First _)
-    (trial-behind (setup-refusal (setup-of c)) (table-refusal 64 (c .events) (c .values) states start device)
-    (table-refusal 64 (c .events) (c .values) (file-states c) 0 (file-table c)) (plain-unless (leb 4096 (length old)) 13)
-    (or-else-none (setup-refusal (setup-of c)) _ ok .0) (table-accepted c ok))
-    (first-append _ _ _ _ (table-refusal-first 64 (c .events) (c .values) states start device)
-    (plain-first 13 (length old < 4096) (leb 4096 (length old)) (λ e. leb-false 4096 (length old) e)
-    (λ e h. let l = leb-true 4096 (length old) e in omega arith))))
+    (trial-behind (setup-refusal (setup-of c)) (table-refusal table-limit (c .events) (Numbered (c .values)) states start device)
+    (table-refusal table-limit (c .events) (Numbered (c .values)) (file-states c) 0 (file-table c)) (plain-unless (leb word-limit (length old)) 13)
+    (or-else-none (setup-refusal (setup-of c)) _ ok .0) (file-table-accepted c ok))
+    (first-append _ _ _ _ (table-refusal-first table-limit (c .events) (Numbered (c .values)) states start device)
+    (plain-first 13 (length old < word-limit) (leb word-limit (length old)) (λ e. leb-false word-limit (length old) e)
+    (λ e h. let l = leb-true word-limit (length old) e in omega arith))))
+
+pub file-trial-refusal-claim : FileTrialRefusalClaim
+unfolding setup-conditions kind-conditions condition-numbers right-places has-place part-of order
+file-trial-refusal-claim c states start device old = judged _ _ (file-trial-first c states start device old) refl refl
 
 pub file-trial-claim : FileTrialClaim
-unfolding file-trial-refusal file-trial-answer trial-answer input setup meetOf
+unfolding file-trial-refusal file-trial-answer trial-answer input meetOf
 file-trial-claim c states start device old e =
     let x = file-trial c states start device in
-    let a = or-else-none (contents-table-refusal c) (trial-refusal 64 64 x old) e in
+    let a = or-else-none (contents-table-refusal c) (trial-refusal device-limit table-limit x old) e in
     let made = file-table-made c (a .0) .table in
-    let t = trial-satisfies 64 64 x old (a .1) (made .formula) (grammar ℕ 256 (c .events) (Below (c .values)) (made .formula) (made .code .accepted)) (made .is-table) in
-    let q : file-trial-answer (contents c) states start device old ≡ trial-answer 64 64 x old =
+    let t = trial-satisfies device-limit table-limit x old (a .1) (made .formula)
+    (grammar ℕ node-limit (c .events) (Below (c .values)) (made .formula) (made .code .accepted)) (made .is-table) in
+    let q : file-trial-answer (contents c) states start device old ≡ trial-answer device-limit table-limit x old =
     ap (λ (o : Option Refusal). answer-unless o (first-failure x)) (e ∙ sym (a .1)) in
     record {
       rule = made .formula;
       rule-is = made .code;
-      passes = (λ h. t .0 (sym q ∙ h), λ h. q ∙ t .1 h);
+      passes = (λ h. t .0 (subst Passed q h), λ h. subst Passed (sym q) (t .1 h));
     }

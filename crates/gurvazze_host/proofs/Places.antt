@@ -1,32 +1,28 @@
 -- Every refusal of a file and of a compiled rule has a place that has room in a code, if it has one.
--- Assumes nothing.
 use Prim.Native.Nat.{ℕ, zero, suc, _+_, _/_, _≤_, _<_}
-use mathlib.Core.Path.{_≡_, refl, subst}
-use mathlib.Core.List.{List}
-use mathlib.Core.Bool.{Bool, true, false, cond}
-use mathlib.Core.Option.{Option, none, some}
+use mathlib.Core.{Path.{_≡_, refl, subst}, List.{List}, Bool.{Bool, true, false, cond}, Option.{Option, none, some}}
 use native.Mathlib.Omega.{arith}
-use lib.Dec.{ltb, leb}
-use lib.ListN.{length}
+use lib.{Dec.{leb}, ListN.{length}}
 use Rattle.theory.specs.Formula.{Formula, truth, variable, transition, output, conjunction, greatest, size}
 use Rattle.refusal.specs.declared.Refusal.{Refusal}
 use Rattle.refusal.specs.Refusal.{or-else, plain-unless, at-found}
-use Rattle.values.specs.Setup.{Setup, events-test, values-test, meet-test, setup-refusal}
-use Rattle.formulas.specs.RuleConditions.{closed-to-variable}
+use Rattle.values.specs.declared.ValueKind.{ValueKind}
+use Rattle.values.specs.declared.ValueKind.the-variants.{Numbered, Register}
+use Rattle.values.specs.{Setup.{Setup}, ValueTests.{value-fits}}
+use Rattle.values.specs.SetupTests.{events-test, values-test, meet-test, lines-test, kind-refusal, setup-refusal}
+use Rattle.formulas.specs.{NodeBytes.{node-width}, RuleConditions.{closed-to-variable}}
 use Rattle.formulas.specs.RuleReading.{kind-of, awaited, end-fault, first-of, formula-read, lowest-variable, lowest-unbound, lowest-closed}
-use Rattle.formulas.specs.RuleRefusal.{count-fits, variables-refusal, structure-refusal, misfit-place, nodes-refusal, kind-at, first-at, second-at, rule-refusal}
-use Rattle.formulas.proofs.Search.{lowest-found}
-use Rattle.formulas.proofs.Decoding.{CountFits, count-facts}
-use Rattle.text_format.specs.Format.{refused}
-use Rattle.text_format.specs.Place.{Refused, at, early}
-use Rattle.channel_file.specs.ChannelFile.{Contents, Form}
-use Rattle.channel_file.specs.Reading.{file-limit, Refused4, over-long, off-form, AnswersFile, read-file}
+use Rattle.formulas.specs.RuleRefusal.{count-fits, variables-refusal, structure-refusal, misfit-place, nodes-refusal, kind-at, first-at, value-at, rule-refusal}
+use Rattle.formulas.proofs.{Search.{lowest-found}, Decoding.{CountFits, count-facts}}
+use Rattle.text_format.specs.{Format.{refused}, Place.{Refused, at, early}}
+use Rattle.channel_file.specs.{ChannelFile.{Contents, Form}, Reading.{Refused4, over-long, off-form, AnswersFile, read-file}}
 use Rattle.channel_file.proofs.Claims.{answer-claim}
 use Rattle.synthesis.specs.Compilation.{rule-table-refusal}
 use Rattle.channel_io.specs.FileJudgement.{setup-of, rule-numbers}
 use Rattle.channel_io.proofs.Clamping.{read-size}
-use Rattle.file_table.specs.FileCompilation.{pair-table-refusal, has-room, pair-compile-refusal, file-states, contents-table-refusal, file-refusal}
+use Rattle.channel_io.specs.FileRefusals.{pair-table-refusal, has-table-room, pair-compile-refusal, file-states, contents-table-refusal, file-refusal}
 use Rattle.gurvazze_host.specs.Codes.{SmallPlace}
+use Rattle.limits.specs.Limits.{node-limit, state-limit, file-limit}
 
 abbrev pub SmallAnswer : Option Refusal → Type 0
 SmallAnswer none = Unit {0}
@@ -42,7 +38,7 @@ unfolding plain-unless
 plain-small true n = tt
 plain-small false n = tt
 
-found-small : (o : Option ℕ) (n : ℕ) → ((p : ℕ) → o ≡ some p → p ≤ 256) → SmallAnswer (at-found o n)
+found-small : (o : Option ℕ) (n : ℕ) → ((p : ℕ) → o ≡ some p → p ≤ node-limit) → SmallAnswer (at-found o n)
 unfolding at-found
 found-small none n h = tt
 found-small (some p) n h = let l = h p refl in omega arith
@@ -77,14 +73,15 @@ module _ {S : Type 0} (faulty : S → ℕ → Bool) (g v : S → S) where
       (λ d. let h = variable-bound s (suc i) φ p d in omega arith) (λ d. let h = variable-bound s (suc i + size φ) χ p d in omega arith)
   variable-bound s i (greatest φ) p e = let h = variable-bound (v s) (suc i) φ p e in omega arith
 
-variables-small : (φ : Formula ℕ) → size φ ≤ 256 → SmallAnswer (variables-refusal φ)
+variables-small : (φ : Formula ℕ) → size φ ≤ node-limit → SmallAnswer (variables-refusal φ)
 unfolding variables-refusal
 variables-small φ h =
     or-small (at-found (lowest-unbound 0 0 φ) 8) (at-found (lowest-closed closed-to-variable 0 φ) 9)
     (found-small (lowest-unbound 0 0 φ) 8 (λ p e. let b = variable-bound _ _ _ 0 0 φ p e in omega arith))
     (found-small (lowest-closed closed-to-variable 0 φ) 9 (λ p e. let b = variable-bound _ _ _ closed-to-variable 0 φ p e in omega arith))
 
-nodes-small : (kind first value : ℕ → ℕ) (count : ℕ) (fits : ℕ → Bool) (events : ℕ) → count ≤ 256 → SmallAnswer (nodes-refusal kind first value count fits events)
+nodes-small : (kind first value : ℕ → ℕ) (count : ℕ) (fits : ℕ → Bool) (events : ℕ) → count ≤ node-limit → SmallAnswer
+    (nodes-refusal kind first value count fits events)
 unfolding nodes-refusal structure-refusal misfit-place
 nodes-small kind first value count fits events h =
     or-small _ _
@@ -92,39 +89,45 @@ nodes-small kind first value count fits events h =
     (or-small _ _ (found-small (end-fault kind 1 count 0) 7 (λ p e. let w = end-bound kind 1 count 0 p e in omega arith))
     (variables-small (formula-read kind first value count) (read-size kind first value count h)))
 
-rule-small : (events values : ℕ) (rule : List ℕ) → SmallAnswer (rule-refusal events values rule)
+rule-small : (events : ℕ) (kind : ValueKind) (rule : List ℕ) → SmallAnswer (rule-refusal events kind rule)
 unfolding rule-refusal plain-unless or-else
-rule-small events values rule = go (count-fits 3 256 (length rule)) refl
+rule-small events kind rule = go (count-fits (node-width kind) node-limit (length rule)) refl
   where
-    go : (b : Bool) → count-fits 3 256 (length rule) ≡ b
-        → SmallAnswer (or-else (plain-unless b 5) (nodes-refusal (kind-at rule) (first-at rule) (second-at rule) (length rule / 3) (λ v. ltb v values) events))
+    go : (b : Bool) → count-fits (node-width kind) node-limit (length rule) ≡ b
+        → SmallAnswer (or-else (plain-unless b 5)
+        (nodes-refusal (kind-at kind rule) (first-at kind rule) (value-at kind rule) (length rule / node-width kind) (value-fits kind) events))
     go true e =
-        let w : CountFits 3 256 (length rule) = count-facts 3 256 (length rule) e in
-        nodes-small (kind-at rule) (first-at rule) (second-at rule) (length rule / 3) (λ v. ltb v values) events (w .within)
+        let w : CountFits (node-width kind) node-limit (length rule) = count-facts (node-width kind) node-limit (length rule) e in
+        nodes-small (kind-at kind rule) (first-at kind rule) (value-at kind rule) (length rule / node-width kind) (value-fits kind) events (w .within)
     go false e = tt
+
+kind-small : (kind : ValueKind) (top : ℕ) (meet : List ℕ) → SmallAnswer (kind-refusal kind top meet)
+unfolding kind-refusal
+kind-small (Numbered values) top meet =
+    or-small (plain-unless (values-test values top) 2) _ (plain-small (values-test values top) 2) (plain-small (meet-test values top meet) 3)
+kind-small (Register lines) top meet = plain-small (lines-test lines) 20
 
 pub setup-small : (s : Setup) → SmallAnswer (setup-refusal s)
 unfolding setup-refusal
 setup-small s =
-    or-small (plain-unless (events-test (s .events)) 1) _ (plain-small (events-test (s .events)) 1)
-    (or-small (plain-unless (values-test (s .values) (s .top)) 2) _ (plain-small (values-test (s .values) (s .top)) 2) (plain-small (meet-test (s .values) (s .top) (s .meet)) 3))
+    or-small (plain-unless (events-test (s .events)) 1) _ (plain-small (events-test (s .events)) 1) (kind-small (s .kind) (s .top) (s .meet))
 
 pub file-small : (c : Contents) (meet to : List ℕ) → SmallAnswer (file-refusal c meet to)
 unfolding pair-compile-refusal pair-table-refusal rule-table-refusal
 file-small c meet to =
     or-small (contents-table-refusal c) _
     (or-small (setup-refusal (setup-of c)) _ (setup-small (setup-of c))
-    (or-small _ _ (rule-small _ _ (rule-numbers c)) (plain-small (leb (file-states c) 64) 10)))
-    (plain-small (has-room (c .events) (c .values) (c .top) (c .meet) (rule-numbers c) meet to) 13)
+    (or-small _ _ (rule-small _ _ (rule-numbers c)) (plain-small (leb (file-states c) state-limit) 10)))
+    (plain-small (has-table-room (setup-of c) (rule-numbers c) meet to) 13)
 
 -- 4
 form-small : (t : List ℕ) (p : ℕ) → length t ≤ file-limit → Refused Form t p → p ≤ file-limit
 form-small t p h (at q l begins stops) = omega arith
 form-small t p h (early begins stops) = h
 
-pub text-small : (t : List ℕ) (p : ℕ) → read-file t ≡ refused p → p ≤ 4096
+pub text-small : (t : List ℕ) (p : ℕ) → read-file t ≡ refused p → p ≤ file-limit
 text-small t p e = go p (subst (AnswersFile t) e (answer-claim t))
   where
-    go : (q : ℕ) → Refused4 t q → q ≤ 4096
+    go : (q : ℕ) → Refused4 t q → q ≤ file-limit
     go q (over-long l) = omega arith
     go q (off-form r h d) = form-small t q h d

@@ -1,58 +1,32 @@
 -- The run over a sequence of events, turn by turn.
--- Assumes nothing.
-use mathlib.Core.Path.{_≡_, refl, sym, _∙_, ap, ap₂}
-use mathlib.Core.Bool.{Bool, _&&_}
-use mathlib.Core.List.{List, [], _∷_}
-use Prim.Native.Nat.{ℕ, zero, suc, _+_, _*_, _≤_, _<_}
-use native.Mathlib.Nat.{not-suc-le-zero, le-of-suc-le-suc, mul-le-mul-right}
-use native.Mathlib.Numerals.{add-one}
-use native.Mathlib.Omega.{arith}
-use lib.ListN.{length, getD, set, take, drop, length-append, length-drop}
-use lib.Seq.{take-all, take-suc, length-take-le}
-use Rattle.theory.specs.MealyMachine.{Machine, after}
-use Rattle.theory.specs.ValueSetClaims.{every}
+use mathlib.Core.{Path.{_≡_, refl, sym, _∙_, ap, ap₂}, Bool.{Bool, _&&_}, List.{List}}
+use Prim.Native.Nat.{ℕ, _+_, _*_, _≤_, _<_}
+use native.Mathlib.{Nat.{mul-le-mul-right}, Numerals.{add-one}, Omega.{arith}}
+use lib.{ListN.{length, getD, set, take, drop, length-append, length-drop}, Seq.{take-all, take-suc, length-take-le}}
+use Rattle.theory.proofs.Words.{length-word-values, word-values-at, after-take}
+use Rattle.theory.specs.{MealyMachine.{Machine, after, word-values}, ValueSetClaims.{every}}
 use Rattle.refusal.specs.LentBuffers.{put}
-use Rattle.machines.specs.TableBytes.{machine-of}
-use Rattle.machines.proofs.EntryIndex.{index-below}
-use Rattle.machines.proofs.Stores.{put-snoc}
-use Rattle.gurvazze_host.specs.FileCalls.{outputs, Runnable}
+use Rattle.machines.proofs.{EntryIndex.{index-below}, Stores.{put-snoc}}
+use Rattle.gurvazze_host.specs.FileCalls.{number-machine, Runnable}
 
 -- One number more of a test of all.
 pub every-step : (n : ℕ) (test : ℕ → Bool) (b all : Bool) → b ≡ test n → all ≡ every n test → (b && all) ≡ every (n + 1) test
 unfolding every
 every-step n test b all e f = rw (add-one n) (ap₂ _&&_ e f)
 
-pub length-outputs : (m : Machine ℕ ℕ) (q : ℕ) (w : List ℕ) → length (outputs m q w) ≡ length w
-length-outputs m q [] = refl
-length-outputs m q (e ∷ w) = ap suc (length-outputs m (m .next q e) w)
-
-pub outputs-at :
-    (m : Machine ℕ ℕ) (q : ℕ) (w : List ℕ) (i : ℕ) → i < length w →
-    getD (outputs m q w) i 0 ≡ m .value (after m q (take i w)) (getD w i 0)
-outputs-at m q [] i h = absurd (not-suc-le-zero h)
-outputs-at m q (e ∷ w) zero h = refl
-outputs-at m q (e ∷ w) (suc i) h = outputs-at m (m .next q e) w i (le-of-suc-le-suc h)
-
-after-take :
-    (m : Machine ℕ ℕ) (q : ℕ) (w : List ℕ) (i : ℕ) → i < length w →
-    after m q (take (suc i) w) ≡ m .next (after m q (take i w)) (getD w i 0)
-after-take m q [] i h = absurd (not-suc-le-zero h)
-after-take m q (e ∷ w) zero h = refl
-after-take m q (e ∷ w) (suc i) h = after-take m (m .next q e) w i (le-of-suc-le-suc h)
-
 -- After i events: the state q and the buffer b.
 pub record Ran (events n : ℕ) (table w out : List ℕ) (q : ℕ) (b : List ℕ) (i : ℕ) : Type 0 where
   pub within : i ≤ length w
-  pub state : q ≡ after (machine-of events table) 0 (take i w)
+  pub state : q ≡ after (number-machine events table) 0 (take i w)
   pub below : q < n
-  pub buffer : b ≡ put (take i (outputs (machine-of events table) 0 w)) out
+  pub buffer : b ≡ put (take i (word-values (number-machine events table) 0 w)) out
 
 module _ (events n : ℕ) (table w out : List ℕ) (g : Runnable events n table w out) where
   abbrev m : Machine ℕ ℕ
-  m = machine-of events table
+  m = number-machine events table
 
   abbrev values : List ℕ
-  values = outputs m 0 w
+  values = word-values m 0 w
 
   pub begins : Ran events n table w out 0 out 0
   unfolding put
@@ -62,13 +36,13 @@ module _ (events n : ℕ) (table w out : List ℕ) (g : Runnable events n table 
   unfolding put
   put-length i h =
       length-append (take i values) (drop (length (take i values)) out)
-      ∙ omega (arith, length-drop (length (take i values)) out, length-take-le i values (omega (arith, length-outputs m 0 w)), g .fits)
+      ∙ omega (arith, length-drop (length (take i values)) out, length-take-le i values (omega (arith, length-word-values m 0 w)), g .fits)
 
   pub same-size : (q : ℕ) (b : List ℕ) (i : ℕ) → Ran events n table w out q b i → length b ≡ length out
   same-size q b i h = ap length (h .buffer) ∙ put-length i (h .within)
 
   pub ends : (q : ℕ) (b : List ℕ) (i : ℕ) → Ran events n table w out q b i → length w ≤ i → b ≡ put values out
-  ends q b i h l = h .buffer ∙ ap (λ (x : List ℕ). put x out) (take-all i values (omega (arith, length-outputs m 0 w)))
+  ends q b i h l = h .buffer ∙ ap (λ (x : List ℕ). put x out) (take-all i values (omega (arith, length-word-values m 0 w)))
 
   module _ (q : ℕ) (b : List ℕ) (i : ℕ) (h : Ran events n table w out q b i) (l : i < length w) where
     abbrev e : ℕ
@@ -95,10 +69,10 @@ module _ (events n : ℕ) (table w out : List ℕ) (g : Runnable events n table 
 
     stored : set b i (getD table ((q * events + e) * 2) 0) ≡ put (take (i + 1) values) out
     stored =
-        let room : i < length values = omega (arith, length-outputs m 0 w) in
+        let room : i < length values = omega (arith, length-word-values m 0 w) in
         let size : length (take i values) ≡ i = length-take-le i values (omega arith) in
         let is : getD table ((q * events + e) * 2) 0 ≡ getD values i 0 =
-        ap (λ (x : ℕ). m .value x e) (h .state) ∙ sym (outputs-at m 0 w i l) in
+        ap (λ (x : ℕ). m .value x e) (h .state) ∙ sym (word-values-at m 0 w i l) in
         ap₂ (λ (x : List ℕ) (y : ℕ). set x i y) (h .buffer) is
         ∙ ap (λ (x : ℕ). set (put (take i values) out) x (getD values i 0)) (sym size)
         ∙ put-snoc (take i values) out (getD values i 0) (omega (arith, g .fits))

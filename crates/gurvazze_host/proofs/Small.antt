@@ -1,77 +1,79 @@
 -- Every answer has room in a code.
--- Assumes nothing.
-use mathlib.Core.Path.{_≡_, refl, _∙_, ap}
-use mathlib.Core.Option.{Option, none, some}
-use mathlib.Core.List.{List}
+use mathlib.Core.{Path.{_≡_, refl, _∙_, ap}, Option.{Option, none, some}, List.{List}}
 use Prim.Native.Nat.{ℕ, _≤_}
 use native.Mathlib.Omega.{arith}
 use borrow.Author.Tests.{leb-true}
-use lib.Dec.{leb}
-use lib.ListN.{length}
+use lib.{Dec.{leb}, ListN.{length}}
+use Rattle.limits.specs.Limits.{node-limit, device-limit, table-limit, word-limit}
 use Rattle.theory.specs.Formula.{size}
 use Rattle.refusal.specs.declared.Refusal.{Refusal}
 use Rattle.refusal.specs.Refusal.{plain-unless, counted}
 use Rattle.refusal.proofs.Refusals.{or-else-none, plain-none}
-use Rattle.values.specs.Setup.{Setup, setup-refusal}
-use Rattle.machines.specs.TableRefusal.{table-refusal, table-test, entry-test}
+use Rattle.values.specs.{Setup.{Setup}, SetupTests.{setup-refusal}}
+use Rattle.values.specs.declared.ValueKind.{ValueKind}
+use Rattle.machines.specs.{TableBytes.{entry-width}, TableRefusal.{table-refusal, table-test, entry-test}}
 use Rattle.characteristic.specs.RuleOfTable.{output-refusal, rule-of, write-refusal, write-answer}
 use Rattle.conformance.specs.declared.Verdict.{Verdict}
 use Rattle.conformance.specs.declared.Verdict.the-variants.{Pass, Fail, Refused}
-use Rattle.conformance.specs.Trial.{TrialInput, trial-refusal, trial-answer, first-failure, answer-unless, outcome}
+use Rattle.conformance.specs.Trial.{TrialInput, tables-refusal, word-length, trial-refusal, trial-answer, first-failure, answer-unless, outcome}
 use Rattle.conformance.proofs.TrialClaims.{trial-fails}
 use Rattle.gurvazze_host.specs.Codes.{SmallCount, SmallVerdict}
 use Rattle.gurvazze_host.proofs.Places.{SmallAnswer, or-small, plain-small, setup-small}
 
-table-small : (limit events values states start : ℕ) (bytes : List ℕ) → SmallAnswer (table-refusal limit events values states start bytes)
+table-small :
+    (limit events : ℕ) (kind : ValueKind) (states start : ℕ) (bytes : List ℕ) → SmallAnswer (table-refusal limit events kind states start bytes)
 unfolding table-refusal
-table-small limit events values states start bytes =
-    plain-small (table-test 2 limit events (entry-test values states bytes) states start bytes) 11
+table-small limit events kind states start bytes =
+    plain-small (table-test (entry-width kind) limit events (entry-test kind states bytes) states start bytes) 11
 
 -- ---- a trial
 module _ (x : TrialInput) (old : List ℕ) where
-  trial-small : SmallAnswer (trial-refusal 64 64 x old)
-  unfolding trial-refusal
+  trial-small : SmallAnswer (trial-refusal device-limit table-limit x old)
+  unfolding trial-refusal tables-refusal
   trial-small =
       or-small _ _ (setup-small (x .set-up))
-      (or-small _ _ (table-small 64 (x .set-up .events) (x .set-up .values) (x .device-states) (x .device-start) (x .device))
-      (or-small _ _ (table-small 64 (x .set-up .events) (x .set-up .values) (x .states) 0 (x .table)) (plain-small (leb 4096 (length old)) 13)))
+      (or-small _ _
+      (or-small _ _ (table-small device-limit (x .set-up .events) (x .set-up .kind) (x .device-states) (x .device-start) (x .device))
+      (table-small table-limit (x .set-up .events) (x .set-up .kind) (x .states) 0 (x .table)))
+      (plain-small (leb word-limit (length old)) 13))
 
-  pub verdict-small : SmallVerdict (trial-answer 64 64 x old)
+  pub verdict-small : SmallVerdict (trial-answer device-limit table-limit x old)
   unfolding trial-answer answer-unless outcome
-  verdict-small = go (trial-refusal 64 64 x old) (first-failure x) refl refl trial-small
+  verdict-small = go (trial-refusal device-limit table-limit x old) (first-failure x) refl refl trial-small
     where
-      failing : (v : Verdict) → trial-answer 64 64 x old ≡ v → (f : Option (List ℕ)) → v ≡ outcome f → SmallVerdict v
+      failing : (v : Verdict) → trial-answer device-limit table-limit x old ≡ v → (f : Option (List ℕ)) → v ≡ outcome f → SmallVerdict v
       failing Pass e f i = tt
-      failing (Fail n) e f i = let w = trial-fails 64 64 x old n e .few-events in omega arith
+      failing (Fail n) e f i = let w = trial-fails device-limit table-limit x old n (ap word-length e) .few-events in omega arith
       failing (Refused r) e none i = let z : _≡_ {A = ℕ} 0 1 = cc in absurd (omega arith)
       failing (Refused r) e (some w) i = let z : _≡_ {A = ℕ} 0 1 = cc in absurd (omega arith)
 
-      go : (o : Option Refusal) (f : Option (List ℕ)) → trial-refusal 64 64 x old ≡ o → first-failure x ≡ f → SmallAnswer o → SmallVerdict (answer-unless o f)
+      go : (o : Option Refusal) (f : Option (List ℕ)) → trial-refusal device-limit table-limit x old ≡ o → first-failure x ≡ f → SmallAnswer o →
+          SmallVerdict (answer-unless o f)
       go none f e i h = failing (outcome f) (ap (λ (q : Option Refusal). answer-unless q (first-failure x)) e ∙ ap outcome i) f refl
       go (some r) f e i h = h
 
 -- ---- the rule of a table
 module _ (s : Setup) (states start : ℕ) (table old : List ℕ) where
-  write-small : SmallAnswer (write-refusal 64 256 s states start table (length old))
+  write-small : SmallAnswer (write-refusal table-limit node-limit s states start table (length old))
   unfolding write-refusal output-refusal
   write-small =
       or-small _ _ (setup-small s)
-      (or-small _ _ (table-small 64 (s .events) (s .values) states start table)
-      (or-small _ _ (plain-small (leb (size (rule-of s states start table)) 256) 12) (plain-small _ 13)))
+      (or-small _ _ (table-small table-limit (s .events) (s .kind) states start table)
+      (or-small _ _ (plain-small (leb (size (rule-of s states start table)) node-limit) 12) (plain-small _ 13)))
 
-  size-small : write-refusal 64 256 s states start table (length old) ≡ none → size (rule-of s states start table) ≤ 256
+  size-small : write-refusal table-limit node-limit s states start table (length old) ≡ none → size (rule-of s states start table) ≤ node-limit
   unfolding write-refusal output-refusal
   size-small e =
       let a = or-else-none (setup-refusal s) _ e .1 in
-      let b = or-else-none (table-refusal 64 (s .events) (s .values) states start table) _ a .1 in
-      let d = or-else-none (plain-unless (leb (size (rule-of s states start table)) 256) 12) _ b .0 in
-      leb-true (size (rule-of s states start table)) 256 (plain-none (leb (size (rule-of s states start table)) 256) 12 d)
+      let b = or-else-none (table-refusal table-limit (s .events) (s .kind) states start table) _ a .1 in
+      let d = or-else-none (plain-unless (leb (size (rule-of s states start table)) node-limit) 12) _ b .0 in
+      leb-true (size (rule-of s states start table)) node-limit (plain-none (leb (size (rule-of s states start table)) node-limit) 12 d)
 
-  pub count-small : SmallCount (write-answer 64 256 s states start table old)
+  pub count-small : SmallCount (write-answer table-limit node-limit s states start table old)
   unfolding write-answer counted
-  count-small = go (write-refusal 64 256 s states start table (length old)) refl write-small
+  count-small = go (write-refusal table-limit node-limit s states start table (length old)) refl write-small
     where
-      go : (o : Option Refusal) → write-refusal 64 256 s states start table (length old) ≡ o → SmallAnswer o
+      go : (o : Option Refusal) → write-refusal table-limit node-limit s states start table (length old) ≡ o → SmallAnswer o
           → SmallCount (counted o (size (rule-of s states start table)))
       go none e h = let w = size-small e in omega arith
       go (some r) e h = h

@@ -1,29 +1,30 @@
 -- What is claimed of the codes, of replay and of trial; each claim is inhabited in proofs/.
--- Assumes nothing.
 use mathlib.Core.Path.{_≡_}
 use mathlib.Core.Logic.{_↔_}
 use mathlib.Core.List.{List, [], _∷_, _++_}
-use mathlib.Core.Option.{none, some}
+use mathlib.Core.Option.{Option, none, some}
 use Prim.Native.Nat.{ℕ, _/_, _%_, _<_}
 use lib.ListN.{length, getD, take}
-use Rattle.theory.specs.ValueSets.{Below, meetAt}
+use Rattle.theory.specs.ValueSets.{Below}
 use Rattle.theory.specs.Formula.{Formula}
 use Rattle.theory.specs.Semantics.{Answers}
-use Rattle.theory.specs.MealyMachine.{Word}
+use Rattle.theory.specs.MealyMachine.{Word, word-values}
 use Rattle.theory.specs.Satisfaction.{TableSatisfies}
 use Rattle.refusal.specs.declared.Refusal.{Refusal}
 use Rattle.refusal.specs.declared.Refusal.the-variants.{At}
-use Rattle.refusal.specs.Refusal.{Condition, number, plain, First}
+use Rattle.refusal.specs.Refusal.{Condition, number, plain, First, Judged}
 use Rattle.formulas.specs.Claims.{AcceptedFormula}
 use Rattle.text_format.specs.Format.{contents}
 use Rattle.channel_file.specs.ChannelFile.{Contents}
 use Rattle.machines.specs.TableBytes.{machine-of, table-condition}
-use Rattle.conformance.specs.declared.Verdict.the-variants.{Pass}
-use Rattle.conformance.specs.Trial.{device-limit, word-limit}
-use Rattle.file_table.specs.Claims.{contents-table-conditions}
-use Rattle.channel_io.specs.FileJudgement.{rule-numbers}
+use Rattle.values.specs.declared.ValueKind.the-variants.{Numbered}
+use Rattle.values.specs.Setup.{setup-meet}
+use Rattle.conformance.specs.Trial.{Passed}
+use Rattle.channel_io.specs.FileJudgement.{contents-table-conditions}
+use Rattle.channel_io.specs.FileJudgement.{setup-of, rule-numbers}
 use Rattle.gurvazze_host.specs.Codes.{code}
-use Rattle.gurvazze_host.specs.FileCalls.{file-machine, outputs, replay-refusal, file-trial-refusal, file-trial-answer}
+use Rattle.gurvazze_host.specs.FileCalls.{file-machine, replay-refusal, file-trial-refusal, file-trial-answer}
+use Rattle.limits.specs.Limits.{device-limit, word-limit}
 
 -- A code says all of an answer: the refusal's number, its place, and what the call yields.
 pub record CodeClaim : Type 0 where
@@ -38,17 +39,21 @@ abbrev pub replay-conditions : Contents → List ℕ → List ℕ → List Condi
 replay-conditions c word old =
     contents-table-conditions c ++ (plain 16 (¬ Word (c .events) word) ∷ plain 13 (length old < length word) ∷ [])
 
-abbrev pub ReplayRefusalClaim : Type 0
-ReplayRefusalClaim = (c : Contents) (word old : List ℕ) → First (replay-conditions c word old) (replay-refusal c word old)
+-- The first of them is the answer, and the only one. They stand in an order of their own: a tool has its set-up before its events,
+-- but without the file's rule there are no events to be too large for.
+pub record ReplayRefusalClaim : Type 0 where
+  pub first : (c : Contents) (word old : List ℕ) → First (replay-conditions c word old) (replay-refusal c word old)
+  pub only :
+      (c : Contents) (word old : List ℕ) (answer : Option Refusal) → First (replay-conditions c word old) answer → answer ≡ replay-refusal c word old
 
 -- The values that a replay writes are the rule's: on each event its value after the events before it, by followers (`Answers`).
 pub record Replayed (c : Contents) (word : List ℕ) : Type 0 where
   pub rule : Formula ℕ
-  pub rule-is : AcceptedFormula (c .events) (c .values) (rule-numbers c) rule
-  pub same-length : length (outputs (file-machine c) 0 word) ≡ length word
+  pub rule-is : AcceptedFormula (c .events) (Numbered (c .values)) (rule-numbers c) rule
+  pub same-length : length (word-values (file-machine c) 0 word) ≡ length word
   pub answers :
       (i : ℕ) → i < length word →
-      Answers (meetAt (c .values) (c .meet)) (c .top) rule (take i word) (getD word i 0) (getD (outputs (file-machine c) 0 word) i 0)
+      Answers (setup-meet (setup-of c)) (c .top) rule (take i word) (getD word i 0) (getD (word-values (file-machine c) 0 word) i 0)
 
 abbrev pub ReplayClaim : Type 0
 ReplayClaim = (c : Contents) (word old : List ℕ) → replay-refusal c word old ≡ none → Replayed c word
@@ -58,22 +63,22 @@ ReplayClaim = (c : Contents) (word old : List ℕ) → replay-refusal c word old
 abbrev pub file-trial-conditions : Contents → ℕ → ℕ → List ℕ → List ℕ → List Condition
 file-trial-conditions c states start device old =
     contents-table-conditions c
-    ++ (table-condition 2 device-limit (c .events) (Below (c .values)) states start device (machine-of (c .events) device)
+    ++ (table-condition 2 device-limit (c .events) (Below (c .values)) states start device (machine-of (Numbered (c .values)) (c .events) device)
     ∷ plain 13 (length old < word-limit)
     ∷ [])
 
 abbrev pub FileTrialRefusalClaim : Type 0
 FileTrialRefusalClaim =
     (c : Contents) (states start : ℕ) (device old : List ℕ) →
-    First (file-trial-conditions c states start device old) (file-trial-refusal c states start device old)
+    Judged (file-trial-conditions c states start device old) (file-trial-refusal c states start device old)
 
 -- A trial against a file's rule passes exactly if the device's start satisfies the rule by the set definition.
 pub record Tried (c : Contents) (states start : ℕ) (device old : List ℕ) : Type 0 where
   pub rule : Formula ℕ
-  pub rule-is : AcceptedFormula (c .events) (c .values) (rule-numbers c) rule
+  pub rule-is : AcceptedFormula (c .events) (Numbered (c .values)) (rule-numbers c) rule
   pub passes :
-      (file-trial-answer (contents c) states start device old ≡ Pass)
-      ↔ TableSatisfies (meetAt (c .values) (c .meet)) states (machine-of (c .events) device) rule start
+      Passed (file-trial-answer (contents c) states start device old)
+      ↔ TableSatisfies (setup-meet (setup-of c)) states (machine-of (Numbered (c .values)) (c .events) device) rule start
 
 abbrev pub FileTrialClaim : Type 0
 FileTrialClaim =

@@ -1,8 +1,8 @@
 -- Answers in one number of 64 bits, for programs in other languages. The low byte is the number of the refusal, and 0 where there is
 -- none; above it stand the refusal's place, or what the call yields.
--- Assumes nothing.
 use mathlib.Core.Option.{Option, none, some}
 use Prim.Native.Nat.{ℕ, _+_, _*_, _≤_, _<_}
+use Rattle.limits.specs.Limits.{event-limit, value-limit, state-limit}
 use Rattle.refusal.specs.declared.Refusal.{Refusal}
 use Rattle.refusal.specs.declared.Refusal.the-variants.{Plain, At}
 use Rattle.refusal.specs.declared.Counted.{Counted}
@@ -53,7 +53,7 @@ SmallVerdict (Fail n) = n < 10000
 SmallVerdict (Refused refusal) = SmallPlace refusal
 
 pub record SmallNumbers (states events values top : ℕ) : Type 0 where
-  pub few-states : states ≤ 64
-  pub few-events : events ≤ 16
-  pub few-values : values ≤ 16
+  pub few-states : states ≤ state-limit
+  pub few-events : events ≤ event-limit
+  pub few-values : values ≤ value-limit
   pub top-in : top < values

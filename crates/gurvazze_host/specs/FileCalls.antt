@@ -1,13 +1,12 @@
 -- Calls on a channel file: the table of its rule, events replayed by it, and trial against it. Each is the entry behind it, on what
 -- the file says; 4 comes first.
--- Assumes nothing.
 use mathlib.Core.Path.{_≡_}
-use mathlib.Core.List.{List, [], _∷_}
+use mathlib.Core.List.{List}
 use mathlib.Core.Option.{Option}
 use Prim.Native.Nat.{ℕ, _*_, _≤_, _<_}
 use lib.Dec.{ltb, leb}
 use lib.ListN.{length, getD}
-use Rattle.theory.specs.MealyMachine.{Machine}
+use Rattle.theory.specs.MealyMachine.{Machine, word-values}
 use Rattle.theory.specs.ValueSetClaims.{every}
 use Rattle.refusal.specs.declared.Refusal.{Refusal}
 use Rattle.refusal.specs.declared.Refusal.the-variants.{At}
@@ -15,13 +14,15 @@ use Rattle.refusal.specs.Refusal.{or-else, plain-unless}
 use Rattle.refusal.specs.LentBuffers.{put-unless}
 use Rattle.text_format.specs.Format.{Outcome, contents, refused}
 use Rattle.channel_file.specs.ChannelFile.{Contents}
+use Rattle.values.specs.declared.ValueKind.the-variants.{Numbered}
 use Rattle.machines.specs.TableBytes.{machine-of}
 use Rattle.conformance.specs.declared.Verdict.{Verdict}
 use Rattle.conformance.specs.declared.Verdict.the-variants.{Refused}
-use Rattle.conformance.specs.Trial.{TrialInput, input, device-limit, table-limit, trial-refusal, first-failure, answer-unless, buffer-unless}
+use Rattle.conformance.specs.Trial.{TrialInput, input, trial-refusal, first-failure, answer-unless, buffer-unless}
 use Rattle.channel_io.specs.FileJudgement.{setup-of}
-use Rattle.file_table.specs.FileCompilation.{file-states, file-table, contents-table-refusal}
+use Rattle.channel_io.specs.FileRefusals.{file-states, file-table, contents-table-refusal}
 use Rattle.gurvazze_host.specs.Codes.{refusal-code, code, table-numbers}
+use Rattle.limits.specs.Limits.{device-limit, event-limit, state-limit, table-limit}
 
 -- ---- the table of a file's rule
 
@@ -42,12 +43,7 @@ table-after (contents c) old = put-unless (table-call-refusal c old) (file-table
 
 -- The table of the rule, as a machine.
 abbrev pub file-machine : Contents → Machine ℕ ℕ
-file-machine c = machine-of (c .events) (file-table c)
-
--- The values of a sequence of events from a state: "An event returns the value and moves to the next state".
-abbrev pub outputs : Machine ℕ ℕ → ℕ → List ℕ → List ℕ
-outputs m q [] = []
-outputs m q (e ∷ word) = m .value q e ∷ outputs m (m .next q e) word
+file-machine c = machine-of (Numbered (c .values)) (c .events) (file-table c)
 
 -- 16: an event of the sequence is too large; 13: the buffer is shorter than the sequence.
 unfoldable pub word-refusal : ℕ → List ℕ → List ℕ → Option Refusal
@@ -65,7 +61,7 @@ replay-code (contents c) word old = code (replay-refusal c word old) 0
 
 unfoldable pub replay-after : Outcome Contents → List ℕ → List ℕ → List ℕ
 replay-after (refused p) word old = old
-replay-after (contents c) word old = put-unless (replay-refusal c word old) (outputs (file-machine c) 0 word) old
+replay-after (contents c) word old = put-unless (replay-refusal c word old) (word-values (file-machine c) 0 word) old
 
 -- ---- trial against a file's rule
 
@@ -91,13 +87,17 @@ file-trial-buffer (contents c) states start device old =
 
 -- ---- what the private functions of src/ ask and say
 
+-- Bytes as a machine, two an entry, whatever the count of values.
+abbrev pub number-machine : ℕ → List ℕ → Machine ℕ ℕ
+number-machine events table = machine-of (Numbered 0) events table
+
 -- A table in bytes of n states that events can be played by.
 pub record Playable (events n : ℕ) (table : List ℕ) : Type 0 where
-  pub few-events : events ≤ 16
-  pub few-states : n ≤ 64
+  pub few-events : events ≤ event-limit
+  pub few-states : n ≤ state-limit
   pub some-states : 0 < n
   pub whole : n * events * 2 ≤ length table
-  pub nexts : (q e : ℕ) → q < n → e < events → machine-of events table .next q e < n
+  pub nexts : (q e : ℕ) → q < n → e < events → number-machine events table .next q e < n
 
 -- And a sequence of its events, with room for its values.
 pub record Runnable (events n : ℕ) (table word buffer : List ℕ) : Type 0 where
@@ -108,4 +108,4 @@ pub record Runnable (events n : ℕ) (table word buffer : List ℕ) : Type 0 whe
 -- Answer and buffer of a replay by a table.
 pub record Replays (events : ℕ) (table word old new : List ℕ) (r : ℕ) : Type 0 where
   pub answer : r ≡ code (word-refusal events word old) 0
-  pub buffer : new ≡ put-unless (word-refusal events word old) (outputs (machine-of events table) 0 word) old
+  pub buffer : new ≡ put-unless (word-refusal events word old) (word-values (number-machine events table) 0 word) old

@@ -1,24 +1,29 @@
 // The static library for programs in C and Rust. Each exported function is an entry of the crates below with its answer in one number
 // of 64 bits: the refusal's number in the low byte, 0 where there is none, and above it the refusal's place or what the call yields.
+use channel_io::FileTable;
+use channel_io::compile_file;
 use characteristic::write_rule;
 use conformance::Verdict;
 use conformance::trial;
-use file_table::FileTable;
-use file_table::compile_file;
+use limits::MEET_LIMIT;
+use limits::TABLE_BYTES;
 use refusal::Counted;
 use refusal::Refusal;
 ghost use mathlib.Core.Path.{_≡_};
 ghost use lib.Dec.{ltb};
 ghost use lib.ListN.{length, getD};
+ghost use Rattle.theory.specs.MealyMachine.{word-values};
 ghost use Rattle.theory.specs.ValueSetClaims.{every};
 ghost use Rattle.refusal.specs.LentBuffers.{put};
 ghost use Rattle.values.specs.Setup.{setup};
-ghost use Rattle.machines.specs.TableBytes.{machine-of};
 ghost use Rattle.characteristic.specs.RuleOfTable.{write-answer, write-contents};
-ghost use Rattle.conformance.specs.Trial.{input, device-limit, table-limit, trial-answer, trial-buffer};
+ghost use Rattle.conformance.specs.Trial.{input, trial-answer, trial-buffer};
 ghost use Rattle.channel_file.specs.Reading.{read-file};
-ghost use Rattle.gurvazze_host.specs.Codes.{refusal-code, yield-code, counted-code, verdict-code, table-numbers, SmallPlace, SmallCount, SmallVerdict, SmallNumbers};
-ghost use Rattle.gurvazze_host.specs.FileCalls.{table-code, table-after, outputs, replay-code, replay-after, file-trial-answer, file-trial-buffer, Playable, Runnable, Replays};
+ghost use Rattle.gurvazze_host.specs.Codes.{refusal-code, yield-code, counted-code, verdict-code, table-numbers, SmallPlace, SmallCount, SmallVerdict};
+ghost use Rattle.gurvazze_host.specs.Codes.{SmallNumbers};
+ghost use Rattle.gurvazze_host.specs.FileCalls.{table-code, table-after, replay-code, replay-after, file-trial-answer, file-trial-buffer, number-machine};
+ghost use Rattle.gurvazze_host.specs.FileCalls.{Playable, Runnable, Replays};
+ghost use Rattle.limits.specs.Limits.{node-limit, device-limit, table-limit};
 
 fn wide(x: u8) -> usize
     ensures { λ r. ⌜ r ≡ x ⌝ }
@@ -83,7 +88,7 @@ fn word_in_order(word: &[u8], events: u8) -> bool
 // Plays a sequence of events from state 0 of a table: a value for each goes to the buffer.
 fn run(table: &[u8], events: usize, states: usize, word: &[u8], to: &mut [u8])
     requires { ⌜ Runnable events states (now table) (now word) (now to) ⌝ }
-    ensures { λ _. ⌜ now (to .exit) ≡ put (outputs (machine-of events (now (table .entry))) 0 (now (word .entry))) (now (to .entry)) ⌝ }
+    ensures { λ _. ⌜ now (to .exit) ≡ put (word-values (number-machine events (now (table .entry))) 0 (now (word .entry))) (now (to .entry)) ⌝ }
 {
     let mut state: usize = 0;
     let mut i: usize = 0;
@@ -116,7 +121,7 @@ pub extern "C" fn gurvazze_table(text: &[u8], to: &mut [u8]) -> u64
     ensures answer { λ r. ⌜ r ≡ table-code (read-file (now (text .entry))) (now (to .entry)) ⌝ }
     ensures contents { λ _. ⌜ now (to .exit) ≡ table-after (read-file (now (text .entry))) (now (to .entry)) ⌝ }
 {
-    let mut meet = [0u8; 256];
+    let mut meet = [0u8; MEET_LIMIT];
     let made = compile_file(text, &mut meet, to);
     match made {
         FileTable::Refused(refusal) => refusal_code(refusal),
@@ -132,8 +137,8 @@ pub extern "C" fn gurvazze_replay(text: &[u8], word: &[u8], to: &mut [u8]) -> u6
     ensures answer { λ r. ⌜ r ≡ replay-code (read-file (now (text .entry))) (now (word .entry)) (now (to .entry)) ⌝ }
     ensures contents { λ _. ⌜ now (to .exit) ≡ replay-after (read-file (now (text .entry))) (now (word .entry)) (now (to .entry)) ⌝ }
 {
-    let mut meet = [0u8; 256];
-    let mut table = [0u8; 2048];
+    let mut meet = [0u8; MEET_LIMIT];
+    let mut table = [0u8; TABLE_BYTES];
     let made = compile_file(text, &mut meet, &mut table);
     match made {
         FileTable::Refused(refusal) => refusal_code(refusal),
@@ -154,11 +159,13 @@ pub extern "C" fn gurvazze_trial(
     device: &[u8],
     word: &mut [u8],
 ) -> u64
-    ensures answer { λ r. ⌜ r ≡ verdict-code (file-trial-answer (read-file (now (text .entry))) «device_states» «device_start» (now (device .entry)) (now (word .entry))) ⌝ }
-    ensures contents { λ _. ⌜ now (word .exit) ≡ file-trial-buffer (read-file (now (text .entry))) «device_states» «device_start» (now (device .entry)) (now (word .entry)) ⌝ }
+    ensures answer { λ r. ⌜ r ≡ verdict-code (file-trial-answer (read-file (now (text .entry))) «device_states» «device_start» (now (device .entry))
+        (now (word .entry))) ⌝ }
+    ensures contents { λ _. ⌜ now (word .exit) ≡ file-trial-buffer (read-file (now (text .entry))) «device_states» «device_start» (now (device .entry))
+        (now (word .entry)) ⌝ }
 {
-    let mut meet = [0u8; 256];
-    let mut table = [0u8; 2048];
+    let mut meet = [0u8; MEET_LIMIT];
+    let mut table = [0u8; TABLE_BYTES];
     let made = compile_file(text, &mut meet, &mut table);
     match made {
         FileTable::Refused(refusal) => refusal_code(refusal),
@@ -198,9 +205,11 @@ pub extern "C" fn gurvazze_trial_table(
     word: &mut [u8],
 ) -> u64
     ensures answer { λ r. ⌜ r ≡ verdict-code (trial-answer device-limit table-limit
-        (input (setup events values top (now (meet .entry))) states (now (table .entry)) «device_states» «device_start» (now (device .entry))) (now (word .entry))) ⌝ }
+        (input (setup events values top (now (meet .entry))) states (now (table .entry)) «device_states» «device_start» (now (device .entry)))
+        (now (word .entry))) ⌝ }
     ensures contents { λ _. ⌜ now (word .exit) ≡ trial-buffer device-limit table-limit
-        (input (setup events values top (now (meet .entry))) states (now (table .entry)) «device_states» «device_start» (now (device .entry))) (now (word .entry)) ⌝ }
+        (input (setup events values top (now (meet .entry))) states (now (table .entry)) «device_states» «device_start» (now (device .entry)))
+        (now (word .entry)) ⌝ }
 {
     let verdict = trial(
         events,
@@ -229,8 +238,10 @@ pub extern "C" fn gurvazze_rule(
     table: &[u8],
     to: &mut [u8],
 ) -> u64
-    ensures answer { λ r. ⌜ r ≡ counted-code (write-answer 64 256 (setup events values top (now (meet .entry))) states start (now (table .entry)) (now (to .entry))) ⌝ }
-    ensures contents { λ _. ⌜ now (to .exit) ≡ write-contents 64 256 (setup events values top (now (meet .entry))) states start (now (table .entry)) (now (to .entry)) ⌝ }
+    ensures answer { λ r. ⌜ r ≡ counted-code (write-answer table-limit node-limit (setup events values top (now (meet .entry))) states start
+        (now (table .entry)) (now (to .entry))) ⌝ }
+    ensures contents { λ _. ⌜ now (to .exit) ≡ write-contents table-limit node-limit (setup events values top (now (meet .entry))) states start
+        (now (table .entry)) (now (to .entry)) ⌝ }
 {
     let counted = write_rule(events, values, top, meet, states, start, table, to);
     counted_code(counted)

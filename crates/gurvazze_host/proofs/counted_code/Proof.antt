@@ -1,5 +1,4 @@
 -- `counted_code` meets its contract, for a count and for a refusal.
--- Assumes nothing.
 use native.Mathlib.Omega.{arith}
 use mathlib.Core.Path.{sym, ap, subst, _∙_}
 use Rattle.gurvazze_host.specs.Codes.{yield-code, counted-code, SmallCount}
@@ -7,14 +6,8 @@ use borrow.Author.Needs.{needs}
 use Rattle.gurvazze_host.proofs.counted_code.Statement.{statement}
 use Rattle.gurvazze_host.proofs.counted_code.Tie as tie
 
-enum-known-counted : tie.Need-enum-known-counted
-enum-known-counted c = search needs
-
 mul-result : tie.Need-mul-result
 mul-result c = let s = subst SmallCount (c .before .counted .given .1) (c .before .before .before .pre) in omega (arith, s)
-
-enum-known-counted-2 : tie.Need-enum-known-counted-2
-enum-known-counted-2 c = search needs
 
 refusal-code-requires : tie.Need-refusal-code-requires
 refusal-code-requires c κs = subst SmallCount (c .before .counted2 .given .1) (c .before .before .before .pre)
@@ -28,12 +21,4 @@ unfolding counted-code yield-code
 returns-2 c = c .refusal-code .ensures ∙ sym (ap counted-code (c .before .before .counted2 .given .1))
 
 pub counted-code-spec : {M : Type 1} → statement M
-counted-code-spec =
-    tie.close
-    (tie.spec
-    enum-known-counted
-    mul-result
-    enum-known-counted-2
-    refusal-code-requires
-    returns
-    returns-2)
+counted-code-spec = tie.close (tie.spec (λ c. search needs) mul-result (λ c. search needs) refusal-code-requires returns returns-2)

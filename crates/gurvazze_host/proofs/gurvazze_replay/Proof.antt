@@ -1,9 +1,7 @@
 -- `gurvazze_replay` meets its contract: a refused file, or a replay by its rule's table.
--- Assumes nothing.
 use Rattle.gurvazze_host.proofs.Calls.{unmade-small, replay-stopped, playable, replay-made}
-use Rattle.file_table.proofs.Callers.{unmade, made-of, limits}
-use lib.Seq.{length-take-le}
-use lib.ListN.{length-replicate}
+use Rattle.channel_io.proofs.Callers.{unmade, made-of, limits}
+use lib.{Seq.{length-take-le}, ListN.{length-replicate}}
 use native.Mathlib.Omega.{arith}
 use Prim.Native.Nat.{ℕ}
 use mathlib.Core.Path.{sym, _∙_}
@@ -11,23 +9,8 @@ use borrow.Author.Needs.{needs}
 use Rattle.gurvazze_host.proofs.gurvazze_replay.Statement.{statement}
 use Rattle.gurvazze_host.proofs.gurvazze_replay.Tie as tie
 
-slice-aggregate-compile-file : tie.Need-slice-aggregate-compile-file
-slice-aggregate-compile-file c = search needs
-
-slice-aggregate-compile-file-2 : tie.Need-slice-aggregate-compile-file-2
-slice-aggregate-compile-file-2 c = search needs
-
-compile-file-requires : tie.Need-compile-file-requires
-compile-file-requires c κs = search needs
-
-enum-known-made : tie.Need-enum-known-made
-enum-known-made c = search needs
-
 refusal-code-requires : tie.Need-refusal-code-requires
 refusal-code-requires c κs = unmade-small (unmade (c .before .before .before .before .before .compile-file .ensures) (c .before .made .given .1) .0)
-
-enum-known-made-2 : tie.Need-enum-known-made-2
-enum-known-made-2 c = search needs
 
 mul-size : tie.Need-mul-size
 mul-size c = omega (arith, limits (made-of (c .before .before .before .before .before .compile-file .ensures) (c .before .made2 .given .1)) .few-bytes)
@@ -39,37 +22,23 @@ array-share-prefix-table : tie.Need-array-share-prefix-table
 array-share-prefix-table c = made-of (c .before .before .before .before .before .compile-file .ensures) (c .before .made2 .given .1) .table-in
 
 slice-aggregate-replay-word : tie.Need-slice-aggregate-replay-word
-slice-aggregate-replay-word c = sym (length-take-le _ _ (made-of (c .before .before .before .before .before .before .compile-file .ensures) (c .before .before .made2 .given .1) .table-in))
+slice-aggregate-replay-word c = sym (length-take-le _ _ (made-of (c .before .before .before .before .before .before .compile-file .ensures)
+    (c .before .before .made2 .given .1) .table-in))
 
 replay-word-requires : tie.Need-replay-word-requires
-replay-word-requires c κs = playable (made-of (c .before .before .before .before .before .before .before .compile-file .ensures) (c .before .before .before .made2 .given .1))
+replay-word-requires c κs = playable (made-of (c .before .before .before .before .before .before .before .compile-file .ensures)
+    (c .before .before .before .made2 .given .1))
 
 returns : tie.Need-returns
 returns c = let u = unmade (c .before .before .before .before .before .before .compile-file .ensures) (c .before .before .made .given .1) in
     let r = replay-stopped (omega (arith, length-replicate {A = ℕ} 256 0)) (omega (arith, length-replicate {A = ℕ} 2048 0)) (u .0) _ _ in
     (c .refusal-code .ensures ∙ r .0, r .1)
 
-same-length : tie.Need-same-length
-same-length c = search needs
-
 returns-2 : tie.Need-returns-2
-returns-2 c = replay-made (made-of (c .before .before .before .before .before .before .before .before .before .before .compile-file .ensures) (c .before .before .before .before .before .before .made2 .given .1)) _ _ _ _ (c .before .before .replay-word .ensures)
+returns-2 c = replay-made (made-of (c .before .before .before .before .before .before .before .before .before .before .compile-file .ensures)
+    (c .before .before .before .before .before .before .made2 .given .1)) _ _ _ _ (c .before .before .replay-word .ensures)
 
 pub gurvazze-replay-spec : {M : Type 1} → statement M
-gurvazze-replay-spec =
-    tie.close
-    (tie.spec
-    slice-aggregate-compile-file
-    slice-aggregate-compile-file-2
-    compile-file-requires
-    enum-known-made
-    refusal-code-requires
-    enum-known-made-2
-    mul-size
-    mul-size-2
-    array-share-prefix-table
-    slice-aggregate-replay-word
-    replay-word-requires
-    returns
-    same-length
+gurvazze-replay-spec = tie.close (tie.spec (λ c. search needs) (λ c. search needs) (λ c κs. search needs) (λ c. search needs) refusal-code-requires
+    (λ c. search needs) mul-size mul-size-2 array-share-prefix-table slice-aggregate-replay-word replay-word-requires returns (λ c. search needs)
     returns-2)

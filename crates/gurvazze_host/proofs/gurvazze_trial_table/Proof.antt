@@ -1,5 +1,4 @@
 -- `gurvazze_trial_table` meets its contract: the trial's answer as a code.
--- Assumes nothing.
 use mathlib.Core.Path.{sym, ap, subst, _∙_}
 use Rattle.gurvazze_host.specs.Codes.{verdict-code, SmallVerdict}
 use Rattle.gurvazze_host.proofs.Small.{verdict-small}
@@ -7,18 +6,12 @@ use borrow.Author.Needs.{needs}
 use Rattle.gurvazze_host.proofs.gurvazze_trial_table.Statement.{statement}
 use Rattle.gurvazze_host.proofs.gurvazze_trial_table.Tie as tie
 
-trial-requires : tie.Need-trial-requires
-trial-requires c κs = search needs
-
 verdict-code-requires : tie.Need-verdict-code-requires
 verdict-code-requires c κs = subst SmallVerdict (sym (c .before .before .trial .ensures .0)) (verdict-small _ _)
-
-same-length : tie.Need-same-length
-same-length c = search needs
 
 returns : tie.Need-returns
 returns c = (c .verdict-code .ensures ∙ ap verdict-code (c .before .before .before .trial .ensures .0), c .before .before .before .trial .ensures .1)
 
 pub gurvazze-trial-table-spec : {M : Type 1} → statement M
 gurvazze-trial-table-spec =
-    tie.close (tie.spec trial-requires verdict-code-requires same-length returns)
+    tie.close (tie.spec (λ c κs. search needs) verdict-code-requires (λ c. search needs) returns)

@@ -1,50 +1,28 @@
 -- `replay_word` meets its contract: 16, 13, or the values.
--- Assumes nothing.
 use mathlib.Core.Path.{sym, _∙_}
 use native.Mathlib.Omega.{arith}
-use borrow.Author.Tests.{not-true, not-false}
+use borrow.Author.{Tests.{not-true, not-false}, Needs.{needs}}
 use Rattle.gurvazze_host.proofs.Calls.{replays-16, replays-13, replays-all, runnable}
-use borrow.Author.Needs.{needs}
 use Rattle.gurvazze_host.proofs.replay_word.Statement.{statement}
 use Rattle.gurvazze_host.proofs.replay_word.Tie as tie
 
 cast-word-in-order : tie.Need-cast-word-in-order
 cast-word-in-order c = omega (arith, c .before .before .before .pre .few-events)
 
-word-in-order-requires : tie.Need-word-in-order-requires
-word-in-order-requires c κs = search needs
-
-cast-result : tie.Need-cast-result
-cast-result c = search needs
-
 returns : tie.Need-returns
 returns c = replays-16 _ _ _ _ (sym (c .before .word-in-order .ensures) ∙ not-true _ (c .if1 .taken))
-
-cast-result-2 : tie.Need-cast-result-2
-cast-result-2 c = search needs
 
 returns-2 : tie.Need-returns-2
 returns-2 c = replays-13 _ _ _ _ (sym (c .before .before .word-in-order .ensures) ∙ not-false _ (c .before .if1 .left)) (c .if2 .taken)
 
 run-requires : tie.Need-run-requires
-run-requires c κs = runnable _ _ _ _ _ (c .before .before .before .before .before .before .before .pre) (sym (c .before .before .before .word-in-order .ensures) ∙ not-false _ (c .before .before .if1 .left)) (omega (arith, c .before .if2 .left))
-
-same-length : tie.Need-same-length
-same-length c = search needs
+run-requires c κs = runnable _ _ _ _ _ (c .before .before .before .before .before .before .before .pre)
+    (sym (c .before .before .before .word-in-order .ensures) ∙ not-false _ (c .before .before .if1 .left)) (omega (arith, c .before .if2 .left))
 
 returns-3 : tie.Need-returns-3
-returns-3 c = replays-all _ _ _ _ _ (sym (c .before .before .before .before .before .before .word-in-order .ensures) ∙ not-false _ (c .before .before .before .before .before .if1 .left)) (omega (arith, c .before .before .before .before .if2 .left)) (c .before .before .run .ensures)
+returns-3 c = replays-all _ _ _ _ _ (sym (c .before .before .before .before .before .before .word-in-order .ensures) ∙ not-false _
+    (c .before .before .before .before .before .if1 .left)) (omega (arith, c .before .before .before .before .if2 .left)) (c .before .before .run .ensures)
 
 pub replay-word-spec : {M : Type 1} → statement M
-replay-word-spec =
-    tie.close
-    (tie.spec
-    cast-word-in-order
-    word-in-order-requires
-    cast-result
-    returns
-    cast-result-2
-    returns-2
-    run-requires
-    same-length
-    returns-3)
+replay-word-spec = tie.close (tie.spec cast-word-in-order (λ c κs. search needs) (λ c. search needs) returns (λ c. search needs) returns-2
+    run-requires (λ c. search needs) returns-3)

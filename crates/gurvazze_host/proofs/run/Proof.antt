@@ -1,5 +1,4 @@
 -- `run` meets its contract: the loop's invariant is `Ran`.
--- Assumes nothing.
 use lib.ListN.{length}
 use Prim.Native.Nat.{_-_}
 use native.Mathlib.Omega.{arith}
@@ -15,72 +14,112 @@ abbrev μ-loop : tie.MeasureT-loop
 μ-loop table events states word to₀ state₀ i₀ to state i = length word - i
 
 loop-holds : tie.Need-loop-holds Inv-loop μ-loop
-loop-holds c = begins (c .before .before .before .args .events) (c .before .before .before .args .states) (c .before .before .before .args .table .now) (c .before .before .before .args .word .now) (c .before .before .before .args .to .now) (c .before .before .before .pre)
+loop-holds c = begins (c .before .before .before .args .events) (c .before .before .before .args .states) (c .before .before .before .args .table .now)
+    (c .before .before .before .args .word .now) (c .before .before .before .args .to .now) (c .before .before .before .pre)
 
 mul-at : tie.Need-mul-at Inv-loop μ-loop
-mul-at c = omega (arith, place (c .before .before .before .before .before .args .events) (c .before .before .before .before .before .args .states) (c .before .before .before .before .before .args .table .now) (c .before .before .before .before .before .args .word .now) (c .before .before .before .before .before .args .to .now) (c .before .before .before .before .before .pre) (c .before .loop .state) (c .before .loop .to) (c .before .loop .i) (c .before .loop .inv) (c .loop-test .taken))
-
-shared-slice-read-wide : tie.Need-shared-slice-read-wide Inv-loop μ-loop
-shared-slice-read-wide c = search needs
-
-wide-requires : tie.Need-wide-requires Inv-loop μ-loop
-wide-requires c κs = search needs
+mul-at c = omega (
+  arith,
+  place (c .before .before .before .before .before .args .events) (c .before .before .before .before .before .args .states)
+      (c .before .before .before .before .before .args .table .now) (c .before .before .before .before .before .args .word .now)
+      (c .before .before .before .before .before .args .to .now) (c .before .before .before .before .before .pre) (c .before .loop .state)
+      (c .before .loop .to) (c .before .loop .i) (c .before .loop .inv) (c .loop-test .taken),
+)
 
 add-at : tie.Need-add-at Inv-loop μ-loop
-add-at c = rw (c .wide .ensures) (omega (arith, place (c .before .before .before .before .before .before .before .args .events) (c .before .before .before .before .before .before .before .args .states) (c .before .before .before .before .before .before .before .args .table .now) (c .before .before .before .before .before .before .before .args .word .now) (c .before .before .before .before .before .before .before .args .to .now) (c .before .before .before .before .before .before .before .pre) (c .before .before .before .loop .state) (c .before .before .before .loop .to) (c .before .before .before .loop .i) (c .before .before .before .loop .inv) (c .before .before .loop-test .taken)))
+add-at c = rw (c .wide .ensures) (omega (
+  arith,
+  place (c .before .before .before .before .before .before .before .args .events)
+      (c .before .before .before .before .before .before .before .args .states) (c .before .before .before .before .before .before .before .args .table .now)
+      (c .before .before .before .before .before .before .before .args .word .now) (c .before .before .before .before .before .before .before .args .to .now)
+      (c .before .before .before .before .before .before .before .pre) (c .before .before .before .loop .state) (c .before .before .before .loop .to)
+      (c .before .before .before .loop .i) (c .before .before .before .loop .inv) (c .before .before .loop-test .taken),
+))
 
 mul-at-2 : tie.Need-mul-at-2 Inv-loop μ-loop
-mul-at-2 c = rw (c .wide .ensures) (omega (arith, place (c .before .before .before .before .before .before .before .args .events) (c .before .before .before .before .before .before .before .args .states) (c .before .before .before .before .before .before .before .args .table .now) (c .before .before .before .before .before .before .before .args .word .now) (c .before .before .before .before .before .before .before .args .to .now) (c .before .before .before .before .before .before .before .pre) (c .before .before .before .loop .state) (c .before .before .before .loop .to) (c .before .before .before .loop .i) (c .before .before .before .loop .inv) (c .before .before .loop-test .taken)))
+mul-at-2 c = rw (c .wide .ensures) (omega (
+  arith,
+  place (c .before .before .before .before .before .before .before .args .events)
+      (c .before .before .before .before .before .before .before .args .states) (c .before .before .before .before .before .before .before .args .table .now)
+      (c .before .before .before .before .before .before .before .args .word .now) (c .before .before .before .before .before .before .before .args .to .now)
+      (c .before .before .before .before .before .before .before .pre) (c .before .before .before .loop .state) (c .before .before .before .loop .to)
+      (c .before .before .before .loop .i) (c .before .before .before .loop .inv) (c .before .before .loop-test .taken),
+))
 
 shared-slice-read-to : tie.Need-shared-slice-read-to Inv-loop μ-loop
-shared-slice-read-to c = rw (c .before .wide .ensures) (omega (arith, inside (c .before .before .before .before .before .before .before .before .args .events) (c .before .before .before .before .before .before .before .before .args .states) (c .before .before .before .before .before .before .before .before .args .table .now) (c .before .before .before .before .before .before .before .before .args .word .now) (c .before .before .before .before .before .before .before .before .args .to .now) (c .before .before .before .before .before .before .before .before .pre) (c .before .before .before .before .loop .state) (c .before .before .before .before .loop .to) (c .before .before .before .before .loop .i) (c .before .before .before .before .loop .inv) (c .before .before .before .loop-test .taken)))
+shared-slice-read-to c = rw (c .before .wide .ensures) (omega (
+  arith,
+  inside
+      (c .before .before .before .before .before .before .before .before .args .events)
+      (c .before .before .before .before .before .before .before .before .args .states)
+      (c .before .before .before .before .before .before .before .before .args .table .now)
+      (c .before .before .before .before .before .before .before .before .args .word .now)
+      (c .before .before .before .before .before .before .before .before .args .to .now)
+      (c .before .before .before .before .before .before .before .before .pre) (c .before .before .before .before .loop .state)
+      (c .before .before .before .before .loop .to) (c .before .before .before .before .loop .i) (c .before .before .before .before .loop .inv)
+      (c .before .before .before .loop-test .taken),
+))
 
 slice-write-to : tie.Need-slice-write-to Inv-loop μ-loop
-slice-write-to c = slot (c .before .before .before .before .before .before .before .before .args .events) (c .before .before .before .before .before .before .before .before .args .states) (c .before .before .before .before .before .before .before .before .args .table .now) (c .before .before .before .before .before .before .before .before .args .word .now) (c .before .before .before .before .before .before .before .before .args .to .now) (c .before .before .before .before .before .before .before .before .pre) (c .before .before .before .before .loop .state) (c .before .before .before .before .loop .to) (c .before .before .before .before .loop .i) (c .before .before .before .before .loop .inv) (c .before .before .before .loop-test .taken)
+slice-write-to c = slot (c .before .before .before .before .before .before .before .before .args .events)
+    (c .before .before .before .before .before .before .before .before .args .states)
+    (c .before .before .before .before .before .before .before .before .args .table .now)
+    (c .before .before .before .before .before .before .before .before .args .word .now)
+    (c .before .before .before .before .before .before .before .before .args .to .now)
+    (c .before .before .before .before .before .before .before .before .pre) (c .before .before .before .before .loop .state)
+    (c .before .before .before .before .loop .to) (c .before .before .before .before .loop .i) (c .before .before .before .before .loop .inv)
+    (c .before .before .before .loop-test .taken)
 
 add-wide : tie.Need-add-wide Inv-loop μ-loop
-add-wide c = rw (c .before .wide .ensures) (omega (arith, place (c .before .before .before .before .before .before .before .before .args .events) (c .before .before .before .before .before .before .before .before .args .states) (c .before .before .before .before .before .before .before .before .args .table .now) (c .before .before .before .before .before .before .before .before .args .word .now) (c .before .before .before .before .before .before .before .before .args .to .now) (c .before .before .before .before .before .before .before .before .pre) (c .before .before .before .before .loop .state) (c .before .before .before .before .loop .to) (c .before .before .before .before .loop .i) (c .before .before .before .before .loop .inv) (c .before .before .before .loop-test .taken)))
+add-wide c = rw (c .before .wide .ensures) (omega (
+  arith,
+  place (c .before .before .before .before .before .before .before .before .args .events)
+      (c .before .before .before .before .before .before .before .before .args .states)
+      (c .before .before .before .before .before .before .before .before .args .table .now)
+      (c .before .before .before .before .before .before .before .before .args .word .now)
+      (c .before .before .before .before .before .before .before .before .args .to .now)
+      (c .before .before .before .before .before .before .before .before .pre) (c .before .before .before .before .loop .state)
+      (c .before .before .before .before .loop .to) (c .before .before .before .before .loop .i) (c .before .before .before .before .loop .inv)
+      (c .before .before .before .loop-test .taken),
+))
 
 shared-slice-read-wide-2 : tie.Need-shared-slice-read-wide-2 Inv-loop μ-loop
-shared-slice-read-wide-2 c = rw (c .before .before .wide .ensures) (omega (arith, inside (c .before .before .before .before .before .before .before .before .before .args .events) (c .before .before .before .before .before .before .before .before .before .args .states) (c .before .before .before .before .before .before .before .before .before .args .table .now) (c .before .before .before .before .before .before .before .before .before .args .word .now) (c .before .before .before .before .before .before .before .before .before .args .to .now) (c .before .before .before .before .before .before .before .before .before .pre) (c .before .before .before .before .before .loop .state) (c .before .before .before .before .before .loop .to) (c .before .before .before .before .before .loop .i) (c .before .before .before .before .before .loop .inv) (c .before .before .before .before .loop-test .taken)))
-
-wide-requires-2 : tie.Need-wide-requires-2 Inv-loop μ-loop
-wide-requires-2 c κs = search needs
-
-add-i : tie.Need-add-i Inv-loop μ-loop
-add-i c = search needs
-
-loop-less : tie.Need-loop-less Inv-loop μ-loop
-loop-less c = search needs
+shared-slice-read-wide-2 c = rw (c .before .before .wide .ensures) (omega (
+  arith,
+  inside (c .before .before .before .before .before .before .before .before .before .args .events)
+      (c .before .before .before .before .before .before .before .before .before .args .states)
+      (c .before .before .before .before .before .before .before .before .before .args .table .now)
+      (c .before .before .before .before .before .before .before .before .before .args .word .now)
+      (c .before .before .before .before .before .before .before .before .before .args .to .now)
+      (c .before .before .before .before .before .before .before .before .before .pre) (c .before .before .before .before .before .loop .state)
+      (c .before .before .before .before .before .loop .to) (c .before .before .before .before .before .loop .i)
+      (c .before .before .before .before .before .loop .inv) (c .before .before .before .before .loop-test .taken),
+))
 
 loop-again : tie.Need-loop-again Inv-loop μ-loop
-loop-again c = rw (c .wide2 .ensures, c .before .before .before .wide .ensures) (again (c .before .before .before .before .before .before .before .before .before .before .args .events) (c .before .before .before .before .before .before .before .before .before .before .args .states) (c .before .before .before .before .before .before .before .before .before .before .args .table .now) (c .before .before .before .before .before .before .before .before .before .before .args .word .now) (c .before .before .before .before .before .before .before .before .before .before .args .to .now) (c .before .before .before .before .before .before .before .before .before .before .pre) (c .before .before .before .before .before .before .loop .state) (c .before .before .before .before .before .before .loop .to) (c .before .before .before .before .before .before .loop .i) (c .before .before .before .before .before .before .loop .inv) (c .before .before .before .before .before .loop-test .taken))
+loop-again c = rw (c .wide2 .ensures, c .before .before .before .wide .ensures)
+    (again (c .before .before .before .before .before .before .before .before .before .before .args .events)
+    (c .before .before .before .before .before .before .before .before .before .before .args .states)
+    (c .before .before .before .before .before .before .before .before .before .before .args .table .now)
+    (c .before .before .before .before .before .before .before .before .before .before .args .word .now)
+    (c .before .before .before .before .before .before .before .before .before .before .args .to .now)
+    (c .before .before .before .before .before .before .before .before .before .before .pre)
+    (c .before .before .before .before .before .before .loop .state) (c .before .before .before .before .before .before .loop .to)
+    (c .before .before .before .before .before .before .loop .i) (c .before .before .before .before .before .before .loop .inv)
+    (c .before .before .before .before .before .loop-test .taken))
 
 same-length : tie.Need-same-length Inv-loop μ-loop
-same-length c = same-size (c .before .before .before .before .before .args .events) (c .before .before .before .before .before .args .states) (c .before .before .before .before .before .args .table .now) (c .before .before .before .before .before .args .word .now) (c .before .before .before .before .before .args .to .now) (c .before .before .before .before .before .pre) (c .before .loop .state) (c .before .loop .to) (c .before .loop .i) (c .before .loop .inv)
+same-length c = same-size (c .before .before .before .before .before .args .events) (c .before .before .before .before .before .args .states)
+    (c .before .before .before .before .before .args .table .now) (c .before .before .before .before .before .args .word .now)
+    (c .before .before .before .before .before .args .to .now) (c .before .before .before .before .before .pre) (c .before .loop .state)
+    (c .before .loop .to) (c .before .loop .i) (c .before .loop .inv)
 
 returns : tie.Need-returns Inv-loop μ-loop
-returns c = ends (c .before .before .before .before .before .args .events) (c .before .before .before .before .before .args .states) (c .before .before .before .before .before .args .table .now) (c .before .before .before .before .before .args .word .now) (c .before .before .before .before .before .args .to .now) (c .before .before .before .before .before .pre) (c .before .loop .state) (c .before .loop .to) (c .before .loop .i) (c .before .loop .inv) (omega arith)
+returns c = ends (c .before .before .before .before .before .args .events) (c .before .before .before .before .before .args .states)
+    (c .before .before .before .before .before .args .table .now) (c .before .before .before .before .before .args .word .now)
+    (c .before .before .before .before .before .args .to .now) (c .before .before .before .before .before .pre) (c .before .loop .state)
+    (c .before .loop .to) (c .before .loop .i) (c .before .loop .inv) (omega arith)
 
 pub run-spec : {M : Type 1} → statement M
-run-spec =
-    tie.close
-    (tie.spec
-    Inv-loop
-    μ-loop
-    loop-holds
-    mul-at
-    shared-slice-read-wide
-    wide-requires
-    add-at
-    mul-at-2
-    shared-slice-read-to
-    slice-write-to
-    add-wide
-    shared-slice-read-wide-2
-    wide-requires-2
-    add-i
-    loop-less
-    loop-again
-    same-length
-    returns)
+run-spec = tie.close (tie.spec Inv-loop μ-loop loop-holds mul-at (λ c. search needs) (λ c κs. search needs) add-at mul-at-2 shared-slice-read-to
+    slice-write-to add-wide shared-slice-read-wide-2 (λ c κs. search needs) (λ c. search needs) (λ c. search needs) loop-again same-length returns)

@@ -1,5 +1,4 @@
 -- `table_code` meets its contract: the numbers are within their limits.
--- Assumes nothing.
 use native.Mathlib.Omega.{arith}
 use mathlib.Core.Path.{refl}
 use Rattle.gurvazze_host.specs.Codes.{yield-code, table-numbers}
@@ -32,14 +31,4 @@ unfolding yield-code table-numbers
 returns c = refl
 
 pub table-code-spec : {M : Type 1} → statement M
-table-code-spec =
-    tie.close
-    (tie.spec
-    mul-result
-    add-result
-    mul-result-2
-    add-result-2
-    mul-result-3
-    add-result-3
-    mul-result-4
-    returns)
+table-code-spec = tie.close (tie.spec mul-result add-result mul-result-2 add-result-2 mul-result-3 add-result-3 mul-result-4 returns)

@@ -1,5 +1,4 @@
 -- `verdict_code` meets its contract, answer by answer.
--- Assumes nothing.
 use native.Mathlib.Omega.{arith}
 use mathlib.Core.Path.{sym, ap, subst, _∙_}
 use Rattle.gurvazze_host.specs.Codes.{yield-code, verdict-code, SmallVerdict}
@@ -7,17 +6,8 @@ use borrow.Author.Needs.{needs}
 use Rattle.gurvazze_host.proofs.verdict_code.Statement.{statement}
 use Rattle.gurvazze_host.proofs.verdict_code.Tie as tie
 
-enum-told : tie.Need-enum-told
-enum-told c = search needs
-
-enum-known-verdict : tie.Need-enum-known-verdict
-enum-known-verdict c = search needs
-
 mul-result : tie.Need-mul-result
 mul-result c = let s = subst SmallVerdict (c .before .verdict .given .1) (c .before .before .before .pre) in omega (arith, s)
-
-enum-known-verdict-2 : tie.Need-enum-known-verdict-2
-enum-known-verdict-2 c = search needs
 
 refusal-code-requires : tie.Need-refusal-code-requires
 refusal-code-requires c κs = subst SmallVerdict (c .before .verdict2 .given .1) (c .before .before .before .pre)
@@ -35,14 +25,5 @@ unfolding verdict-code yield-code
 returns-3 c = c .refusal-code .ensures ∙ sym (ap verdict-code (c .before .before .verdict2 .given .1))
 
 pub verdict-code-spec : {M : Type 1} → statement M
-verdict-code-spec =
-    tie.close
-    (tie.spec
-    enum-told
-    enum-known-verdict
-    mul-result
-    enum-known-verdict-2
-    refusal-code-requires
-    returns
-    returns-2
+verdict-code-spec = tie.close (tie.spec (λ c. search needs) (λ c. search needs) mul-result (λ c. search needs) refusal-code-requires returns returns-2
     returns-3)

@@ -1,8 +1,6 @@
 -- `word_in_order` meets its contract. The invariant: the test of the events passed.
--- Assumes nothing.
 use mathlib.Core.Path.{_≡_, refl, sym, ap, _∙_}
-use lib.ListN.{length, getD}
-use lib.Dec.{ltb}
+use lib.{ListN.{length, getD}, Dec.{ltb}}
 use Prim.Native.Nat.{ℕ, _-_, _≤_}
 use native.Mathlib.Omega.{arith}
 use Rattle.theory.specs.ValueSetClaims.{every}
@@ -21,22 +19,12 @@ abbrev μ-loop : tie.MeasureT-loop
 loop-holds : tie.Need-loop-holds Inv-loop μ-loop
 loop-holds c = (search needs, sym (every-none _))
 
-shared-slice-read-all : tie.Need-shared-slice-read-all Inv-loop μ-loop
-shared-slice-read-all c = search needs
-
-add-i : tie.Need-add-i Inv-loop μ-loop
-add-i c = search needs
-
-loop-less : tie.Need-loop-less Inv-loop μ-loop
-loop-less c = search needs
-
 loop-again : tie.Need-loop-again Inv-loop μ-loop
 loop-again c = (search needs, every-step _ _ _ _ refl (c .before .before .loop .inv .1))
 
 returns : tie.Need-returns Inv-loop μ-loop
-returns c = let e : c .before .loop .i ≡ length (c .before .before .args .word .now) = omega (arith, c .before .loop .inv .0) in c .before .loop .inv .1 ∙ ap (λ (k : ℕ). every k (λ j. ltb (getD (c .before .before .args .word .now) j 0) (c .before .before .args .events))) e
+returns c = let e : c .before .loop .i ≡ length (c .before .before .args .word .now) = omega (arith, c .before .loop .inv .0) in c .before .loop .inv .1
+    ∙ ap (λ (k : ℕ). every k (λ j. ltb (getD (c .before .before .args .word .now) j 0) (c .before .before .args .events))) e
 
 pub word-in-order-spec : {M : Type 1} → statement M
-word-in-order-spec =
-    tie.close
-    (tie.spec Inv-loop μ-loop loop-holds shared-slice-read-all add-i loop-less loop-again returns)
+word-in-order-spec = tie.close (tie.spec Inv-loop μ-loop loop-holds (λ c. search needs) (λ c. search needs) (λ c. search needs) loop-again returns)
