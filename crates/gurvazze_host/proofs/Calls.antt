@@ -4,7 +4,7 @@ use Prim.Native.Nat.{ℕ, _*_, _≤_, _<_}
 use native.Mathlib.Omega.{arith}
 use borrow.Author.Tests.{le-leb, lt-leb, ltb-true}
 use lib.{Dec.{leb, ltb}, ListN.{length, getD, take}, Seq.{length-take-le}}
-use Rattle.limits.specs.Limits.{device-limit, table-limit}
+use Rattle.limits.specs.Limits.{device-limit, table-limit, meet-limit, table-bytes-limit}
 use Rattle.theory.specs.{MealyMachine.{Machine, word-values}, ValueSetClaims.{every}}
 use Rattle.theory.proofs.ValueSets.{every-at}
 use Rattle.refusal.specs.declared.Refusal.{Refusal}
@@ -39,7 +39,7 @@ pub unmade-small : {t meet old : List ℕ} {r : Refusal} → Unmade t meet old r
 unmade-small {t} (off-form p e) = let l = text-small t p e in omega arith
 unmade-small {t} {meet} {old} (turned-away c r e f) = subst SmallAnswer f (file-small c meet old)
 
-module _ {t meet old : List ℕ} (wide : 256 ≤ length meet) where
+module _ {t meet old : List ℕ} (wide : meet-limit ≤ length meet) where
   pub table-stopped :
       {r : Refusal} → Unmade t meet old r → (refusal-code r ≡ table-code (read-file t) old) × (old ≡ table-after (read-file t) old)
   unfolding table-code table-after code put-unless table-call-refusal
@@ -53,7 +53,7 @@ module _ {t meet old : List ℕ} (wide : 256 ≤ length meet) where
       )
 
   -- where the table was to stand in a buffer that has room for every table
-  module _ (room : 2048 ≤ length old) where
+  module _ (room : table-bytes-limit ≤ length old) where
     pub replay-stopped :
         {r : Refusal} → Unmade t meet old r → (word to : List ℕ)
         → (refusal-code r ≡ replay-code (read-file t) word to) × (to ≡ replay-after (read-file t) word to)
@@ -101,7 +101,7 @@ module _ {t meet old meet′ new : List ℕ} {n : FileNumbers} {k : ℕ} (w : Ma
       let l = limits w in record { few-states = l .few-states; few-events = l .few-events; few-values = l .few-values; top-in = l .top-in }
 
   pub table-made :
-      256 ≤ length meet
+      meet-limit ≤ length meet
       → (yield-code (table-numbers k (n .events) (n .values) (n .top)) ≡ table-code (read-file t) old) × (new ≡ table-after (read-file t) old)
   unfolding table-code table-after code numbers put-unless table-call-refusal
   table-made wide =

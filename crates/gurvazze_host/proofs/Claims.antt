@@ -119,10 +119,10 @@ file-trial-first c states start device old =
     first-then (contents-table-conditions c) _ (contents-table-refusal c) _ (contents-table-claim c .first)
     (λ ok.
     subst (First _)
-    (trial-behind (setup-refusal (setup-of c)) (table-refusal table-limit (c .events) (Numbered (c .values)) states start device)
+    (trial-behind (setup-refusal (setup-of c)) (table-refusal device-limit (c .events) (Numbered (c .values)) states start device)
     (table-refusal table-limit (c .events) (Numbered (c .values)) (file-states c) 0 (file-table c)) (plain-unless (leb word-limit (length old)) 13)
     (or-else-none (setup-refusal (setup-of c)) _ ok .0) (file-table-accepted c ok))
-    (first-append _ _ _ _ (table-refusal-first table-limit (c .events) (Numbered (c .values)) states start device)
+    (first-append _ _ _ _ (table-refusal-first device-limit (c .events) (Numbered (c .values)) states start device)
     (plain-first 13 (length old < word-limit) (leb word-limit (length old)) (λ e. leb-false word-limit (length old) e)
     (λ e h. let l = leb-true word-limit (length old) e in omega arith))))
 

@@ -3,6 +3,7 @@ use mathlib.Core.{Path.{_≡_, refl, sym, _∙_, ap, ap₂}, Bool.{Bool, _&&_}, 
 use Prim.Native.Nat.{ℕ, _+_, _*_, _≤_, _<_}
 use native.Mathlib.{Nat.{mul-le-mul-right}, Numerals.{add-one}, Omega.{arith}}
 use lib.{ListN.{length, getD, set, take, drop, length-append, length-drop}, Seq.{take-all, take-suc, length-take-le}}
+use Rattle.limits.specs.Limits.{entry-limit}
 use Rattle.theory.proofs.Words.{length-word-values, word-values-at, after-take}
 use Rattle.theory.specs.{MealyMachine.{Machine, after, word-values}, ValueSetClaims.{every}}
 use Rattle.refusal.specs.LentBuffers.{put}
@@ -51,10 +52,10 @@ module _ (events n : ℕ) (table w out : List ℕ) (g : Runnable events n table 
     entry : q * events + e < n * events
     entry = index-below events n q e (h .below) (g .word-in i l)
 
-    few : n * events ≤ 1024
+    few : n * events ≤ entry-limit
     few = omega (arith, mul-le-mul-right events (g .playable .few-states), g .playable .few-events)
 
-    pub place : q * events + e < 1024
+    pub place : q * events + e < entry-limit
     place = omega (arith, entry, few)
 
     pub inside : (q * events + e) * 2 + 1 < length table

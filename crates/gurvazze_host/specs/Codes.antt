@@ -1,7 +1,7 @@
 -- Answers in one number of 64 bits, for programs in other languages. The low byte is the number of the refusal, and 0 where there is
 -- none; above it stand the refusal's place, or what the call yields.
 use mathlib.Core.Option.{Option, none, some}
-use Prim.Native.Nat.{ℕ, _+_, _*_, _≤_, _<_}
+use Prim.Native.Nat.{ℕ, _+_, _*_, _≤_, _<_, _^_}
 use Rattle.limits.specs.Limits.{event-limit, value-limit, state-limit}
 use Rattle.refusal.specs.declared.Refusal.{Refusal}
 use Rattle.refusal.specs.declared.Refusal.the-variants.{Plain, At}
@@ -41,15 +41,15 @@ table-numbers states events values top = states + (events + (values + top * 256)
 -- What the private functions of src/ ask: numbers that have room in a code.
 abbrev pub SmallPlace : Refusal → Type 0
 SmallPlace (Plain n) = Unit {0}
-SmallPlace (At n p) = p < 10000
+SmallPlace (At n p) = p < 2 ^ 32
 
 abbrev pub SmallCount : Counted → Type 0
-SmallCount (Count n) = n < 10000
+SmallCount (Count n) = n < 2 ^ 32
 SmallCount (Uncounted refusal) = SmallPlace refusal
 
 abbrev pub SmallVerdict : Verdict → Type 0
 SmallVerdict Pass = Unit {0}
-SmallVerdict (Fail n) = n < 10000
+SmallVerdict (Fail n) = n < 2 ^ 32
 SmallVerdict (Refused refusal) = SmallPlace refusal
 
 pub record SmallNumbers (states events values top : ℕ) : Type 0 where

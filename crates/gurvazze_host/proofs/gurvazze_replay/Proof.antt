@@ -1,4 +1,5 @@
 -- `gurvazze_replay` meets its contract: a refused file, or a replay by its rule's table.
+use Rattle.limits.specs.Limits.{meet-limit, table-bytes-limit}
 use Rattle.gurvazze_host.proofs.Calls.{unmade-small, replay-stopped, playable, replay-made}
 use Rattle.channel_io.proofs.Callers.{unmade, made-of, limits}
 use lib.{Seq.{length-take-le}, ListN.{length-replicate}}
@@ -31,7 +32,7 @@ replay-word-requires c κs = playable (made-of (c .before .before .before .befor
 
 returns : tie.Need-returns
 returns c = let u = unmade (c .before .before .before .before .before .before .compile-file .ensures) (c .before .before .made .given .1) in
-    let r = replay-stopped (omega (arith, length-replicate {A = ℕ} 256 0)) (omega (arith, length-replicate {A = ℕ} 2048 0)) (u .0) _ _ in
+    let r = replay-stopped (omega (arith, length-replicate {A = ℕ} meet-limit 0)) (omega (arith, length-replicate {A = ℕ} table-bytes-limit 0)) (u .0) _ _ in
     (c .refusal-code .ensures ∙ r .0, r .1)
 
 returns-2 : tie.Need-returns-2

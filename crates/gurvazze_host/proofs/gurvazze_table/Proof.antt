@@ -1,4 +1,5 @@
 -- `gurvazze_table` meets its contract, for a file that is refused and one whose table is made.
+use Rattle.limits.specs.Limits.{meet-limit}
 use Rattle.gurvazze_host.proofs.Calls.{unmade-small, table-stopped, numbers-small, table-made}
 use Rattle.channel_io.proofs.Callers.{unmade, made-of}
 use lib.ListN.{length-replicate}
@@ -17,12 +18,12 @@ table-code-requires c κs = numbers-small (made-of (c .before .before .before .b
 
 returns : tie.Need-returns
 returns c = let u = unmade (c .before .before .before .before .before .before .before .compile-file .ensures) (c .before .before .made .given .1) in
-    let r = table-stopped (omega (arith, length-replicate {A = ℕ} 256 0)) (u .0) in
+    let r = table-stopped (omega (arith, length-replicate {A = ℕ} meet-limit 0)) (u .0) in
     (c .refusal-code .ensures ∙ r .0, u .1 ∙ r .1)
 
 returns-2 : tie.Need-returns-2
 returns-2 c = let r = table-made (made-of (c .before .before .before .before .before .before .before .compile-file .ensures)
-    (c .before .before .made2 .given .1)) (omega (arith, length-replicate {A = ℕ} 256 0)) in
+    (c .before .before .made2 .given .1)) (omega (arith, length-replicate {A = ℕ} meet-limit 0)) in
     (c .table-code .ensures ∙ r .0, r .1)
 
 pub gurvazze-table-spec : {M : Type 1} → statement M

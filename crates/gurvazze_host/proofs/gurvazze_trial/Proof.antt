@@ -1,4 +1,5 @@
 -- `gurvazze_trial` meets its contract: a refused file, or a trial against its rule's table.
+use Rattle.limits.specs.Limits.{meet-limit, table-bytes-limit}
 use Rattle.gurvazze_host.proofs.{Calls.{unmade-small, trial-stopped, trial-made}, Small.{verdict-small}}
 use Rattle.gurvazze_host.specs.Codes.{verdict-code, SmallVerdict}
 use Rattle.channel_io.proofs.Callers.{unmade, made-of, limits}
@@ -38,7 +39,7 @@ verdict-code-requires c κs = subst SmallVerdict (sym (c .before .before .trial 
 
 returns : tie.Need-returns
 returns c = let u = unmade (c .before .before .before .before .before .before .compile-file .ensures) (c .before .before .made .given .1) in
-    let r = trial-stopped (omega (arith, length-replicate {A = ℕ} 256 0)) (omega (arith, length-replicate {A = ℕ} 2048 0)) (u .0) _ _ _ _ in
+    let r = trial-stopped (omega (arith, length-replicate {A = ℕ} meet-limit 0)) (omega (arith, length-replicate {A = ℕ} table-bytes-limit 0)) (u .0) _ _ _ _ in
     (c .refusal-code .ensures ∙ r .0, r .1)
 
 returns-2 : tie.Need-returns-2
