@@ -3,7 +3,8 @@ use Prim.Native.Nat.{ℕ, _+_, _-_, _≤_}
 use mathlib.Core.{Path.{_≡_, refl, sym, ap, ap₂, _∙_}, List.{List, map}}
 use native.Mathlib.Omega.{arith}
 use lib.ListN.{length, drop}
-use Rattle.text_format.specs.{Format.{ok, Outcome, contents, refused, ascii}, Series.{separated}}
+use Rattle.text_format.specs.Format.{ok, Outcome, contents, refused}
+use Rattle.text_format.specs.Texts.{ascii, separated}
 use Rattle.channel_file.specs.{ChannelFile.{Contents, token-text, line, text, Shows}, FileFormat.{entries}}
 use Rattle.channel_file.specs.Reading.{read-file, read-tokens, meet-start, rule-start, stretch, tokens-stretch, checked}
 use Rattle.channel_file.specs.{Bytes.{stored-reply, stored-meet, stored-rule, Stores}, Steps.{SpansTokens, StoresEntries, StoresTokens}}

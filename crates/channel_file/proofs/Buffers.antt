@@ -9,7 +9,8 @@ use Rattle.text_format.specs.{Format.{Parsed, ok, bad, bind, Format, Laws}, Ser
 use Rattle.text_format.proofs.Series.{series-bad, series-ends, series-goes}
 use Rattle.text_output.specs.Output.{Puts}
 use Rattle.text_output.proofs.Outputs.{puts-then, puts-as, puts-length}
-use Rattle.channel_file.specs.Bytes.{encoded, put-front}
+use Rattle.channel_file.specs.ChannelFile.{encoded}
+use Rattle.channel_file.specs.Bytes.{put-front}
 
 -- ---- bytes
 

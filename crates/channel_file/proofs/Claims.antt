@@ -5,13 +5,16 @@ use native.Mathlib.{Omega.{arith}, Nat.{suc-mul}}
 use lib.{Dec.{ltb}, ListN.{length, take, drop, length-append, length-drop}, Seq.{take-at}}
 use borrow.Author.Tests.{ltb-true, ltb-false}
 use Rattle.limits.specs.Limits.{file-limit}
-use Rattle.text_format.specs.{Format.{Parsed, ok, bad, bind, Outcome, contents, refused, at-end, outcome, read, ascii}, Series.{separated, OneOrMore}}
-use Rattle.text_format.specs.{Decimal.{Numeral}, Place.{Answers}}
+use Rattle.text_format.specs.Format.{Parsed, ok, bad, bind, Outcome, contents, refused, at-end, outcome, read}
+use Rattle.text_format.specs.Texts.{ascii, separated, OneOrMore}
+use Rattle.text_format.specs.Decimal.{Numeral}
+use Rattle.text_format.specs.Claims.{AnswersText}
 use Rattle.text_format.proofs.{Decimal.{decimal-numeral}, Place.{answers, one-answer}, Combinators.{not-both}}
 use Rattle.text_format.proofs.Series.{series-fitting, series-of-fitting}
 use Rattle.channel_file.specs.ChannelFile.{Token, token-T, token-A, token-V, token-X, token-G, token-O, Contents, number, Small, SmallToken, token-text}
 use Rattle.channel_file.specs.{ChannelFile.{text, ShowsTokens, Shows}, FileFormat.{token-item, tokens, file}}
-use Rattle.channel_file.specs.Reading.{over-long, off-form, AnswersFile, read-file, read-tokens, tokens-stretch}
+use Rattle.channel_file.specs.ChannelFile.{over-long, off-form}
+use Rattle.channel_file.specs.Reading.{AnswersFile, read-file, read-tokens, tokens-stretch}
 use Rattle.channel_file.specs.Claims.{AnswerClaim, OneAnswerClaim, RewriteClaim, ReadBackClaim, LengthClaim}
 use Rattle.channel_file.specs.Claims.{TokensClaim, SomeTokensClaim, TokenListClaim, OneLineClaim, ClampClaim}
 use Rattle.channel_file.specs.declared.Number.{Number}
@@ -20,7 +23,7 @@ use Rattle.channel_file.proofs.Stretches.{tokens-between}
 
 -- ---- the answer
 
-within : (t : List ℕ) → length t ≤ file-limit → (x : Outcome Contents) → Answers Shows t x → AnswersFile t x
+within : (t : List ℕ) → length t ≤ file-limit → (x : Outcome Contents) → AnswersText Shows t x → AnswersFile t x
 within t h (contents c) a = (h, a)
 within t h (refused p) a = off-form p h a
 
@@ -37,7 +40,7 @@ too-long t h (contents c) a = let l : length t ≤ file-limit = a .0 in absurd (
 too-long t h (refused p) (over-long l) = refl
 too-long t h (refused p) (off-form q l a) = absurd (omega arith)
 
-not-long : (t : List ℕ) → length t ≤ file-limit → (x : Outcome Contents) → AnswersFile t x → Answers Shows t x
+not-long : (t : List ℕ) → length t ≤ file-limit → (x : Outcome Contents) → AnswersFile t x → AnswersText Shows t x
 not-long t h (contents c) a = a .1
 not-long t h (refused p) (over-long l) = absurd (omega arith)
 not-long t h (refused p) (off-form q l a) = a

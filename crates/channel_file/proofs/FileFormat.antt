@@ -4,15 +4,21 @@ use mathlib.Core.{Path.{_≡_, refl, sym, ap, ap₂, _∙_}, List.{List, [], _�
 use native.Mathlib.Omega.{arith}
 use borrow.Author.Tests.{ne-eqb}
 use lib.ListN.{length}
-use Rattle.text_format.specs.{Format.{bad, Laws, ascii}, Combinators.{sequence, mapped, find-in, Alphabet, the}}
-use Rattle.text_format.specs.{Series.{Separator, newline, separator-byte, separator, number-item, separated, OneOrMore}, Claims.{Renders}}
+use Rattle.text_format.specs.Format.{bad, Laws}
+use Rattle.text_format.specs.Texts.{ascii}
+use Rattle.text_format.specs.Combinators.{sequence, mapped, find-in, Alphabet, the}
+use Rattle.text_format.specs.Series.{Separator, newline, separator-byte, separator, number-item}
+use Rattle.text_format.specs.Texts.{separated, OneOrMore}
+use Rattle.text_format.specs.Claims.{Renders}
 use Rattle.text_format.proofs.Combinators.{sequence-laws, mapped-laws, choice-laws, choice-at, choice-none, keyed-laws, keyed-fits, keyed-of-fits}
 use Rattle.text_format.proofs.Decimal.{numbered-laws}
 use Rattle.text_format.proofs.Series.{separator-laws, number-item-laws, number-item-solid, series-laws, series-text, series-fitting, series-of-fitting}
 use Rattle.channel_file.specs.ChannelFile.{Token, token-T, token-A, token-V, token-X, token-G, token-O, Contents, number, Small, token-text, SmallToken}
 use Rattle.channel_file.specs.ChannelFile.{line, text, SmallContents, Shows}
-use Rattle.channel_file.specs.FileFormat.{Letter, letter-T, letter-A, letter-V, letter-X, letter-G, letter-O, letter-byte, letters, letter-of, first}
-use Rattle.channel_file.specs.FileFormat.{second, number-dot, number-line, plain, body, token-item, tokens, entries, field, head, meet-line, rule-line}
+use Rattle.channel_file.specs.FileFormat.{Letter, letter-T, letter-A, letter-V, letter-X, letter-G, letter-O, letter-byte, letters, letter-of}
+use Rattle.channel_file.specs.ChannelFile.{first}
+use Rattle.channel_file.specs.ChannelFile.{second}
+use Rattle.channel_file.specs.FileFormat.{number-dot, number-line, plain, body, token-item, tokens, entries, field, head, meet-line, rule-line}
 use Rattle.channel_file.specs.FileFormat.{file}
 
 -- ---- tokens

@@ -3,7 +3,9 @@ use Prim.Native.Nat.{ℕ, _+_, _-_, _≤_}
 use mathlib.Core.{Path.{_≡_, refl, sym, ap, _∙_}, List.{List, [], _∷_, _++_, map}}
 use native.Mathlib.Omega.{arith}
 use lib.ListN.{length, drop, length-drop}
-use Rattle.text_format.specs.{Format.{Parsed, ok, bad, contents, whole, outcome, read, ascii}, Series.{separated, number-item}}
+use Rattle.text_format.specs.Format.{Parsed, ok, bad, contents, whole, outcome, read}
+use Rattle.text_format.specs.Texts.{ascii, separated}
+use Rattle.text_format.specs.Series.{number-item}
 use Rattle.text_format.proofs.{Combinators.{not-both, keyed-of-fits}, Series.{series-of-fitting}}
 use Rattle.channel_file.specs.{ChannelFile.{Token, Contents, number, Small, line}, FileFormat.{entries, head, meet-line, rule-line, file}}
 use Rattle.channel_file.specs.{Reading.{head-text, meet-text, meet-start, rule-start, checked}, Steps.{counted}}

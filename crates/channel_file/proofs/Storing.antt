@@ -8,7 +8,8 @@ use Rattle.text_format.specs.{Format.{Parsed, ok, bad, bind, Outcome, contents,
 use Rattle.text_format.proofs.{Combinators.{not-both}, Series.{shorter, number-item-laws, number-item-solid}}
 use Rattle.text_output.specs.Output.{Puts}
 use Rattle.channel_file.specs.{ChannelFile.{Token, token-T}, FileFormat.{token-item, tokens}, Reading.{read-tokens}}
-use Rattle.channel_file.specs.Bytes.{entry, node, encoded, put-front, token-reply, stored-nodes, ReadsTokens}
+use Rattle.channel_file.specs.Bytes.{entry, node, put-front, token-reply, stored-nodes, ReadsTokens}
+use Rattle.channel_file.specs.ChannelFile.{encoded}
 use Rattle.channel_file.specs.Steps.{Saw, counted, left, with-separator, StoresEntries, StoresTokens}
 use Rattle.channel_file.specs.declared.{Number.{Number}, TokenList.{TokenList}}
 use Rattle.channel_file.proofs.{FileFormat.{token-item-laws, token-solid, T-fits, zero-fits}, Offsets.{here, here-is, over}}

@@ -3,7 +3,9 @@ use Prim.Native.Nat.{ℕ, _+_, _-_, _≤_}
 use mathlib.Core.{Path.{_≡_, sym, ap, ap₂, _∙_}, List.{List, _++_, map, append-assoc}}
 use native.Mathlib.Omega.{arith}
 use lib.{ListN.{length, take, drop, length-append}, Seq.{take-at, drop-at}}
-use Rattle.text_format.specs.{Format.{ok, ascii}, Series.{separated, number-item}}
+use Rattle.text_format.specs.Format.{ok}
+use Rattle.text_format.specs.Texts.{ascii, separated}
+use Rattle.text_format.specs.Series.{number-item}
 use Rattle.text_format.proofs.Series.{series-fitting}
 use Rattle.channel_file.specs.{ChannelFile.{Contents, number, Small, token-text, line, text, SmallContents}, FileFormat.{entries}}
 use Rattle.channel_file.specs.Reading.{head-text, meet-text, meet-start, rule-start, stretch}

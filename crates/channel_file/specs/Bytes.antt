@@ -1,28 +1,16 @@
+-- Twin of ChannelFile, pinned by channel_io ClampedClaim.
 -- The bytes stored from a file: one byte an entry of meet, three bytes a node of the rule (document 01, "Rules"). A number
 -- above 255 stands as 255, which every judgement on it takes as it takes the number (Claims, ClampClaim).
 use Prim.Native.Nat.{ℕ, min}
-use mathlib.Core.Path.{_≡_}
-use mathlib.Core.List.{List, [], _∷_, _++_}
+use mathlib.Core.{Path.{_≡_}, List.{List, [], _∷_}}
 use lib.ListN.{length, take}
 use Rattle.refusal.specs.LentBuffers.{put}
 use Rattle.text_format.specs.Format.{Outcome, contents, refused}
-use Rattle.channel_file.specs.ChannelFile.{Token, token-T, token-A, token-V, token-X, token-G, token-O, Contents}
-use Rattle.channel_file.specs.FileFormat.{first, second}
-use Rattle.channel_file.specs.Reading.{read-file, read-tokens}
-use Rattle.channel_file.specs.declared.Stored.{Stored}
+use Rattle.channel_file.specs.{ChannelFile.{Token, Contents, encoded, kind, first, second}, Reading.{read-file, read-tokens}, declared.Stored.{Stored}}
 use Rattle.channel_file.specs.declared.TokenList.{TokenList}
 
 abbrev pub clamp : ℕ → ℕ
 clamp v = min v 255
-
--- Kinds: "0 T, 1 X, 2 G, 3 O, 4 A, 5 V".
-abbrev pub kind : Token → ℕ
-kind token-T = 0
-kind (token-X n) = 1
-kind (token-G e) = 2
-kind (token-O e v) = 3
-kind token-A = 4
-kind token-V = 5
 
 -- "A node is three bytes: kind, first, second; an unused field is 0."
 abbrev pub node : Token → List ℕ
@@ -30,11 +18,6 @@ node x = kind x ∷ clamp (first x) ∷ clamp (second x) ∷ []
 
 abbrev pub entry : ℕ → List ℕ
 entry v = clamp v ∷ []
-
--- The codes of all items, one after another.
-abbrev pub encoded : {A : Type 0} → (A → List ℕ) → List A → List ℕ
-encoded code [] = []
-encoded code (a ∷ xs) = code a ++ encoded code xs
 
 abbrev pub meet-bytes : Contents → List ℕ
 meet-bytes c = encoded entry (c .meet)

@@ -1,12 +1,10 @@
 -- The form of a channel file (document 01, "Channel file"), taken without its length limit: what the contents of a file are,
 -- and how they stand as text. Numbers are those of the text, not yet judged and not clamped.
-use Prim.Native.Nat.{ℕ, _<_}
-use mathlib.Core.Path.{_≡_}
-use mathlib.Core.List.{List, _++_, map}
-use Rattle.text_format.specs.Format.{ascii}
-use Rattle.text_format.specs.Decimal.{decimal}
-use Rattle.text_format.specs.Series.{separated, OneOrMore}
-use Rattle.text_format.specs.Place.{FormOf}
+use Prim.Native.Nat.{ℕ, _≤_, _<_}
+use mathlib.Core.{Path.{_≡_}, List.{List, [], _∷_, _++_, map}}
+use lib.ListN.{length}
+use Rattle.limits.specs.Limits.{file-limit}
+use Rattle.text_format.specs.{Texts.{ascii, decimal, separated, OneOrMore}, Place.{Refused, FormOf}}
 
 -- An item of the rule line: T, A, V alone, X or G with one number, O with two.
 pub data Token : Type 0 where
@@ -79,3 +77,47 @@ pub record Shows (c : Contents) (t : List ℕ) : Type 0 where
 -- t is a text of the form.
 abbrev pub Form : List ℕ → Type 0
 Form = FormOf Shows
+
+-- Refusal 4 at a place: "over 4,096 bytes: place 4,096, tested first"; else where the form refuses the text.
+pub data Refused4 (t : List ℕ) : ℕ → Type 0 where
+  over-long : file-limit < length t → Refused4 t file-limit
+  off-form : (p : ℕ) → length t ≤ file-limit → Refused Form t p → Refused4 t p
+
+-- Kinds: "0 T, 1 X, 2 G, 3 O, 4 A, 5 V".
+abbrev pub kind : Token → ℕ
+kind token-T = 0
+kind (token-X n) = 1
+kind (token-G e) = 2
+kind (token-O e v) = 3
+kind token-A = 4
+kind token-V = 5
+
+-- A token's numbers; 0 where it has none.
+abbrev pub first : Token → ℕ
+first token-T = 0
+first token-A = 0
+first token-V = 0
+first (token-X n) = n
+first (token-G e) = e
+first (token-O e v) = e
+
+abbrev pub second : Token → ℕ
+second token-T = 0
+second token-A = 0
+second token-V = 0
+second (token-X n) = 0
+second (token-G e) = 0
+second (token-O e v) = v
+
+-- The codes of all items, one after another.
+abbrev pub encoded : {A : Type 0} → (A → List ℕ) → List A → List ℕ
+encoded code [] = []
+encoded code (a ∷ xs) = code a ++ encoded code xs
+
+-- The rule of a file, three numbers a node: kind, first, second. "In a rule item a number above 255 is 6 for an event or value,
+-- 8 for X": the numbers are those of the text.
+abbrev pub node-numbers : Token → List ℕ
+node-numbers x = kind x ∷ first x ∷ second x ∷ []
+
+abbrev pub rule-numbers : Contents → List ℕ
+rule-numbers c = encoded node-numbers (c .rule)

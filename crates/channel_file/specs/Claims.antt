@@ -1,18 +1,12 @@
 -- What is claimed of the channel file; each claim is inhabited in proofs/Claims.
 use Prim.Native.Nat.{ℕ, _≤_, _<_}
-use mathlib.Core.Path.{_≡_}
-use mathlib.Core.List.{List, [], map}
-use mathlib.Core.Logic.{_↔_}
+use mathlib.Core.{Path.{_≡_}, List.{List, [], map}, Logic.{_↔_}}
 use lib.ListN.{length}
 use Rattle.limits.specs.Limits.{meet-limit, node-limit, file-limit}
-use Rattle.text_format.specs.Format.{Outcome, contents}
-use Rattle.text_format.specs.Series.{separated}
+use Rattle.text_format.specs.{Format.{Outcome, contents}, Texts.{separated}}
 use Rattle.channel_file.specs.ChannelFile.{Token, token-text, Contents, text, SmallContents, ShowsTokens}
-use Rattle.channel_file.specs.Reading.{AnswersFile, read-file, read-tokens, tokens-stretch}
-use Rattle.channel_file.specs.Bytes.{clamp}
-use Rattle.channel_file.specs.Steps.{SawNumber, line-parse}
-use Rattle.channel_file.specs.declared.Line.{Line}
-use Rattle.channel_file.specs.declared.Number.{Number}
+use Rattle.channel_file.specs.{Reading.{AnswersFile, read-file, read-tokens, tokens-stretch}, Bytes.{clamp}, Steps.{SawNumber, line-parse}}
+use Rattle.channel_file.specs.{declared.Line.{Line}, declared.Number.{Number}}
 
 -- The answer to every text is the one that document 01 asks for: its contents, or 4's place.
 abbrev pub AnswerClaim : Type 0

@@ -1,12 +1,11 @@
+-- Twin of ChannelFile, pinned by channel_file AnswerClaim.
 -- The computing twin of the form: the channel file as a two-way format. proofs/FileFormat shows that it keeps the laws and
 -- prints exactly the texts of the form.
 use Prim.Native.Nat.{ℕ}
 use mathlib.Core.List.{List, [], _∷_}
-use Rattle.text_format.specs.Format.{Format, ascii}
-use Rattle.text_format.specs.Combinators.{sequence, mapped, choice, the, keyed}
-use Rattle.text_format.specs.Decimal.{numbered}
+use Rattle.text_format.specs.{Format.{Format}, Texts.{ascii}, Combinators.{sequence, mapped, choice, the, keyed}, Decimal.{numbered}}
 use Rattle.text_format.specs.Series.{Separator, separator, number-item, series}
-use Rattle.channel_file.specs.ChannelFile.{Token, token-T, token-A, token-V, token-X, token-G, token-O, Contents}
+use Rattle.channel_file.specs.ChannelFile.{Token, token-T, token-A, token-V, token-X, token-G, token-O, Contents, first, second}
 
 -- ---- tokens, by their first letter
 
@@ -31,23 +30,6 @@ letter-of token-V = letter-V
 letter-of (token-X n) = letter-X
 letter-of (token-G e) = letter-G
 letter-of (token-O e v) = letter-O
-
--- A token's numbers; 0 where it has none.
-abbrev pub first : Token → ℕ
-first token-T = 0
-first token-A = 0
-first token-V = 0
-first (token-X n) = n
-first (token-G e) = e
-first (token-O e v) = e
-
-abbrev pub second : Token → ℕ
-second token-T = 0
-second token-A = 0
-second token-V = 0
-second (token-X n) = 0
-second (token-G e) = 0
-second (token-O e v) = v
 
 abbrev pub number-dot : Format (ℕ × Unit {0})
 number-dot = numbered 2 (the 46) tt []

@@ -1,22 +1,13 @@
+-- Twin of ChannelFile, pinned by channel_file AnswerClaim.
 -- The answer to a text (document 01, refusal 4), with the limit of 4,096 bytes tested first; where its items stand; and the
 -- stretch of the text that holds the rule's tokens.
-use Prim.Native.Nat.{ℕ, _+_, _-_, _≤_, _<_}
-use mathlib.Core.List.{List, [], _++_, map}
-use mathlib.Core.Bool.{cond}
-use lib.Dec.{ltb}
-use lib.ListN.{length, take, drop}
-use Rattle.text_format.specs.Format.{Outcome, contents, refused, read, ascii}
-use Rattle.text_format.specs.Series.{separated}
-use Rattle.text_format.specs.Place.{Refused}
+use Prim.Native.Nat.{ℕ, _+_, _-_, _≤_}
+use mathlib.Core.{List.{List, [], _++_, map}, Bool.{cond}}
+use lib.{Dec.{ltb}, ListN.{length, take, drop}}
+use Rattle.text_format.specs.{Format.{Outcome, contents, refused, read}, Texts.{ascii, separated}, Place.{Refused}}
 use Rattle.limits.specs.Limits.{file-limit}
-use Rattle.channel_file.specs.ChannelFile.{Token, Contents, number, line, Shows, Form}
-use Rattle.channel_file.specs.FileFormat.{tokens, file}
+use Rattle.channel_file.specs.{ChannelFile.{Token, Contents, number, line, Shows, Form, Refused4}, FileFormat.{tokens, file}}
 use Rattle.channel_file.specs.declared.Checked.{Checked}
-
--- Refusal 4 at a place: "over 4,096 bytes: place 4,096, tested first"; else where the form refuses the text.
-pub data Refused4 (t : List ℕ) : ℕ → Type 0 where
-  over-long : file-limit < length t → Refused4 t file-limit
-  off-form : (p : ℕ) → length t ≤ file-limit → Refused Form t p → Refused4 t p
 
 -- What an answer says of a text.
 abbrev pub AnswersFile : List ℕ → Outcome Contents → Type 0

@@ -1,30 +1,16 @@
 -- What the private functions of src/ say: each answer of the code as an answer of a parser, where an offset in the text
 -- stands for what is left of the text there.
 use Prim.Native.Nat.{ℕ, _+_, _≤_}
-use mathlib.Core.Path.{_≡_}
-use mathlib.Core.List.{List, [], _∷_, _++_}
-use mathlib.Core.Bool.{Bool, true, false}
+use mathlib.Core.{Path.{_≡_}, List.{List, [], _∷_, _++_}, Bool.{Bool, true, false}}
 use lib.ListN.{length, drop}
-use Rattle.text_format.specs.Format.{Parsed, ok, bad, bind, Format, contents, ascii}
-use Rattle.text_format.specs.Combinators.{the, word}
-use Rattle.text_format.specs.Decimal.{numbered-parse}
+use Rattle.text_format.specs.{Format.{Parsed, ok, bad, bind, Format, contents}, Texts.{ascii}, Combinators.{the, word}, Decimal.{numbered-parse}}
 use Rattle.text_format.specs.Series.{Separator, space, newline, separator, number-item}
-use Rattle.channel_file.specs.ChannelFile.{Token, token-T, token-A, token-V, token-X, token-G, token-O}
+use Rattle.channel_file.specs.ChannelFile.{Token, token-T, token-A, token-V, token-X, token-G, token-O, encoded}
 use Rattle.channel_file.specs.FileFormat.{token-item, entries, field, head, meet-line, rule-line}
-use Rattle.channel_file.specs.Reading.{read-file, read-tokens, stretch, tokens-stretch}
-use Rattle.channel_file.specs.Bytes.{node, entry, encoded, put-front, token-reply}
-use Rattle.channel_file.specs.declared.Item.{Item}
-use Rattle.channel_file.specs.declared.Behind.{Behind}
-use Rattle.channel_file.specs.declared.Number.{Number}
-use Rattle.channel_file.specs.declared.Ended.{Ended}
-use Rattle.channel_file.specs.declared.Entry.{Entry}
-use Rattle.channel_file.specs.declared.Taken.{Taken}
-use Rattle.channel_file.specs.declared.Scanned.{Scanned}
-use Rattle.channel_file.specs.declared.Reached.{Reached}
-use Rattle.channel_file.specs.declared.Head.{Head}
-use Rattle.channel_file.specs.declared.Line.{Line}
-use Rattle.channel_file.specs.declared.Span.{Span}
-use Rattle.channel_file.specs.declared.TokenList.{TokenList}
+use Rattle.channel_file.specs.{Reading.{read-file, read-tokens, stretch, tokens-stretch}, Bytes.{node, entry, put-front, token-reply}}
+use Rattle.channel_file.specs.{declared.Item.{Item}, declared.Behind.{Behind}, declared.Number.{Number}, declared.Ended.{Ended}, declared.Entry.{Entry}}
+use Rattle.channel_file.specs.{declared.Taken.{Taken}, declared.Scanned.{Scanned}, declared.Reached.{Reached}, declared.Head.{Head}}
+use Rattle.channel_file.specs.{declared.Line.{Line}, declared.Span.{Span}, declared.TokenList.{TokenList}}
 
 -- The token and the separator that values of src/ stand for.
 abbrev pub token-of : Item → Token

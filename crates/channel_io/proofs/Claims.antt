@@ -8,24 +8,30 @@ use Rattle.limits.specs.Limits.{node-limit, state-limit, table-limit}
 use Rattle.theory.proofs.{Claims.{grammar, table-values}, ValueSets.{and-left, and-right, and-cases}}
 use Rattle.refusal.specs.declared.Refusal.{Refusal}
 use Rattle.refusal.specs.declared.Refusal.the-variants.{Plain, At}
-use Rattle.refusal.specs.Refusal.{Condition, plain, at-lowest, First, has-place, part-of, order, condition-numbers, right-places, Judged, or-else}
-use Rattle.refusal.specs.{Refusal.{plain-unless}, RefusalClaims.{NoneMet}}
+use Rattle.refusal.specs.Refusal.{Condition, plain, at-lowest, First, has-place, part-of, order, condition-numbers, right-places, Judged}
+use Rattle.refusal.specs.RefusalAnswers.{or-else}
+use Rattle.refusal.specs.RefusalAnswers.{plain-unless}
+use Rattle.refusal.specs.RefusalClaims.{NoneMet}
 use Rattle.refusal.proofs.{Refusals.{only-place, plain-first, judged, accepted-exactly, first-then, first-append}, Refusals.{first-rest}}
 use Rattle.values.specs.declared.ValueKind.the-variants.{Numbered}
-use Rattle.values.specs.Setup.{Setup, SetupValue, setup, setup-meet, setup-top, setup-conditions, kind-conditions, WellFormed}
+use Rattle.values.specs.Setup.{Setup, SetupValue, setup, setup-meet, setup-top, setup-conditions, kind-conditions}
+use Rattle.values.specs.SetupInOrder.{WellFormed}
 use Rattle.values.specs.SetupTests.{setup-refusal}
 use Rattle.values.proofs.Setups.{square-small, setup-first, setup-accepted, accepted-events}
-use Rattle.formulas.specs.Claims.{byte-conditions}
+use Rattle.formulas.specs.RuleConditions.{byte-conditions}
 use Rattle.formulas.proofs.RuleClaims.{rule-judged}
 use Rattle.machines.specs.{TableBytes.{machine-of}, TableRefusal.{table-refusal}}
 use Rattle.machines.proofs.TableRefusals.{in-order-none}
-use Rattle.synthesis.specs.{Compilation.{rule-table-refusal, compile-rule-refusal}, Claims.{states-condition, buffer-condition}}
+use Rattle.synthesis.specs.Compilation.{rule-table-refusal, compile-rule-refusal}
+use Rattle.synthesis.specs.TableOfRule.{states-condition, buffer-condition}
 use Rattle.synthesis.proofs.CompileClaims.{compile-rule-claim, compile-refusal-claim}
 use Rattle.text_format.specs.Format.{Outcome, contents, refused}
-use Rattle.channel_file.specs.{ChannelFile.{Contents}, Reading.{Refused4, AnswersFile, read-file}}
+use Rattle.channel_file.specs.ChannelFile.{Contents, Refused4}
+use Rattle.channel_file.specs.Reading.{AnswersFile, read-file}
 use Rattle.channel_file.proofs.Claims.{answer-claim, one-answer-claim}
-use Rattle.channel_io.specs.FileJudgement.{setup-of, rule-numbers, pair-conditions, pair-table-conditions, contents-table-conditions}
-use Rattle.channel_io.specs.FileJudgement.{Short, short-meet, short-rule, ShortForTable, short-entries, short-table, read-conditions, file-conditions}
+use Rattle.channel_io.specs.FileConditions.{setup-of, pair-conditions, pair-table-conditions, contents-table-conditions}
+use Rattle.channel_file.specs.ChannelFile.{rule-numbers}
+use Rattle.channel_io.specs.FileConditions.{Short, short-meet, short-rule, ShortForTable, short-entries, short-table, read-conditions, file-conditions}
 use Rattle.channel_io.specs.FileJudgement.{shown-conditions, text-conditions, file-text, write-conditions}
 use Rattle.channel_io.specs.FileRefusals.{pair-refusal, has-room, stored-refusal, contents-read-refusal, pair-table-refusal}
 use Rattle.channel_io.specs.FileRefusals.{has-table-room, pair-compile-refusal, file-states, file-table, contents-table-refusal, file-refusal}

@@ -6,16 +6,20 @@ use native.Mathlib.Omega.{arith}
 use lib.{Dec.{eqb, ltb}, ListN.{length, getD, length-map, List·getD-map}}
 use borrow.Author.Tests.{ltb-true, ltb-false, lt-ltb, le-ltb, eqb-true, eqb-false, eq-eqb, ne-eqb}
 use Rattle.limits.specs.Limits.{event-limit, value-limit, node-limit}
-use Rattle.theory.specs.Formula.{Formula, truth, variable, transition, output, conjunction, greatest, size, FreeBelow, Fits}
+use Rattle.theory.specs.Formula.{Formula, truth, variable, transition, output, conjunction, greatest, size}
+use Rattle.theory.specs.FormulaClasses.{FreeBelow, Fits}
 use Rattle.theory.specs.PrefixCode.{Node, truth-node, variable-node, transition-node, output-node, conjunction-node, greatest-node}
-use Rattle.theory.specs.{ValueSets.{Below}, ValueSetClaims.{every, lawful}}
+use Rattle.theory.specs.ValueSets.{Below}
+use Rattle.theory.specs.ValueSetTests.{every, lawful}
 use Rattle.theory.proofs.ValueSets.{every-at, and-left, and-right, and-false-right}
 use Rattle.refusal.specs.declared.Refusal.{Refusal}
-use Rattle.refusal.specs.Refusal.{or-else, plain-unless, at-found}
+use Rattle.refusal.specs.RefusalAnswers.{or-else, plain-unless, at-found}
 use Rattle.refusal.proofs.Refusals.{or-else-none, plain-none}
 use Rattle.values.specs.declared.ValueKind.{ValueKind}
 use Rattle.values.specs.declared.ValueKind.the-variants.{Numbered}
-use Rattle.values.specs.{Setup.{setup, WellFormed}, SetupTests.{events-test, values-test, entries-test, meet-test, kind-refusal, setup-refusal}}
+use Rattle.values.specs.Setup.{setup}
+use Rattle.values.specs.SetupInOrder.{WellFormed}
+use Rattle.values.specs.SetupTests.{events-test, values-test, entries-test, meet-test, kind-refusal, setup-refusal}
 use Rattle.values.proofs.Setups.{values-small, setup-accepted}
 use Rattle.formulas.specs.{NodeBytes.{node-bytes, encode-formula}, RuleConditions.{Position, open-to-variable, closed-to-variable}}
 use Rattle.formulas.specs.RuleReading.{Kind, kind-T, kind-X, kind-G, kind-O, kind-A, kind-V, unknown-kind, kind-of, fields-fit}
@@ -25,8 +29,11 @@ use Rattle.formulas.specs.RuleRefusal.{count-fits, variables-refusal, structure
 use Rattle.formulas.specs.RuleRefusal.{rule-refusal, formula-of}
 use Rattle.formulas.proofs.{Search.{lowest-same}, Prefix.{length-from}, Decoding.{CountFits, count-facts}, RuleClaims.{accepted-formula-of}}
 use Rattle.channel_file.specs.ChannelFile.{Token, token-T, token-A, token-V, token-X, token-G, token-O, Contents}
-use Rattle.channel_file.specs.Bytes.{clamp, node, entry, encoded, meet-bytes, rule-bytes}
-use Rattle.channel_io.specs.{FileJudgement.{setup-of, node-numbers, rule-numbers}, FileRefusals.{pair-refusal, contents-refusal}}
+use Rattle.channel_file.specs.Bytes.{clamp, node, entry, meet-bytes, rule-bytes}
+use Rattle.channel_file.specs.ChannelFile.{encoded}
+use Rattle.channel_io.specs.FileConditions.{setup-of}
+use Rattle.channel_file.specs.ChannelFile.{node-numbers, rule-numbers}
+use Rattle.channel_io.specs.FileRefusals.{pair-refusal, contents-refusal}
 use Rattle.channel_io.specs.Claims.{ClampedClaim}
 
 -- ---- one number

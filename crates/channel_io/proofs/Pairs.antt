@@ -7,14 +7,17 @@ use Rattle.theory.proofs.ValueSets.{and-both, and-failed, and-false-right}
 use Rattle.refusal.specs.declared.Refusal.{Refusal}
 use Rattle.refusal.specs.declared.Refusal.the-variants.{Plain}
 use Rattle.refusal.specs.declared.Judgement.the-variants.{Accepted, Refused}
-use Rattle.refusal.specs.{Refusal.{or-else, plain-unless, judgement}, LentBuffers.{put, put-unless}}
+use Rattle.refusal.specs.RefusalAnswers.{or-else, plain-unless, judgement}
+use Rattle.refusal.specs.LentBuffers.{put, put-unless}
 use Rattle.refusal.proofs.Refusals.{judgement-accepted, judgement-refused}
 use Rattle.values.specs.{Setup.{Setup}, SetupTests.{setup-refusal}}
 use Rattle.formulas.specs.RuleRefusal.{rule-refusal}
 use Rattle.channel_file.specs.ChannelFile.{Contents}
 use Rattle.channel_io.specs.declared.{FileNumbers.{FileNumbers}, FileRead.{FileRead}}
 use Rattle.channel_io.specs.declared.FileRead.the-variants.{Accepted as Read, Refused as Unread}
-use Rattle.channel_io.specs.{FileJudgement.{setup-of, rule-numbers}, FileRefusals.{pair-refusal, contents-refusal, has-room, stored-refusal}}
+use Rattle.channel_io.specs.FileConditions.{setup-of}
+use Rattle.channel_file.specs.ChannelFile.{rule-numbers}
+use Rattle.channel_io.specs.FileRefusals.{pair-refusal, contents-refusal, has-room, stored-refusal}
 use Rattle.channel_io.specs.FileReading.{numbers, file-numbers, accepted-or, read-answer, meet-after, rule-after, Reads}
 use Rattle.channel_io.specs.Steps.{held-setup, shown-entries, shown-nodes, Holding, OffForm, Keeps}
 use Rattle.channel_io.proofs.ShownBytes.{file-shown, all-shown}

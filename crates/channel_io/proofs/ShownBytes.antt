@@ -7,10 +7,13 @@ use lib.{Dec.{leb}, ListN.{length, take, drop}, Seq.{take-at}}
 use Rattle.theory.proofs.ValueSets.{and-left}
 use Rattle.limits.specs.Limits.{meet-limit, node-limit}
 use Rattle.refusal.specs.declared.Refusal.{Refusal}
-use Rattle.refusal.specs.{Refusal.{or-else, plain-unless}, LentBuffers.{put}}
+use Rattle.refusal.specs.RefusalAnswers.{or-else, plain-unless}
+use Rattle.refusal.specs.LentBuffers.{put}
 use Rattle.refusal.proofs.Refusals.{or-else-none, plain-none}
 use Rattle.values.specs.declared.ValueKind.the-variants.{Numbered}
-use Rattle.values.specs.{Setup.{setup, WellFormed}, SetupTests.{events-test, values-test, meet-test, kind-refusal, setup-refusal}}
+use Rattle.values.specs.Setup.{setup}
+use Rattle.values.specs.SetupInOrder.{WellFormed}
+use Rattle.values.specs.SetupTests.{events-test, values-test, meet-test, kind-refusal, setup-refusal}
 use Rattle.values.proofs.Setups.{values-small, square-small, meet-test-length, setup-accepted}
 use Rattle.formulas.specs.RuleRefusal.{count-fits, rule-refusal}
 use Rattle.formulas.proofs.Decoding.{CountFits, count-facts}
@@ -19,7 +22,9 @@ use Rattle.channel_file.specs.{ChannelFile.{Contents}, Reading.{read-file}}
 use Rattle.channel_file.specs.Bytes.{entry, node, meet-bytes, rule-bytes, put-front, stored-reply, stored-meet, stored-rule, Stores}
 use Rattle.channel_file.specs.declared.Stored.{Stored}
 use Rattle.channel_file.proofs.Buffers.{encoded-length, front-whole}
-use Rattle.channel_io.specs.{FileJudgement.{setup-of, node-numbers, rule-numbers}, FileRefusals.{pair-refusal, contents-refusal}}
+use Rattle.channel_io.specs.FileConditions.{setup-of}
+use Rattle.channel_file.specs.ChannelFile.{node-numbers, rule-numbers}
+use Rattle.channel_io.specs.FileRefusals.{pair-refusal, contents-refusal}
 use Rattle.channel_io.specs.{FileReading.{numbers}, Steps.{shown-entries, shown-nodes, Holding}}
 use Rattle.channel_io.proofs.Clamping.{meet-clamped, rule-clamped, setup-same, rule-same, limits, nothing-clamped}
 

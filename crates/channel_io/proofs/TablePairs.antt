@@ -9,9 +9,12 @@ use Rattle.limits.specs.Limits.{state-limit}
 use Rattle.theory.proofs.{ReachableStates.{table-nonempty}, ValueSets.{and-left, and-failed}}
 use Rattle.refusal.specs.declared.Refusal.{Refusal}
 use Rattle.refusal.specs.declared.Counted.the-variants.{Count, Refused as Uncounted}
-use Rattle.refusal.specs.{Refusal.{or-else, plain-unless, counted}, LentBuffers.{put, put-unless}}
+use Rattle.refusal.specs.RefusalAnswers.{or-else, plain-unless, counted}
+use Rattle.refusal.specs.LentBuffers.{put, put-unless}
 use Rattle.refusal.proofs.Refusals.{counted-accepted, counted-refused, or-else-assoc, or-else-none, plain-none}
-use Rattle.values.specs.{Setup.{Setup, setup-meet, setup-top, WellFormed}, SetupTests.{setup-refusal}}
+use Rattle.values.specs.Setup.{Setup, setup-meet, setup-top}
+use Rattle.values.specs.SetupInOrder.{WellFormed}
+use Rattle.values.specs.SetupTests.{setup-refusal}
 use Rattle.values.proofs.Setups.{setup-accepted}
 use Rattle.formulas.specs.RuleRefusal.{rule-refusal}
 use Rattle.machines.specs.TableBytes.{entry-width, entry-bytes, machine-of}
@@ -21,7 +24,8 @@ use Rattle.synthesis.proofs.CompileClaims.{compile-claim}
 use Rattle.channel_file.specs.ChannelFile.{Contents}
 use Rattle.channel_io.specs.declared.{FileNumbers.{FileNumbers}, FileTable.{FileTable}}
 use Rattle.channel_io.specs.declared.FileTable.the-variants.{Made, Refused}
-use Rattle.channel_io.specs.FileJudgement.{setup-of, rule-numbers}
+use Rattle.channel_io.specs.FileConditions.{setup-of}
+use Rattle.channel_file.specs.ChannelFile.{rule-numbers}
 use Rattle.channel_io.specs.FileRefusals.{pair-refusal, contents-refusal, pair-states, pair-table, pair-table-refusal, has-table-room}
 use Rattle.channel_io.specs.{FileRefusals.{pair-compile-refusal}, FileReading.{numbers, file-numbers}}
 use Rattle.channel_io.specs.FileCompilation.{made-or, compile-answer, entries-after, table-after, CompilesFile}

@@ -10,22 +10,30 @@ use Rattle.refusal.specs.declared.{Refusal.{Refusal}, Counted.{Counted}}
 use Rattle.refusal.specs.declared.Refusal.the-variants.{Plain}
 use Rattle.refusal.specs.declared.Judgement.the-variants.{Accepted as Passed, Refused as Judged}
 use Rattle.refusal.specs.declared.Counted.the-variants.{Count, Refused}
-use Rattle.refusal.specs.{Refusal.{or-else, plain-unless, judgement, counted}, LentBuffers.{put, put-unless}}
+use Rattle.refusal.specs.RefusalAnswers.{or-else, plain-unless, judgement, counted}
+use Rattle.refusal.specs.LentBuffers.{put, put-unless}
 use Rattle.refusal.proofs.Refusals.{judgement-accepted, judgement-refused, or-else-none}
 use Rattle.limits.specs.Limits.{event-limit, value-limit, node-limit, file-limit}
 use Rattle.values.specs.declared.ValueKind.the-variants.{Numbered}
-use Rattle.values.specs.{Setup.{setup, WellFormed}, SetupTests.{setup-refusal}}
+use Rattle.values.specs.Setup.{setup}
+use Rattle.values.specs.SetupInOrder.{WellFormed}
+use Rattle.values.specs.SetupTests.{setup-refusal}
 use Rattle.values.proofs.Setups.{setup-accepted, square-small}
-use Rattle.formulas.specs.{NodeBytes.{three-bytes, encode-all}, RuleRefusal.{rule-refusal, formula-of}}
+use Rattle.formulas.specs.NodeCode.{three-bytes}
+use Rattle.formulas.specs.NodeBytes.{encode-all}
+use Rattle.formulas.specs.RuleRefusal.{rule-refusal, formula-of}
 use Rattle.formulas.proofs.{Prefix.{length-nodes}, RuleClaims.{accepted-formula-of}}
 use Rattle.channel_file.specs.ChannelFile.{Token, token-T, token-A, token-V, token-X, token-G, token-O, Contents, text, SmallContents}
-use Rattle.channel_file.specs.Bytes.{clamp, encoded}
+use Rattle.channel_file.specs.Bytes.{clamp}
+use Rattle.channel_file.specs.ChannelFile.{encoded}
 use Rattle.channel_file.proofs.Claims.{length-claim}
 use Rattle.channel_writer.specs.Writing.{with-token, node-tokens, contents-of, written-reply, written-buffer, Writes}
 use Rattle.channel_writer.specs.declared.Written.{Written}
 use Rattle.channel_writer.specs.Claims.{All, none-left, one-more, Byte}
 use Rattle.channel_writer.proofs.Claims.{written-claim}
-use Rattle.channel_io.specs.{FileJudgement.{node-numbers, rule-numbers, text-or-empty, file-text}, FileRefusals.{pair-refusal, write-refusal}}
+use Rattle.channel_file.specs.ChannelFile.{node-numbers, rule-numbers}
+use Rattle.channel_io.specs.FileJudgement.{text-or-empty, file-text}
+use Rattle.channel_io.specs.FileRefusals.{pair-refusal, write-refusal}
 use Rattle.channel_io.specs.FileWriting.{WritesFile}
 use Rattle.channel_io.proofs.Clamping.{limits, meet-kept, rule-kept}
 

@@ -6,12 +6,14 @@ use lib.ListN.{length}
 use Rattle.limits.specs.Limits.{file-limit}
 use Rattle.values.specs.Setup.{setup}
 use Rattle.text_format.specs.Format.{contents}
-use Rattle.channel_file.specs.{ChannelFile.{Token, Contents, text, Form}, FileFormat.{first, second}, Bytes.{clamp, entry, node, encoded}}
+use Rattle.channel_file.specs.ChannelFile.{Token, Contents, text, Form, first, second, encoded}
+use Rattle.channel_file.specs.Bytes.{clamp, entry, node}
 use Rattle.channel_file.specs.Reading.{read-file}
 use Rattle.channel_file.proofs.Claims.{read-back-claim}
 use Rattle.channel_writer.specs.{Writing.{node-tokens, contents-of}, Claims.{All, none-left, one-more, Byte, ByteToken}}
 use Rattle.channel_writer.proofs.Claims.{again-claim}
-use Rattle.channel_io.specs.FileJudgement.{node-numbers, rule-numbers, text-or-empty, file-text}
+use Rattle.channel_file.specs.ChannelFile.{node-numbers, rule-numbers}
+use Rattle.channel_io.specs.FileJudgement.{text-or-empty, file-text}
 use Rattle.channel_io.specs.{FileRefusals.{pair-refusal, contents-refusal}, Claims.{ReadsBack, WriteClaim}}
 use Rattle.channel_io.proofs.{Clamping.{nothing-clamped}, WriteAnswers.{textual}}
 

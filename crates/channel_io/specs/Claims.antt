@@ -1,25 +1,19 @@
 -- What is claimed of reading, writing and compiling files; each claim is inhabited in proofs/.
 use Prim.Native.Nat.{ℕ, _≤_}
-use mathlib.Core.Path.{_≡_}
-use mathlib.Core.List.{List, map}
-use mathlib.Core.Option.{none}
+use mathlib.Core.{Path.{_≡_}, List.{List, map}, Option.{none}}
 use lib.ListN.{length}
 use Rattle.limits.specs.Limits.{meet-limit, state-limit, table-bytes-limit, file-limit}
 use Rattle.refusal.specs.Refusal.{Judged}
-use Rattle.values.specs.declared.ValueKind.the-variants.{Numbered}
-use Rattle.values.specs.Setup.{setup, setup-meet, setup-top}
-use Rattle.values.specs.SetupTests.{setup-refusal}
+use Rattle.values.specs.{declared.ValueKind.the-variants.{Numbered}, Setup.{setup, setup-meet, setup-top}, SetupTests.{setup-refusal}}
 use Rattle.formulas.specs.RuleRefusal.{rule-refusal}
 use Rattle.machines.specs.TableBytes.{machine-of}
 use Rattle.synthesis.specs.Claims.{RuleTable}
 use Rattle.text_format.specs.Format.{contents}
-use Rattle.channel_file.specs.ChannelFile.{Contents, Form}
-use Rattle.channel_file.specs.Reading.{read-file}
-use Rattle.channel_file.specs.Bytes.{clamp, meet-bytes, rule-bytes}
-use Rattle.channel_io.specs.FileJudgement.{setup-of, rule-numbers, contents-table-conditions, read-conditions, file-conditions, text-conditions}
-use Rattle.channel_io.specs.FileJudgement.{file-text, write-conditions}
-use Rattle.channel_io.specs.FileRefusals.{pair-refusal, contents-refusal, file-states, file-table, contents-table-refusal}
-use Rattle.channel_io.specs.FileRefusals.{read-refusal, compile-refusal, write-refusal}
+use Rattle.channel_file.specs.{ChannelFile.{Contents, Form, rule-numbers}, Reading.{read-file}, Bytes.{clamp, meet-bytes, rule-bytes}}
+use Rattle.channel_io.specs.FileConditions.{setup-of, contents-table-conditions, read-conditions, file-conditions}
+use Rattle.channel_io.specs.FileJudgement.{text-conditions, file-text, write-conditions}
+use Rattle.channel_io.specs.FileRefusals.{pair-refusal, contents-refusal, file-states, file-table, contents-table-refusal, read-refusal}
+use Rattle.channel_io.specs.FileRefusals.{compile-refusal, write-refusal}
 
 -- A byte holds a number above 255 as 255. No judgement is lost by that: of a meet table, of a rule, of a file.
 pub record ClampedClaim : Type 0 where

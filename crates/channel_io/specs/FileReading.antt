@@ -1,20 +1,12 @@
 -- Reading a channel file (document 01, "Channel file", refusals 4, 1 to 3, 5 to 9 and 13): the answer, and what two lent buffers
 -- hold afterwards.
 use Prim.Native.Nat.{ℕ}
-use mathlib.Core.Path.{_≡_}
-use mathlib.Core.List.{List}
-use mathlib.Core.Option.{Option, none, some}
+use mathlib.Core.{Path.{_≡_}, List.{List}, Option.{Option, none, some}}
 use lib.ListN.{length}
-use Rattle.refusal.specs.declared.Refusal.{Refusal}
-use Rattle.refusal.specs.declared.Refusal.the-variants.{At}
-use Rattle.refusal.specs.LentBuffers.{put-unless}
+use Rattle.refusal.specs.{declared.Refusal.{Refusal}, declared.Refusal.the-variants.{At}, LentBuffers.{put-unless}}
 use Rattle.text_format.specs.Format.{Outcome, contents, refused}
-use Rattle.channel_file.specs.ChannelFile.{Contents}
-use Rattle.channel_file.specs.Reading.{read-file}
-use Rattle.channel_io.specs.declared.FileNumbers.{FileNumbers}
-use Rattle.channel_io.specs.declared.FileRead.{FileRead}
-use Rattle.channel_io.specs.declared.FileRead.the-variants.{Accepted, Refused}
-use Rattle.channel_io.specs.FileJudgement.{rule-numbers}
+use Rattle.channel_file.specs.{ChannelFile.{Contents, rule-numbers}, Reading.{read-file}}
+use Rattle.channel_io.specs.{declared.FileNumbers.{FileNumbers}, declared.FileRead.{FileRead}, declared.FileRead.the-variants.{Accepted, Refused}}
 use Rattle.channel_io.specs.FileRefusals.{contents-read-refusal}
 
 -- The numbers of a file: those of its set-up, and how many meet entries and nodes it has.

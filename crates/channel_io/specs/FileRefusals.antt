@@ -1,22 +1,16 @@
 -- Which refusal a file meets, computed, and the table of its rule: the twins of FileJudgement's lists.
 use Prim.Native.Nat.{ℕ}
-use mathlib.Core.List.{List}
-use mathlib.Core.Bool.{Bool, _&&_}
-use mathlib.Core.Option.{Option, some}
-use lib.Dec.{leb}
-use lib.ListN.{length}
+use mathlib.Core.{List.{List}, Bool.{Bool, _&&_}, Option.{Option, some}}
+use lib.{Dec.{leb}, ListN.{length}}
 use Rattle.limits.specs.Limits.{state-limit}
-use Rattle.refusal.specs.declared.Refusal.{Refusal}
-use Rattle.refusal.specs.declared.Refusal.the-variants.{At}
-use Rattle.refusal.specs.Refusal.{or-else, plain-unless}
-use Rattle.values.specs.Setup.{Setup, setup, setup-top}
-use Rattle.values.specs.SetupTests.{setup-refusal}
+use Rattle.refusal.specs.{declared.Refusal.{Refusal}, declared.Refusal.the-variants.{At}, RefusalAnswers.{or-else, plain-unless}}
+use Rattle.values.specs.{Setup.{Setup, setup, setup-top}, SetupTests.{setup-refusal}}
 use Rattle.formulas.specs.RuleRefusal.{rule-refusal}
 use Rattle.machines.specs.TableBytes.{table-bytes, entry-bytes}
 use Rattle.synthesis.specs.Compilation.{rule-states, rule-table, rule-table-refusal}
 use Rattle.text_format.specs.Format.{Outcome, contents, refused}
-use Rattle.channel_file.specs.ChannelFile.{Contents}
-use Rattle.channel_io.specs.FileJudgement.{setup-of, rule-numbers, file-text}
+use Rattle.channel_file.specs.ChannelFile.{Contents, rule-numbers}
+use Rattle.channel_io.specs.{FileConditions.{setup-of}, FileJudgement.{file-text}}
 
 -- ---- a set-up and a rule
 module _ (s : Setup) (rule : List ℕ) where

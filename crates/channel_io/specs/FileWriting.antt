@@ -1,14 +1,10 @@
 -- Writing a channel file (document 01, "Channel file", refusals 1 to 3, 5 to 9 and 13): the answer, and what the lent buffer holds
 -- afterwards.
 use Prim.Native.Nat.{ℕ}
-use mathlib.Core.Path.{_≡_}
-use mathlib.Core.List.{List}
+use mathlib.Core.{Path.{_≡_}, List.{List}}
 use lib.ListN.{length}
-use Rattle.refusal.specs.declared.Counted.{Counted}
-use Rattle.refusal.specs.Refusal.{counted}
-use Rattle.refusal.specs.LentBuffers.{put-unless}
-use Rattle.channel_io.specs.FileJudgement.{file-text}
-use Rattle.channel_io.specs.FileRefusals.{write-refusal}
+use Rattle.refusal.specs.{declared.Counted.{Counted}, RefusalAnswers.{counted}, LentBuffers.{put-unless}}
+use Rattle.channel_io.specs.{FileJudgement.{file-text}, FileRefusals.{write-refusal}}
 
 -- Answer and later contents of a call that writes a file.
 pub record WritesFile (events values top : ℕ) (meet rule old new : List ℕ) (r : Counted) : Type 0 where

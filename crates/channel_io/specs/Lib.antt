@@ -1,5 +1,7 @@
 -- In reading order.
 -- What a file says, judged on its own numbers: the conditions.
+pub mod FileConditions
+-- The same by the file reader's answer.
 pub mod FileJudgement
 -- The same computed, and the table of a file's rule.
 pub mod FileRefusals

@@ -22,7 +22,7 @@ ghost use Prim.Native.Nat.{_*_};
 ghost use lib.Dec.{leb, ltb};
 ghost use lib.ListN.{length};
 ghost use Rattle.limits.specs.Limits.{meet-limit, node-limit};
-ghost use Rattle.refusal.specs.Refusal.{judgement};
+ghost use Rattle.refusal.specs.RefusalAnswers.{judgement};
 ghost use Rattle.values.specs.Setup.{setup};
 ghost use Rattle.channel_io.specs.FileRefusals.{pair-refusal};
 ghost use Rattle.channel_io.specs.FileReading.{Reads};

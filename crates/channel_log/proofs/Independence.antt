@@ -5,10 +5,13 @@ use Prim.Native.Nat.{ℕ}
 use lib.Dec.{eqb}
 use borrow.Author.Tests.{eqb-true, eqb-false, eq-eqb, ne-eqb}
 use Rattle.refusal.specs.declared.Refusal.{Refusal}
-use Rattle.refusal.specs.Refusal.{or-else}
+use Rattle.refusal.specs.RefusalAnswers.{or-else}
 use Rattle.channel_log.specs.Calls.{Call, load, event, restart, restart-all, clear, Reply, accepted, Channels, with-channel}
-use Rattle.channel_log.specs.Calls.{channel-refusal, Content, empty-refusal, on-event, call-refusal, event-reply, accepted-reply, map-option}
-use Rattle.channel_log.specs.{Calls.{effect, settled, step, replies, final}, Independence.{concerns, struck, replies-on}}
+use Rattle.channel_log.specs.CallSteps.{channel-refusal, Content, empty-refusal, on-event, call-refusal, event-reply, accepted-reply}
+use Rattle.channel_log.specs.Calls.{map-option}
+use Rattle.channel_log.specs.CallSteps.{effect, settled, step}
+use Rattle.channel_log.specs.Calls.{replies, final}
+use Rattle.channel_log.specs.Independence.{concerns, struck, replies-on}
 
 put-at : {X : Type 0} (c : ℕ) (x : Option X) (L : Channels X) → with-channel c x L c ≡ x
 put-at c x L = ap (λ t. cond t x (L c)) (eq-eqb c c refl)

@@ -3,10 +3,12 @@ use mathlib.Core.{Path.{_≡_, refl, ap, ap₂, subst}, Bool.{Bool, true, false,
 use Prim.Native.Nat.{ℕ}
 use lib.Dec.{eqb}
 use Rattle.refusal.specs.declared.Refusal.{Refusal}
-use Rattle.refusal.specs.Refusal.{or-else}
+use Rattle.refusal.specs.RefusalAnswers.{or-else}
 use Rattle.channel_log.specs.Calls.{Call, load, event, restart, restart-all, clear, returned, Channels, with-channel}
-use Rattle.channel_log.specs.Calls.{channel-refusal, Content, empty-refusal, on-event, call-refusal, event-reply, accepted-reply, map-option}
-use Rattle.channel_log.specs.Calls.{effect, settled, step, replies, final}
+use Rattle.channel_log.specs.CallSteps.{channel-refusal, Content, empty-refusal, on-event, call-refusal, event-reply, accepted-reply}
+use Rattle.channel_log.specs.Calls.{map-option}
+use Rattle.channel_log.specs.CallSteps.{effect, settled, step}
+use Rattle.channel_log.specs.Calls.{replies, final}
 
 -- One step after another: related, with equal replies.
 pub run-related :

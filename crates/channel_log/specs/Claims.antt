@@ -1,15 +1,9 @@
 -- Demand 3 as one claim about every list of calls, and the independence of channels, for any tool.
-use mathlib.Core.Path.{_≡_}
-use mathlib.Core.List.{List, [], _∷_}
-use mathlib.Core.Option.{Option, none, some}
-use Prim.Native.Nat.{ℕ, zero, _<_}
+use mathlib.Core.{Path.{_≡_}, List.{List, [], _∷_}, Option.{Option}}
+use Prim.Native.Nat.{ℕ, _<_}
 use Rattle.limits.specs.Limits.{channel-limit}
-use Rattle.theory.specs.MealyMachine.{after}
-use Rattle.theory.specs.ReachableStates.{IsTableOf}
 use Rattle.refusal.specs.Refusal.{number}
-use Rattle.channel_log.specs.Calls.{Call, Reply, accepted, returned, refused, Channels, all-empty, Content, step, replies, final}
-use Rattle.channel_log.specs.Log.{History}
-use Rattle.channel_log.specs.Recorded.{Loaded}
+use Rattle.channel_log.specs.{Calls.{Call, Reply, accepted, returned, refused, Channels, all-empty, replies, final}, CallSteps.{Content, step}}
 use Rattle.channel_log.specs.Independence.{struck, replies-on}
 
 -- No reply is refusal n.
@@ -18,16 +12,6 @@ Never n [] = Unit {0}
 Never n (accepted ∷ rs) = Never n rs
 Never n (returned v ∷ rs) = Never n rs
 Never n (refused r ∷ rs) = ¬ (number r ≡ n) × Never n rs
-
--- The channel is empty exactly where the log has nothing; elsewhere it has the table of the rule there and the state that the
--- rule's events reach from state 0.
-module _ {B : Type 0} (meet : B → B → B) (top : B) (events : ℕ) where
-  abbrev pub StandsAs : Option (Loaded B) → Option (History B) → Type 0
-  StandsAs none none = Unit {0}
-  StandsAs none (some h) = ⊥
-  StandsAs (some x) none = ⊥
-  StandsAs (some x) (some h) =
-      IsTableOf meet top events (h .rule) (x .states) (x .table) × (x .current ≡ after (x .table) zero (h .events))
 
 -- `call`: the function that the contracts of the five calls state; `channels`: what a tool's channels hold; `log`: the log's
 -- content; `Stands`: how a channel stands by the log.

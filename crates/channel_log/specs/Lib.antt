@@ -1,11 +1,13 @@
 -- In reading order.
--- The calls, and how channels take them.
+-- The calls, what they reply, and what channels hold.
 pub mod Calls
--- Document 01's log.
-pub mod Log
--- What a tool's channels hold.
-pub mod Recorded
+-- How a tool's channel stands by the log.
+pub mod Standing
 -- The calls that concern one channel.
 pub mod Independence
--- Demand 3 and independence as propositions.
+-- What contracts compute with: how channels take calls; the log's channels, and a tool's.
+pub mod CallSteps
+pub mod Log
+pub mod Recorded
+-- Demand 3 and independence as propositions, for any tool.
 pub mod Claims

@@ -1,21 +1,11 @@
 -- The log (document 01, "Tool"): for each channel nothing, or a rule and its events in order. It is fed the set-up and the calls
 -- with their inputs, and judges by document 01's list and the formula semantics; no table is built.
-use mathlib.Core.Bool.{cond}
-use mathlib.Core.List.{List, [], _∷_, _++_}
-use mathlib.Core.Option.{Option, none, some}
+use mathlib.Core.{Bool.{cond}, List.{List, [], _∷_, _++_}, Option.{Option, none, some}}
 use Prim.Native.Nat.{ℕ}
 use lib.Dec.{ltb}
-use Rattle.theory.specs.Formula.{Formula}
-use Rattle.theory.specs.MealyMachine.{after}
-use Rattle.theory.specs.Evaluation.{value, formulas}
-use Rattle.refusal.specs.declared.Refusal.{Refusal}
-use Rattle.refusal.specs.declared.Refusal.the-variants.{Plain}
-use Rattle.channel_log.specs.Calls.{Content}
-
--- A rule, and the events since its load or restart, the first event first.
-pub record History (B : Type 0) : Type 0 where
-  pub rule : Formula B
-  pub events : List ℕ
+use Rattle.theory.specs.{Formula.{Formula}, MealyMachine.{after}, Evaluation.{value, formulas}}
+use Rattle.refusal.specs.{declared.Refusal.{Refusal}, declared.Refusal.the-variants.{Plain}}
+use Rattle.channel_log.specs.{Calls.{History}, CallSteps.{Content}}
 
 -- 16: event too large.
 abbrev pub large-event : ℕ → ℕ → Option Refusal

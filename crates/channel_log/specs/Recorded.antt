@@ -1,17 +1,8 @@
 -- A tool's channels: a table and a current state (document 01, "Tool").
-use mathlib.Core.List.{List}
-use mathlib.Core.Option.{Option}
+use mathlib.Core.{List.{List}, Option.{Option}}
 use Prim.Native.Nat.{ℕ, zero}
-use Rattle.theory.specs.MealyMachine.{Machine}
 use Rattle.refusal.specs.declared.Refusal.{Refusal}
-use Rattle.channel_log.specs.Calls.{Content}
-use Rattle.channel_log.specs.Log.{large-event}
-
--- A loaded channel: a table of so many states, and a current state.
-pub record Loaded (B : Type 0) : Type 0 where
-  pub states : ℕ
-  pub table : Machine ℕ B
-  pub current : ℕ
+use Rattle.channel_log.specs.{Calls.{Loaded}, CallSteps.{Content}, Log.{large-event}}
 
 abbrev pub at-state : {B : Type 0} → Loaded B → ℕ → Loaded B
 at-state x s = record { states = x .states; table = x .table; current = s }

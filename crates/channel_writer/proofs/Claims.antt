@@ -4,9 +4,12 @@ use mathlib.Core.{Path.{_≡_, refl, sym, ap₂, _∙_, subst}, List.{List, [], 
 use native.Mathlib.Omega.{arith}
 use lib.Dec.{eqb}
 use borrow.Author.Tests.{eqb-true}
-use Rattle.text_format.specs.{Format.{contents}, Series.{OneOrMore}}
+use Rattle.text_format.specs.Format.{contents}
+use Rattle.text_format.specs.Texts.{OneOrMore}
 use Rattle.channel_file.specs.ChannelFile.{Token, token-T, token-A, token-V, token-X, token-G, token-O, Contents, Small, SmallToken, SmallContents}
-use Rattle.channel_file.specs.{FileFormat.{first, second}, Reading.{read-file}, Bytes.{clamp, kind, node, entry, encoded, meet-bytes, rule-bytes}}
+use Rattle.channel_file.specs.ChannelFile.{first, second, kind, encoded}
+use Rattle.channel_file.specs.Reading.{read-file}
+use Rattle.channel_file.specs.Bytes.{clamp, node, entry, meet-bytes, rule-bytes}
 use Rattle.channel_file.proofs.Claims as read
 use Rattle.channel_writer.specs.Writing.{bare-token, token-of-one, node-token, with-token, node-tokens, contents-of}
 use Rattle.channel_writer.specs.Claims.{All, none-left, one-more, Byte, ByteToken, ByteContents, NodeClaim, WrittenClaim, AgainClaim}

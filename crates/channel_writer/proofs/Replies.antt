@@ -6,7 +6,8 @@ use borrow.Author.Tests.{lt-ltb, le-ltb}
 use lib.ListN.{length}
 use Rattle.limits.specs.Limits.{file-limit}
 use Rattle.refusal.specs.LentBuffers.{put}
-use Rattle.text_format.specs.{Format.{ascii}, Series.{number-item, separated, OneOrMore}}
+use Rattle.text_format.specs.Texts.{ascii, separated, OneOrMore}
+use Rattle.text_format.specs.Series.{number-item}
 use Rattle.text_format.proofs.Series.{series-text}
 use Rattle.text_output.specs.Output.{offset-limit, Puts}
 use Rattle.text_output.proofs.Outputs.{puts-as, puts-long, puts-again}

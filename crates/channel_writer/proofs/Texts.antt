@@ -6,7 +6,8 @@ use native.Mathlib.Omega.{arith}
 use lib.{Dec.{eqb, ltb}, ListN.{length, drop, getD, length-drop}}
 use borrow.Author.Tests.{eqb-true, ltb-true, ltb-false}
 use Rattle.text_format.specs.Series.{space, newline}
-use Rattle.text_output.specs.Output.{numeral, Puts}
+use Rattle.text_format.specs.Texts.{numeral}
+use Rattle.text_output.specs.Output.{Puts}
 use Rattle.text_output.proofs.Outputs.{puts-as, puts-rest, numeral-within}
 use Rattle.channel_file.specs.ChannelFile.{Token, token-T, token-A, token-V, token-X, token-G, token-O, number, token-text}
 use Rattle.channel_file.specs.FileFormat.{tokens, entries}

@@ -1,15 +1,10 @@
 -- What is claimed of writing; each claim is inhabited in proofs/Claims.
 use Prim.Native.Nat.{ℕ, _≤_}
-use mathlib.Core.Path.{_≡_}
-use mathlib.Core.List.{List, [], _∷_}
-use mathlib.Core.Option.{some}
+use mathlib.Core.{Path.{_≡_}, List.{List, [], _∷_}, Option.{some}}
 use lib.ListN.{length}
 use Rattle.limits.specs.Limits.{file-limit}
 use Rattle.text_format.specs.Format.{contents}
-use Rattle.channel_file.specs.ChannelFile.{Token, Contents, text, SmallContents}
-use Rattle.channel_file.specs.FileFormat.{first, second}
-use Rattle.channel_file.specs.Reading.{read-file}
-use Rattle.channel_file.specs.Bytes.{kind, meet-bytes, rule-bytes}
+use Rattle.channel_file.specs.{ChannelFile.{Token, Contents, text, SmallContents, first, second, kind}, Reading.{read-file}, Bytes.{meet-bytes, rule-bytes}}
 use Rattle.channel_writer.specs.Writing.{node-token, node-tokens, contents-of}
 
 -- All of a list as P says.

@@ -1,12 +1,9 @@
 -- What the private functions of src/ say: which nodes have tokens, and their texts.
 use Prim.Native.Nat.{ℕ}
-use mathlib.Core.List.{List, [], _∷_, _++_}
-use mathlib.Core.Bool.{Bool, true, false, cond}
-use mathlib.Core.Option.{Option, some, none}
+use mathlib.Core.{List.{List, [], _∷_, _++_}, Bool.{Bool, true, false, cond}, Option.{Option, some, none}}
 use lib.Dec.{eqb}
-use Rattle.text_format.specs.Format.{ascii}
-use Rattle.channel_file.specs.ChannelFile.{number, line}
-use Rattle.channel_file.specs.FileFormat.{entries, tokens}
+use Rattle.text_format.specs.Texts.{ascii}
+use Rattle.channel_file.specs.{ChannelFile.{number, line}, FileFormat.{entries, tokens}}
 use Rattle.channel_writer.specs.Writing.{node-tokens}
 
 -- The text of a node by its kind alone, whatever stands in unused fields.

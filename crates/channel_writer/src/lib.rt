@@ -4,7 +4,7 @@ ghost use mathlib.Core.List.{_++_};
 ghost use mathlib.Core.Bool.{cond};
 ghost use Prim.Native.Nat.{_<_};
 ghost use lib.Dec.{ltb};
-ghost use Rattle.text_format.specs.Format.{ascii};
+ghost use Rattle.text_format.specs.Texts.{ascii};
 ghost use Rattle.text_output.specs.Output.{Puts};
 ghost use Rattle.channel_file.specs.ChannelFile.{number, line};
 ghost use Rattle.channel_file.specs.FileFormat.{entries};

@@ -4,20 +4,26 @@ use Prim.Native.Nat.{ℕ, suc, _-_, _≤_, _<_}
 use native.Mathlib.Omega.{arith}
 use lib.ListN.{length}
 use Rattle.limits.specs.Limits.{event-limit, table-limit, node-limit}
-use Rattle.theory.specs.{Formula.{size}, MealyMachine.{Runs, States}}
+use Rattle.theory.specs.Formula.{size}
+use Rattle.theory.specs.MachineRuns.{Runs}
+use Rattle.theory.specs.MealyMachine.{States}
 use Rattle.theory.proofs.CharacteristicFormula.{written-writes}
 use Rattle.refusal.specs.declared.{Refusal.{Refusal}, Counted.{Counted}}
 use Rattle.refusal.specs.declared.Judgement.the-variants.{Accepted, Refused}
 use Rattle.refusal.specs.declared.Counted.the-variants.{Refused as Uncounted}
-use Rattle.refusal.specs.{Refusal.{or-else, judgement, counted}, LentBuffers.{put-unless}}
+use Rattle.refusal.specs.RefusalAnswers.{or-else, judgement, counted}
+use Rattle.refusal.specs.LentBuffers.{put-unless}
 use Rattle.refusal.proofs.Refusals.{judgement-accepted, judgement-refused}
 use Rattle.values.specs.declared.ValueKind.{ValueKind}
-use Rattle.values.specs.{Setup.{Setup, setup-of-kind, SetupValue, WellFormed}, SetupTests.{setup-refusal}}
+use Rattle.values.specs.Setup.{Setup, setup-of-kind, SetupValue}
+use Rattle.values.specs.SetupInOrder.{WellFormed}
+use Rattle.values.specs.SetupTests.{setup-refusal}
 use Rattle.values.proofs.Setups.{setup-accepted}
 use Rattle.formulas.specs.NodeBytes.{encode-formula, node-bytes}
 use Rattle.machines.specs.{TableBytes.{entry-width, machine-of, TableInOrder}, TableRefusal.{table-refusal}}
 use Rattle.machines.proofs.TableRefusals.{none-in-order, accepted-table}
-use Rattle.characteristic.specs.RuleOfTable.{IsRuleOf, output-refusal, rule-of, write-refusal, write-answer, write-contents}
+use Rattle.characteristic.specs.RuleOfTable.{IsRuleOf}
+use Rattle.characteristic.specs.RuleWriting.{output-refusal, rule-of, write-refusal, write-answer, write-contents}
 use Rattle.characteristic.specs.NodeOutput.{Answered, Concluded}
 use Rattle.characteristic.proofs.Outputs.{refused-answer}
 

@@ -5,9 +5,12 @@ use native.Mathlib.Omega.{arith}
 use lib.{ListN.{length}, Dec.{leb}}
 use borrow.Author.Tests.{leb-true, leb-false}
 use Rattle.limits.specs.Limits.{node-limit, state-limit, table-limit}
-use Rattle.theory.specs.{Formula.{Formula, size, binders, Accepted}, ReachableStates.{StatesAtMost}}
+use Rattle.theory.specs.Formula.{Formula, size}
+use Rattle.theory.specs.FormulaClasses.{binders, Accepted}
+use Rattle.theory.specs.ReachableStates.{StatesAtMost}
 use Rattle.theory.proofs.{Claims.{characteristic}, CharacteristicFormula.{writes-one, writes-accepted, few-binders}}
-use Rattle.refusal.specs.Refusal.{plain, First, plain-unless, counted, has-place, condition-numbers, right-places, part-of, order}
+use Rattle.refusal.specs.Refusal.{plain, First, has-place, condition-numbers, right-places, part-of, order}
+use Rattle.refusal.specs.RefusalAnswers.{plain-unless, counted}
 use Rattle.refusal.proofs.Refusals.{plain-first, first-then, first-append, or-else-none, plain-none}
 use Rattle.refusal.specs.LentBuffers.{put-unless}
 use Rattle.values.specs.{Setup.{Setup, SetupValue, setup-meet, setup-top, setup-conditions}, SetupTests.{setup-refusal}}
@@ -16,8 +19,9 @@ use Rattle.formulas.specs.NodeBytes.{encode-formula, node-width, node-bytes}
 use Rattle.formulas.proofs.{Encoding.{formula-length}, NodeCodes.{node-code}, RuleClaims.{accepted-claim}}
 use Rattle.machines.specs.{TableBytes.{entry-width, machine-of, table-condition}, TableRefusal.{table-refusal}}
 use Rattle.machines.proofs.TableRefusals.{table-refusal-first}
-use Rattle.characteristic.specs.RuleOfTable.{IsRuleOf, TooManyNodes, BufferTooShort, write-conditions, output-refusal, rule-of, write-refusal}
-use Rattle.characteristic.specs.RuleOfTable.{write-answer, write-contents}
+use Rattle.characteristic.specs.RuleOfTable.{IsRuleOf, TooManyNodes, BufferTooShort, write-conditions}
+use Rattle.characteristic.specs.RuleWriting.{output-refusal, rule-of, write-refusal}
+use Rattle.characteristic.specs.RuleWriting.{write-answer, write-contents}
 use Rattle.characteristic.specs.Claims.{WriteRefusalClaim, RefusedClaim, RuleWritten, Written, WrittenClaim}
 use Rattle.characteristic.proofs.{Outputs.{refused-answer}, Answers.{is-rule, runs, last-event, start-within}}
 

@@ -9,14 +9,17 @@ use Rattle.theory.specs.{Formula.{Formula, size}, CharacteristicFormula.{Writes
 use Rattle.refusal.specs.declared.Refusal.{Refusal}
 use Rattle.refusal.specs.declared.Refusal.the-variants.{Plain}
 use Rattle.refusal.specs.declared.Counted.the-variants.{Count, Refused}
-use Rattle.refusal.specs.{Refusal.{or-else, plain-unless, counted}, LentBuffers.{put, put-unless}}
+use Rattle.refusal.specs.RefusalAnswers.{or-else, plain-unless, counted}
+use Rattle.refusal.specs.LentBuffers.{put, put-unless}
 use Rattle.values.specs.declared.ValueKind.{ValueKind}
 use Rattle.values.specs.declared.ValueKind.the-variants.{Numbered, Register}
 use Rattle.formulas.specs.NodeBytes.{encode-formula, node-width, node-bytes}
 use Rattle.formulas.proofs.Prefix.{length-nodes}
 use Rattle.machines.specs.TableBytes.{machine-of}
 use Rattle.machines.proofs.Stores.{put-snoc}
-use Rattle.characteristic.specs.{RuleOfTable.{IsRuleOf, output-refusal}, NodeOutput.{HasRoom, Ready, Walked, Listed, Answered}}
+use Rattle.characteristic.specs.RuleOfTable.{IsRuleOf}
+use Rattle.characteristic.specs.RuleWriting.{output-refusal}
+use Rattle.characteristic.specs.NodeOutput.{HasRoom, Ready, Walked, Listed, Answered}
 use Rattle.characteristic.proofs.OpenPath.{path-empty}
 
 -- ---- a copy, byte by byte

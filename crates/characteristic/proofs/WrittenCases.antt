@@ -4,20 +4,25 @@ use Prim.Native.Nat.{ℕ, _*_, _≤_, _<_}
 use native.Mathlib.Omega.{arith}
 use lib.{Dec.{lit≤, lit<}, ListN.{length}}
 use Rattle.limits.specs.Limits.{node-limit, state-limit, table-limit}
-use Rattle.theory.specs.{Formula.{Formula, size, WellFormed}, MealyMachine.{Machine}, ValueSets.{Below, meetAt, four-value-meet}}
-use Rattle.theory.specs.{ValueSetClaims.{every}, ReachableStates.{state-at, IsTable}, DemandSets.{empty, only, union}}
+use Rattle.theory.specs.Formula.{Formula, size}
+use Rattle.theory.specs.FormulaClasses.{WellFormed}
+use Rattle.theory.specs.MealyMachine.{Machine}
+use Rattle.theory.specs.ValueSets.{Below, meetAt, four-value-meet}
+use Rattle.theory.specs.ValueSetTests.{every}
+use Rattle.theory.specs.ReachableStates.{state-at, IsTable}
+use Rattle.theory.specs.DemandSets.{empty, only, union}
 use Rattle.theory.specs.Exploration.{state-count, table-of}
 use Rattle.theory.proofs.{ValueSets.{four-value-semilattice}, Claims.{table}, CharacteristicFormula.{writes-well-formed}}
 use Rattle.refusal.specs.declared.Refusal.the-variants.{Plain}
 use Rattle.refusal.specs.declared.Counted.the-variants.{Count, Refused}
-use Rattle.refusal.specs.Refusal.{counted, plain-unless}
+use Rattle.refusal.specs.RefusalAnswers.{counted, plain-unless}
 use Rattle.values.specs.declared.ValueKind.the-variants.{Numbered}
 use Rattle.values.specs.{ValueKind.{meetOf}, Setup.{Setup, setup-meet}, SetupTests.{setup-refusal}}
 use Rattle.values.proofs.Setups.{four-value-setup}
 use Rattle.formulas.specs.NodeBytes.{encode-formula, node-width, node-bytes}
 use Rattle.machines.specs.{TableBytes.{machine-of, table-bytes, entry-bytes}, TableRefusal.{table-test, entry-test, table-refusal}, Claims.{Agree}}
 use Rattle.machines.proofs.TableRoundTrip.{read-back}
-use Rattle.characteristic.specs.RuleOfTable.{rule-of, write-answer}
+use Rattle.characteristic.specs.RuleWriting.{rule-of, write-answer}
 use Rattle.characteristic.specs.WrittenCases.{four-values, case-11-rows, case-11-rule, Case11Claim, chain-rows, ChainClaim}
 use Rattle.characteristic.proofs.{Outputs.{over-limit, fits-room}, Answers.{output-last, is-rule, runs, start-within}}
 

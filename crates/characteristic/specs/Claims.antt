@@ -1,22 +1,14 @@
 -- What is claimed of the rule of a table (document 01, "Rule of a table" and refusals 12 and 13; document 02, F-7); proofs/Claims has a proof of each.
-use mathlib.Core.Path.{_≡_}
-use mathlib.Core.Option.{none, some}
-use mathlib.Core.List.{List}
+use mathlib.Core.{Path.{_≡_}, Option.{none, some}, List.{List}}
 use Prim.Native.Nat.{ℕ, suc, _+_, _*_, _≤_, _<_}
 use lib.ListN.{length}
-use Rattle.theory.specs.Formula.{Formula, size, binders, Accepted}
-use Rattle.theory.specs.Semantics.{Answers}
-use Rattle.theory.specs.MealyMachine.{Machine, Word, after}
+use Rattle.theory.specs.{Formula.{Formula, size}, FormulaClasses.{binders, Accepted}, Semantics.{Answers}, MealyMachine.{Machine, Word, after}}
 use Rattle.theory.specs.ReachableStates.{IsTableOf, StatesAtMost}
-use Rattle.refusal.specs.declared.Refusal.{Refusal}
-use Rattle.refusal.specs.declared.Counted.the-variants.{Count, Refused}
-use Rattle.refusal.specs.Refusal.{Judged}
-use Rattle.refusal.specs.LentBuffers.{put}
+use Rattle.refusal.specs.{declared.Refusal.{Refusal}, declared.Counted.the-variants.{Count, Refused}, Refusal.{Judged}, LentBuffers.{put}}
 use Rattle.values.specs.Setup.{Setup, SetupValue, setup-meet, setup-top}
-use Rattle.formulas.specs.NodeBytes.{encode-formula, node-width, node-bytes}
-use Rattle.formulas.specs.RuleRefusal.{rule-refusal}
+use Rattle.formulas.specs.{NodeBytes.{encode-formula, node-width, node-bytes}, RuleRefusal.{rule-refusal}}
 use Rattle.machines.specs.TableBytes.{machine-of}
-use Rattle.characteristic.specs.RuleOfTable.{IsRuleOf, write-conditions, write-refusal, write-answer, write-contents}
+use Rattle.characteristic.specs.{RuleOfTable.{IsRuleOf, write-conditions}, RuleWriting.{write-refusal, write-answer, write-contents}}
 use Rattle.limits.specs.Limits.{node-limit, state-limit, table-limit}
 
 -- A call is judged as document 01 asks, at every limit.

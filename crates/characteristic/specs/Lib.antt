@@ -1,6 +1,8 @@
 -- In reading order.
--- The conditions of a call, its answer, and what the lent buffer holds afterwards.
+-- The conditions of a call.
 pub mod RuleOfTable
+-- What the contract computes with: its answer, and what the lent buffer holds afterwards.
+pub mod RuleWriting
 -- What the parts of the walk promise: nodes appended to a buffer, and the path of open states.
 pub mod NodeOutput
 -- What is claimed of them.

@@ -1,21 +1,13 @@
 -- What the parts of the walk over a table promise: nodes appended to a buffer up to a limit, and the path of open states.
-use mathlib.Core.Path.{_≡_}
-use mathlib.Core.Option.{none}
-use mathlib.Core.List.{List, [], _∷_, _++_}
+use mathlib.Core.{Path.{_≡_}, Option.{none}, List.{List, [], _∷_, _++_}}
 use Prim.Native.Nat.{ℕ, _+_, _*_, _-_, _≤_, _<_, min}
 use lib.ListN.{length, getD, take}
 use Rattle.limits.specs.Limits.{table-limit, node-limit}
-use Rattle.theory.specs.Formula.{Formula, size}
-use Rattle.theory.specs.PrefixCode.{Node, nodes}
-use Rattle.theory.specs.CharacteristicFormula.{OpenAt}
-use Rattle.refusal.specs.declared.Counted.{Counted}
-use Rattle.refusal.specs.Refusal.{counted}
-use Rattle.refusal.specs.LentBuffers.{put-unless}
-use Rattle.values.specs.declared.ValueKind.{ValueKind}
-use Rattle.values.specs.Setup.{setup-of-kind}
-use Rattle.values.specs.SetupTests.{setup-refusal}
+use Rattle.theory.specs.{Formula.{Formula, size}, PrefixCode.{Node, nodes}, CharacteristicFormula.{OpenAt}}
+use Rattle.refusal.specs.{declared.Counted.{Counted}, RefusalAnswers.{counted}, LentBuffers.{put-unless}}
+use Rattle.values.specs.{declared.ValueKind.{ValueKind}, Setup.{setup-of-kind}, SetupTests.{setup-refusal}}
 use Rattle.formulas.specs.NodeBytes.{kind-number, first-field, value-field, encode-all, encode-formula, node-width, node-bytes}
-use Rattle.characteristic.specs.RuleOfTable.{IsRuleOf, output-refusal, write-answer, write-contents}
+use Rattle.characteristic.specs.{RuleOfTable.{IsRuleOf}, RuleWriting.{output-refusal, write-answer, write-contents}}
 
 -- Nodes with values of a kind, in so many bytes each.
 module _ (kind : ValueKind) (limit at : ℕ) where

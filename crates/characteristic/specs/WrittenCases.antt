@@ -1,18 +1,14 @@
 -- Cases of document 01 on the rule of a table ("Marked for proof", case 11, and "Run only"), with the four-value set.
-use mathlib.Core.Path.{_≡_}
-use mathlib.Core.List.{List, [], _∷_}
+use mathlib.Core.{Path.{_≡_}, List.{List, [], _∷_}}
 use Prim.Native.Nat.{ℕ, zero, suc, _≤_}
 use lib.ListN.{length}
 use Rattle.limits.specs.Limits.{table-limit, node-limit}
-use Rattle.theory.specs.ValueSets.{four-value-meet}
-use Rattle.theory.specs.ReachableStates.{IsTableOf}
-use Rattle.refusal.specs.declared.Refusal.the-variants.{Plain}
-use Rattle.refusal.specs.declared.Counted.the-variants.{Count, Refused}
-use Rattle.values.specs.declared.ValueKind.the-variants.{Numbered}
-use Rattle.values.specs.Setup.{Setup, setup-meet, setup}
+use Rattle.theory.specs.{ValueSets.{four-value-meet}, ReachableStates.{IsTableOf}}
+use Rattle.refusal.specs.{declared.Refusal.the-variants.{Plain}, declared.Counted.the-variants.{Count, Refused}}
+use Rattle.values.specs.{declared.ValueKind.the-variants.{Numbered}, Setup.{Setup, setup-meet, setup}}
 use Rattle.formulas.specs.NodeBytes.{encode-formula, node-bytes}
 use Rattle.machines.specs.TableBytes.{machine-of}
-use Rattle.characteristic.specs.RuleOfTable.{rule-of, write-answer}
+use Rattle.characteristic.specs.RuleWriting.{rule-of, write-answer}
 
 abbrev pub four-values : ℕ → Setup
 four-values events = setup events 4 3 four-value-meet

@@ -31,7 +31,7 @@ ghost use Rattle.values.specs.ValueBytes.{value-width, mask-bytes, value-bytes}
 ghost use Rattle.values.specs.Setup.{setup};
 ghost use Rattle.machines.specs.TableBytes.{machine-of};
 ghost use Rattle.machines.specs.Claims.{OfBytes};
-ghost use Rattle.characteristic.specs.RuleOfTable.{write-answer, write-contents};
+ghost use Rattle.characteristic.specs.RuleWriting.{write-answer, write-contents};
 ghost use Rattle.characteristic.specs.NodeOutput.{Appends, AppendsOne, HasRoom, Ready, Walked, Listed, Answered, Concluded};
 
 // The bytes of all nodes that a rule may have, at six a node at most.

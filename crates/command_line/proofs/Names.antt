@@ -4,7 +4,7 @@ use mathlib.Core.{Path.{_≡_, refl, sym, ap, ap₂, _∙_}, List.{List, [], _�
 use native.Mathlib.Omega.{arith}
 use lib.{Dec.{eqb}, ListN.{length, getD, take, drop, List·getD-eq-default}}
 use borrow.Author.Tests.{eq-eqb, ne-eqb}
-use Rattle.text_format.specs.Format.{ascii}
+use Rattle.text_format.specs.Texts.{ascii}
 use Rattle.channel_file.proofs.Offsets.{here, over}
 use Rattle.command_line.specs.declared.Command.{Command}
 use Rattle.command_line.specs.{Words.{words}, Names.{names, equal, found, named}, Steps.{gap, letters, Skips, place, second, command-at}}

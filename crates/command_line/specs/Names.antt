@@ -1,9 +1,8 @@
 -- The names of the commands.
 use Prim.Native.Nat.{ℕ}
-use mathlib.Core.List.{List, [], _∷_}
-use mathlib.Core.Bool.{Bool, true, false, cond, _&&_}
+use mathlib.Core.{List.{List, [], _∷_}, Bool.{Bool, true, false, cond, _&&_}}
 use lib.Dec.{eqb}
-use Rattle.text_format.specs.Format.{ascii}
+use Rattle.text_format.specs.Texts.{ascii}
 use Rattle.command_line.specs.declared.Command.{Command}
 
 abbrev pub names : List (List ℕ × Command)

@@ -4,15 +4,21 @@ use Prim.Native.Nat.{ℕ, _≤_}
 use native.Mathlib.Omega.{arith}
 use borrow.Author.Tests.{le-leb}
 use lib.{ListN.{length, take}, Dec.{leb}}
-use Rattle.theory.specs.{ValueSets.{four-value-meet, meetAt}, ValueSetClaims.{every}, DemandSets.{empty, only, union}}
+use Rattle.theory.specs.ValueSets.{four-value-meet, meetAt}
+use Rattle.theory.specs.ValueSetTests.{every}
+use Rattle.theory.specs.DemandSets.{empty, only, union}
 use Rattle.refusal.specs.declared.Refusal.{Refusal}
-use Rattle.refusal.specs.{Refusal.{or-else, plain-unless}, LentBuffers.{put}}
+use Rattle.refusal.specs.RefusalAnswers.{or-else, plain-unless}
+use Rattle.refusal.specs.LentBuffers.{put}
 use Rattle.values.specs.declared.ValueKind.the-variants.{Numbered}
 use Rattle.values.specs.ValueKind.{meetOf}
 use Rattle.values.proofs.Setups.{four-value-setup}
 use Rattle.machines.specs.TableRefusal.{table-refusal, table-test, entry-test}
-use Rattle.conformance.specs.Trial.{input, tables-refusal, trial-refusal, first-failure, outcome, shown, answer-unless, buffer-unless}
-use Rattle.conformance.specs.{Trial.{trial-answer, trial-buffer, Passed, word-length}, Claims.{case-3-bytes, case-12-input, Case12Claim}}
+use Rattle.conformance.specs.Trial.{input}
+use Rattle.conformance.specs.TrialAnswer.{tables-refusal, trial-refusal, first-failure, outcome, shown, answer-unless, buffer-unless}
+use Rattle.conformance.specs.TrialAnswer.{trial-answer, trial-buffer}
+use Rattle.conformance.specs.Trial.{Passed, word-length}
+use Rattle.conformance.specs.Claims.{case-3-bytes, case-12-input, Case12Claim}
 use Rattle.limits.specs.Limits.{device-limit, table-limit, word-limit}
 
 device-3 : table-refusal device-limit 2 (Numbered 4) 1 0 (3 ∷ 0 ∷ 3 ∷ 0 ∷ []) ≡ none

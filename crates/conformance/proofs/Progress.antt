@@ -6,7 +6,7 @@ use native.Mathlib.{Numerals.{add-one}, Omega.{arith}}
 use borrow.Author.Tests.{eqb-true, eqb-false, lt-ltb, le-ltb}
 use lib.{Dec.{eqb}, ListN.{length, getD, drop, drop-of-length-le}, Seq.{drop-cons}}
 use Rattle.theory.specs.{MealyMachine.{Machine}, Exploration.{reached, add-events, explore, explored}}
-use Rattle.theory.specs.Conformance.{same-pair, next-pair, bad-event, or-else, first-bad, bad-pair, in-play-order, counterexample}
+use Rattle.theory.specs.ConformanceCheck.{same-pair, next-pair, bad-event, or-else, first-bad, bad-pair, in-play-order, counterexample}
 use Rattle.theory.proofs.{Exploration.{Grows, explore-grows}, Conformance.{same-pair-iff, few-pairs}}
 use Rattle.values.specs.declared.ValueKind.{ValueKind}
 use Rattle.machines.specs.TableBytes.{machine-of}

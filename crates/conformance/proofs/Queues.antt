@@ -7,7 +7,9 @@ use borrow.Author.Tests.{eq-eqb, ne-eqb}
 use lib.{Dec.{T, eqb, eqb→eq}, ListN.{length, getD, set, length-append, length-set, List·getD-append}}
 use lib.Seq.{getD-append-seam, getD-set-same, getD-set-other}
 use mir.Facts.{and-yes}
-use Rattle.theory.specs.{MealyMachine.{Machine}, Exploration.{reached, has-state, add}, Conformance.{same-pair, next-pair}}
+use Rattle.theory.specs.MealyMachine.{Machine}
+use Rattle.theory.specs.Exploration.{reached, has-state, add}
+use Rattle.theory.specs.ConformanceCheck.{same-pair, next-pair}
 use Rattle.theory.proofs.{Numbers.{digits-equal}, Exploration.{length-end}}
 use Rattle.conformance.specs.PairQueue.{Queue, Sized, Linked, Holds, flag, is-new, push, pushed, pushed-count}
 

@@ -3,7 +3,8 @@ use mathlib.Core.{Path.{_≡_, refl, sym, _∙_, ap, ap₂, subst, subst⁻¹}, 
 use Prim.Native.Nat.{ℕ, zero, _+_, _*_, _≤_, _<_}
 use native.Mathlib.{Nat.{mul-le-mul-right, suc-mul}, Omega.{arith}}
 use lib.{ListN.{length, getD, set, replicate, length-set, length-reverse, length-replicate, getD-replicate}, Seq.{getD-set-same, getD-set-other}}
-use Rattle.theory.specs.{Exploration.{reached, has-state}, Conformance.{same-pair, next-pair, counterexample}}
+use Rattle.theory.specs.Exploration.{reached, has-state}
+use Rattle.theory.specs.ConformanceCheck.{same-pair, next-pair, counterexample}
 use Rattle.theory.proofs.Numbers.{digits-equal}
 use Rattle.refusal.specs.LentBuffers.{put}
 use Rattle.values.specs.declared.ValueKind.{ValueKind}
@@ -11,7 +12,7 @@ use Rattle.machines.specs.TableBytes.{machine-of}
 use Rattle.conformance.specs.declared.{Verdict.{Verdict}, Failure.{Failure}}
 use Rattle.conformance.specs.declared.Verdict.the-variants.{Pass, Fail}
 use Rattle.conformance.specs.declared.Failure.the-variants.{Nowhere, At}
-use Rattle.conformance.specs.Trial.{outcome, shown}
+use Rattle.conformance.specs.TrialAnswer.{outcome, shown}
 use Rattle.conformance.specs.PairQueue.{Queue, queue, Sized, flag, Searchable, Searched, Located, Tried, Answers, Answered, FailsAt, Empty}
 use Rattle.conformance.proofs.{Queues.{same-pair-self, same-pair-true, or-false}, Words.{short-word, put-last}}
 use Rattle.values.specs.ValueTests.{at-or-below}

@@ -4,7 +4,9 @@ use Prim.Native.Nat.{ℕ, zero, suc, _+_, _*_, _-_, _≤_, _<_}
 use native.Mathlib.{Nat.{mul-le-mul-right, suc-mul}, Numerals.{add-one}, Omega.{arith}}
 use borrow.Author.Tests.{eqb-true}
 use lib.ListN.{length, getD}
-use Rattle.theory.specs.{MealyMachine.{Machine}, Exploration.{reached, add, add-events}, Conformance.{same-pair, next-pair}}
+use Rattle.theory.specs.MealyMachine.{Machine}
+use Rattle.theory.specs.Exploration.{reached, add, add-events}
+use Rattle.theory.specs.ConformanceCheck.{same-pair, next-pair}
 use Rattle.theory.proofs.Exploration.{add-grows, add-events-grows}
 use Rattle.values.specs.declared.ValueKind.{ValueKind}
 use Rattle.machines.specs.TableBytes.{machine-of}

@@ -6,19 +6,27 @@ use Prim.Native.Nat.{ℕ, zero, _*_, _≤_, _<_}
 use native.Mathlib.Omega.{arith}
 use borrow.Author.Tests.{leb-true, leb-false}
 use lib.{Dec.{T, leb}, ListN.{length, take, drop}, Seq.{take-append-seam, drop-append-seam}}
-use Rattle.theory.specs.{Semilattice.{AtOrBelow}, MealyMachine.{Runs, States}, Conformance.{counterexample}}
+use Rattle.theory.specs.Semilattice.{AtOrBelow}
+use Rattle.theory.specs.MachineRuns.{Runs}
+use Rattle.theory.specs.MealyMachine.{States}
+use Rattle.theory.specs.ConformanceCheck.{counterexample}
 use Rattle.theory.proofs.{ConformanceClaims.{conformance-claim}, Trial.{trial-claim}}
 use Rattle.refusal.specs.declared.Refusal.{Refusal}
-use Rattle.refusal.specs.{Refusal.{plain, First, or-else, has-place, condition-numbers, right-places, part-of, order}, LentBuffers.{put}}
+use Rattle.refusal.specs.Refusal.{plain, First, has-place, condition-numbers, right-places, part-of, order}
+use Rattle.refusal.specs.RefusalAnswers.{or-else}
+use Rattle.refusal.specs.LentBuffers.{put}
 use Rattle.refusal.proofs.Refusals.{plain-first, first-append}
 use Rattle.values.specs.Setup.{SetupValue, setup-top}
 use Rattle.values.proofs.{Setups.{setup-first, judged-after-setup}, ValueKinds.{value-kinds}}
 use Rattle.machines.proofs.TableRefusals.{table-refusal-first}
 use Rattle.conformance.specs.declared.Verdict.{Verdict}
 use Rattle.conformance.specs.declared.Verdict.the-variants.{Pass, Fail, Refused}
-use Rattle.conformance.specs.Trial.{TrialInput, meet, below, device-machine, table-machine, Passes, FirstFailure, tables-refusal, DeviceInOrder}
-use Rattle.conformance.specs.Trial.{RuleTableInOrder, trial-conditions, trial-refusal, first-failure, outcome, shown, answer-unless}
-use Rattle.conformance.specs.Trial.{buffer-unless, trial-answer, trial-buffer, refusal-of, Passed, word-length}
+use Rattle.conformance.specs.Trial.{TrialInput, meet, device-machine, table-machine, FirstFailure, DeviceInOrder}
+use Rattle.conformance.specs.TrialAnswer.{below, PassesDecided, tables-refusal}
+use Rattle.conformance.specs.Trial.{RuleTableInOrder, trial-conditions}
+use Rattle.conformance.specs.TrialAnswer.{trial-refusal, first-failure, outcome, shown, answer-unless}
+use Rattle.conformance.specs.TrialAnswer.{buffer-unless, trial-answer, trial-buffer}
+use Rattle.conformance.specs.Trial.{refusal-of, Passed, word-length}
 use Rattle.conformance.specs.Claims.{TrialRefusalClaim, RefusedClaim, PassClaim, FailClaim, SatisfactionClaim, LowestPassesClaim}
 use Rattle.conformance.proofs.Trials.{Sound, sound, all-pairs}
 
@@ -115,7 +123,7 @@ module _ (d t : ℕ) where
     found = counterexample (below x) (device-machine x) (table-machine x) (x .set-up .events) (x .device-states) (x .states) (x .device-start) zero
 
     says :
-        ((found ≡ none) ↔ Passes x)
+        ((found ≡ none) ↔ PassesDecided x)
         × ((word : List ℕ) → found ≡ some word → FirstFailure x word × (0 < length word) × (length word ≤ x .device-states * x .states))
     says =
         conformance-claim (SetupValue (x .set-up)) (meet x) (setup-top (x .set-up)) (ok .set-up .laws) (x .set-up .events) (below x) decides

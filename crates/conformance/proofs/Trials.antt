@@ -8,17 +8,22 @@ use Rattle.limits.specs.Limits.{event-limit, device-limit, table-limit}
 use Rattle.refusal.specs.declared.{Refusal.{Refusal}, Judgement.{Judgement}}
 use Rattle.refusal.specs.declared.Refusal.the-variants.{Plain}
 use Rattle.refusal.specs.declared.Judgement.the-variants.{Accepted, Refused}
-use Rattle.refusal.specs.Refusal.{or-else, plain-unless, judgement}
+use Rattle.refusal.specs.RefusalAnswers.{or-else, plain-unless, judgement}
 use Rattle.refusal.proofs.Refusals.{judgement-accepted, judgement-refused, or-else-none, or-else-assoc, plain-none}
 use Rattle.values.specs.declared.ValueKind.{ValueKind}
-use Rattle.values.specs.{ValueKind.{ValueIn}, Setup.{setup-of-kind, WellFormed}, SetupTests.{setup-refusal}}
+use Rattle.values.specs.ValueKind.{ValueIn}
+use Rattle.values.specs.Setup.{setup-of-kind}
+use Rattle.values.specs.SetupInOrder.{WellFormed}
+use Rattle.values.specs.SetupTests.{setup-refusal}
 use Rattle.values.proofs.Setups.{setup-accepted}
 use Rattle.machines.specs.{TableBytes.{entry-width, machine-of, TableInOrder}, TableRefusal.{table-refusal}}
 use Rattle.machines.proofs.TableRefusals.{none-in-order}
 use Rattle.conformance.specs.declared.Verdict.{Verdict}
 use Rattle.conformance.specs.declared.Verdict.the-variants.{Refused as Rejected}
-use Rattle.conformance.specs.Trial.{TrialInput, input, tables-refusal, trial-refusal, first-failure, answer-unless, buffer-unless, trial-answer}
-use Rattle.conformance.specs.{Trial.{trial-buffer}, PairQueue.{Tried, Answered, Concluded}}
+use Rattle.conformance.specs.Trial.{TrialInput, input}
+use Rattle.conformance.specs.TrialAnswer.{tables-refusal, trial-refusal, first-failure, answer-unless, buffer-unless, trial-answer}
+use Rattle.conformance.specs.TrialAnswer.{trial-buffer}
+use Rattle.conformance.specs.PairQueue.{Tried, Answered, Concluded}
 use Rattle.conformance.proofs.Places.{product-bounded}
 
 -- A check's refusal is the answer of all that follows; where it accepts, what follows decides.

@@ -1,25 +1,16 @@
 -- What is claimed of a trial (document 01, "Trial"), for every limit on the device's and the table's states; proofs/TrialClaims has a
 -- proof of each.
-use mathlib.Core.Path.{_≡_}
-use mathlib.Core.Logic.{_↔_}
-use mathlib.Core.List.{List, [], _∷_}
-use mathlib.Core.Option.{none, some}
+use mathlib.Core.{Path.{_≡_}, Logic.{_↔_}, List.{List, [], _∷_}, Option.{none, some}}
 use Prim.Native.Nat.{ℕ, _*_, _≤_, _<_}
 use lib.ListN.{length, take, drop}
-use Rattle.theory.specs.Semilattice.{AtOrBelow}
-use Rattle.theory.specs.ValueSets.{four-value-meet}
-use Rattle.theory.specs.Formula.{Formula, output, conjunction, WellFormed}
-use Rattle.theory.specs.Satisfaction.{TableSatisfies}
-use Rattle.theory.specs.ReachableStates.{IsTableOf}
-use Rattle.theory.specs.Exploration.{state-count, table-of}
-use Rattle.refusal.specs.declared.Refusal.{Refusal}
-use Rattle.refusal.specs.Refusal.{Judged}
-use Rattle.values.specs.declared.ValueKind.the-variants.{Numbered}
-use Rattle.values.specs.Setup.{SetupValue, setup-top, setup}
-use Rattle.values.specs.ValueKind.{meetOf}
+use Rattle.theory.specs.{Semilattice.{AtOrBelow}, ValueSets.{four-value-meet}, Formula.{Formula, output, conjunction}, FormulaClasses.{WellFormed}}
+use Rattle.theory.specs.{TableSatisfaction.{TableSatisfies}, ReachableStates.{IsTableOf}, Exploration.{state-count, table-of}}
+use Rattle.refusal.specs.{declared.Refusal.{Refusal}, Refusal.{Judged}}
+use Rattle.values.specs.{declared.ValueKind.the-variants.{Numbered}, Setup.{SetupValue, setup-top, setup}, ValueKind.{meetOf}}
 use Rattle.machines.specs.TableBytes.{table-bytes, entry-bytes}
-use Rattle.conformance.specs.Trial.{TrialInput, input, meet, device-machine, table-machine, Passes, FirstFailure, trial-conditions}
-use Rattle.conformance.specs.Trial.{trial-refusal, trial-answer, trial-buffer, refusal-of, Passed, word-length}
+use Rattle.conformance.specs.Trial.{TrialInput, input, meet, device-machine, table-machine, FirstFailure, trial-conditions, refusal-of, Passed}
+use Rattle.conformance.specs.Trial.{word-length}
+use Rattle.conformance.specs.TrialAnswer.{PassesDecided, trial-refusal, trial-answer, trial-buffer}
 use Rattle.limits.specs.Limits.{device-limit, table-limit, word-limit}
 
 -- A trial is judged as document 01 asks; its conditions stand in the order, 11 once for both tables.
@@ -41,7 +32,7 @@ module _ (device-most table-most : ℕ) where
   pub record PassClaim : Type 0 where
     pub exactly :
         (x : TrialInput) (old : List ℕ) → trial-refusal device-most table-most x old ≡ none →
-        Passed (trial-answer device-most table-most x old) ↔ Passes x
+        Passed (trial-answer device-most table-most x old) ↔ PassesDecided x
     pub kept :
         (x : TrialInput) (old : List ℕ) → Passed (trial-answer device-most table-most x old) → trial-buffer device-most table-most x old ≡ old
 
@@ -52,7 +43,7 @@ module _ (device-most table-most : ℕ) where
     pub few-events : n ≤ device-most * table-most
     pub word : FirstFailure x (take n (trial-buffer device-most table-most x old))
     pub rest-kept : drop n (trial-buffer device-most table-most x old) ≡ drop n old
-    pub not-passed : ¬ Passes x
+    pub not-passed : ¬ PassesDecided x
 
   abbrev pub FailClaim : Type 0
   FailClaim =

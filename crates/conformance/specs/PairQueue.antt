@@ -1,26 +1,15 @@
 -- The queue of the breadth-first search in flat arrays: what its private parts ask of each other. `counterexample` of theory says
 -- what the search finds.
-use mathlib.Core.Path.{_≡_}
-use mathlib.Core.Bool.{Bool, true, false, cond}
-use mathlib.Core.List.{List, [], _∷_, reverse}
-use mathlib.Core.Option.{Option, none, some}
+use mathlib.Core.{Path.{_≡_}, Bool.{Bool, true, false, cond}, List.{List, [], _∷_, reverse}, Option.{Option, none, some}}
 use Prim.Native.Nat.{ℕ, zero, _+_, _*_, _≤_, _<_}
-use lib.Dec.{eqb}
-use lib.ListN.{length, getD, set}
+use lib.{Dec.{eqb}, ListN.{length, getD, set}}
 use Rattle.limits.specs.Limits.{event-limit, device-limit, table-limit}
-use Rattle.theory.specs.MealyMachine.{Machine}
-use Rattle.theory.specs.Exploration.{reached, has-state, add-events}
-use Rattle.theory.specs.Conformance.{same-pair, next-pair, counterexample}
+use Rattle.theory.specs.{MealyMachine.{Machine}, Exploration.{reached, has-state, add-events}, ConformanceCheck.{same-pair, next-pair, counterexample}}
 use Rattle.refusal.specs.LentBuffers.{put}
 use Rattle.machines.specs.TableBytes.{machine-of}
-use Rattle.values.specs.declared.ValueKind.{ValueKind}
-use Rattle.values.specs.Setup.{setup-of-kind}
-use Rattle.values.specs.SetupTests.{setup-refusal}
-use Rattle.conformance.specs.declared.Verdict.{Verdict}
-use Rattle.conformance.specs.declared.Failure.{Failure}
-use Rattle.conformance.specs.declared.Failure.the-variants.{Nowhere, At}
-use Rattle.conformance.specs.Trial.{input, outcome, shown, trial-answer, trial-buffer}
-use Rattle.values.specs.ValueTests.{at-or-below}
+use Rattle.values.specs.{declared.ValueKind.{ValueKind}, Setup.{setup-of-kind}, SetupTests.{setup-refusal}, ValueTests.{at-or-below}}
+use Rattle.conformance.specs.{declared.Verdict.{Verdict}, declared.Failure.{Failure}, declared.Failure.the-variants.{Nowhere, At}, Trial.{input}}
+use Rattle.conformance.specs.TrialAnswer.{outcome, shown, trial-answer, trial-buffer}
 
 -- The cells of each array where there are few pairs of states.
 abbrev pub small-queue : ℕ

@@ -6,7 +6,7 @@ use native.Mathlib.Omega.{arith}
 use lib.Dec.{ltb, leb}
 use borrow.Author.Tests.{not-false, lt-ltb, le-ltb, le-leb, lt-leb}
 use Rattle.theory.specs.Formula.{Formula, size}
-use Rattle.refusal.specs.Refusal.{or-else, plain-unless, at-found, judgement}
+use Rattle.refusal.specs.RefusalAnswers.{or-else, plain-unless, at-found, judgement}
 use Rattle.refusal.specs.declared.Refusal.{Refusal}
 use Rattle.refusal.specs.declared.Refusal.the-variants.{Plain, At}
 use Rattle.refusal.specs.declared.Judgement.the-variants.{Refused}

@@ -5,7 +5,7 @@ use native.Mathlib.{Nat.{min-le-left, min-eq-right}, Omega.{arith}}
 use lib.{Dec.{eqb, ltb, leb}, ListN.{length}}
 use borrow.Author.Tests.{eqb-true, ltb-true, leb-true}
 use Rattle.limits.specs.Limits.{node-limit}
-use Rattle.refusal.specs.Refusal.{or-else, plain-unless}
+use Rattle.refusal.specs.RefusalAnswers.{or-else, plain-unless}
 use Rattle.refusal.specs.declared.Refusal.the-variants.{Plain}
 use Rattle.values.specs.declared.ValueKind.{ValueKind}
 use Rattle.formulas.specs.NodeBytes.{node-width}

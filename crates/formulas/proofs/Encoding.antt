@@ -6,7 +6,8 @@ use lib.ListN.{length, getD, take, drop, length-append, List·getD-append, take-
 use lib.Seq.{take-at, drop-at, drop-drop, drop-length, getD-drop}
 use Rattle.theory.specs.Formula.{Formula, size}
 use Rattle.theory.specs.PrefixCode.{Node, truth-node, variable-node, transition-node, output-node, conjunction-node, greatest-node, nodes}
-use Rattle.formulas.specs.NodeBytes.{kind-number, first-field, NodeCode, encode-all, encode-formula}
+use Rattle.formulas.specs.NodeBytes.{kind-number, first-field, encode-all, encode-formula}
+use Rattle.formulas.specs.NodeCode.{NodeCode}
 use Rattle.formulas.specs.RuleReading.{kind-of, node-of, nodes-from}
 use Rattle.formulas.proofs.Prefix.{length-nodes, nodes-unique}
 

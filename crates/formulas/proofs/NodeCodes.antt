@@ -7,7 +7,8 @@ use Rattle.limits.specs.Limits.{node-limit}
 use Rattle.theory.specs.PrefixCode.{Node, output-node}
 use Rattle.values.specs.declared.ValueKind.{ValueKind}
 use Rattle.values.specs.declared.ValueKind.the-variants.{Numbered, Register}
-use Rattle.values.specs.{ValueKind.{ValueIn}, ValueBytes.{value-width, value-bytes}, ValueReading.{value-from}}
+use Rattle.values.specs.ValueKind.{ValueIn}
+use Rattle.values.specs.ValueBytes.{value-width, value-bytes, value-from}
 use Rattle.values.proofs.ValueBytes.{value-bytes-correct}
 use Rattle.formulas.specs.{NodeBytes.{kind-number, first-field, value-field, node-width, node-bytes}, RuleReading.{kind-of, node-of}}
 use Rattle.formulas.specs.{RuleRefusal.{kind-at, first-at, value-at}, Claims.{NodeCodeClaim}}

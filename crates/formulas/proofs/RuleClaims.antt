@@ -4,7 +4,9 @@ use Prim.Native.Nat.{ℕ, zero, suc, _+_, _*_, _/_, _≤_, _<_, min}
 use native.Mathlib.{Nat.{min-le-left, min-eq-right, mul-div-cancel, zero-mul}, Omega.{arith}}
 use lib.ListN.{length, drop}
 use Rattle.limits.specs.Limits.{node-limit}
-use Rattle.theory.specs.{Formula.{Formula, size, Accepted}, PrefixCode.{Node, nodes}}
+use Rattle.theory.specs.Formula.{Formula, size}
+use Rattle.theory.specs.FormulaClasses.{Accepted}
+use Rattle.theory.specs.PrefixCode.{Node, nodes}
 use Rattle.values.specs.declared.ValueKind.{ValueKind}
 use Rattle.values.specs.{ValueKind.{ValueIn}, ValueTests.{value-fits}}
 use Rattle.values.proofs.ValueKinds.{fits-value, value-fitting}
@@ -14,7 +16,8 @@ use Rattle.formulas.specs.{NodeBytes.{encode-all, encode-formula, node-w
 use Rattle.formulas.specs.{NodeReading.{Reads}, RuleReading.{kind-of, fields-fit, node-of, nodes-from, formulas, first-formula, formula-read}}
 use Rattle.formulas.specs.RuleRefusal.{structure-refusal, misfit-place, nodes-refusal, kind-at, first-at, value-at, rule-refusal, formula-of}
 use Rattle.formulas.specs.{NodeWalks.{field}, NodeArrays.{padded, decoded-count, decoded}}
-use Rattle.formulas.specs.Claims.{byte-conditions, RuleRefusalClaim, AcceptedClaim, FormulaOfClaim, AcceptedFormulaClaim, DecodedClaim}
+use Rattle.formulas.specs.RuleConditions.{byte-conditions}
+use Rattle.formulas.specs.Claims.{RuleRefusalClaim, AcceptedClaim, FormulaOfClaim, AcceptedFormulaClaim, DecodedClaim}
 use Rattle.formulas.specs.Claims.{DecodedRefusalClaim, ReadsClaim, ReadsBackClaim, ReadsUniqueClaim}
 use Rattle.formulas.proofs.{Padding.{padded-field}, Answers.{from-same}, Prefix.{length-nodes, first-is}}
 use Rattle.formulas.proofs.{Reading.{reads-nodes, reads-unique, whole-read}, Decoding.{decoded-refusal}}

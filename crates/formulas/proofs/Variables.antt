@@ -5,7 +5,8 @@ use Prim.Native.Nat.{ℕ, zero, suc, _+_, _≤_, _<_}
 use native.Mathlib.Omega.{arith}
 use lib.{Dec.{ltb}, ListN.{length}}
 use borrow.Author.Tests.{le-ltb, ltb-true, ltb-false, not-true}
-use Rattle.theory.specs.Formula.{Formula, truth, variable, transition, output, conjunction, greatest, size, FreeBelow, OpenPosition, ClosedPosition}
+use Rattle.theory.specs.Formula.{Formula, truth, variable, transition, output, conjunction, greatest, size}
+use Rattle.theory.specs.FormulaClasses.{FreeBelow, OpenPosition, ClosedPosition}
 use Rattle.theory.specs.PrefixCode.{Stands}
 use Rattle.theory.specs.PrefixCode.Stands.{root as stands-root, part-of-transition as stands-transition, left-part as stands-left, right-part as stands-right}
 use Rattle.theory.specs.PrefixCode.Stands.{part-of-greatest as stands-greatest}

@@ -1,31 +1,18 @@
 -- What is claimed of rules in bytes (document 01, "Rules", refusals 5 to 9): each is a proposition, inhabited in proofs/.
-use mathlib.Core.Path.{_≡_}
-use mathlib.Core.Logic.{_↔_}
-use mathlib.Core.Bool.{true}
-use mathlib.Core.Option.{none}
-use mathlib.Core.List.{List}
+use mathlib.Core.{Path.{_≡_}, Logic.{_↔_}, Bool.{true}, Option.{none}, List.{List}}
 use Prim.Native.Nat.{ℕ, _*_, _≤_}
 use lib.ListN.{length}
-use Rattle.theory.specs.Formula.{Formula, size, Accepted}
-use Rattle.values.specs.declared.ValueKind.{ValueKind}
-use Rattle.values.specs.ValueKind.{ValueIn}
+use Rattle.theory.specs.{Formula.{Formula, size}, FormulaClasses.{Accepted}}
+use Rattle.values.specs.{declared.ValueKind.{ValueKind}, ValueKind.{ValueIn}, ValueTests.{value-fits}}
 use Rattle.limits.specs.Limits.{node-limit}
-use Rattle.refusal.specs.Refusal.{Condition, Judged}
-use Rattle.formulas.specs.NodeBytes.{NodeCode, encode-formula, node-width, node-bytes}
-use Rattle.formulas.specs.RuleConditions.{rule-conditions, NodeAtFault}
-use Rattle.formulas.specs.NodeReading.{Reads}
-use Rattle.formulas.specs.NodeWalks.{field}
-use Rattle.formulas.specs.NodeArrays.{decoded}
+use Rattle.refusal.specs.Refusal.{Judged}
+use Rattle.formulas.specs.{NodeCode.{NodeCode}, NodeBytes.{encode-formula, node-width, node-bytes}, RuleConditions.{NodeAtFault, byte-conditions}}
+use Rattle.formulas.specs.{NodeReading.{Reads}, NodeWalks.{field}, NodeArrays.{decoded}}
 use Rattle.formulas.specs.RuleRefusal.{count-fits, fields-refusal, kind-at, first-at, value-at, rule-refusal, formula-of}
-use Rattle.values.specs.ValueTests.{value-fits}
 
 -- With values of either kind, nodes are written in bytes so that equal bytes are of equal nodes.
 abbrev pub NodeCodeClaim : Type 0
 NodeCodeClaim = (kind : ValueKind) → NodeCode (node-width kind) (node-bytes kind)
-
--- The conditions of a rule with values of a kind.
-abbrev pub byte-conditions : ℕ → ValueKind → List ℕ → List Condition
-byte-conditions events kind bytes = rule-conditions (node-width kind) (node-bytes kind) node-limit events (ValueIn kind) bytes
 
 -- A rule is judged as document 01 asks.
 abbrev pub RuleRefusalClaim : Type 0

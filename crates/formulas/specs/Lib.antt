@@ -1,12 +1,15 @@
 -- In reading order.
+-- Nodes and formulas in bytes; the conditions of 5 to 9.
 pub mod NodeBytes
 pub mod RuleConditions
-pub mod NodeReading
--- What contracts compute with: the computing twin of RuleConditions.
+-- What contracts compute with: the twin of RuleConditions.
 pub mod RuleReading
 pub mod RuleRefusal
-pub mod NodeWalks
 pub mod NodeArrays
+-- What is proved with, and what walks over nodes promise.
+pub mod NodeCode
+pub mod NodeReading
+pub mod NodeWalks
 -- The theorems as propositions.
 pub mod Claims
 -- Cases.

@@ -1,13 +1,9 @@
 -- Nodes in bytes (document 01, "Rules"), and formulas in prefix order.
-use mathlib.Core.Path.{_≡_}
 use mathlib.Core.List.{List, [], _∷_, _++_}
-use Prim.Native.Nat.{ℕ, _<_}
-use lib.ListN.{length, getD}
+use Prim.Native.Nat.{ℕ}
 use Rattle.theory.specs.Formula.{Formula}
-use Rattle.values.specs.declared.ValueKind.{ValueKind}
-use Rattle.values.specs.declared.ValueKind.the-variants.{Numbered, Register}
-use Rattle.values.specs.ValueBytes.{value-bytes}
 use Rattle.theory.specs.PrefixCode.{Node, truth-node, variable-node, transition-node, output-node, conjunction-node, greatest-node, nodes}
+use Rattle.values.specs.{declared.ValueKind.{ValueKind}, declared.ValueKind.the-variants.{Numbered, Register}, ValueBytes.{value-bytes}}
 
 module _ {B : Type 0} where
   -- The kinds' numbers.
@@ -27,14 +23,6 @@ module _ {B : Type 0} where
   first-field (output-node e b) = e
   first-field conjunction-node = 0
   first-field greatest-node = 0
-
-  -- How nodes lie in bytes: each takes `width` bytes, the kind first and the first field second.
-  pub record NodeCode (width : ℕ) (encode : Node B → List ℕ) : Type 0 where
-    pub length-is : (n : Node B) → length (encode n) ≡ width
-    pub two : 1 < width
-    pub kind-byte : (n : Node B) → getD (encode n) 0 0 ≡ kind-number n
-    pub first-byte : (n : Node B) → getD (encode n) 1 0 ≡ first-field n
-    pub one-node : (m n : Node B) → encode m ≡ encode n → m ≡ n
 
   module _ (encode : Node B → List ℕ) where
     -- Nodes one after the other.
@@ -62,7 +50,3 @@ node-width (Register lines) = 6
 
 abbrev pub node-bytes : ValueKind → Node ℕ → List ℕ
 node-bytes kind n = kind-number n ∷ first-field n ∷ value-bytes kind (value-field n)
-
--- The three bytes where values are numbers.
-abbrev pub three-bytes : Node ℕ → List ℕ
-three-bytes n = kind-number n ∷ first-field n ∷ value-field n ∷ []

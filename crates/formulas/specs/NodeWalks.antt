@@ -1,15 +1,10 @@
 -- What a walk over nodes promises: its answer for every formula whose nodes stand there.
-use mathlib.Core.Path.{_≡_}
-use mathlib.Core.List.{List}
-use mathlib.Core.Option.{Option, none, some}
+use mathlib.Core.{Path.{_≡_}, List.{List}, Option.{Option, none, some}}
 use Prim.Native.Nat.{ℕ, _+_, _≤_, _<_}
 use lib.ListN.{length, getD}
 use Rattle.theory.specs.Formula.{Formula, size}
-use Rattle.refusal.specs.Refusal.{judgement}
-use Rattle.refusal.specs.declared.Judgement.{Judgement}
-use Rattle.formulas.specs.NodeReading.{Reads}
-use Rattle.formulas.specs.RuleConditions.{Position}
-use Rattle.formulas.specs.RuleReading.{first-of, lowest-unbound, lowest-closed}
+use Rattle.refusal.specs.{RefusalAnswers.{judgement}, declared.Judgement.{Judgement}}
+use Rattle.formulas.specs.{NodeReading.{Reads}, RuleConditions.{Position}, RuleReading.{first-of, lowest-unbound, lowest-closed}}
 use Rattle.formulas.specs.RuleRefusal.{variables-refusal}
 use Rattle.limits.specs.Limits.{node-limit}
 

@@ -1,16 +1,11 @@
 -- Rules with two events and four values, and what 5 to 9 answer: those of document 01's marked cases that they decide, and some where
 -- the order of the refusals decides.
-use mathlib.Core.Path.{_≡_}
-use mathlib.Core.Option.{Option, none, some}
-use mathlib.Core.List.{List, [], _∷_}
+use mathlib.Core.{Path.{_≡_}, Option.{Option, none, some}, List.{List, [], _∷_}}
 use Prim.Native.Nat.{ℕ}
 use Rattle.theory.specs.PrefixCode.{Node, truth-node, variable-node, transition-node, output-node, conjunction-node, greatest-node}
-use Rattle.refusal.specs.declared.Refusal.{Refusal}
-use Rattle.refusal.specs.declared.Refusal.the-variants.{Plain, At}
-use Rattle.values.specs.declared.ValueKind.{ValueKind}
-use Rattle.values.specs.declared.ValueKind.the-variants.{Numbered, Register}
-use Rattle.formulas.specs.NodeBytes.{encode-all, three-bytes, node-bytes}
-use Rattle.formulas.specs.RuleRefusal.{rule-refusal}
+use Rattle.refusal.specs.{declared.Refusal.{Refusal}, declared.Refusal.the-variants.{Plain, At}}
+use Rattle.values.specs.{declared.ValueKind.{ValueKind}, declared.ValueKind.the-variants.{Numbered, Register}}
+use Rattle.formulas.specs.{NodeBytes.{encode-all, node-bytes}, NodeCode.{three-bytes}, RuleRefusal.{rule-refusal}}
 
 pub record RuleCase : Type 0 where
   pub rule : List ℕ

@@ -1,13 +1,13 @@
 -- Refusals 5 to 9 (document 01, "Who can cause a refusal", rule writer), for any way in which nodes lie in bytes.
-use mathlib.Core.Path.{_≡_}
-use mathlib.Core.Logic.{_⊎_}
-use mathlib.Core.List.{List, [], _∷_, _++_}
+use mathlib.Core.{Path.{_≡_}, Logic.{_⊎_}, List.{List, [], _∷_, _++_}}
 use Prim.Native.Nat.{ℕ, zero, suc, _+_, _*_, _/_, _%_, _≤_, _<_}
 use lib.ListN.{length, take, drop}
 use Rattle.theory.specs.Formula.{Formula, variable, transition, conjunction, greatest, size}
 use Rattle.theory.specs.PrefixCode.{Node, truth-node, variable-node, transition-node, output-node, conjunction-node, greatest-node, Stands}
 use Rattle.refusal.specs.Refusal.{Condition, plain, at-lowest}
-use Rattle.formulas.specs.NodeBytes.{encode-all, encode-formula}
+use Rattle.limits.specs.Limits.{node-limit}
+use Rattle.values.specs.{declared.ValueKind.{ValueKind}, ValueKind.{ValueIn}}
+use Rattle.formulas.specs.NodeBytes.{encode-all, encode-formula, node-width, node-bytes}
 
 -- The grammar's two kinds of position (source 000, definition 3).
 pub data Position : Type 0 where
@@ -83,3 +83,7 @@ rule-conditions width encode limit events In bytes =
     ∷ at-lowest 8 (λ i. OfFormula encode bytes (λ φ. Unbound φ i))
     ∷ at-lowest 9 (λ i. OfFormula encode bytes (λ φ. InClosedPosition φ i))
     ∷ []
+
+-- The conditions of a rule with values of a kind.
+abbrev pub byte-conditions : ℕ → ValueKind → List ℕ → List Condition
+byte-conditions events kind bytes = rule-conditions (node-width kind) (node-bytes kind) node-limit events (ValueIn kind) bytes

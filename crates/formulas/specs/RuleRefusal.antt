@@ -1,21 +1,14 @@
 -- Which of refusals 5 to 9 a rule in bytes meets, computed: the twin of `First rule-conditions`. Each is answered over the whole
 -- input before the next.
-use mathlib.Core.Bool.{Bool, not, _&&_}
-use mathlib.Core.Option.{Option}
-use mathlib.Core.List.{List}
+use mathlib.Core.{Bool.{Bool, not, _&&_}, Option.{Option}, List.{List}}
 use Prim.Native.Nat.{ℕ, _+_, _*_, _/_, _%_}
-use lib.Dec.{eqb, ltb, leb}
-use lib.ListN.{length, getD}
+use lib.{Dec.{eqb, ltb, leb}, ListN.{length, getD}}
 use Rattle.theory.specs.Formula.{Formula}
-use Rattle.refusal.specs.Refusal.{or-else, plain-unless, at-found}
-use Rattle.refusal.specs.declared.Refusal.{Refusal}
-use Rattle.values.specs.declared.ValueKind.{ValueKind}
+use Rattle.refusal.specs.{RefusalAnswers.{or-else, plain-unless, at-found}, declared.Refusal.{Refusal}}
+use Rattle.values.specs.{declared.ValueKind.{ValueKind}, ValueTests.{value-fits}, ValueBytes.{value-from}}
 use Rattle.limits.specs.Limits.{node-limit}
-use Rattle.formulas.specs.NodeBytes.{node-width}
-use Rattle.formulas.specs.RuleConditions.{closed-to-variable}
+use Rattle.formulas.specs.{NodeBytes.{node-width}, RuleConditions.{closed-to-variable}}
 use Rattle.formulas.specs.RuleReading.{lowest-from, kind-of, fields-fit, end-fault, formula-read, lowest-unbound, lowest-closed}
-use Rattle.values.specs.ValueTests.{value-fits}
-use Rattle.values.specs.ValueReading.{value-from}
 
 -- Of 5: so many bytes are 1 to `limit` whole nodes.
 unfoldable pub count-fits : ℕ → ℕ → ℕ → Bool

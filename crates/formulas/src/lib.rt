@@ -5,7 +5,7 @@ ghost use mathlib.Core.Bool.{cond};
 ghost use mathlib.Core.Option.{none, some};
 ghost use Rattle.formulas.specs.NodeBytes.{node-width};
 ghost use lib.ListN.{length};
-ghost use Rattle.refusal.specs.Refusal.{judgement};
+ghost use Rattle.refusal.specs.RefusalAnswers.{judgement};
 ghost use Rattle.formulas.specs.RuleConditions.{open-to-variable, closed-to-variable};
 ghost use Rattle.formulas.specs.RuleReading.{kind-of, fields-fit, awaited, unbound-below};
 ghost use Rattle.formulas.specs.RuleRefusal.{count-fits, tree-refusal, fields-refusal, rule-refusal};

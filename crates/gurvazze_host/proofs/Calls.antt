@@ -5,18 +5,24 @@ use native.Mathlib.Omega.{arith}
 use borrow.Author.Tests.{le-leb, lt-leb, ltb-true}
 use lib.{Dec.{leb, ltb}, ListN.{length, getD, take}, Seq.{length-take-le}}
 use Rattle.limits.specs.Limits.{device-limit, table-limit, meet-limit, table-bytes-limit}
-use Rattle.theory.specs.{MealyMachine.{Machine, word-values}, ValueSetClaims.{every}}
+use Rattle.theory.specs.MealyMachine.{Machine}
+use Rattle.theory.specs.MachineRuns.{word-values}
+use Rattle.theory.specs.ValueSetTests.{every}
 use Rattle.theory.proofs.ValueSets.{every-at}
 use Rattle.refusal.specs.declared.Refusal.{Refusal}
 use Rattle.refusal.specs.declared.Refusal.the-variants.{Plain}
-use Rattle.refusal.specs.{Refusal.{or-else, plain-unless}, LentBuffers.{put, put-unless}}
+use Rattle.refusal.specs.RefusalAnswers.{or-else, plain-unless}
+use Rattle.refusal.specs.LentBuffers.{put, put-unless}
 use Rattle.values.specs.Setup.{Setup, setup}
 use Rattle.text_format.specs.Format.{Outcome}
 use Rattle.channel_file.specs.{ChannelFile.{Contents}, Reading.{read-file}}
 use Rattle.conformance.specs.declared.Verdict.{Verdict}
-use Rattle.conformance.specs.Trial.{TrialInput, input, trial-refusal, trial-answer, trial-buffer, first-failure, answer-unless, buffer-unless}
+use Rattle.conformance.specs.Trial.{TrialInput, input}
+use Rattle.conformance.specs.TrialAnswer.{trial-refusal, trial-answer, trial-buffer, first-failure, answer-unless, buffer-unless}
 use Rattle.channel_io.specs.declared.FileNumbers.{FileNumbers}
-use Rattle.channel_io.specs.{FileJudgement.{setup-of}, FileReading.{numbers}, FileRefusals.{file-states, file-table, contents-table-refusal}}
+use Rattle.channel_io.specs.FileConditions.{setup-of}
+use Rattle.channel_io.specs.FileReading.{numbers}
+use Rattle.channel_io.specs.FileRefusals.{file-states, file-table, contents-table-refusal}
 use Rattle.channel_io.specs.Claims.{FileTableMade}
 use Rattle.channel_io.proofs.{Claims.{file-table-made}, Callers.{meet-fits, table-fits, Unmade, off-form, turned-away, MadeOf, limits, events-are}}
 use Rattle.gurvazze_host.specs.Codes.{refusal-code, yield-code, code, verdict-code, table-numbers, SmallPlace, SmallNumbers}

@@ -6,10 +6,14 @@ use borrow.Author.Tests.{ltb-true, ltb-false, leb-true, leb-false}
 use lib.{Dec.{leb, ltb}, ListN.{length, getD, take}}
 use Rattle.theory.proofs.{Words.{length-word-values, word-values-at}, Claims.{grammar}, ValueSets.{every-at, every-some}}
 use Rattle.limits.specs.Limits.{node-limit, device-limit, table-limit, word-limit}
-use Rattle.theory.specs.{MealyMachine.{Word}, ValueSetClaims.{every}, ValueSets.{Below}, Semantics.{Answers}}
+use Rattle.theory.specs.MealyMachine.{Word}
+use Rattle.theory.specs.ValueSetTests.{every}
+use Rattle.theory.specs.ValueSets.{Below}
+use Rattle.theory.specs.Semantics.{Answers}
 use Rattle.refusal.specs.declared.Refusal.{Refusal}
 use Rattle.refusal.specs.declared.Refusal.the-variants.{Plain, At}
-use Rattle.refusal.specs.Refusal.{First, plain, number, or-else, plain-unless, has-place, part-of, order, condition-numbers, right-places}
+use Rattle.refusal.specs.Refusal.{First, plain, number, has-place, part-of, order, condition-numbers, right-places}
+use Rattle.refusal.specs.RefusalAnswers.{or-else, plain-unless}
 use Rattle.refusal.proofs.Refusals.{or-else-none, plain-none, plain-first, first-then, first-append, first-unique, judged}
 use Rattle.values.specs.{ValueKind.{meetOf}, Setup.{setup-meet, setup-conditions, kind-conditions}, SetupTests.{setup-refusal}}
 use Rattle.values.specs.declared.ValueKind.the-variants.{Numbered}
@@ -17,9 +21,11 @@ use Rattle.text_format.specs.Format.{contents}
 use Rattle.channel_file.specs.ChannelFile.{Contents}
 use Rattle.machines.specs.TableRefusal.{table-refusal}
 use Rattle.machines.proofs.TableRefusals.{table-refusal-first}
-use Rattle.channel_io.specs.{FileJudgement.{setup-of}, FileRefusals.{pair-table-refusal, file-states, file-table, contents-table-refusal}}
-use Rattle.channel_io.specs.FileJudgement.{contents-table-conditions}
-use Rattle.conformance.specs.Trial.{input, tables-refusal, trial-refusal, trial-answer, first-failure, answer-unless, Passed}
+use Rattle.channel_io.specs.FileConditions.{setup-of}
+use Rattle.channel_io.specs.FileRefusals.{pair-table-refusal, file-states, file-table, contents-table-refusal}
+use Rattle.channel_io.specs.FileConditions.{contents-table-conditions}
+use Rattle.conformance.specs.Trial.{input, Passed}
+use Rattle.conformance.specs.TrialAnswer.{tables-refusal, trial-refusal, trial-answer, first-failure, answer-unless}
 use Rattle.conformance.proofs.TrialClaims.{trial-satisfies}
 use Rattle.channel_io.proofs.Claims.{contents-table-claim, file-table-made, file-table-accepted}
 use Rattle.gurvazze_host.specs.Codes.{refusal-code, yield-code, code}

@@ -5,7 +5,7 @@ use native.Mathlib.Omega.{arith}
 use lib.{Dec.{leb}, ListN.{length}}
 use Rattle.theory.specs.Formula.{Formula, truth, variable, transition, output, conjunction, greatest, size}
 use Rattle.refusal.specs.declared.Refusal.{Refusal}
-use Rattle.refusal.specs.Refusal.{or-else, plain-unless, at-found}
+use Rattle.refusal.specs.RefusalAnswers.{or-else, plain-unless, at-found}
 use Rattle.values.specs.declared.ValueKind.{ValueKind}
 use Rattle.values.specs.declared.ValueKind.the-variants.{Numbered, Register}
 use Rattle.values.specs.{Setup.{Setup}, ValueTests.{value-fits}}
@@ -15,10 +15,12 @@ use Rattle.formulas.specs.RuleReading.{kind-of, awaited, end-fault, first-of, f
 use Rattle.formulas.specs.RuleRefusal.{count-fits, variables-refusal, structure-refusal, misfit-place, nodes-refusal, kind-at, first-at, value-at, rule-refusal}
 use Rattle.formulas.proofs.{Search.{lowest-found}, Decoding.{CountFits, count-facts}}
 use Rattle.text_format.specs.{Format.{refused}, Place.{Refused, at, early}}
-use Rattle.channel_file.specs.{ChannelFile.{Contents, Form}, Reading.{Refused4, over-long, off-form, AnswersFile, read-file}}
+use Rattle.channel_file.specs.ChannelFile.{Contents, Form, Refused4, over-long, off-form}
+use Rattle.channel_file.specs.Reading.{AnswersFile, read-file}
 use Rattle.channel_file.proofs.Claims.{answer-claim}
 use Rattle.synthesis.specs.Compilation.{rule-table-refusal}
-use Rattle.channel_io.specs.FileJudgement.{setup-of, rule-numbers}
+use Rattle.channel_io.specs.FileConditions.{setup-of}
+use Rattle.channel_file.specs.ChannelFile.{rule-numbers}
 use Rattle.channel_io.proofs.Clamping.{read-size}
 use Rattle.channel_io.specs.FileRefusals.{pair-table-refusal, has-table-room, pair-compile-refusal, file-states, contents-table-refusal, file-refusal}
 use Rattle.gurvazze_host.specs.Codes.{SmallPlace}

@@ -5,7 +5,9 @@ use native.Mathlib.{Nat.{mul-le-mul-right}, Numerals.{add-one}, Omega.{arith}}
 use lib.{ListN.{length, getD, set, take, drop, length-append, length-drop}, Seq.{take-all, take-suc, length-take-le}}
 use Rattle.limits.specs.Limits.{entry-limit}
 use Rattle.theory.proofs.Words.{length-word-values, word-values-at, after-take}
-use Rattle.theory.specs.{MealyMachine.{Machine, after, word-values}, ValueSetClaims.{every}}
+use Rattle.theory.specs.MealyMachine.{Machine, after}
+use Rattle.theory.specs.MachineRuns.{word-values}
+use Rattle.theory.specs.ValueSetTests.{every}
 use Rattle.refusal.specs.LentBuffers.{put}
 use Rattle.machines.proofs.{EntryIndex.{index-below}, Stores.{put-snoc}}
 use Rattle.gurvazze_host.specs.FileCalls.{number-machine, Runnable}

@@ -7,15 +7,16 @@ use lib.{Dec.{leb}, ListN.{length}}
 use Rattle.limits.specs.Limits.{node-limit, device-limit, table-limit, word-limit}
 use Rattle.theory.specs.Formula.{size}
 use Rattle.refusal.specs.declared.Refusal.{Refusal}
-use Rattle.refusal.specs.Refusal.{plain-unless, counted}
+use Rattle.refusal.specs.RefusalAnswers.{plain-unless, counted}
 use Rattle.refusal.proofs.Refusals.{or-else-none, plain-none}
 use Rattle.values.specs.{Setup.{Setup}, SetupTests.{setup-refusal}}
 use Rattle.values.specs.declared.ValueKind.{ValueKind}
 use Rattle.machines.specs.{TableBytes.{entry-width}, TableRefusal.{table-refusal, table-test, entry-test}}
-use Rattle.characteristic.specs.RuleOfTable.{output-refusal, rule-of, write-refusal, write-answer}
+use Rattle.characteristic.specs.RuleWriting.{output-refusal, rule-of, write-refusal, write-answer}
 use Rattle.conformance.specs.declared.Verdict.{Verdict}
 use Rattle.conformance.specs.declared.Verdict.the-variants.{Pass, Fail, Refused}
-use Rattle.conformance.specs.Trial.{TrialInput, tables-refusal, word-length, trial-refusal, trial-answer, first-failure, answer-unless, outcome}
+use Rattle.conformance.specs.Trial.{TrialInput, word-length}
+use Rattle.conformance.specs.TrialAnswer.{tables-refusal, trial-refusal, trial-answer, first-failure, answer-unless, outcome}
 use Rattle.conformance.proofs.TrialClaims.{trial-fails}
 use Rattle.gurvazze_host.specs.Codes.{SmallCount, SmallVerdict}
 use Rattle.gurvazze_host.proofs.Places.{SmallAnswer, or-small, plain-small, setup-small}

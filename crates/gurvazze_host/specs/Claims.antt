@@ -1,29 +1,18 @@
 -- What is claimed of the codes, of replay and of trial; each claim is inhabited in proofs/.
-use mathlib.Core.Path.{_≡_}
-use mathlib.Core.Logic.{_↔_}
-use mathlib.Core.List.{List, [], _∷_, _++_}
-use mathlib.Core.Option.{Option, none, some}
+use mathlib.Core.{Path.{_≡_}, Logic.{_↔_}, List.{List, [], _∷_, _++_}, Option.{Option, none, some}}
 use Prim.Native.Nat.{ℕ, _/_, _%_, _<_}
 use lib.ListN.{length, getD, take}
-use Rattle.theory.specs.ValueSets.{Below}
-use Rattle.theory.specs.Formula.{Formula}
-use Rattle.theory.specs.Semantics.{Answers}
-use Rattle.theory.specs.MealyMachine.{Word, word-values}
-use Rattle.theory.specs.Satisfaction.{TableSatisfies}
-use Rattle.refusal.specs.declared.Refusal.{Refusal}
-use Rattle.refusal.specs.declared.Refusal.the-variants.{At}
-use Rattle.refusal.specs.Refusal.{Condition, number, plain, First, Judged}
+use Rattle.theory.specs.{ValueSets.{Below}, Formula.{Formula}, Semantics.{Answers}, MealyMachine.{Word}, MachineRuns.{word-values}}
+use Rattle.theory.specs.TableSatisfaction.{TableSatisfies}
+use Rattle.refusal.specs.{declared.Refusal.{Refusal}, declared.Refusal.the-variants.{At}, Refusal.{Condition, number, plain, First, Judged}}
 use Rattle.formulas.specs.Claims.{AcceptedFormula}
 use Rattle.text_format.specs.Format.{contents}
-use Rattle.channel_file.specs.ChannelFile.{Contents}
+use Rattle.channel_file.specs.ChannelFile.{Contents, rule-numbers}
 use Rattle.machines.specs.TableBytes.{machine-of, table-condition}
-use Rattle.values.specs.declared.ValueKind.the-variants.{Numbered}
-use Rattle.values.specs.Setup.{setup-meet}
+use Rattle.values.specs.{declared.ValueKind.the-variants.{Numbered}, Setup.{setup-meet}}
 use Rattle.conformance.specs.Trial.{Passed}
-use Rattle.channel_io.specs.FileJudgement.{contents-table-conditions}
-use Rattle.channel_io.specs.FileJudgement.{setup-of, rule-numbers}
-use Rattle.gurvazze_host.specs.Codes.{code}
-use Rattle.gurvazze_host.specs.FileCalls.{file-machine, replay-refusal, file-trial-refusal, file-trial-answer}
+use Rattle.channel_io.specs.FileConditions.{contents-table-conditions, setup-of}
+use Rattle.gurvazze_host.specs.{Codes.{code}, FileCalls.{file-machine, replay-refusal, file-trial-refusal, file-trial-answer}}
 use Rattle.limits.specs.Limits.{device-limit, word-limit}
 
 -- A code says all of an answer: the refusal's number, its place, and what the call yields.

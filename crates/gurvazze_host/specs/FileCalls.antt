@@ -1,26 +1,17 @@
 -- Calls on a channel file: the table of its rule, events replayed by it, and trial against it. Each is the entry behind it, on what
 -- the file says; 4 comes first.
-use mathlib.Core.Path.{_≡_}
-use mathlib.Core.List.{List}
-use mathlib.Core.Option.{Option}
+use mathlib.Core.{Path.{_≡_}, List.{List}, Option.{Option}}
 use Prim.Native.Nat.{ℕ, _*_, _≤_, _<_}
-use lib.Dec.{ltb, leb}
-use lib.ListN.{length, getD}
-use Rattle.theory.specs.MealyMachine.{Machine, word-values}
-use Rattle.theory.specs.ValueSetClaims.{every}
-use Rattle.refusal.specs.declared.Refusal.{Refusal}
-use Rattle.refusal.specs.declared.Refusal.the-variants.{At}
-use Rattle.refusal.specs.Refusal.{or-else, plain-unless}
-use Rattle.refusal.specs.LentBuffers.{put-unless}
+use lib.{Dec.{ltb, leb}, ListN.{length, getD}}
+use Rattle.theory.specs.{MealyMachine.{Machine}, MachineRuns.{word-values}, ValueSetTests.{every}}
+use Rattle.refusal.specs.{declared.Refusal.{Refusal}, declared.Refusal.the-variants.{At}, RefusalAnswers.{or-else, plain-unless}, LentBuffers.{put-unless}}
 use Rattle.text_format.specs.Format.{Outcome, contents, refused}
 use Rattle.channel_file.specs.ChannelFile.{Contents}
 use Rattle.values.specs.declared.ValueKind.the-variants.{Numbered}
 use Rattle.machines.specs.TableBytes.{machine-of}
-use Rattle.conformance.specs.declared.Verdict.{Verdict}
-use Rattle.conformance.specs.declared.Verdict.the-variants.{Refused}
-use Rattle.conformance.specs.Trial.{TrialInput, input, trial-refusal, first-failure, answer-unless, buffer-unless}
-use Rattle.channel_io.specs.FileJudgement.{setup-of}
-use Rattle.channel_io.specs.FileRefusals.{file-states, file-table, contents-table-refusal}
+use Rattle.conformance.specs.{declared.Verdict.{Verdict}, declared.Verdict.the-variants.{Refused}, Trial.{TrialInput, input}}
+use Rattle.conformance.specs.TrialAnswer.{trial-refusal, first-failure, answer-unless, buffer-unless}
+use Rattle.channel_io.specs.{FileConditions.{setup-of}, FileRefusals.{file-states, file-table, contents-table-refusal}}
 use Rattle.gurvazze_host.specs.Codes.{refusal-code, code, table-numbers}
 use Rattle.limits.specs.Limits.{device-limit, event-limit, state-limit, table-limit}
 

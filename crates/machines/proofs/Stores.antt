@@ -8,7 +8,8 @@ use Rattle.refusal.specs.LentBuffers.{put}
 use Rattle.theory.specs.ValueSets.{unpack}
 use Rattle.values.specs.declared.ValueKind.{ValueKind}
 use Rattle.values.specs.declared.ValueKind.the-variants.{Numbered, Register}
-use Rattle.machines.specs.TableBytes.{two-bytes, entry-bytes}
+use Rattle.machines.specs.StoredEntries.{two-bytes}
+use Rattle.machines.specs.TableBytes.{entry-bytes}
 use Rattle.machines.specs.StoredEntries.{entries-bytes, low-bytes, five-bytes, kept-bytes, stored, storable, after-store}
 use Rattle.machines.specs.Claims.{OfBytes, StoredTableClaim}
 use Rattle.machines.proofs.EntryBytes.{entries-same, entries-snoc, entries-length, table-flat}

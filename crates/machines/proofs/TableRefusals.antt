@@ -7,7 +7,8 @@ use lib.{ListN.{length}, Dec.{leb, ltb, eqb}}
 use Rattle.values.specs.declared.ValueKind.{ValueKind}
 use Rattle.values.specs.{ValueKind.{ValueIn}, ValueTests.{value-fits}}
 use Rattle.values.proofs.ValueKinds.{fits-value, value-fitting}
-use Rattle.refusal.specs.Refusal.{First, plain-unless, has-place, order, part-of, condition-numbers, right-places}
+use Rattle.refusal.specs.Refusal.{First, has-place, order, part-of, condition-numbers, right-places}
+use Rattle.refusal.specs.RefusalAnswers.{plain-unless}
 use Rattle.refusal.proofs.Refusals.{plain-first, plain-none, judged}
 use Rattle.machines.specs.TableBytes.{table-bytes, entry-width, entry-bytes, entry-value, entry-next, entries, machine-of, TableInOrder, table-condition}
 use Rattle.machines.specs.TableRefusal.{table-test, entry-test, table-refusal}

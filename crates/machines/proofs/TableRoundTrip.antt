@@ -6,9 +6,10 @@ use lib.{ListN.{length, getD, take, drop}, Seq.{drop-cons}}
 use Rattle.theory.specs.{MealyMachine.{Machine}, ValueSets.{unpack}}
 use Rattle.values.specs.declared.ValueKind.{ValueKind}
 use Rattle.values.specs.declared.ValueKind.the-variants.{Numbered, Register}
-use Rattle.values.specs.{ValueBytes.{value-width}, ValueReading.{masks-value}}
+use Rattle.values.specs.ValueBytes.{value-width, masks-value}
 use Rattle.values.proofs.ValueBytes.{masks-read, value-bytes-correct}
-use Rattle.machines.specs.TableBytes.{table-bytes, two-bytes, entry-width, entry-bytes, entry-value, entry-next}
+use Rattle.machines.specs.TableBytes.{table-bytes, entry-width, entry-bytes, entry-value, entry-next}
+use Rattle.machines.specs.StoredEntries.{two-bytes}
 use Rattle.machines.specs.Claims.{ReadBackClaim, WriteBackClaim}
 use Rattle.machines.proofs.{EntryIndex.{index-below, index-state, index-event}, EntryBytes.{table-flat, table-entries, entries-at, entries-of}}
 

@@ -5,11 +5,12 @@ use borrow.Author.Tests.{le-ltb, lt-ltb, le-leb, lt-leb}
 use lib.{ListN.{length, getD}, Dec.{eqb, ltb}}
 use Rattle.refusal.specs.declared.Refusal.the-variants.{Plain}
 use Rattle.refusal.specs.declared.Judgement.the-variants.{Accepted, Refused}
-use Rattle.refusal.specs.Refusal.{plain-unless, judgement}
+use Rattle.refusal.specs.RefusalAnswers.{plain-unless, judgement}
 use Rattle.values.specs.declared.ValueKind.{ValueKind}
-use Rattle.values.specs.{ValueBytes.{value-width}, ValueTests.{value-fits}, ValueReading.{value-from}}
+use Rattle.values.specs.ValueBytes.{value-width, value-from}
+use Rattle.values.specs.ValueTests.{value-fits}
 use Rattle.machines.specs.{TableBytes.{entry-width}, TableRefusal.{table-test, entry-test, table-refusal}}
-use Rattle.theory.specs.ValueSetClaims.{every}
+use Rattle.theory.specs.ValueSetTests.{every}
 
 module _ (width limit events : ℕ) (test : ℕ → Bool) (states start : ℕ) (bytes : List ℕ) where
   pub no-states : states ≤ 0 → table-test width limit events test states start bytes ≡ false

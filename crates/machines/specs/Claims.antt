@@ -1,17 +1,12 @@
 -- What is claimed of tables in bytes: refusal 11 is exactly the printed condition, and bytes and machines are read back as each
 -- other.
-use mathlib.Core.Path.{_≡_}
-use mathlib.Core.Option.{none}
-use mathlib.Core.List.{List, [], _∷_}
+use mathlib.Core.{Path.{_≡_}, Option.{none}, List.{List, [], _∷_}}
 use Prim.Native.Nat.{ℕ, _*_, _/_, _%_, _≤_, _<_}
 use lib.ListN.{length, getD}
-use Rattle.theory.specs.MealyMachine.{Machine, Runs, States}
-use Rattle.values.specs.declared.ValueKind.{ValueKind}
-use Rattle.values.specs.declared.ValueKind.the-variants.{Numbered, Register}
-use Rattle.values.specs.ValueKind.{ValueIn}
+use Rattle.theory.specs.{MealyMachine.{Machine, States}, MachineRuns.{Runs}}
+use Rattle.values.specs.{declared.ValueKind.{ValueKind}, declared.ValueKind.the-variants.{Numbered, Register}, ValueKind.{ValueIn}}
 use Rattle.refusal.specs.Refusal.{Judged}
-use Rattle.machines.specs.TableBytes.{table-bytes, entry-width, entry-bytes, entry-value, machine-of, table-condition}
-use Rattle.machines.specs.TableRefusal.{table-refusal}
+use Rattle.machines.specs.{TableBytes.{table-bytes, entry-width, entry-bytes, entry-value, machine-of, table-condition}, TableRefusal.{table-refusal}}
 use Rattle.machines.specs.StoredEntries.{kept-bytes, stored}
 
 -- A table handed in is judged as document 01 asks.

@@ -1,22 +1,21 @@
 -- Entries stored to a lent buffer (document 01, "Table of a rule", and refusal 13: "What lies after an output keeps its
 -- contents").
-use mathlib.Core.Bool.{Bool, _&&_, cond}
-use mathlib.Core.List.{List, [], _∷_, _++_}
+use mathlib.Core.{Bool.{Bool, _&&_, cond}, List.{List, [], _∷_, _++_}}
 use Prim.Native.Nat.{ℕ, zero, suc, _*_, _%_}
-use lib.ListN.{length, getD}
-use lib.Dec.{leb}
+use lib.{ListN.{length, getD}, Dec.{leb}}
 use Rattle.refusal.specs.LentBuffers.{put}
 use Rattle.theory.specs.ValueSets.{unpack}
-use Rattle.values.specs.declared.ValueKind.{ValueKind}
-use Rattle.values.specs.declared.ValueKind.the-variants.{Numbered, Register}
-use Rattle.values.specs.ValueBytes.{mask-bytes}
-use Rattle.machines.specs.TableBytes.{two-bytes}
+use Rattle.values.specs.{declared.ValueKind.{ValueKind}, declared.ValueKind.the-variants.{Numbered, Register}, ValueBytes.{mask-bytes}}
 
 -- The bytes of c entries from entry i on, where entries are numbered by state, then event.
 module _ {B : Type 0} (encode : B → ℕ → List ℕ) (value-at : ℕ → B) (next-at : ℕ → ℕ) where
   unfoldable pub entries-bytes : ℕ → ℕ → List ℕ
   entries-bytes zero i = []
   entries-bytes (suc c) i = encode (value-at i) (next-at i) ++ entries-bytes c (suc i)
+
+-- The two bytes where values are numbers.
+abbrev pub two-bytes : ℕ → ℕ → List ℕ
+two-bytes b t = b ∷ t ∷ []
 
 -- What is stored of a value of 32 bits: the low byte of a number, or both masks; and the next state.
 abbrev pub low-bytes : ℕ → ℕ → List ℕ

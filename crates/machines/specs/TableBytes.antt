@@ -1,14 +1,11 @@
 -- Tables in bytes (document 01, "Table of a rule": a table entry is a value and a next state, ordered by state, then event).
-use mathlib.Core.Path.{_≡_}
-use mathlib.Core.List.{List, [], _∷_, _++_}
+use mathlib.Core.{Path.{_≡_}, List.{List, [], _∷_, _++_}}
 use Prim.Native.Nat.{ℕ, zero, suc, _+_, _*_, _≤_, _<_}
 use lib.ListN.{length, getD}
 use Rattle.theory.specs.MealyMachine.{Machine}
-use Rattle.values.specs.declared.ValueKind.{ValueKind}
-use Rattle.values.specs.declared.ValueKind.the-variants.{Numbered, Register}
-use Rattle.values.specs.ValueBytes.{value-width, value-bytes}
+use Rattle.values.specs.{declared.ValueKind.{ValueKind}, declared.ValueKind.the-variants.{Numbered, Register}}
+use Rattle.values.specs.ValueBytes.{value-width, value-bytes, value-from}
 use Rattle.refusal.specs.Refusal.{Condition, plain}
-use Rattle.values.specs.ValueReading.{value-from}
 
 -- The entries of one state from event e on, c events in all; then the states from l on, n states in all. `encode b t` is how an
 -- entry with value b and next state t lies in bytes.
@@ -32,10 +29,6 @@ entry-width (Register lines) = 5
 
 abbrev pub entry-bytes : ValueKind → ℕ → ℕ → List ℕ
 entry-bytes kind v t = value-bytes kind v ++ (t ∷ [])
-
--- The two bytes where values are numbers.
-abbrev pub two-bytes : ℕ → ℕ → List ℕ
-two-bytes b t = b ∷ t ∷ []
 
 -- Lent bytes read as a machine: the entry of state l and event e is entry l × events + e. `value-at i` and `next-at i` read
 -- entry i.

@@ -1,16 +1,11 @@
 -- Refusal 11 computed by tests (document 01, "Who can cause a refusal"). The sentence is `table-condition`; the tests decide it.
-use mathlib.Core.Bool.{Bool, _&&_}
-use mathlib.Core.Option.{Option}
-use mathlib.Core.List.{List}
+use mathlib.Core.{Bool.{Bool, _&&_}, Option.{Option}, List.{List}}
 use Prim.Native.Nat.{ℕ, _*_}
-use lib.ListN.{length}
-use lib.Dec.{leb, ltb, eqb}
-use Rattle.theory.specs.ValueSetClaims.{every}
-use Rattle.refusal.specs.declared.Refusal.{Refusal}
-use Rattle.refusal.specs.Refusal.{plain-unless}
-use Rattle.values.specs.declared.ValueKind.{ValueKind}
+use lib.{ListN.{length}, Dec.{leb, ltb, eqb}}
+use Rattle.theory.specs.ValueSetTests.{every}
+use Rattle.refusal.specs.{declared.Refusal.{Refusal}, RefusalAnswers.{plain-unless}}
+use Rattle.values.specs.{declared.ValueKind.{ValueKind}, ValueTests.{value-fits}}
 use Rattle.machines.specs.TableBytes.{entry-width, entry-value, entry-next}
-use Rattle.values.specs.ValueTests.{value-fits}
 
 -- A table handed in is in order; `test i` tests entry i.
 unfoldable pub table-test : ℕ → ℕ → ℕ → (ℕ → Bool) → ℕ → ℕ → List ℕ → Bool

@@ -2,7 +2,7 @@
 use mathlib.Core.Path.{_≡_, refl, _∙_, ap}
 use Prim.Native.Nat.{ℕ, zero, suc}
 use Rattle.theory.specs.{ValueSets.{meetAt, four-value-meet}, MealyMachine.{after}, DemandSets.{empty, only, union}}
-use Rattle.refusal.specs.Refusal.{or-else, plain-unless, at-found}
+use Rattle.refusal.specs.RefusalAnswers.{or-else, plain-unless, at-found}
 use Rattle.values.specs.ValueKind.{meetOf}
 use Rattle.formulas.specs.RuleReading.{lowest-from, kind-of, fields-fit, awaited, end-fault, first-of, node-of, nodes-from, with-parts, formulas}
 use Rattle.formulas.specs.RuleReading.{first-formula, formula-read, lowest-variable, unbound-below, closed-there}

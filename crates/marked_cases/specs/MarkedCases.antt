@@ -1,26 +1,14 @@
 -- Document 01, "Marked for proof": the twelve cases in its order, and what it is for a case to hold.
 -- Four-value set, two events.
-use mathlib.Core.Path.{_≡_}
-use mathlib.Core.Bool.{Bool}
-use mathlib.Core.Option.{Option, none, some}
-use mathlib.Core.List.{List, [], _∷_}
+use mathlib.Core.{Path.{_≡_}, Bool.{Bool}, Option.{Option, none, some}, List.{List, [], _∷_}}
 use Prim.Native.Nat.{ℕ, zero, suc}
 use Rattle.limits.specs.Limits.{node-limit, state-limit}
-use Rattle.theory.specs.ValueSets.{four-value-meet}
-use Rattle.theory.specs.Formula.{Formula, size}
+use Rattle.theory.specs.{ValueSets.{four-value-meet}, Formula.{Formula, size}}
 use Rattle.theory.specs.PrefixCode.{Node, truth-node, variable-node, transition-node, output-node, conjunction-node, greatest-node}
-use Rattle.theory.specs.MealyMachine.{Machine, after}
-use Rattle.theory.specs.Exploration.{state-count, table-of}
-use Rattle.theory.specs.CharacteristicFormula.{written}
-use Rattle.theory.specs.Conformance.{counterexample}
-use Rattle.refusal.specs.declared.Refusal.{Refusal}
-use Rattle.refusal.specs.declared.Refusal.the-variants.{At}
-use Rattle.values.specs.declared.ValueKind.{ValueKind}
-use Rattle.values.specs.declared.ValueKind.the-variants.{Numbered}
-use Rattle.values.specs.ValueKind.{meetOf}
-use Rattle.values.specs.ValueTests.{at-or-below}
-use Rattle.formulas.specs.NodeBytes.{encode-all, node-bytes}
-use Rattle.formulas.specs.RuleRefusal.{rule-refusal, formula-of}
+use Rattle.theory.specs.{MealyMachine.{Machine, after}, Exploration.{state-count, table-of}, FormulaWriting.{written}, ConformanceCheck.{counterexample}}
+use Rattle.refusal.specs.{declared.Refusal.{Refusal}, declared.Refusal.the-variants.{At}}
+use Rattle.values.specs.{declared.ValueKind.{ValueKind}, declared.ValueKind.the-variants.{Numbered}, ValueKind.{meetOf}, ValueTests.{at-or-below}}
+use Rattle.formulas.specs.{NodeBytes.{encode-all, node-bytes}, RuleRefusal.{rule-refusal, formula-of}}
 use Rattle.machines.specs.TableBytes.{table-bytes, entry-bytes, machine-of}
 
 -- Items of a rule, as the channel file has them.

@@ -4,11 +4,19 @@ use Prim.Native.Nat.{ℕ, zero, _*_, _≤_, _<_}
 use native.Mathlib.{Nat.{mul-le-mul-right}, Omega.{arith}}
 use borrow.Author.Tests.{le-leb}
 use lib.{Dec.{T, leb}, ListN.{length, take, drop}, Seq.{take-append-seam}}
-use Rattle.theory.specs.{Semilattice.{MeetSemilattice, AtOrBelow}, Formula.{Formula, WellFormed}, Semantics.{Answers}}
-use Rattle.theory.specs.{MealyMachine.{Machine, Word, after, Runs, States}, Satisfaction.{Satisfies, TableSatisfies}, ReachableStates.{IsTableOf}}
+use Rattle.theory.specs.Semilattice.{MeetSemilattice, AtOrBelow}
+use Rattle.theory.specs.Formula.{Formula}
+use Rattle.theory.specs.FormulaClasses.{WellFormed}
+use Rattle.theory.specs.Semantics.{Answers}
+use Rattle.theory.specs.MealyMachine.{Machine, Word, after, States}
+use Rattle.theory.specs.MachineRuns.{Runs}
+use Rattle.theory.specs.Satisfaction.{Satisfies}
+use Rattle.theory.specs.TableSatisfaction.{TableSatisfies}
+use Rattle.theory.specs.ReachableStates.{IsTableOf}
 use Rattle.theory.proofs.Claims.{grammar, answers, table-satisfaction}
 use Rattle.refusal.specs.declared.Refusal.{Refusal}
-use Rattle.refusal.specs.{Refusal.{or-else, plain-unless}, LentBuffers.{put, put-unless}}
+use Rattle.refusal.specs.RefusalAnswers.{or-else, plain-unless}
+use Rattle.refusal.specs.LentBuffers.{put, put-unless}
 use Rattle.refusal.proofs.Refusals.{or-else-none}
 use Rattle.limits.specs.Limits.{node-limit, state-limit, device-limit, table-limit, word-limit}
 use Rattle.values.specs.{Setup.{Setup, SetupValue, setup-meet, setup-top}, ValueTests.{at-or-below}, SetupTests.{setup-refusal}}
@@ -20,9 +28,11 @@ use Rattle.formulas.proofs.RuleClaims.{accepted-formula-of, formula-of-only}
 use Rattle.synthesis.specs.{Compilation.{rule-table-refusal, setup-states, setup-table, compile-refusal, compile-contents}, Claims.{CompiledBytes}}
 use Rattle.synthesis.proofs.{CompiledTable.{few-states, is-table, table-runs}, LentTable.{contents-at, laws, few}}
 use Rattle.synthesis.proofs.CompileClaims.{table-agrees, compile-claim}
-use Rattle.characteristic.specs.{RuleOfTable.{write-refusal}, Claims.{Written}}
+use Rattle.characteristic.specs.RuleWriting.{write-refusal}
+use Rattle.characteristic.specs.Claims.{Written}
 use Rattle.characteristic.proofs.Claims.{written-claim}
-use Rattle.conformance.specs.Trial.{input, tables-refusal, trial-refusal, trial-answer, Passed}
+use Rattle.conformance.specs.Trial.{input, Passed}
+use Rattle.conformance.specs.TrialAnswer.{tables-refusal, trial-refusal, trial-answer}
 use Rattle.conformance.proofs.TrialClaims.{trial-satisfies}
 use Rattle.product_claims.specs.Demands.{compiled-bytes, trial-of, RuleTrialClaim, Recompiled, RecompiledClaim}
 

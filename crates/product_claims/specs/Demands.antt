@@ -1,31 +1,24 @@
 -- The user's three demands, each as one proposition over the definitions that the contracts cite; proofs/Demands has a proof of each.
-use mathlib.Core.Path.{_≡_}
-use mathlib.Core.Logic.{_↔_}
-use mathlib.Core.List.{List}
-use mathlib.Core.Option.{none}
+use mathlib.Core.{Path.{_≡_}, Logic.{_↔_}, List.{List}, Option.{none}}
 use Prim.Native.Nat.{ℕ, zero, _*_, _≤_, _<_}
 use lib.ListN.{length, take}
 use Rattle.limits.specs.Limits.{node-limit, state-limit, device-limit, table-limit, word-limit}
-use Rattle.theory.specs.Formula.{Formula}
-use Rattle.theory.specs.MealyMachine.{Word, after, States}
-use Rattle.theory.specs.Satisfaction.{Satisfies}
-use Rattle.values.specs.Setup.{Setup, setup-meet}
-use Rattle.machines.specs.TableBytes.{entry-width, machine-of}
-use Rattle.machines.specs.TableRefusal.{table-refusal}
-use Rattle.machines.specs.Claims as machines
+use Rattle.theory.specs.{Formula.{Formula}, MealyMachine.{Word, after, States}, Satisfaction.{Satisfies}}
+use Rattle.values.specs.{Setup.{Setup, setup-meet}, Claims.{SetupClaim, SetupAcceptedClaim}}
+use Rattle.machines.specs.{TableBytes.{entry-width, machine-of}, TableRefusal.{table-refusal}}
 use Rattle.formulas.specs.NodeBytes.{encode-formula, node-bytes}
-use Rattle.formulas.specs.Claims as formulas
 use Rattle.synthesis.specs.Compilation.{setup-states, compile-refusal, compile-contents}
+use Rattle.characteristic.specs.{RuleOfTable.{IsRuleOf}, RuleWriting.{write-refusal}}
+use Rattle.conformance.specs.{Trial.{TrialInput, input, Passed}, TrialAnswer.{trial-answer}}
+use Rattle.recorder_claims.specs.CallConditions.{CallRefusalClaim, ReplayRefusalClaim}
+use Rattle.table_graph.specs.Graph.{GraphRefusalClaim}
+use Rattle.machines.specs.Claims as machines
+use Rattle.formulas.specs.Claims as formulas
 use Rattle.synthesis.specs.Claims as synthesis
-use Rattle.characteristic.specs.RuleOfTable.{IsRuleOf, write-refusal}
 use Rattle.characteristic.specs.Claims as characteristic
-use Rattle.conformance.specs.Trial.{TrialInput, input, trial-answer, Passed}
 use Rattle.conformance.specs.Claims as conformance
 use Rattle.recorder_claims.specs.Claims as recorder
-use Rattle.recorder_claims.specs.CallConditions.{CallRefusalClaim, ReplayRefusalClaim}
 use Rattle.channel_io.specs.Claims as channel_io
-use Rattle.table_graph.specs.Graph.{GraphRefusalClaim}
-use Rattle.values.specs.Claims.{SetupClaim, SetupAcceptedClaim}
 
 -- Demand 1: each call refuses by document 01's list, with the first condition that is met and no other, in document 01's order, and
 -- accepts where none is met; a refusal changes no lent memory.

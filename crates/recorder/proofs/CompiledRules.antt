@@ -5,10 +5,11 @@ use native.Mathlib.Nat.{mod-eq-of-lt}
 use borrow.Author.Tests.{ltb-true}
 use lib.Dec.{ltb}
 use Rattle.limits.specs.Limits.{state-limit, entry-limit}
-use Rattle.theory.specs.MealyMachine.{Runs, States}
+use Rattle.theory.specs.MachineRuns.{Runs}
+use Rattle.theory.specs.MealyMachine.{States}
 use Rattle.refusal.specs.declared.Refusal.{Refusal}
 use Rattle.refusal.specs.declared.Counted.the-variants.{Count, Refused}
-use Rattle.refusal.specs.Refusal.{or-else, plain-unless, counted}
+use Rattle.refusal.specs.RefusalAnswers.{or-else, plain-unless, counted}
 use Rattle.refusal.proofs.Refusals.{counted-accepted, counted-refused}
 use Rattle.values.specs.{Setup.{Setup, SetupValue, setup-meet, setup-top}, SetupTests.{setup-refusal}}
 use Rattle.values.proofs.Setups.{accepted-events}

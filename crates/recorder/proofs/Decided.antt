@@ -11,17 +11,20 @@ use Rattle.theory.proofs.ValueSets.{and-left, and-right}
 use Rattle.refusal.specs.declared.{Refusal.{Refusal}, Judgement.{Judgement}}
 use Rattle.refusal.specs.declared.Refusal.the-variants.{Plain}
 use Rattle.refusal.specs.declared.Judgement.the-variants.{Accepted, Refused}
-use Rattle.refusal.specs.Refusal.{or-else, plain-unless, judgement}
+use Rattle.refusal.specs.RefusalAnswers.{or-else, plain-unless, judgement}
 use Rattle.refusal.proofs.Refusals.{or-else-none, or-else-assoc, plain-none, judgement-accepted, judgement-refused}
 use Rattle.values.specs.{Setup.{Setup, setup}, SetupTests.{setup-refusal}}
 use Rattle.values.proofs.Setups.{setup-accepted}
 use Rattle.machines.proofs.EntryIndex.{index-below}
 use Rattle.channel_log.specs.Calls.{Call, event, restart, restart-all, clear, Reply, accepted, returned, refused}
-use Rattle.channel_log.specs.{Calls.{channel-refusal, empty-refusal, on-event, event-reply, accepted-reply}, Log.{large-event}, Recorded.{Loaded}}
+use Rattle.channel_log.specs.CallSteps.{channel-refusal, empty-refusal, on-event, event-reply, accepted-reply}
+use Rattle.channel_log.specs.Log.{large-event}
+use Rattle.channel_log.specs.Calls.{Loaded}
 use Rattle.channel_log.proofs.Record.{not-large}
 use Rattle.recorder.specs.declared.Decision.{Decision}
 use Rattle.recorder.specs.Store.{Store, setup-of, table-at, loaded-at, rows-start, held, channels}
-use Rattle.recorder.specs.ToolFault.{ChannelInOrder, setup-test, channel-test, test-of, tool-test}
+use Rattle.recorder.specs.ToolFault.{ChannelInOrder}
+use Rattle.recorder.specs.ToolTests.{setup-test, channel-test, test-of, tool-test}
 use Rattle.recorder.specs.Called.{with-current, next-state, content, tool-refusal, effect-on, settled-store, called}
 use Rattle.recorder.specs.Called.{empty-store, filled, new-store, blank, set-up-answer, set-up-called}
 use Rattle.recorder.specs.Decisions.{refusal-of, number-unless, first-number, channel-number, loaded-number, event-number}

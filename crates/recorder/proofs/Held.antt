@@ -6,22 +6,26 @@ use native.Mathlib.Omega.{arith}
 use borrow.Author.Tests.{lt-ltb, le-ltb, le-leb, lt-leb, ltb-true, leb-true}
 use lib.{Dec.{ltb, leb}, ListN.{getD}}
 use Rattle.limits.specs.Limits.{channel-limit, event-limit, value-limit, table-limit}
-use Rattle.theory.specs.ValueSetClaims.{every}
+use Rattle.theory.specs.ValueSetTests.{every}
 use Rattle.theory.proofs.ValueSets.{and-left, and-right, and-both, every-at, every-of}
 use Rattle.refusal.specs.declared.Refusal.the-variants.{Plain}
 use Rattle.refusal.specs.declared.{Refusal.{Refusal}, Judgement.{Judgement}}
 use Rattle.refusal.specs.declared.Judgement.the-variants.{Accepted, Refused}
-use Rattle.refusal.specs.Refusal.{or-else, plain-unless, judgement}
+use Rattle.refusal.specs.RefusalAnswers.{or-else, plain-unless, judgement}
 use Rattle.refusal.proofs.Refusals.{judgement-accepted, judgement-refused}
 use Rattle.values.specs.declared.ValueKind.{ValueKind}
-use Rattle.values.specs.{ValueTests.{value-fits}, Setup.{Setup, setup, WellFormed}}
+use Rattle.values.specs.ValueTests.{value-fits}
+use Rattle.values.specs.Setup.{Setup, setup}
+use Rattle.values.specs.SetupInOrder.{WellFormed}
 use Rattle.values.specs.SetupTests.{events-test, values-test, meet-test, kind-refusal, setup-refusal}
 use Rattle.values.proofs.{Setups.{setup-accepted}, ValueKinds.{value-kinds}}
-use Rattle.channel_log.specs.{Calls.{channel-refusal, empty-refusal}, Recorded.{Loaded}}
+use Rattle.channel_log.specs.CallSteps.{channel-refusal, empty-refusal}
+use Rattle.channel_log.specs.Calls.{Loaded}
 use Rattle.machines.specs.TableBytes.{entry-width, entry-bytes}
 use Rattle.machines.proofs.{EntryIndex.{index-below, every-entry}, EntryBytes.{table-length}, TableRoundTrip.{entry-length}}
 use Rattle.recorder.specs.Store.{part, table-at, loaded-at, rows-start, held}
-use Rattle.recorder.specs.ToolFault.{ChannelInOrder, passed, setup-test, entries-test, loaded-test, channel-test}
+use Rattle.recorder.specs.ToolFault.{ChannelInOrder}
+use Rattle.recorder.specs.ToolTests.{passed, setup-test, entries-test, loaded-test, channel-test}
 use Rattle.recorder.proofs.Rows.{getD-part}
 
 -- 14.

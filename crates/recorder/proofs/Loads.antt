@@ -7,12 +7,15 @@ use Rattle.theory.proofs.ValueSets.{and-left}
 use Rattle.refusal.specs.declared.Refusal.{Refusal}
 use Rattle.refusal.specs.declared.Refusal.the-variants.{Plain}
 use Rattle.refusal.specs.declared.Counted.the-variants.{Count, Refused}
-use Rattle.refusal.specs.Refusal.{or-else, plain-unless}
+use Rattle.refusal.specs.RefusalAnswers.{or-else, plain-unless}
 use Rattle.refusal.proofs.Refusals.{or-else-none, or-else-assoc, plain-none}
 use Rattle.values.specs.{Setup.{SetupValue}, SetupTests.{setup-refusal}}
 use Rattle.synthesis.specs.declared.Compiled.{Compiled}
-use Rattle.channel_log.specs.Calls.{load, Reply, accepted, channel-refusal}
-use Rattle.recorder.specs.{Store.{Store, setup-of}, ToolFault.{setup-test, test-of}, CompiledRule.{rule-judged, states-of-rule, compiled-rule}}
+use Rattle.channel_log.specs.Calls.{load, Reply, accepted}
+use Rattle.channel_log.specs.CallSteps.{channel-refusal}
+use Rattle.recorder.specs.Store.{Store, setup-of}
+use Rattle.recorder.specs.ToolTests.{setup-test, test-of}
+use Rattle.recorder.specs.CompiledRule.{rule-judged, states-of-rule, compiled-rule}
 use Rattle.recorder.specs.Called.{with-rows, stored-rows, tool-refusal, called}
 use Rattle.recorder.specs.Decisions.{refusal-of, channel-number, plain-reply, counted-reply, low-byte}
 use Rattle.recorder.proofs.{Numbers.{number-some, plain-refused}, Held.{channel-below, accepted-of-test}}

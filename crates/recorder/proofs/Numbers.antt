@@ -3,7 +3,7 @@ use mathlib.Core.{Path.{_≡_, refl, sym, _∙_, ap}, Bool.{Bool, true, false, c
 use Prim.Native.Nat.{ℕ, zero, suc, _≤_, _<_}
 use native.Mathlib.Omega.{arith}
 use Rattle.refusal.specs.declared.Refusal.the-variants.{Plain}
-use Rattle.refusal.specs.Refusal.{or-else, plain-unless}
+use Rattle.refusal.specs.RefusalAnswers.{or-else, plain-unless}
 use Rattle.channel_log.specs.Calls.{refused}
 use Rattle.recorder.specs.declared.Decision.{Decision}
 use Rattle.recorder.specs.Decisions.{refusal-of, number-unless, first-number, decided, plain-reply}

@@ -6,11 +6,15 @@ use borrow.Author.Tests.{ltb-true, lt-ltb, leb-true}
 use lib.{Dec.{ltb, leb}, ListN.{length, getD, set, drop, length-set}, Seq.{paste, take-all, getD-set-same, set-getD, set-set}}
 use Rattle.theory.proofs.{Words.{length-word-values}, ValueSets.{and-both, every-at}}
 use Rattle.limits.specs.Limits.{channel-limit, store-limit}
-use Rattle.theory.specs.MealyMachine.{Word, after, word-values}
-use Rattle.refusal.specs.{Refusal.{or-else, plain-unless}, LentBuffers.{put, put-unless}}
+use Rattle.theory.specs.MealyMachine.{Word, after}
+use Rattle.theory.specs.MachineRuns.{word-values}
+use Rattle.refusal.specs.RefusalAnswers.{or-else, plain-unless}
+use Rattle.refusal.specs.LentBuffers.{put, put-unless}
 use Rattle.refusal.proofs.Refusals.{or-else-none, plain-none}
-use Rattle.channel_log.specs.Calls.{event, Reply, accepted, returned, channel-refusal, empty-refusal, replies, final}
-use Rattle.recorder.specs.{Store.{Store, setup-of, table-at, rows-start, channels}, ToolFault.{channel-test, test-of, setup-test}}
+use Rattle.channel_log.specs.Calls.{event, Reply, accepted, returned, replies, final}
+use Rattle.channel_log.specs.CallSteps.{channel-refusal, empty-refusal}
+use Rattle.recorder.specs.Store.{Store, setup-of, table-at, rows-start, channels}
+use Rattle.recorder.specs.ToolTests.{channel-test, test-of, setup-test}
 use Rattle.recorder.specs.Called.{with-current, called}
 use Rattle.recorder.specs.Replay.{event-calls, returned-values, word-test, replay-refusal, replay-settled, replayed}
 use Rattle.recorder.specs.Decisions.{refusal-of, first-number, number-unless, replay-number, plain-reply, Runnable}

@@ -4,7 +4,8 @@ use Prim.Native.Nat.{ℕ, _+_, _*_, _≤_, _<_}
 use native.Mathlib.{Numerals.{add-one}, Omega.{arith}}
 use lib.{ListN.{length, getD, set, take}, Seq.{paste, paste-zero, length-paste, take-all}}
 use Rattle.theory.proofs.Words.{length-word-values, word-values-at, after-take}
-use Rattle.theory.specs.MealyMachine.{Machine, after, word-values}
+use Rattle.theory.specs.MealyMachine.{Machine, after}
+use Rattle.theory.specs.MachineRuns.{word-values}
 use Rattle.machines.proofs.EntryIndex.{index-below}
 use Rattle.limits.specs.Limits.{entry-limit, store-limit}
 use Rattle.recorder.specs.{Store.{table-at}, Decisions.{Runnable}}

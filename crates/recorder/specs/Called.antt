@@ -1,20 +1,14 @@
 -- The calls on a tool (document 01, "Tool"): what each answers and what the tool holds afterwards, whatever it held before.
-use mathlib.Core.List.{List, _++_}
-use mathlib.Core.Option.{Option, none, some}
+use mathlib.Core.{List.{List, _++_}, Option.{Option, none, some}}
 use Prim.Native.Nat.{ℕ, _-_}
-use lib.ListN.{length, set, take, replicate}
-use lib.Seq.{paste}
+use lib.{ListN.{length, set, take, replicate}, Seq.{paste}}
 use Rattle.limits.specs.Limits.{meet-limit, channel-limit, entry-limit, store-limit}
-use Rattle.refusal.specs.declared.Refusal.{Refusal}
-use Rattle.refusal.specs.Refusal.{or-else, plain-unless}
-use Rattle.values.specs.declared.ValueKind.{ValueKind}
-use Rattle.values.specs.declared.ValueKind.the-variants.{Numbered, Register}
-use Rattle.values.specs.Setup.{Setup, setup-of-kind, setup, register-setup}
-use Rattle.values.specs.SetupTests.{setup-refusal}
-use Rattle.channel_log.specs.Calls.{Call, load, event, restart, restart-all, clear, Reply, accepted, refused, Content, call-refusal, accepted-reply}
-use Rattle.channel_log.specs.Recorded.{Loaded, recorded}
-use Rattle.recorder.specs.Store.{Store, setup-of, rows-start, channels}
-use Rattle.recorder.specs.ToolFault.{tool-test}
+use Rattle.refusal.specs.{declared.Refusal.{Refusal}, RefusalAnswers.{or-else, plain-unless}}
+use Rattle.values.specs.{declared.ValueKind.{ValueKind}, declared.ValueKind.the-variants.{Numbered, Register}}
+use Rattle.values.specs.{Setup.{Setup, setup-of-kind, setup, register-setup}, SetupTests.{setup-refusal}}
+use Rattle.channel_log.specs.Calls.{Call, load, event, restart, restart-all, clear, Reply, accepted, refused, Loaded}
+use Rattle.channel_log.specs.{CallSteps.{Content, call-refusal, accepted-reply}, Recorded.{recorded}}
+use Rattle.recorder.specs.{Store.{Store, setup-of, rows-start, channels}, ToolTests.{tool-test}}
 use Rattle.recorder.specs.CompiledRule.{rule-judged, states-of-rule, values-of-rule, nexts-of-rule, loaded-rule}
 
 -- The store with other current states; with another table in channel c, at state 0.

@@ -1,14 +1,12 @@
 -- What load takes from the compiler, for a set-up and a rule's bytes (document 01, "Table of a rule" and refusals 5 to 10).
-use mathlib.Core.List.{List}
-use mathlib.Core.Option.{Option}
+use mathlib.Core.{List.{List}, Option.{Option}}
 use Prim.Native.Nat.{ℕ, _*_}
 use Rattle.limits.specs.Limits.{state-limit, entry-limit}
 use Rattle.theory.specs.MealyMachine.{Machine}
 use Rattle.refusal.specs.declared.Refusal.{Refusal}
 use Rattle.values.specs.Setup.{Setup, setup-top}
-use Rattle.synthesis.specs.declared.Compiled.{Compiled}
-use Rattle.synthesis.specs.Compilation.{rule-states, rule-table, rule-table-refusal, flat, compiled}
-use Rattle.channel_log.specs.Recorded.{Loaded}
+use Rattle.synthesis.specs.{declared.Compiled.{Compiled}, Compilation.{rule-states, rule-table, rule-table-refusal, flat, compiled}}
+use Rattle.channel_log.specs.Calls.{Loaded}
 use Rattle.recorder.specs.Store.{loaded-at}
 
 module _ (s : Setup) (rule : List ℕ) where

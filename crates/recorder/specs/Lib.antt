@@ -1,8 +1,9 @@
 -- In reading order.
 -- What a tool holds, however it is represented: its set-up and its channels.
 pub mod Store
--- Refusal 17.
+-- Refusal 17, as a condition and computed.
 pub mod ToolFault
+pub mod ToolTests
 -- What load takes from the compiler.
 pub mod CompiledRule
 -- What each call answers, and what the tool holds afterwards.

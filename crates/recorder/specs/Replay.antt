@@ -1,18 +1,11 @@
 -- A sequence of events on one channel into a lent buffer: the event call repeated (document 01, "Tool"), all or nothing.
-use mathlib.Core.Bool.{Bool}
-use mathlib.Core.List.{List, [], _∷_, map}
-use mathlib.Core.Option.{Option}
+use mathlib.Core.{Bool.{Bool}, List.{List, [], _∷_, map}, Option.{Option}}
 use Prim.Native.Nat.{ℕ}
-use lib.Dec.{ltb, leb}
-use lib.ListN.{getD, length}
-use Rattle.theory.specs.ValueSetClaims.{every}
-use Rattle.refusal.specs.declared.Refusal.{Refusal}
-use Rattle.refusal.specs.Refusal.{or-else, plain-unless}
-use Rattle.refusal.specs.LentBuffers.{put-unless}
-use Rattle.channel_log.specs.Calls.{Call, event, Reply, accepted, returned, refused, channel-refusal, empty-refusal, replies, final}
-use Rattle.recorder.specs.Store.{Store, channels}
-use Rattle.recorder.specs.ToolFault.{tool-test}
-use Rattle.recorder.specs.Called.{settled-store, called}
+use lib.{Dec.{ltb, leb}, ListN.{getD, length}}
+use Rattle.theory.specs.ValueSetTests.{every}
+use Rattle.refusal.specs.{declared.Refusal.{Refusal}, RefusalAnswers.{or-else, plain-unless}, LentBuffers.{put-unless}}
+use Rattle.channel_log.specs.{Calls.{Call, event, Reply, accepted, returned, refused, replies, final}, CallSteps.{channel-refusal, empty-refusal}}
+use Rattle.recorder.specs.{Store.{Store, channels}, ToolTests.{tool-test}, Called.{settled-store, called}}
 
 -- The event calls, one for each event of the sequence.
 abbrev pub event-calls : ℕ → List ℕ → List (Call ℕ)

@@ -1,18 +1,12 @@
 -- What a tool holds, however it is represented (document 01, "Tool": "one set-up and eight channels"; "a channel is empty or has a table
 -- and a current state").
-use mathlib.Core.Bool.{_&&_, cond}
-use mathlib.Core.List.{List}
-use mathlib.Core.Option.{Option, none, some}
+use mathlib.Core.{Bool.{_&&_, cond}, List.{List}, Option.{Option, none, some}}
 use Prim.Native.Nat.{ℕ, _+_, _*_}
-use lib.Dec.{ltb}
-use lib.ListN.{getD, take, drop}
+use lib.{Dec.{ltb}, ListN.{getD, take, drop}}
 use Rattle.limits.specs.Limits.{channel-limit, entry-limit}
 use Rattle.theory.specs.MealyMachine.{Machine}
-use Rattle.values.specs.declared.ValueKind.{ValueKind}
-use Rattle.values.specs.declared.ValueKind.the-variants.{Numbered, Register}
-use Rattle.values.specs.Setup.{Setup, setup-of-kind}
-use Rattle.channel_log.specs.Calls.{Channels}
-use Rattle.channel_log.specs.Recorded.{Loaded}
+use Rattle.values.specs.{declared.ValueKind.{ValueKind}, declared.ValueKind.the-variants.{Numbered, Register}, Setup.{Setup, setup-of-kind}}
+use Rattle.channel_log.specs.Calls.{Channels, Loaded}
 
 -- Every cell of a tool. The set-up has all cells that the meet table is kept in. Each channel has a count of states, 0 where it is
 -- empty, and a current state; the entries of all tables lie in two lists, values and next states.

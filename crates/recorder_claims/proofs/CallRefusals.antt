@@ -9,10 +9,15 @@ use Rattle.limits.specs.Limits.{channel-limit}
 use Rattle.theory.proofs.ValueSets.{and-left, every-at, every-some}
 use Rattle.refusal.specs.declared.Refusal.{Refusal}
 use Rattle.refusal.specs.declared.Refusal.the-variants.{Plain}
-use Rattle.refusal.specs.Refusal.{has-place, part-of, order, condition-numbers, right-places, Condition, plain, First, or-else, plain-unless}
+use Rattle.refusal.specs.Refusal.{has-place, part-of, order, condition-numbers, right-places, Condition, plain, First}
+use Rattle.refusal.specs.RefusalAnswers.{or-else, plain-unless}
 use Rattle.refusal.proofs.Refusals.{plain-none, plain-first, first-append, first-then, judged}
-use Rattle.channel_log.specs.{Calls.{Call, load, event, restart, restart-all, clear, channel-refusal, empty-refusal, on-event}, Recorded.{Loaded}}
-use Rattle.recorder.specs.{Store.{Store, setup-of, channels}, ToolFault.{ToolFault, setup-test, named-test, tool-test}, CompiledRule.{rule-judged}}
+use Rattle.channel_log.specs.Calls.{Call, load, event, restart, restart-all, clear, Loaded}
+use Rattle.channel_log.specs.CallSteps.{channel-refusal, empty-refusal, on-event}
+use Rattle.recorder.specs.Store.{Store, setup-of, channels}
+use Rattle.recorder.specs.ToolFault.{ToolFault}
+use Rattle.recorder.specs.ToolTests.{setup-test, named-test, tool-test}
+use Rattle.recorder.specs.CompiledRule.{rule-judged}
 use Rattle.recorder.specs.{Called.{content, tool-refusal}, Replay.{word-test, replay-refusal}}
 use Rattle.recorder.proofs.Held.{accepted-of-test}
 use Rattle.recorder_claims.specs.CallConditions.{rule-conditions-of, fault-condition, channel-condition, empty-condition, event-condition}

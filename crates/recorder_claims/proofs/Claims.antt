@@ -1,28 +1,35 @@
 -- The claims of `specs/Claims.antt`.
 use mathlib.Core.{Path.{_≡_, refl, sym, _∙_, ap, subst, subst⁻¹, fun-ext}, Logic.{⊎-elim}, Bool.{Bool, true, false, false≢true}, List.{List}}
-use mathlib.Core.Option.{Option, none, some}
+use mathlib.Core.Option.{Option, none, some, Option·some-ne-none}
 use Prim.Native.Nat.{ℕ}
 use native.Mathlib.Omega.{arith}
 use borrow.Author.Tests.{ltb-true, ltb-false}
 use lib.{Dec.{ltb}, ListN.{take, length-replicate}}
-use Rattle.theory.specs.{MealyMachine.{word-values}, ValueSetClaims.{every}}
+use Rattle.theory.specs.MachineRuns.{word-values}
+use Rattle.theory.specs.ValueSetTests.{every}
 use Rattle.theory.proofs.{Words.{length-word-values}, ValueSets.{and-left, and-right, and-failed, and-cases, every-at, every-some}}
 use Rattle.limits.specs.Limits.{meet-limit, channel-limit, store-limit}
+use Rattle.refusal.specs.declared.Refusal.{Refusal}
 use Rattle.refusal.specs.declared.Refusal.the-variants.{Plain}
-use Rattle.refusal.specs.Refusal.{or-else, plain-unless}
+use Rattle.refusal.specs.Refusal.{First}
+use Rattle.refusal.specs.RefusalAnswers.{or-else, plain-unless}
 use Rattle.values.specs.declared.ValueKind.{ValueKind}
 use Rattle.values.specs.declared.ValueKind.the-variants.{Numbered, Register}
-use Rattle.values.specs.{Setup.{Setup, SetupValue, setup-of-kind, setup-meet, setup-top, KindInLimits}, SetupTests.{setup-refusal, events-test}}
-use Rattle.values.proofs.Setups.{setup-accepted, square-small}
+use Rattle.values.specs.Setup.{Setup, SetupValue, setup-of-kind, setup-meet, setup-top, setup-conditions}
+use Rattle.values.specs.SetupInOrder.{KindInLimits}
+use Rattle.values.specs.SetupTests.{setup-refusal, events-test}
+use Rattle.values.proofs.Setups.{setup-judged, setup-accepted, square-small}
 use Rattle.formulas.specs.RuleRefusal.{formula-of}
 use Rattle.synthesis.proofs.LentTable.{laws}
-use Rattle.channel_log.specs.{Calls.{Call, load, event, restart, restart-all, clear, all-empty, call-refusal}, Recorded.{Loaded}}
+use Rattle.channel_log.specs.Calls.{Call, load, event, restart, restart-all, clear, all-empty, Loaded}
+use Rattle.channel_log.specs.CallSteps.{call-refusal}
 use Rattle.channel_log.proofs.Record.{record-claim, independence-claim}
 use Rattle.recorder.specs.Store.{Store, meet-part, setup-of, channels}
-use Rattle.recorder.specs.ToolFault.{LooksAt, ToolFault, setup-fails, channel-fails, setup-test, channel-test, test-of, named-test, tool-test}
+use Rattle.recorder.specs.ToolFault.{LooksAt, ToolFault, setup-fails, channel-fails}
+use Rattle.recorder.specs.ToolTests.{passed, setup-test, channel-test, test-of, named-test, tool-test}
 use Rattle.recorder.specs.{CompiledRule.{rule-judged, loaded-rule}, Called.{content, called, filled, empty-store, meet-cells, new-store, blank}}
 use Rattle.recorder.proofs.Rows.{getD-zeros, take-filled}
-use Rattle.recorder.proofs.Held.{held-above, held-empty, well-formed-of-test, test-of-well-formed, in-order-of-test, test-of-in-order}
+use Rattle.recorder.proofs.Held.{held-above, held-empty, accepted-of-test, in-order-of-test, test-of-in-order}
 use Rattle.recorder.proofs.{Decided.{table-of, state-of, refused-call}, Replays.{accepted-of, repeated}}
 use Rattle.recorder_claims.specs.Claims.{ToolRecordClaim, ToolIndependenceClaim, BlankClaim, ToolTestClaim, ReplayClaim}
 use Rattle.recorder_claims.proofs.{LoadedRules.{rule-well-formed, rule-table-is, judged-not-17}, Keeps.{Sound, keeps}}
@@ -82,6 +89,18 @@ blank-refused kind x =
     (ap (λ b. or-else (plain-unless b 17) (call-refusal (content (blank kind)) (channels (blank kind)) x))
     (and-failed (named-test (blank kind) x) (blank-test kind)))
 
+-- The test of a set-up fails where it meets 1 to 3, and only there.
+refusal-of-test : (s : Setup) → setup-test s ≡ false → (refusal : Refusal) × First (setup-conditions s) (some refusal)
+unfolding setup-test
+refusal-of-test s h = go (setup-refusal s) refl
+  where
+    go : (o : Option Refusal) → setup-refusal s ≡ o → (refusal : Refusal) × First (setup-conditions s) (some refusal)
+    go none e = absurd (false≢true (sym h ∙ ap passed e))
+    go (some refusal) e = (refusal, subst (First (setup-conditions s)) e (setup-judged s .first))
+
+no-refusal : (s : Setup) → setup-test s ≡ true → (refusal : Refusal) → First (setup-conditions s) (some refusal) → ⊥
+no-refusal s h refusal f = Option·some-ne-none refusal (setup-judged s .only (some refusal) f ∙ accepted-of-test s h)
+
 -- The tests of 17 decide the printed condition.
 module _ (t : Store) where
   all-pass : every channel-limit (test-of t) ≡ true → (c : ℕ) → test-of t c ≡ true
@@ -108,7 +127,7 @@ module _ (t : Store) where
 
   pub fault-of : (call : Call ℕ) → tool-test t call ≡ false → ToolFault t call
   fault-of call h =
-      ⊎-elim (λ f. setup-fails (λ w. absurd (false≢true (sym f ∙ test-of-well-formed (setup-of t) w))))
+      ⊎-elim (λ f. let r = refusal-of-test (setup-of t) f in setup-fails (r .0) (r .1))
       (λ f. let x = looked-fails call f in go (x .0) (x .1) (channels t (x .0)) refl (x .2))
       (and-cases (setup-test (setup-of t)) (named-test t call) h)
     where
@@ -117,7 +136,8 @@ module _ (t : Store) where
       go c l (some x) e f = channel-fails c x l e (λ g. absurd (false≢true (sym f ∙ test-of-in-order (t .setup .events) (t .setup .kind) x g)))
 
   no-fault : (call : Call ℕ) → tool-test t call ≡ true → ToolFault t call → ⊥
-  no-fault call h (setup-fails f) = f (well-formed-of-test (setup-of t) (and-left (setup-test (setup-of t)) (named-test t call) h))
+  no-fault call h (setup-fails refusal f) =
+      no-refusal (setup-of t) (and-left (setup-test (setup-of t)) (named-test t call) h) refusal f
   no-fault call h (channel-fails c x l e f) =
       f
       (in-order-of-test (t .setup .events) (t .setup .kind) x

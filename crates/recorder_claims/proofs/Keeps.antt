@@ -8,16 +8,19 @@ use Rattle.theory.proofs.ValueSets.{and-both, every-of}
 use Rattle.limits.specs.Limits.{channel-limit, entry-limit, store-limit}
 use Rattle.refusal.specs.declared.Refusal.{Refusal}
 use Rattle.refusal.specs.declared.Refusal.the-variants.{Plain}
-use Rattle.refusal.specs.Refusal.{or-else, plain-unless}
+use Rattle.refusal.specs.RefusalAnswers.{or-else, plain-unless}
 use Rattle.refusal.proofs.Refusals.{or-else-none}
 use Rattle.values.specs.declared.ValueKind.{ValueKind}
 use Rattle.values.specs.{Setup.{Setup}, SetupTests.{setup-refusal}}
-use Rattle.channel_log.specs.Calls.{Call, load, event, restart, restart-all, clear, Reply, Channels, with-channel, map-option, channel-refusal}
-use Rattle.channel_log.specs.Calls.{empty-refusal, on-event, call-refusal, accepted-reply, effect, settled, step}
-use Rattle.channel_log.specs.Recorded.{Loaded, at-state, recorded}
+use Rattle.channel_log.specs.Calls.{Call, load, event, restart, restart-all, clear, Reply, Channels, with-channel, map-option}
+use Rattle.channel_log.specs.CallSteps.{channel-refusal}
+use Rattle.channel_log.specs.CallSteps.{empty-refusal, on-event, call-refusal, accepted-reply, effect, settled, step}
+use Rattle.channel_log.specs.Calls.{Loaded}
+use Rattle.channel_log.specs.Recorded.{at-state, recorded}
 use Rattle.channel_log.proofs.Record.{not-large}
 use Rattle.recorder.specs.Store.{Store, setup-of, rows-start, channels}
-use Rattle.recorder.specs.ToolFault.{ChannelInOrder, setup-test, channel-test, test-of, named-test, tool-test}
+use Rattle.recorder.specs.ToolFault.{ChannelInOrder}
+use Rattle.recorder.specs.ToolTests.{setup-test, channel-test, test-of, named-test, tool-test}
 use Rattle.recorder.specs.CompiledRule.{rule-judged, states-of-rule, values-of-rule, nexts-of-rule, loaded-rule}
 use Rattle.recorder.specs.Called.{with-current, with-rows, stored-rows, next-state, content, effect-on, settled-store, called}
 use Rattle.recorder.proofs.{Rows.{rows-in}, Held.{channel-below, test-of-accepted, few-events, in-order-of-test, test-of-in-order}}

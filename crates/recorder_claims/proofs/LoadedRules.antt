@@ -4,7 +4,8 @@ use Prim.Native.Nat.{ℕ, _+_, _*_, _/_, _%_, _≤_, _<_}
 use native.Mathlib.Omega.{arith}
 use lib.ListN.{length, getD}
 use Rattle.limits.specs.Limits.{state-limit, entry-limit}
-use Rattle.theory.specs.{Formula.{WellFormed}, ReachableStates.{IsTableOf}}
+use Rattle.theory.specs.FormulaClasses.{WellFormed}
+use Rattle.theory.specs.ReachableStates.{IsTableOf}
 use Rattle.refusal.specs.Refusal.{plain, First, condition-numbers, part-of}
 use Rattle.refusal.proofs.Refusals.{first-rest}
 use Rattle.values.specs.{Setup.{Setup, SetupValue, setup-meet, setup-top, EventsFault}, SetupTests.{setup-refusal}}

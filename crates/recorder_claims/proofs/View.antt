@@ -6,8 +6,10 @@ use native.Mathlib.Omega.{arith}
 use borrow.Author.Tests.{eq-eqb, ne-eqb, ltb-true, ltb-false, eqb-true, eqb-false}
 use lib.{Dec.{ltb, eqb}, ListN.{length, getD, set, replicate}, Seq.{getD-set-same, getD-set-other}}
 use Rattle.limits.specs.Limits.{channel-limit, event-limit, table-limit, entry-limit, store-limit}
-use Rattle.channel_log.specs.{Calls.{Channels, with-channel, map-option}, Recorded.{Loaded, at-state}}
-use Rattle.recorder.specs.{Store.{Store, part, loaded-at, rows-start, held, channels}, ToolFault.{channel-test, test-of}}
+use Rattle.channel_log.specs.Calls.{Channels, with-channel, map-option, Loaded}
+use Rattle.channel_log.specs.Recorded.{at-state}
+use Rattle.recorder.specs.Store.{Store, part, loaded-at, rows-start, held, channels}
+use Rattle.recorder.specs.ToolTests.{channel-test, test-of}
 use Rattle.recorder.specs.Called.{with-current, with-rows, stored-rows}
 use Rattle.recorder.proofs.Rows.{getD-zeros, part-inside, part-before, part-after, rows-in, rows-apart, entries-fit}
 use Rattle.recorder.proofs.Held.{held-above, held-empty, held-some, in-order-of-test}

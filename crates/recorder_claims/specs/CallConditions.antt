@@ -1,20 +1,15 @@
 -- When a call on a tool is refused, and with what (document 01, "Who can cause a refusal"): the conditions that concern its inputs,
 -- in document 01's order 17, 14, 15, 16, then 5 to 10; for a sequence of events 13 last.
-use mathlib.Core.Path.{_≡_}
-use mathlib.Core.List.{List, [], _∷_, _++_}
-use mathlib.Core.Option.{none}
+use mathlib.Core.{Path.{_≡_}, List.{List, [], _∷_, _++_}, Option.{none}}
 use Prim.Native.Nat.{ℕ, _<_}
 use lib.ListN.{length, getD}
 use Rattle.limits.specs.Limits.{channel-limit, state-limit}
 use Rattle.refusal.specs.Refusal.{Condition, plain, Judged}
 use Rattle.values.specs.Setup.{Setup, setup-meet, setup-top}
-use Rattle.formulas.specs.Claims.{byte-conditions}
-use Rattle.synthesis.specs.Claims.{states-condition}
+use Rattle.formulas.specs.RuleConditions.{byte-conditions}
+use Rattle.synthesis.specs.TableOfRule.{states-condition}
 use Rattle.channel_log.specs.Calls.{Call, load, event, restart, restart-all, clear}
-use Rattle.recorder.specs.Store.{Store, setup-of, channels}
-use Rattle.recorder.specs.ToolFault.{ToolFault}
-use Rattle.recorder.specs.Called.{tool-refusal}
-use Rattle.recorder.specs.Replay.{replay-refusal}
+use Rattle.recorder.specs.{Store.{Store, setup-of, channels}, ToolFault.{ToolFault}, Called.{tool-refusal}, Replay.{replay-refusal}}
 
 -- 5 to 9, then 10, of a rule's bytes.
 unfoldable pub rule-conditions-of : Setup → List ℕ → List Condition

@@ -1,26 +1,16 @@
 -- What is claimed of a tool: demand 3 and the independence of channels for the tool of every accepted set-up (document 01, "Tool"),
 -- over the calls that the contracts state; the printed condition of 17; what a refused set-up hands back; a sequence of events.
-use mathlib.Core.Path.{_≡_}
-use mathlib.Core.Logic.{_↔_}
-use mathlib.Core.Bool.{true}
-use mathlib.Core.List.{List, map}
-use mathlib.Core.Option.{none}
+use mathlib.Core.{Path.{_≡_}, Logic.{_↔_}, Bool.{true}, List.{List, map}, Option.{none}}
 use Prim.Native.Nat.{ℕ}
 use lib.ListN.{length}
 use Rattle.limits.specs.Limits.{channel-limit}
 use Rattle.refusal.specs.declared.Refusal.the-variants.{Plain}
-use Rattle.values.specs.declared.ValueKind.{ValueKind}
-use Rattle.values.specs.Setup.{Setup, setup-meet, setup-top}
-use Rattle.values.specs.SetupTests.{setup-refusal}
+use Rattle.values.specs.{declared.ValueKind.{ValueKind}, Setup.{Setup, setup-meet, setup-top}, SetupTests.{setup-refusal}}
 use Rattle.formulas.specs.RuleRefusal.{formula-of}
-use Rattle.channel_log.specs.Calls.{Call, Content, returned, refused, replies}
-use Rattle.channel_log.specs.Log.{History, log}
-use Rattle.channel_log.specs.Claims.{StandsAs, RecordClaim, IndependenceClaim}
-use Rattle.recorder.specs.Store.{Store, channels}
-use Rattle.recorder.specs.ToolFault.{ToolFault, tool-test}
-use Rattle.recorder.specs.CompiledRule.{rule-judged}
-use Rattle.recorder.specs.Called.{called, new-store, blank}
-use Rattle.recorder.specs.Replay.{event-calls, replay-refusal}
+use Rattle.channel_log.specs.{Calls.{Call, returned, refused, replies, History}, CallSteps.{Content}, Log.{log}, Standing.{StandsAs}}
+use Rattle.channel_log.specs.Claims.{RecordClaim, IndependenceClaim}
+use Rattle.recorder.specs.{Store.{Store, channels}, ToolFault.{ToolFault}, ToolTests.{tool-test}, CompiledRule.{rule-judged}}
+use Rattle.recorder.specs.{Called.{called, new-store, blank}, Replay.{event-calls, replay-refusal}}
 
 -- The log of a set-up: 5 to 10 by their list, the rule that accepted bytes are, and its values by the formula semantics.
 abbrev pub setup-log : Setup → Content (History ℕ) ℕ ℕ

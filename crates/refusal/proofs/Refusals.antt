@@ -7,7 +7,8 @@ use Rattle.refusal.specs.declared.Refusal.{Refusal}
 use Rattle.refusal.specs.declared.Refusal.the-variants.{Plain, At}
 use Rattle.refusal.specs.declared.Judgement.the-variants.{Accepted, Refused}
 use Rattle.refusal.specs.declared.Counted.the-variants.{Count, Refused as Uncounted}
-use Rattle.refusal.specs.Refusal.{Condition, plain, at-lowest, Gives, Lowest, First, or-else, plain-unless, judgement, counted}
+use Rattle.refusal.specs.Refusal.{Condition, plain, at-lowest, Gives, Lowest, First}
+use Rattle.refusal.specs.RefusalAnswers.{or-else, plain-unless, judgement, counted}
 use Rattle.refusal.specs.RefusalClaims.{LowestUniqueClaim, FirstUniqueClaim, JudgedClaim, FirstAppendClaim, NoneMet, AcceptedClaim}
 
 -- The lowest place is one, so that a condition gives one refusal at most.

@@ -1,16 +1,9 @@
 -- Refusals (document 01, "Who can cause a refusal"): number and place, their order, and which one a call gives.
-use mathlib.Core.Path.{_≡_}
-use mathlib.Core.Logic.{_⊎_}
-use mathlib.Core.Bool.{Bool, true, false, cond, not, _&&_, _||_}
-use mathlib.Core.Option.{Option, none, some}
-use mathlib.Core.List.{List, [], _∷_}
+use mathlib.Core.{Path.{_≡_}, Logic.{_⊎_}, Bool.{Bool, true, false, cond, not, _&&_, _||_}, Option.{Option, none, some}, List.{List, [], _∷_}}
 use Prim.Native.Nat.{ℕ, _<_}
 use lib.Dec.{eqb, leb}
-use Rattle.refusal.specs.declared.Refusal.{Refusal}
-use Rattle.refusal.specs.declared.Refusal.the-variants.{Plain, At}
-use Rattle.refusal.specs.declared.Judgement.{Judgement}
-use Rattle.refusal.specs.declared.Judgement.the-variants.{Accepted, Refused}
-use Rattle.refusal.specs.declared.Counted.{Counted}
+use Rattle.refusal.specs.{declared.Refusal.{Refusal}, declared.Refusal.the-variants.{Plain, At}, declared.Judgement.{Judgement}}
+use Rattle.refusal.specs.{declared.Judgement.the-variants.{Accepted, Refused}, declared.Counted.{Counted}}
 use Rattle.refusal.specs.declared.Counted.the-variants.{Count, Refused as Uncounted}
 
 -- A refusal's number in the list of document 01.
@@ -81,27 +74,20 @@ pub record Judged (cs : List Condition) (answer : Option Refusal) : Type 0 where
   pub ordered : part-of (condition-numbers cs) order ≡ true
   pub placed : right-places cs ≡ true
 
--- Computing twins, for the definitions that contracts cite. The first of two answers that is a refusal.
-unfoldable pub or-else : Option Refusal → Option Refusal → Option Refusal
-or-else (some refusal) later = some refusal
-or-else none later = later
+-- The same of a call that is lent something: beside a refusal it is as before.
+pub record JudgedCall {M : Type 0} (cs : List Condition) (answer : Option Refusal) (before after : M) : Type 0 where
+  pub judged : Judged cs answer
+  pub kept : (refusal : Refusal) → answer ≡ some refusal → after ≡ before
 
--- The answer of a condition without a place, from a test that fails where the condition is met.
-unfoldable pub plain-unless : Bool → ℕ → Option Refusal
-plain-unless true n = none
-plain-unless false n = some (Plain n)
+-- Document 01's answer for each case of the enums: the refusal, where there is one, and the count of what was made.
+abbrev pub judgement-refusal : Judgement → Option Refusal
+judgement-refusal Accepted = none
+judgement-refusal (Refused refusal) = some refusal
 
--- The answer of a condition with a place, from the lowest place where it is met.
-unfoldable pub at-found : Option ℕ → ℕ → Option Refusal
-at-found none n = none
-at-found (some p) n = some (At n p)
+abbrev pub counted-refusal : Counted → Option Refusal
+counted-refusal (Count n) = none
+counted-refusal (Uncounted refusal) = some refusal
 
--- The answer of a check.
-unfoldable pub judgement : Option Refusal → Judgement
-judgement none = Accepted
-judgement (some refusal) = Refused refusal
-
--- The answer of a call that makes something, with its count where it is accepted.
-unfoldable pub counted : Option Refusal → ℕ → Counted
-counted none count = Count count
-counted (some refusal) count = Uncounted refusal
+abbrev pub count-of : Counted → Option ℕ
+count-of (Count n) = some n
+count-of (Uncounted refusal) = none

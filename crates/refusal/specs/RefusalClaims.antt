@@ -1,12 +1,8 @@
 -- What is claimed of the first refusal of a list of conditions: there is one answer, and lists may be judged one after the other.
-use mathlib.Core.Path.{_≡_}
-use mathlib.Core.Logic.{_↔_}
-use mathlib.Core.Bool.{true}
-use mathlib.Core.Option.{Option, none}
-use mathlib.Core.List.{List, [], _∷_, _++_}
+use mathlib.Core.{Path.{_≡_}, Logic.{_↔_}, Bool.{true}, Option.{Option, none}, List.{List, [], _∷_, _++_}}
 use Prim.Native.Nat.{ℕ}
 use Rattle.refusal.specs.declared.Refusal.{Refusal}
-use Rattle.refusal.specs.Refusal.{order, Condition, Gives, Lowest, First, part-of, condition-numbers, right-places, Judged, or-else}
+use Rattle.refusal.specs.{Refusal.{order, Condition, Gives, Lowest, First, part-of, condition-numbers, right-places, Judged}, RefusalAnswers.{or-else}}
 
 -- There is at most one lowest place.
 abbrev pub LowestUniqueClaim : Type 1

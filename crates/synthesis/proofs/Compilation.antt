@@ -11,7 +11,7 @@ use Rattle.refusal.specs.declared.{Refusal.{Refusal}, Counted.{Counted}, Judgem
 use Rattle.refusal.specs.declared.Refusal.the-variants.{Plain}
 use Rattle.refusal.specs.declared.Counted.the-variants.{Count, Refused}
 use Rattle.refusal.specs.declared.Judgement.the-variants.{Refused as RefusedJudgement}
-use Rattle.refusal.specs.Refusal.{or-else, plain-unless, judgement, counted}
+use Rattle.refusal.specs.RefusalAnswers.{or-else, plain-unless, judgement, counted}
 use Rattle.refusal.proofs.Refusals.{or-else-none, or-else-assoc, plain-none, counted-refused}
 use Rattle.values.specs.declared.ValueKind.{ValueKind}
 use Rattle.values.specs.{ValueKind.{ValueIn, meetOf}, ValueTests.{value-fits}, SetupTests.{events-test}}

@@ -5,20 +5,27 @@ use Prim.Native.Nat.{ℕ, _+_, _*_, _≤_, _<_}
 use native.Mathlib.{Nat.{mul-le-mul-left}, Omega.{arith}}
 use borrow.Author.Tests.{leb-true, leb-false}
 use lib.{Dec.{leb}, ListN.{length, getD, drop, length-append, length-drop, List·getD-append}, Seq.{drop-append-seam}}
-use Rattle.theory.specs.{Semilattice.{MeetSemilattice}, Formula.{Formula, size, WellFormed}, MealyMachine.{Machine}}
+use Rattle.theory.specs.Semilattice.{MeetSemilattice}
+use Rattle.theory.specs.Formula.{Formula, size}
+use Rattle.theory.specs.FormulaClasses.{WellFormed}
+use Rattle.theory.specs.MealyMachine.{Machine}
 use Rattle.theory.specs.{ReachableStates.{IsTable, IsTableOf, StatesAtMost}, DemandSets.{set-machine, first-set}}
 use Rattle.theory.proofs.{Claims.{grammar, numbering, table-values}, SetMachine.{table-of-iff}}
 use Rattle.refusal.specs.declared.Refusal.{Refusal}
 use Rattle.refusal.specs.declared.Refusal.the-variants.{Plain}
-use Rattle.refusal.specs.Refusal.{Condition, plain, First, has-place, part-of, order, condition-numbers, right-places, or-else, plain-unless}
+use Rattle.refusal.specs.Refusal.{Condition, plain, First, has-place, part-of, order, condition-numbers, right-places}
+use Rattle.refusal.specs.RefusalAnswers.{or-else, plain-unless}
 use Rattle.refusal.proofs.Refusals.{first-then, judged, or-else-none, or-else-assoc, plain-none}
 use Rattle.refusal.specs.LentBuffers.{put, put-unless}
 use Rattle.values.specs.declared.ValueKind.{ValueKind}
 use Rattle.values.specs.declared.ValueKind.the-variants.{Numbered, Register}
 use Rattle.values.specs.{ValueKind.{ValueIn, meetOf}, ValueBytes.{value-width}, Setup.{Setup, setup-meet, setup-top, EventsFault, setup-conditions}}
-use Rattle.values.specs.{ValueReading.{masks-value, value-from}, SetupTests.{events-test, setup-refusal}}
+use Rattle.values.specs.ValueBytes.{masks-value, value-from}
+use Rattle.values.specs.SetupTests.{events-test, setup-refusal}
 use Rattle.values.proofs.Setups.{setup-first, judged-after-setup, events-first}
-use Rattle.formulas.specs.{RuleRefusal.{rule-refusal, formula-of}, Claims.{byte-conditions, AcceptedFormula}}
+use Rattle.formulas.specs.RuleRefusal.{rule-refusal, formula-of}
+use Rattle.formulas.specs.RuleConditions.{byte-conditions}
+use Rattle.formulas.specs.Claims.{AcceptedFormula}
 use Rattle.formulas.proofs.RuleClaims.{rule-judged, accepted-formula-of, formula-of-only}
 use Rattle.machines.specs.{TableBytes.{table-bytes, entry-width, entry-bytes, machine-of}, Claims.{Agree}}
 use Rattle.machines.proofs.{EntryBytes.{table-length}, EntryIndex.{index-below, index-state, index-event}}
@@ -26,7 +33,8 @@ use Rattle.machines.proofs.TableRoundTrip.{read-back, entry-length, entry-width
 use Rattle.synthesis.specs.FormulaTable.{formula-states, formula-table}
 use Rattle.synthesis.specs.Compilation.{rule-states, rule-table, rule-table-refusal, compile-rule-refusal, entry-count, flat, compiled-within}
 use Rattle.synthesis.specs.Compilation.{setup-states, setup-table, compile-refusal, compile-contents}
-use Rattle.synthesis.specs.Claims.{states-condition, buffer-condition, compile-conditions, CompileRefusalClaim, RuleTable, CompiledBytes, CompileClaim}
+use Rattle.synthesis.specs.TableOfRule.{states-condition, buffer-condition, compile-conditions}
+use Rattle.synthesis.specs.Claims.{CompileRefusalClaim, RuleTable, CompiledBytes, CompileClaim}
 use Rattle.synthesis.specs.Claims.{compile-rule-conditions, array-machine, CompiledArrays, CompileRuleClaim}
 use Rattle.synthesis.proofs.{Compilation.{flat-at, few-events}, CompiledTable.{few-states, is-table}, LentTable.{contents-at, laws, few}}
 use Rattle.limits.specs.Limits.{node-limit, state-limit, entry-limit}

@@ -4,7 +4,10 @@ use Prim.Native.Nat.{ℕ, _*_, _/_, _%_, _<_, _≤_}
 use native.Mathlib.Omega.{arith}
 use lib.ListN.{length}
 use Rattle.limits.specs.Limits.{node-limit}
-use Rattle.theory.specs.{Formula.{Formula, size, Closed, Guarded}, MealyMachine.{Machine}, Demands.{value-of-set}}
+use Rattle.theory.specs.Formula.{Formula, size}
+use Rattle.theory.specs.FormulaClasses.{Closed, Guarded}
+use Rattle.theory.specs.MealyMachine.{Machine}
+use Rattle.theory.specs.Demands.{value-of-set}
 use Rattle.theory.specs.Exploration.{explored, numbered, member, bits, same-bits, bit-machine, first-bits}
 use Rattle.formulas.specs.{NodeReading.{Reads}, NodeWalks.{field}}
 use Rattle.synthesis.specs.{NodeWords.{set-at, bits-at}, NodeWalks.{Binds}, Binding.{AllBound}, DemandRows.{RowsTo}}

@@ -4,13 +4,17 @@ use Prim.Native.Nat.{ℕ, _*_, _/_, _%_, _≤_, _<_}
 use native.Mathlib.{Nat.{mul-le-mul-left}, Omega.{arith}}
 use borrow.Author.Tests.{leb-true}
 use lib.{Dec.{leb}, ListN.{length, getD}}
-use Rattle.theory.specs.{Formula.{size, WellFormed}, MealyMachine.{Runs, States}}
+use Rattle.theory.specs.Formula.{size}
+use Rattle.theory.specs.FormulaClasses.{WellFormed}
+use Rattle.theory.specs.MachineRuns.{Runs}
+use Rattle.theory.specs.MealyMachine.{States}
 use Rattle.theory.proofs.Claims.{grammar}
 use Rattle.refusal.specs.declared.{Refusal.{Refusal}, Counted.{Counted}}
 use Rattle.refusal.specs.declared.Refusal.the-variants.{Plain}
 use Rattle.refusal.specs.declared.Judgement.the-variants.{Accepted as AcceptedJudgement, Refused as RefusedJudgement}
 use Rattle.refusal.specs.declared.Counted.the-variants.{Count, Refused}
-use Rattle.refusal.specs.{Refusal.{or-else, plain-unless, judgement, counted}, LentBuffers.{put, put-unless}}
+use Rattle.refusal.specs.RefusalAnswers.{or-else, plain-unless, judgement, counted}
+use Rattle.refusal.specs.LentBuffers.{put, put-unless}
 use Rattle.refusal.proofs.Refusals.{judgement-accepted, judgement-refused, counted-accepted, counted-refused, or-else-none, plain-none}
 use Rattle.values.specs.declared.ValueKind.{ValueKind}
 use Rattle.values.specs.declared.ValueKind.the-variants.{Numbered, Register}

@@ -5,7 +5,9 @@ use Prim.Native.Nat.{ℕ, zero, suc, _+_, _-_, _≤_, _<_}
 use native.Mathlib.{Numerals.{add-one}, Decide.{ℕ-discrete}, Omega.{arith}}
 use borrow.Author.Tests.{eq-eqb, ne-eqb}
 use lib.Dec.{eqb}
-use Rattle.theory.specs.{Formula.{Formula, truth, variable, transition, output, conjunction, greatest, size, Guarded}, Demands.{NodeSet}}
+use Rattle.theory.specs.Formula.{Formula, truth, variable, transition, output, conjunction, greatest, size}
+use Rattle.theory.specs.FormulaClasses.{Guarded}
+use Rattle.theory.specs.Demands.{NodeSet}
 use Rattle.theory.specs.DemandSets.{empty, union, demands, moved}
 use Rattle.formulas.specs.{NodeReading.{Reads}, NodeWalks.{field}}
 use Rattle.synthesis.specs.{NodeWords.{row, United}, NodeWalks.{Binds}, DemandRows.{AllBelow, UnguardedRows, RowsTo}}

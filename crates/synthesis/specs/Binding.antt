@@ -1,12 +1,10 @@
 -- The walk that gives each variable node its binder's node (document 01, "Table of a rule": X demands what its binder does).
-use mathlib.Core.Path.{_≡_}
-use mathlib.Core.List.{List}
+use mathlib.Core.{Path.{_≡_}, List.{List}}
 use Prim.Native.Nat.{ℕ, _+_, _-_, _≤_, _<_}
 use lib.ListN.{length, getD}
 use Rattle.limits.specs.Limits.{node-limit}
-use Rattle.theory.specs.Formula.{Formula, size, FreeBelow}
-use Rattle.formulas.specs.NodeReading.{Reads}
-use Rattle.formulas.specs.NodeWalks.{field}
+use Rattle.theory.specs.{Formula.{Formula, size}, FormulaClasses.{FreeBelow}}
+use Rattle.formulas.specs.{NodeReading.{Reads}, NodeWalks.{field}}
 use Rattle.synthesis.specs.NodeWalks.{Ends, Binds}
 
 -- The binders around, the innermost first, are the stack's first numbers, read down.

@@ -1,51 +1,17 @@
 -- What is claimed of the compilers (document 01, "Table of a rule", refusals 1 to 3, 5 to 10 and 13; document 02, F-7): the conditions that a call
 -- meets, and what an accepted call yields. Each claim is a proposition, inhabited in proofs/.
-use mathlib.Core.Path.{_≡_}
-use mathlib.Core.List.{List, [], _∷_, _++_}
-use mathlib.Core.Option.{none, some}
+use mathlib.Core.{Path.{_≡_}, List.{List, [], _∷_, _++_}, Option.{none, some}}
 use Prim.Native.Nat.{ℕ, zero, _*_, _≤_, _<_}
 use lib.ListN.{length, getD, drop}
-use Rattle.theory.specs.Semilattice.{MeetSemilattice}
-use Rattle.theory.specs.Formula.{Formula}
-use Rattle.theory.specs.Semantics.{Answers}
-use Rattle.theory.specs.MealyMachine.{Machine, Word, after}
-use Rattle.theory.specs.ReachableStates.{IsTableOf, StatesAtMost}
-use Rattle.refusal.specs.declared.Refusal.{Refusal}
-use Rattle.refusal.specs.Refusal.{Condition, plain, Judged}
-use Rattle.values.specs.declared.ValueKind.{ValueKind}
-use Rattle.values.specs.ValueKind.{ValueIn, meetOf}
-use Rattle.values.specs.Setup.{Setup, setup-meet, setup-top, EventsFault, setup-conditions}
-use Rattle.formulas.specs.NodeBytes.{node-bytes, encode-formula}
-use Rattle.formulas.specs.RuleConditions.{OfFormula}
-use Rattle.formulas.specs.Claims.{byte-conditions, AcceptedFormula}
+use Rattle.theory.specs.{Semilattice.{MeetSemilattice}, Formula.{Formula}, Semantics.{Answers}, MealyMachine.{Machine, Word, after}}
+use Rattle.theory.specs.ReachableStates.{IsTableOf}
+use Rattle.refusal.specs.{declared.Refusal.{Refusal}, Refusal.{Condition, plain, Judged}}
+use Rattle.values.specs.{declared.ValueKind.{ValueKind}, ValueKind.{ValueIn, meetOf}, Setup.{Setup, setup-meet, setup-top, EventsFault}}
+use Rattle.formulas.specs.{NodeBytes.{node-bytes, encode-formula}, RuleConditions.{byte-conditions}, Claims.{AcceptedFormula}}
 use Rattle.machines.specs.TableBytes.{entry-width, entries, machine-of}
 use Rattle.synthesis.specs.Compilation.{rule-states, compile-rule-refusal, compiled-within, setup-states, compile-refusal, compile-contents}
+use Rattle.synthesis.specs.TableOfRule.{compile-conditions, states-condition}
 use Rattle.limits.specs.Limits.{state-limit}
-
-module _ (meet : ℕ → ℕ → ℕ) (top events : ℕ) (kind : ValueKind) where
-  -- The buffer is shorter than the output: so many bytes an entry of the formula's table.
-  pub record Short (φ : Formula ℕ) (old : List ℕ) : Type 0 where
-    pub states : ℕ
-    pub table : Machine ℕ ℕ
-    pub is-table : IsTableOf meet top events φ states table
-    pub shorter : length old < states * events * entry-width kind
-
-  -- 10: over the limit of states.
-  abbrev pub states-condition : List ℕ → ℕ → Condition
-  states-condition rule limit = plain 10 (OfFormula (node-bytes kind) rule (λ φ. ¬ StatesAtMost meet top events φ limit))
-
-  -- 13: lent buffer shorter than the output.
-  abbrev pub buffer-condition : List ℕ → List ℕ → Condition
-  buffer-condition rule old = plain 13 (OfFormula (node-bytes kind) rule (λ φ. Short φ old))
-
--- The conditions of compiling, in order: those of the set-up, 5 to 9, 10, 13.
-abbrev pub compile-conditions : ℕ → Setup → List ℕ → List ℕ → List Condition
-compile-conditions limit s rule old =
-    setup-conditions s
-    ++ (byte-conditions (s .events) (s .kind) rule
-    ++ (states-condition (setup-meet s) (setup-top s) (s .events) (s .kind) rule limit
-    ∷ buffer-condition (setup-meet s) (setup-top s) (s .events) (s .kind) rule old
-    ∷ []))
 
 -- A call is judged as document 01 asks, at every limit.
 abbrev pub CompileRefusalClaim : Type 0

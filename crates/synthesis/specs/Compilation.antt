@@ -1,25 +1,14 @@
 -- What the two compilers answer: the computing twins of the conditions and claims in `Claims`.
-use mathlib.Core.Path.{_≡_}
-use mathlib.Core.List.{List}
-use mathlib.Core.Option.{Option, none, some}
+use mathlib.Core.{Path.{_≡_}, List.{List}, Option.{Option, none, some}}
 use Prim.Native.Nat.{ℕ, _*_, _/_, _%_}
-use lib.Dec.{leb}
-use lib.ListN.{length, replicate}
+use lib.{Dec.{leb}, ListN.{length, replicate}}
 use Rattle.theory.specs.MealyMachine.{Machine}
-use Rattle.refusal.specs.declared.Refusal.{Refusal}
-use Rattle.refusal.specs.declared.Counted.{Counted}
-use Rattle.refusal.specs.declared.Counted.the-variants.{Count, Refused}
-use Rattle.refusal.specs.Refusal.{or-else, plain-unless, counted}
-use Rattle.refusal.specs.LentBuffers.{put-unless}
-use Rattle.values.specs.declared.ValueKind.{ValueKind}
-use Rattle.values.specs.ValueKind.{meetOf}
-use Rattle.values.specs.Setup.{Setup, setup-top}
-use Rattle.formulas.specs.RuleRefusal.{rule-refusal, formula-of}
-use Rattle.formulas.specs.NodeArrays.{padded}
+use Rattle.refusal.specs.{declared.Refusal.{Refusal}, declared.Counted.{Counted}, declared.Counted.the-variants.{Count, Refused}}
+use Rattle.refusal.specs.{RefusalAnswers.{or-else, plain-unless, counted}, LentBuffers.{put-unless}}
+use Rattle.values.specs.{declared.ValueKind.{ValueKind}, ValueKind.{meetOf}, Setup.{Setup, setup-top}, SetupTests.{events-test, setup-refusal}}
+use Rattle.formulas.specs.{RuleRefusal.{rule-refusal, formula-of}, NodeArrays.{padded}}
 use Rattle.machines.specs.TableBytes.{table-bytes, entry-width, entry-bytes}
-use Rattle.synthesis.specs.declared.Compiled.{Compiled}
-use Rattle.synthesis.specs.FormulaTable.{formula-states, formula-table}
-use Rattle.values.specs.SetupTests.{events-test, setup-refusal}
+use Rattle.synthesis.specs.{declared.Compiled.{Compiled}, FormulaTable.{formula-states, formula-table}}
 use Rattle.limits.specs.Limits.{entry-limit, state-limit}
 
 -- The rule in these bytes, over values of a kind with a meet table and top.

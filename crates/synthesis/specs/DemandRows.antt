@@ -1,15 +1,11 @@
 -- Each node's demands, kept in rows (document 01, "Table of a rule": "the demands of a node").
-use mathlib.Core.Path.{_≡_}
-use mathlib.Core.List.{List, [], _∷_, map}
+use mathlib.Core.{Path.{_≡_}, List.{List, [], _∷_, map}}
 use Prim.Native.Nat.{ℕ, suc, _+_, _≤_, _<_}
 use lib.ListN.{length}
-use Rattle.theory.specs.Formula.{Formula, truth, variable, transition, output, conjunction, greatest, size, Guarded}
-use Rattle.theory.specs.Demands.{NodeSet}
+use Rattle.theory.specs.{Formula.{Formula, truth, variable, transition, output, conjunction, greatest, size}, FormulaClasses.{Guarded}, Demands.{NodeSet}}
 use Rattle.theory.specs.DemandSets.{demands}
-use Rattle.formulas.specs.NodeReading.{Reads}
-use Rattle.formulas.specs.NodeWalks.{field}
-use Rattle.synthesis.specs.NodeWords.{row-words, row}
-use Rattle.synthesis.specs.NodeWalks.{Ends, Binds}
+use Rattle.formulas.specs.{NodeReading.{Reads}, NodeWalks.{field}}
+use Rattle.synthesis.specs.{NodeWords.{row-words, row}, NodeWalks.{Ends, Binds}}
 
 -- The row of one node is D, and the others are as before.
 pub record RowStored (before after : List ℕ) (at : ℕ) (D : NodeSet) : Type 0 where

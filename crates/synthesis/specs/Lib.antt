@@ -1,4 +1,6 @@
 -- In reading order.
+-- The conditions of compiling.
+pub mod TableOfRule
 -- What the contracts of the compilers compute with, and what is claimed of it.
 pub mod FormulaTable
 pub mod Compilation

@@ -1,13 +1,9 @@
 -- What the making of a table from nodes answers (document 01, "Table of a rule").
-use mathlib.Core.Path.{_≡_}
-use mathlib.Core.List.{List}
+use mathlib.Core.{Path.{_≡_}, List.{List}}
 use Prim.Native.Nat.{ℕ, suc, _*_, _≤_, _<_}
-use Rattle.theory.specs.Formula.{Formula, size, Closed, Guarded}
-use Rattle.formulas.specs.NodeReading.{Reads}
-use Rattle.synthesis.specs.FormulaTable.{formula-states, formula-table}
-use Rattle.formulas.specs.NodeWalks.{field}
-use Rattle.synthesis.specs.Exploring.{Unchanged}
-use Rattle.synthesis.specs.TableEntries.{EntriesTo}
+use Rattle.theory.specs.{Formula.{Formula, size}, FormulaClasses.{Closed, Guarded}}
+use Rattle.formulas.specs.{NodeReading.{Reads}, NodeWalks.{field}}
+use Rattle.synthesis.specs.{FormulaTable.{formula-states, formula-table}, Exploring.{Unchanged}, TableEntries.{EntriesTo}}
 
 -- n is the number of states, and the entries are the table's; n is above the limit where there are more states.
 pub record Tabled (meet : ℕ → ℕ → ℕ) (top : ℕ) (φ : Formula ℕ) (events limit : ℕ) (values nexts values′ nexts′ : List ℕ) (n : ℕ) :

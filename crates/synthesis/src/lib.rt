@@ -28,7 +28,7 @@ use values::check_setup;
 ghost use mathlib.Core.Path.{_≡_};
 ghost use mathlib.Core.Option.{none};
 ghost use lib.ListN.{replicate};
-ghost use Rattle.refusal.specs.Refusal.{or-else, plain-unless, judgement, counted};
+ghost use Rattle.refusal.specs.RefusalAnswers.{or-else, plain-unless, judgement, counted};
 ghost use Rattle.values.specs.ValueKind.{topOf};
 ghost use Rattle.values.specs.Setup.{setup-of-kind, setup};
 ghost use Rattle.formulas.specs.NodeBytes.{node-width};

@@ -4,8 +4,8 @@ use mathlib.Core.{Path.{_≡_, refl, sym, ap, ap₂}, List.{List, _++_, append-a
 use native.Mathlib.{Omega.{arith}, Nat.{mod-lt, div-lt-iff-lt-mul, mul-le-mul}}
 use lib.{Dec.{eqb}, ListN.{length, getD, length-append}}
 use borrow.Author.Tests.{eq-eqb, ne-eqb}
-use Rattle.text_format.specs.Format.{ascii}
-use Rattle.text_output.specs.Output.{numeral, each}
+use Rattle.text_format.specs.Texts.{ascii}
+use Rattle.text_format.specs.Texts.{numeral, each}
 use Rattle.text_output.proofs.Outputs.{numeral-length, numeral-short, each-length}
 use Rattle.table_graph.specs.{GraphText.{value-text, arrow-line, entry-arrow, graph-text}, Graph.{graph-limit}}
 use Rattle.table_rows.specs.Rows.{FewEntries}

@@ -1,11 +1,8 @@
 -- A table as a digraph of the Graphviz language: an arrow a line, by state, then event, labelled with event and value.
 use Prim.Native.Nat.{ℕ, _+_, _*_, _/_, _%_}
-use mathlib.Core.Bool.{cond}
-use mathlib.Core.List.{List, _++_}
-use lib.Dec.{eqb}
-use lib.ListN.{getD}
-use Rattle.text_format.specs.Format.{ascii}
-use Rattle.text_output.specs.Output.{numeral, each}
+use mathlib.Core.{Bool.{cond}, List.{List, _++_}}
+use lib.{Dec.{eqb}, ListN.{getD}}
+use Rattle.text_format.specs.Texts.{ascii, numeral, each}
 
 -- A value in a label, behind its slash: `open` for the top value.
 unfoldable pub value-text : ℕ → ℕ → List ℕ

@@ -9,13 +9,15 @@ use Rattle.refusal.specs.Refusal.{First}
 use Rattle.limits.specs.Limits.{node-limit}
 use Rattle.values.specs.declared.ValueKind.{ValueKind}
 use Rattle.values.specs.{ValueKind.{ValueIn}, Setup.{setup-meet, setup-top}}
-use Rattle.text_format.specs.Format.{Outcome, contents, refused, ascii}
-use Rattle.text_output.specs.Output.{numeral}
+use Rattle.text_format.specs.Format.{Outcome, contents, refused}
+use Rattle.text_format.specs.Texts.{ascii}
+use Rattle.text_format.specs.Texts.{numeral}
 use Rattle.text_output.proofs.Outputs.{each-same}
 use Rattle.channel_file.specs.{ChannelFile.{Contents, line}, Reading.{AnswersFile, read-file}}
 use Rattle.channel_file.proofs.Claims.{answer-claim, one-answer-claim}
 use Rattle.synthesis.specs.Claims.{RuleTable}
-use Rattle.channel_io.specs.FileJudgement.{setup-of, rule-numbers, contents-table-conditions}
+use Rattle.channel_io.specs.FileConditions.{setup-of, contents-table-conditions}
+use Rattle.channel_file.specs.ChannelFile.{rule-numbers}
 use Rattle.channel_io.specs.FileRefusals.{file-states, file-table, contents-table-refusal}
 use Rattle.channel_io.proofs.Claims.{contents-table-claim, file-table-made}
 use Rattle.table_rows.specs.{TableText.{row-line, entry-line, table-text}, Rows.{rows-text}}

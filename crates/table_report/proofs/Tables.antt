@@ -8,13 +8,14 @@ use Rattle.limits.specs.Limits.{value-limit}
 use Rattle.theory.proofs.ValueSets.{and-both, and-left, and-right}
 use Rattle.refusal.specs.declared.Refusal.{Refusal}
 use Rattle.refusal.specs.declared.Refusal.the-variants.{At}
-use Rattle.refusal.specs.Refusal.{plain-unless}
+use Rattle.refusal.specs.RefusalAnswers.{plain-unless}
 use Rattle.refusal.proofs.Refusals.{or-else-none, plain-none}
 use Rattle.values.specs.SetupTests.{values-test, kind-refusal, setup-refusal}
 use Rattle.values.proofs.Setups.{accepted-events, kind-passed, top-below}
 use Rattle.text_format.specs.Format.{Outcome, contents, refused}
 use Rattle.channel_file.specs.{ChannelFile.{Contents}, Reading.{read-file}}
-use Rattle.channel_io.specs.{FileJudgement.{setup-of}, FileRefusals.{pair-table-refusal, file-states, file-table, contents-table-refusal}}
+use Rattle.channel_io.specs.FileConditions.{setup-of}
+use Rattle.channel_io.specs.FileRefusals.{pair-table-refusal, file-states, file-table, contents-table-refusal}
 use Rattle.channel_io.proofs.Claims.{file-table-accepted}
 use Rattle.table_rows.specs.Rendering.{handed-refusal}
 use Rattle.table_rows.proofs.Renderings.{handed-none, rows-length}

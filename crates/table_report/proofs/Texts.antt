@@ -5,8 +5,8 @@ use native.Mathlib.Omega.{arith}
 use lib.ListN.{length, length-append}
 use Rattle.refusal.specs.declared.Refusal.{Refusal}
 use Rattle.refusal.specs.declared.Refusal.the-variants.{Plain, At}
-use Rattle.text_format.specs.Format.{ascii}
-use Rattle.text_output.specs.Output.{numeral}
+use Rattle.text_format.specs.Texts.{ascii}
+use Rattle.text_format.specs.Texts.{numeral}
 use Rattle.text_output.proofs.Outputs.{numeral-length}
 use Rattle.channel_file.specs.ChannelFile.{line}
 use Rattle.table_rows.proofs.Texts.{line-length}

@@ -1,19 +1,14 @@
 -- What is claimed of the program's output; inhabited in proofs/ReportClaims.
 use Prim.Native.Nat.{ℕ, _≤_}
-use mathlib.Core.Path.{_≡_}
-use mathlib.Core.List.{List}
-use mathlib.Core.Option.{none, some}
+use mathlib.Core.{Path.{_≡_}, List.{List}, Option.{none, some}}
 use lib.ListN.{length}
 use Rattle.theory.specs.MealyMachine.{Machine}
-use Rattle.refusal.specs.declared.Refusal.{Refusal}
-use Rattle.refusal.specs.declared.Refusal.the-variants.{At}
-use Rattle.refusal.specs.Refusal.{First}
+use Rattle.refusal.specs.{declared.Refusal.{Refusal}, declared.Refusal.the-variants.{At}, Refusal.{First}}
 use Rattle.text_format.specs.Format.{contents}
-use Rattle.channel_file.specs.ChannelFile.{Contents}
-use Rattle.channel_file.specs.Reading.{Refused4, AnswersFile}
+use Rattle.channel_file.specs.{ChannelFile.{Contents, Refused4, rule-numbers}, Reading.{AnswersFile}}
 use Rattle.values.specs.Setup.{setup-meet, setup-top}
 use Rattle.synthesis.specs.Claims.{RuleTable}
-use Rattle.channel_io.specs.FileJudgement.{setup-of, rule-numbers, contents-table-conditions}
+use Rattle.channel_io.specs.FileConditions.{setup-of, contents-table-conditions}
 use Rattle.table_rows.specs.TableText.{table-text}
 use Rattle.table_report.specs.Report.{refusal-text, report-text, report-limit}
 

@@ -1,19 +1,12 @@
 -- What is printed for a text (document 01, "Channel file"): the table of its rule, or the refusal, where 4, 1 to 3, 5 to 9 and 10
 -- are looked at in this order.
 use Prim.Native.Nat.{ℕ, _≤_}
-use mathlib.Core.List.{List, [], _∷_}
-use mathlib.Core.Option.{Option, none, some}
+use mathlib.Core.{List.{List, [], _∷_}, Option.{Option, none, some}}
 use lib.ListN.{length}
-use Rattle.refusal.specs.declared.Refusal.{Refusal}
-use Rattle.refusal.specs.declared.Refusal.the-variants.{Plain, At}
-use Rattle.refusal.specs.declared.Counted.{Counted}
-use Rattle.text_format.specs.Format.{Outcome, contents, refused, ascii}
-use Rattle.text_format.specs.Series.{separated}
-use Rattle.text_output.specs.Output.{numeral}
-use Rattle.channel_file.specs.ChannelFile.{Contents, line}
-use Rattle.channel_file.specs.Reading.{read-file}
-use Rattle.table_rows.specs.Rendering.{Renders}
-use Rattle.table_rows.specs.Rows.{rows-text, rows-limit}
+use Rattle.refusal.specs.{declared.Refusal.{Refusal}, declared.Refusal.the-variants.{Plain, At}, declared.Counted.{Counted}}
+use Rattle.text_format.specs.{Format.{Outcome, contents, refused}, Texts.{ascii, separated, numeral}}
+use Rattle.channel_file.specs.{ChannelFile.{Contents, line}, Reading.{read-file}}
+use Rattle.table_rows.specs.{Rendering.{Renders}, Rows.{rows-text, rows-limit}}
 use Rattle.channel_io.specs.FileRefusals.{file-states, file-table, contents-table-refusal}
 
 -- "The single line `refused=` with the number and, if there is a place, a space and the place."

@@ -4,10 +4,12 @@ use mathlib.Core.{Path.{_≡_, refl, sym, ap, ap₂, _∙_}, List.{List, [], _�
 use native.Mathlib.{Omega.{arith}, Nat.{div-add-mod', mod-lt, div-lt-iff-lt-mul, mul-le-mul}}
 use lib.ListN.{length, getD, length-append}
 use Rattle.limits.specs.Limits.{value-limit}
-use Rattle.theory.specs.{ValueSets.{Below}, MealyMachine.{Machine, Runs, States}}
+use Rattle.theory.specs.ValueSets.{Below}
+use Rattle.theory.specs.MealyMachine.{Machine, States}
+use Rattle.theory.specs.MachineRuns.{Runs}
 use Rattle.values.specs.declared.ValueKind.the-variants.{Numbered}
-use Rattle.text_format.specs.Format.{ascii}
-use Rattle.text_output.specs.Output.{numeral, each}
+use Rattle.text_format.specs.Texts.{ascii}
+use Rattle.text_format.specs.Texts.{numeral, each}
 use Rattle.text_output.proofs.Outputs.{numeral-short, each-length}
 use Rattle.channel_file.specs.ChannelFile.{line}
 use Rattle.machines.specs.TableBytes.{machine-of}

@@ -1,21 +1,13 @@
 -- A call that renders a table handed in as a text in a lent buffer.
 use Prim.Native.Nat.{ℕ, _<_}
-use mathlib.Core.Path.{_≡_}
-use mathlib.Core.List.{List, [], _∷_}
-use mathlib.Core.Option.{Option}
-use lib.Dec.{leb}
-use lib.ListN.{length}
+use mathlib.Core.{Path.{_≡_}, List.{List, [], _∷_}, Option.{Option}}
+use lib.{Dec.{leb}, ListN.{length}}
 use Rattle.limits.specs.Limits.{table-limit}
 use Rattle.theory.specs.ValueSets.{Below}
-use Rattle.refusal.specs.declared.Refusal.{Refusal}
-use Rattle.refusal.specs.declared.Counted.{Counted}
-use Rattle.refusal.specs.Refusal.{Condition, plain, Judged, or-else, plain-unless, counted}
-use Rattle.refusal.specs.LentBuffers.{put-unless}
-use Rattle.values.specs.declared.ValueKind.the-variants.{Numbered}
-use Rattle.values.specs.Setup.{EventsFault, ValuesFault}
-use Rattle.values.specs.SetupTests.{events-test, values-test}
-use Rattle.machines.specs.TableBytes.{machine-of, table-condition}
-use Rattle.machines.specs.TableRefusal.{table-refusal}
+use Rattle.refusal.specs.{declared.Refusal.{Refusal}, declared.Counted.{Counted}, Refusal.{Condition, plain, Judged}}
+use Rattle.refusal.specs.{RefusalAnswers.{or-else, plain-unless, counted}, LentBuffers.{put-unless}}
+use Rattle.values.specs.{declared.ValueKind.the-variants.{Numbered}, Setup.{EventsFault, ValuesFault}, SetupTests.{events-test, values-test}}
+use Rattle.machines.specs.{TableBytes.{machine-of, table-condition}, TableRefusal.{table-refusal}}
 
 -- The conditions of a call, in order: 1 and 2 for the numbers of the set-up, 11 for the table, of which every state may be the start,
 -- and 13 where the buffer is shorter than the text.

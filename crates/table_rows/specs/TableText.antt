@@ -2,9 +2,7 @@
 use Prim.Native.Nat.{ℕ, _*_, _/_, _%_}
 use mathlib.Core.List.{List, [], _∷_, _++_}
 use Rattle.theory.specs.MealyMachine.{Machine}
-use Rattle.text_format.specs.Format.{ascii}
-use Rattle.text_format.specs.Series.{separated}
-use Rattle.text_output.specs.Output.{numeral, each}
+use Rattle.text_format.specs.Texts.{ascii, separated, numeral, each}
 use Rattle.channel_file.specs.ChannelFile.{line}
 
 -- "A row is state, event, value, next state."

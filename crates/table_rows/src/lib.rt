@@ -1,7 +1,7 @@
 // The rows of a table handed in, printed into a lent buffer; and the check of a table handed in to be rendered.
 ghost use mathlib.Core.Path.{_≡_};
 ghost use Rattle.text_output.specs.Output.{Puts};
-ghost use Rattle.refusal.specs.Refusal.{judgement};
+ghost use Rattle.refusal.specs.RefusalAnswers.{judgement};
 ghost use Rattle.table_rows.specs.TableText.{row-line};
 ghost use Rattle.table_rows.specs.Rendering.{handed-refusal};
 ghost use Rattle.table_rows.specs.Rows.{rows-text, PrintsRows, FewEntries};

@@ -6,7 +6,8 @@ use native.Mathlib.Omega.{arith}
 use lib.{Dec.{ltb, eqb}, ListN.{length, length-append}}
 use borrow.Author.Tests.{eqb-true, eqb-false, ne-eqb, ltb-true, ltb-false, lt-ltb, le-ltb}
 use Rattle.text_format.specs.{Format.{Parsed, ok, bad, bind, Format, Stuck, Laws}, Combinators.{find-in, letter-of, letter-parse, Alphabet}}
-use Rattle.text_format.specs.Decimal.{limit, decimal, is-digit, Digits, one-more, value-from, Numeral, more, number, numbered}
+use Rattle.text_format.specs.Decimal.{limit, is-digit, Digits, one-more, value-from, Numeral, more, number, numbered}
+use Rattle.text_format.specs.Texts.{decimal}
 use Rattle.text_format.specs.Claims.{NumeralClaim}
 use Rattle.text_format.specs.Decimal as D
 use Rattle.text_format.proofs.Combinators.{letter-sound, letter-full}

@@ -4,7 +4,8 @@ use mathlib.Core.{Path.{_≡_, refl, sym, ap, _∙_, subst}, List.{List, [], _�
 use native.Mathlib.Omega.{arith}
 use lib.{ListN.{length, take, drop, length-append, take-append-drop}, Seq.{take-at, take-append-le}}
 use Rattle.text_format.specs.Format.{Parsed, ok, bad, bind, Format, Stuck, Laws, Outcome, contents, refused, at-end, whole, outcome, read}
-use Rattle.text_format.specs.Place.{Begins, Refused, at, early, FormOf, Answers}
+use Rattle.text_format.specs.Place.{Begins, Refused, at, early, FormOf}
+use Rattle.text_format.specs.Claims.{AnswersText}
 use Rattle.text_format.specs.Claims.{Renders, AnswerClaim, OneAnswerClaim, PlaceClaim, ReadBackClaim}
 use Rattle.text_format.proofs.Combinators.{not-both}
 
@@ -118,17 +119,17 @@ module _ {A : Type 0} (F : Format A) (Shows : A → List ℕ → Type 0) (LF : L
       let z : _≡_ {A = ℕ} 0 1 = cc in omega arith)
       (λ h. let e2 = reads-form t h in let z : _≡_ {A = ℕ} 0 1 = cc in omega arith)
 
-  answers₂ : (t : List ℕ) (a : A) (q : List ℕ) → F .parse t ≡ ok a q → Answers Shows t (outcome t (at-end a q))
+  answers₂ : (t : List ℕ) (a : A) (q : List ℕ) → F .parse t ≡ ok a q → AnswersText Shows t (outcome t (at-end a q))
   answers₂ t a [] e =
       let s = LF .sound t a [] e in
       subst (Shows a) (sym (s .1 ∙ append-nil (F .print a))) (R .from a (s .0))
   answers₂ t a (b ∷ q) e = refused-behind t a b q e
 
-  answers₁ : (t : List ℕ) (x : Parsed A) → F .parse t ≡ x → Answers Shows t (outcome t (bind x (λ a r. at-end a r)))
+  answers₁ : (t : List ℕ) (x : Parsed A) → F .parse t ≡ x → AnswersText Shows t (outcome t (bind x (λ a r. at-end a r)))
   answers₁ t (ok a q) e = answers₂ t a q e
   answers₁ t (bad q) e = refused-inside t q e
 
-  pub answers : (t : List ℕ) → Answers Shows t (read F t)
+  pub answers : (t : List ℕ) → AnswersText Shows t (read F t)
   answers t = answers₁ t (F .parse t) refl
 
   pub one-contents : (t : List ℕ) (a b : A) → Shows a t → Shows b t → a ≡ b
@@ -137,7 +138,7 @@ module _ {A : Type 0} (F : Format A) (Shows : A → List ℕ → Type 0) (LF : L
       let eb : F .parse t ≡ ok b [] = reads-form t (b, hb) in
       cc
 
-  pub one-answer : (t : List ℕ) (x y : Outcome A) → Answers Shows t x → Answers Shows t y → x ≡ y
+  pub one-answer : (t : List ℕ) (x y : Outcome A) → AnswersText Shows t x → AnswersText Shows t y → x ≡ y
   one-answer t (contents a) (contents b) h g = ap (λ (z : A). contents z) (one-contents t a b h g)
   one-answer t (contents a) (refused q) h g = absurd (not-of-the-form Form t q g (a, h))
   one-answer t (refused p) (contents b) h g = absurd (not-of-the-form Form t p h (b, g))

@@ -3,9 +3,13 @@ use Prim.Native.Nat.{ℕ, zero, suc, _+_, _<_}
 use mathlib.Core.{Path.{_≡_, refl, sym, ap, _∙_, subst}, List.{List, [], _∷_, _++_, map, append-assoc, append-nil}, Bool.{false}}
 use native.Mathlib.Omega.{arith}
 use lib.ListN.{length, length-append}
-use Rattle.text_format.specs.{Format.{Parsed, ok, bad, bind, Format, Stuck, Laws, ascii}, Combinators.{Alphabet}, Decimal.{is-digit, decimal}}
+use Rattle.text_format.specs.Format.{Parsed, ok, bad, bind, Format, Stuck, Laws}
+use Rattle.text_format.specs.Texts.{ascii, decimal}
+use Rattle.text_format.specs.Combinators.{Alphabet}
+use Rattle.text_format.specs.Decimal.{is-digit}
 use Rattle.text_format.specs.Series.{Separator, space, newline, separator-byte, separator, number-item, series-print, series-fits, series-go}
-use Rattle.text_format.specs.Series.{series-within, series-parse, series, separated, OneOrMore}
+use Rattle.text_format.specs.Series.{series-within, series-parse, series}
+use Rattle.text_format.specs.Texts.{separated, OneOrMore}
 use Rattle.text_format.proofs.{Combinators.{letter-laws, not-both}, Decimal.{numbered-laws}}
 
 -- ---- separators

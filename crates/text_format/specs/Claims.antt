@@ -1,10 +1,13 @@
 -- What is claimed of numbers (inhabited in proofs/Decimal) and of every format that keeps the laws (in proofs/Place).
 use Prim.Native.Nat.{ℕ, _<_}
-use mathlib.Core.Path.{_≡_}
-use mathlib.Core.List.{List}
-use Rattle.text_format.specs.Format.{Format, Laws, Outcome, contents, read}
-use Rattle.text_format.specs.Decimal.{limit, decimal, Numeral}
-use Rattle.text_format.specs.Place.{Refused, Answers}
+use mathlib.Core.{Path.{_≡_}, List.{List}}
+use Rattle.text_format.specs.{Format.{Format, Laws, Outcome, contents, refused, read}, Decimal.{limit, Numeral}, Texts.{decimal}}
+use Rattle.text_format.specs.Place.{Refused, FormOf}
+
+-- What an answer says of the text t: t shows these contents, or t is refused at this offset.
+abbrev pub AnswersText : {A : Type 0} → (A → List ℕ → Type 0) → List ℕ → Outcome A → Type 0
+AnswersText Shows t (contents a) = Shows a t
+AnswersText Shows t (refused p) = Refused (FormOf Shows) t p
 
 -- What is printed for a number is its numeral, and the only one.
 pub record NumeralClaim : Type 0 where
@@ -18,13 +21,13 @@ pub record Renders {A : Type 0} (F : Format A) (Shows : A → List ℕ → Type 
 
 -- The parser's answer is the form's: the contents shown, or the place of refusal.
 abbrev pub AnswerClaim : Type 1
-AnswerClaim = (A : Type 0) (F : Format A) (Shows : A → List ℕ → Type 0) → Laws F → Renders F Shows → (t : List ℕ) → Answers Shows t (read F t)
+AnswerClaim = (A : Type 0) (F : Format A) (Shows : A → List ℕ → Type 0) → Laws F → Renders F Shows → (t : List ℕ) → AnswersText Shows t (read F t)
 
 -- It is the only answer: the place is unique and so are the contents.
 abbrev pub OneAnswerClaim : Type 1
 OneAnswerClaim =
     (A : Type 0) (F : Format A) (Shows : A → List ℕ → Type 0) → Laws F → Renders F Shows
-    → (t : List ℕ) (x y : Outcome A) → Answers Shows t x → Answers Shows t y → x ≡ y
+    → (t : List ℕ) (x y : Outcome A) → AnswersText Shows t x → AnswersText Shows t y → x ≡ y
 
 -- A text is refused at one place at most, and not where it is of the form.
 pub record PlaceClaim : Type 1 where

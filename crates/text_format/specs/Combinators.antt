@@ -1,9 +1,7 @@
+-- Twin of Texts, pinned by text_format AnswerClaim.
 -- Formats put together from formats. Their laws are in proofs/Combinators.
 use Prim.Native.Nat.{ℕ}
-use mathlib.Core.Path.{_≡_}
-use mathlib.Core.List.{List, [], _∷_, _++_}
-use mathlib.Core.Bool.{cond}
-use mathlib.Core.Option.{Option, some, none}
+use mathlib.Core.{Path.{_≡_}, List.{List, [], _∷_, _++_}, Bool.{cond}, Option.{Option, some, none}}
 use lib.Dec.{eqb}
 use Rattle.text_format.specs.Format.{Parsed, ok, bad, bind, Format}
 

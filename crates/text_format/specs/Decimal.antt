@@ -1,23 +1,15 @@
+-- Twin of Texts, pinned by text_format NumeralClaim.
 -- Numbers in decimal without leading zero. The parameter k is how many digits may follow the first: 2 for the numbers of a
 -- channel file, 4 for masks of five digits. Their laws are in proofs/Decimal.
-use Prim.Native.Nat.{ℕ, zero, suc, _+_, _-_, _*_, _/_, _%_, _≤_, _<_}
-use mathlib.Core.Path.{_≡_}
-use mathlib.Core.List.{List, [], _∷_, _++_}
-use mathlib.Core.Bool.{Bool, false, cond}
-use lib.Dec.{ltb, eqb}
-use lib.ListN.{length}
-use Rattle.text_format.specs.Format.{Parsed, ok, bad, bind, Format}
-use Rattle.text_format.specs.Combinators.{letter-parse}
+use Prim.Native.Nat.{ℕ, zero, suc, _+_, _-_, _*_, _≤_, _<_}
+use mathlib.Core.{Path.{_≡_}, List.{List, [], _∷_, _++_}, Bool.{Bool, false, cond}}
+use lib.{Dec.{ltb, eqb}, ListN.{length}}
+use Rattle.text_format.specs.{Format.{Parsed, ok, bad, bind, Format}, Combinators.{letter-parse}, Texts.{decimal}}
 
 -- The first number that needs more than k + 1 digits.
 abbrev pub limit : ℕ → ℕ
 limit zero = 10
 limit (suc k) = limit k * 10
-
--- v in decimal, for v below the limit.
-abbrev pub decimal : ℕ → ℕ → List ℕ
-decimal zero v = (48 + v) ∷ []
-decimal (suc k) v = cond (ltb v 10) ((48 + v) ∷ []) (decimal k (v / 10) ++ ((48 + v % 10) ∷ []))
 
 abbrev pub is-digit : ℕ → Bool
 is-digit b = cond (ltb b 48) false (ltb b 58)

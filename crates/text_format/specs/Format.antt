@@ -1,17 +1,9 @@
+-- Twin of Place, pinned by text_format AnswerClaim.
 -- Two-way formats: how the values of a type stand as text (print), a parser that reads a value from the front of a text
 -- (parse), and the laws that tie the two together. A text is a list of byte values.
 use Prim.Native.Nat.{ℕ, _-_}
-use Prim.Native.Char.{code}
-use Prim.Native.String.{String}
-use Prim.Native.String as Str
-use mathlib.Core.Path.{_≡_}
-use mathlib.Core.List.{List, [], _∷_, _++_}
+use mathlib.Core.{Path.{_≡_}, List.{List, [], _∷_, _++_}}
 use lib.ListN.{length}
-
--- The bytes of a text written in a definition.
-abbrev pub ascii : String → List ℕ
-ascii Str.[] = []
-ascii (Str._∷_ c s) = code c ∷ ascii s
 
 -- A parser's answer: a value and what is left behind it, or what is left at the first byte that cannot stand there.
 pub data Parsed (A : Type 0) : Type 0 where

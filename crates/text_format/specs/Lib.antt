@@ -1,7 +1,11 @@
--- In reading order: what a format is, how formats are put together, numbers, series, where a text is refused, what is claimed.
+-- In reading order.
+-- Texts as a reader writes them down, and where a text is refused.
+pub mod Texts
+pub mod Place
+-- What contracts compute with: what a format is, how formats are put together, numbers, series.
 pub mod Format
 pub mod Combinators
 pub mod Decimal
 pub mod Series
-pub mod Place
+-- What is claimed of them.
 pub mod Claims

@@ -3,7 +3,6 @@
 use Prim.Native.Nat.{ℕ, _+_, _<_}
 use mathlib.Core.List.{List, _++_}
 use lib.ListN.{length, take}
-use Rattle.text_format.specs.Format.{Outcome, contents, refused}
 
 module _ (Form : List ℕ → Type 0) where
   -- s begins a text of the form.
@@ -20,8 +19,3 @@ module _ (Form : List ℕ → Type 0) where
 -- The form of the texts that show some contents.
 abbrev pub FormOf : {A : Type 0} → (A → List ℕ → Type 0) → List ℕ → Type 0
 FormOf Shows t = (a : _) × Shows a t
-
--- What an answer says of the text t: t shows these contents, or t is refused at this offset.
-abbrev pub Answers : {A : Type 0} → (A → List ℕ → Type 0) → List ℕ → Outcome A → Type 0
-Answers Shows t (contents a) = Shows a t
-Answers Shows t (refused p) = Refused (FormOf Shows) t p

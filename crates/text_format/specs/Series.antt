@@ -1,10 +1,9 @@
+-- Twin of Texts, pinned by text_format AnswerClaim.
 -- Separators, and series: one or more items with one space between and byte 10 behind the last.
 use Prim.Native.Nat.{ℕ, zero, suc}
 use mathlib.Core.List.{List, [], _∷_, _++_}
 use lib.ListN.{length}
-use Rattle.text_format.specs.Format.{Parsed, ok, bad, bind, Format, ascii}
-use Rattle.text_format.specs.Combinators.{letter}
-use Rattle.text_format.specs.Decimal.{numbered}
+use Rattle.text_format.specs.{Format.{Parsed, ok, bad, bind, Format}, Combinators.{letter}, Decimal.{numbered}}
 
 -- What stands behind an item: a space where another follows, byte 10 where none does.
 pub data Separator : Type 0 where
@@ -47,17 +46,3 @@ series-parse F s = series-within F (suc (length s)) s
 -- A series of items of the format F; one is an item that fits as the last.
 abbrev pub series : {A : Type 0} → Format (A × Separator) → A → Format (List A)
 series F one = record { Fits = series-fits F; print = series-print F; parse = series-parse F; sample = one ∷ [] }
-
--- ---- the same, as a reader writes it down
-
--- Texts with one space between.
-abbrev pub separated : List (List ℕ) → List ℕ
-separated [] = []
-separated (x ∷ []) = x
-separated (x ∷ y ∷ xs) = x ++ (ascii " " ++ separated (y ∷ xs))
-
--- At least one item, and each as P says.
-abbrev pub OneOrMore : {A : Type 0} → (A → Type 0) → List A → Type 0
-OneOrMore P [] = ⊥
-OneOrMore P (a ∷ []) = P a
-OneOrMore P (a ∷ a′ ∷ xs) = P a × OneOrMore P (a′ ∷ xs)

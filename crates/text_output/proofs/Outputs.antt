@@ -4,9 +4,11 @@ use mathlib.Core.{Path.{_≡_, refl, sym, ap, ap₂, _∙_, subst}, List.{List, 
 use native.Mathlib.{Omega.{arith}, Numerals.{add-one}, Nat.{suc-mul}}
 use lib.{Dec.{ltb, leb}, ListN.{length, getD, take, drop, set, length-append}, Seq.{take-suc, set-out, sets, sets-eq, length-sets}}
 use borrow.Author.Tests.{leb-true, leb-false}
-use Rattle.text_format.specs.Decimal.{limit, decimal}
+use Rattle.text_format.specs.Decimal.{limit}
+use Rattle.text_format.specs.Texts.{decimal}
 use Rattle.text_format.proofs.Decimal.{decimal-small, decimal-large, decimal-more}
-use Rattle.text_output.specs.Output.{numeral, offset-limit, Puts, each}
+use Rattle.text_format.specs.Texts.{numeral, each}
+use Rattle.text_output.specs.Output.{offset-limit, Puts}
 
 -- ---- buffers
 

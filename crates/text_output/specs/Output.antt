@@ -1,14 +1,7 @@
 -- Texts put into a lent buffer at an offset.
-use Prim.Native.Nat.{ℕ, zero, suc, _+_, _<_, min}
-use mathlib.Core.Path.{_≡_}
-use mathlib.Core.List.{List, [], _++_}
-use lib.ListN.{length}
-use lib.Seq.{sets}
-use Rattle.text_format.specs.Decimal.{decimal}
-
--- A number in decimal without leading zero (text_format's NumeralClaim): twenty digits are enough for every number of 64 bits.
-unfoldable pub numeral : ℕ → List ℕ
-numeral v = decimal 19 v
+use Prim.Native.Nat.{ℕ, _+_, _<_, min}
+use mathlib.Core.{Path.{_≡_}, List.{List}}
+use lib.{ListN.{length}, Seq.{sets}}
 
 -- Offsets are counted up to the greatest number of 64 bits.
 abbrev pub offset-limit : ℕ
@@ -20,8 +13,3 @@ pub record Puts (l s l′ : List ℕ) (i r : ℕ) : Type 0 where
   pub same : l′ ≡ sets l i s
   pub next : r ≡ min (i + length s) offset-limit
   pub end : length l < offset-limit
-
--- The texts of c items from item i on, one behind another.
-abbrev pub each : (ℕ → List ℕ) → ℕ → ℕ → List ℕ
-each text zero i = []
-each text (suc c) i = text i ++ each text c (suc i)

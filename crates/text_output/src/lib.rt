@@ -3,7 +3,8 @@
 ghost use mathlib.Core.Path.{_≡_};
 ghost use mathlib.Core.List.{_∷_, [], _++_};
 ghost use Prim.Native.Nat.{_+_, _<_, min};
-ghost use Rattle.text_output.specs.Output.{numeral, offset-limit, Puts};
+ghost use Rattle.text_format.specs.Texts.{numeral};
+ghost use Rattle.text_output.specs.Output.{offset-limit, Puts};
 
 // The greatest offset.
 const OFFSET_LIMIT: usize = 18446744073709551615;

@@ -3,8 +3,14 @@ use mathlib.Core.{Path.{_≡_, sym}, Bool.{Bool}, List.{List, [], reverse}}
 use Prim.Native.Nat.{ℕ, _≤_, _<_}
 use native.Mathlib.Omega.{arith}
 use lib.ListN.{length, getD, length-map}
-use Rattle.theory.specs.{Semilattice.{MeetSemilattice}, Formula.{Formula, size, binders, WellFormed, Accepted}, MealyMachine.{Machine, after}}
-use Rattle.theory.specs.{ReachableStates.{state-at}, CharacteristicFormula.{Writes, written}, DemandSets.{set-machine, first-set}}
+use Rattle.theory.specs.Semilattice.{MeetSemilattice}
+use Rattle.theory.specs.Formula.{Formula, size}
+use Rattle.theory.specs.FormulaClasses.{binders, WellFormed, Accepted}
+use Rattle.theory.specs.MealyMachine.{Machine, after}
+use Rattle.theory.specs.ReachableStates.{state-at}
+use Rattle.theory.specs.CharacteristicFormula.{Writes}
+use Rattle.theory.specs.FormulaWriting.{written}
+use Rattle.theory.specs.DemandSets.{set-machine, first-set}
 use Rattle.theory.specs.{Exploration.{same-bits, bit-machine, first-bits, sequences-of, state-count}, Claims.{CharacteristicClaim}}
 use Rattle.theory.proofs.{SemanticsEquality.{answers-claim}, SetMachine.{table-of-iff}}
 use Rattle.theory.proofs.{ExploredStates.{in-order, explored-words, explored-different}, BitSets.{same-bits-iff, same-as-bits}}

@@ -6,10 +6,14 @@ use Prim.Native.Nat.{ℕ, zero, suc, _+_, _*_, _≤_, _<_, zero-le, suc-le-suc}
 use native.Mathlib.{Nat.{mul-suc, mul-add, mul-assoc, suc-mul}, Omega.{arith}}
 use lib.{Dec.{eqb}, ListN.{length}}
 use borrow.Author.Tests.{eqb-true, eqb-false}
-use Rattle.theory.specs.Formula.{Formula, truth, variable, transition, output, conjunction, greatest, size, binders, FreeBelow, OpenPosition}
-use Rattle.theory.specs.{Formula.{ClosedPosition, Fits, WellFormed, Accepted}, MealyMachine.{Machine, Runs, States}}
-use Rattle.theory.specs.CharacteristicFormula.{OpenAt, here, above, Writes, already-open, opened, Rows, last-row, row, one-more, open-at, variable-or}
-use Rattle.theory.specs.CharacteristicFormula.{rows, write, written}
+use Rattle.theory.specs.Formula.{Formula, truth, variable, transition, output, conjunction, greatest, size}
+use Rattle.theory.specs.FormulaClasses.{binders, FreeBelow, OpenPosition}
+use Rattle.theory.specs.FormulaClasses.{ClosedPosition, Fits, WellFormed, Accepted}
+use Rattle.theory.specs.MealyMachine.{Machine, States}
+use Rattle.theory.specs.MachineRuns.{Runs}
+use Rattle.theory.specs.CharacteristicFormula.{OpenAt, here, above, Writes, already-open, opened, Rows, last-row, row}
+use Rattle.theory.specs.FormulaWriting.{one-more, open-at, variable-or}
+use Rattle.theory.specs.FormulaWriting.{rows, write, written}
 use Rattle.theory.proofs.{Substitution.{accepted-well-formed}, DistinctLists.{Distinct, distinct-below}}
 
 -- ---- where a state is open on a path

@@ -6,7 +6,8 @@ use Prim.Native.Nat.{ℕ, suc, _+_, _≤_, _<_}
 use native.Mathlib.{Omega.{arith}, Decide.{decLt}}
 use lib.{Dec.{eqb}, ListN.{length, length-append}}
 use borrow.Author.Tests.{eq-eqb, ne-eqb}
-use Rattle.theory.specs.Formula.{Formula, truth, variable, transition, output, conjunction, greatest, size, binders, OpenPosition, ClosedPosition}
+use Rattle.theory.specs.Formula.{Formula, truth, variable, transition, output, conjunction, greatest, size}
+use Rattle.theory.specs.FormulaClasses.{binders, OpenPosition, ClosedPosition}
 use Rattle.theory.specs.{MealyMachine.{Machine}, Demands.{NodeSet}, DemandSets.{empty, union, demands, moved}}
 use Rattle.theory.proofs.{NodeSets.{union-empty, empty-union, only-self, only-other}, DistinctLists.{Distinct, distinct-append}}
 use Rattle.theory.proofs.CharacteristicFormula.{Tree, bound, binding, Branches, last-branch, branch, tree-position, branches-position}

@@ -6,7 +6,8 @@ use mathlib.Core.List.{Memᴰ·append-left, Memᴰ·append-right, Memᴰ·cast}
 use Prim.Native.Nat.{ℕ, zero, suc, _+_, _≤_, _<_, zero-le}
 use native.Mathlib.{Nat.{le-of-suc-le-suc, not-suc-le-zero, eq-or-lt-of-le}, Omega.{arith}}
 use lib.{Dec.{eqb}, ListN.{length, getD, length-map, List·getD-map}}
-use Rattle.theory.specs.Formula.{Formula, transition, output, conjunction, greatest, size, binders, ClosedPosition}
+use Rattle.theory.specs.Formula.{Formula, transition, output, conjunction, greatest, size}
+use Rattle.theory.specs.FormulaClasses.{binders, ClosedPosition}
 use Rattle.theory.specs.{MealyMachine.{Machine, Word, after}, Demands.{NodeSet}, ReachableStates.{Numbering, IsTable}}
 use Rattle.theory.specs.{CharacteristicFormula.{Writes}, DemandSets.{empty, union, binder-set, demands, moved, set-machine, first-set}}
 use Rattle.theory.proofs.{NodeSets.{union-empty, empty-union}, WordOrder.{word-append}, ReachableStates.{after-append}}

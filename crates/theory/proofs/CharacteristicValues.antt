@@ -5,8 +5,11 @@ use native.Mathlib.{Nat.{eq-or-lt-of-le}, Omega.{arith}}
 use lib.{Dec.{eqb}, ListN.{length}}
 use borrow.Author.Tests.{eq-eqb, ne-eqb}
 use Rattle.theory.specs.Semilattice.{MeetSemilattice}
-use Rattle.theory.specs.Formula.{Formula, truth, transition, output, conjunction, greatest, unfolded, WellFormed}
-use Rattle.theory.specs.{MealyMachine.{Machine, Word, after, Runs, States}, CharacteristicFormula.{OpenAt, here, above, Writes}}
+use Rattle.theory.specs.Formula.{Formula, truth, transition, output, conjunction, greatest, unfolded}
+use Rattle.theory.specs.FormulaClasses.{WellFormed}
+use Rattle.theory.specs.MealyMachine.{Machine, Word, after, States}
+use Rattle.theory.specs.MachineRuns.{Runs}
+use Rattle.theory.specs.CharacteristicFormula.{OpenAt, here, above, Writes}
 use Rattle.theory.specs.Evaluation.{value, follower, formulas}
 use Rattle.theory.proofs.{Order.{top-meet, top-top}, Substitution.{open-position-guarded, closed-position-guarded}}
 use Rattle.theory.proofs.Instantiation.{instantiate, nth, instantiate-transition, instantiate-output, instantiate-conjunction, instantiate-greatest}

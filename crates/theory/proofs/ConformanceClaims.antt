@@ -3,8 +3,11 @@ use mathlib.Core.{Path.{_≡_, refl}, Bool.{Bool, true, false}, Logic.{_↔_}, L
 use Prim.Native.Nat.{ℕ, _<_}
 use native.Mathlib.Omega.{arith}
 use lib.Dec.{T}
-use Rattle.theory.specs.{Semilattice.{MeetSemilattice, AtOrBelow}, MealyMachine.{Machine, Runs, States, SimulatedTable, BelowOnWords}}
-use Rattle.theory.specs.{Conformance.{counterexample}, Claims.{TableSimulationClaim, ConformanceClaim}}
+use Rattle.theory.specs.Semilattice.{MeetSemilattice, AtOrBelow}
+use Rattle.theory.specs.MealyMachine.{Machine, States}
+use Rattle.theory.specs.MachineRuns.{Runs, SimulatedTable, BelowOnWords}
+use Rattle.theory.specs.ConformanceCheck.{counterexample}
+use Rattle.theory.specs.Claims.{TableSimulationClaim, ConformanceClaim}
 use Rattle.theory.proofs.{Simulation.{simulation-below}, Conformance.{conformance}}
 
 is-none : {A : Type 0} → Option A → Bool

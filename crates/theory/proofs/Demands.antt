@@ -5,7 +5,8 @@ use Prim.Native.Nat.{ℕ, zero, suc, _+_, _<_, zero-le, suc-le-suc}
 use native.Mathlib.Omega.{arith}
 use lib.{Dec.{T, eqb, eqb→eq, eqb-refl}, ListN.{length, getD}}
 use Rattle.theory.specs.Semilattice.{MeetSemilattice}
-use Rattle.theory.specs.Formula.{Formula, truth, variable, transition, output, conjunction, greatest, size, Guarded, Fits}
+use Rattle.theory.specs.Formula.{Formula, truth, variable, transition, output, conjunction, greatest, size}
+use Rattle.theory.specs.FormulaClasses.{Guarded, Fits}
 use Rattle.theory.specs.PrefixCode.{Node, nodes, Stands, root, part-of-transition, left-part, right-part, part-of-greatest}
 use Rattle.theory.specs.Demands.{NodeSet, Demands, of-transition, of-output, of-left, of-right, of-greatest, of-variable, IsFirstSet, InNextSet}
 use Rattle.theory.specs.{Demands.{IsNextSet, outputs, meet-all, value-of-set}, DemandSets.{empty, binder-set, demands, moved, first-set}}

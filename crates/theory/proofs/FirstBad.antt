@@ -5,7 +5,9 @@ use mathlib.Core.Option.{Option, none, some}
 use Prim.Native.Nat.{ℕ, zero, suc, _+_, _*_, _≤_, _<_, zero-le, suc-le-suc}
 use native.Mathlib.{Nat.{le-of-suc-le-suc, not-suc-le-zero, eq-or-lt-of-le, mul-le-mul-right}, Omega.{arith}}
 use lib.{Dec.{T}, ListN.{length}}
-use Rattle.theory.specs.{MealyMachine.{Word}, Exploration.{reached, explored}, Conformance.{bad-event, or-else, first-bad}}
+use Rattle.theory.specs.MealyMachine.{Word}
+use Rattle.theory.specs.Exploration.{reached, explored}
+use Rattle.theory.specs.ConformanceCheck.{bad-event, or-else, first-bad}
 use Rattle.theory.proofs.{Numbers.{digits-less}, WordOrder.{code}, Exploration.{at, Kept, Hits, invariant, all-reached}}
 
 module _ {S : Type 0} (next : S → ℕ → S) (start : S) (bad : S → ℕ → Bool) (events : ℕ) where

@@ -3,8 +3,9 @@ use mathlib.Core.{Path.{_≡_, refl, _∙_, ap, subst}, List.{List, [], _∷_}}
 use Prim.Native.Nat.{ℕ, zero, suc, _+_, _<_, zero-le}
 use native.Mathlib.{Nat.{le-of-suc-le-suc, not-suc-le-zero}, Omega.{arith}}
 use lib.ListN.{length}
-use Rattle.theory.specs.Formula.{Formula, truth, variable, transition, output, conjunction, greatest, FreeBelow, Closed, substitute, Guarded, Fits}
-use Rattle.theory.specs.Formula.{WellFormed}
+use Rattle.theory.specs.Formula.{Formula, truth, variable, transition, output, conjunction, greatest, substitute}
+use Rattle.theory.specs.FormulaClasses.{FreeBelow, Closed, Guarded, Fits}
+use Rattle.theory.specs.FormulaClasses.{WellFormed}
 use Rattle.theory.proofs.Substitution.{substitute-same, substitute-other, substitute-free, free-substitute, guarded-substitute, fits-substitute}
 
 module _ {B : Type 0} where

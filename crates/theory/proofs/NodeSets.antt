@@ -6,7 +6,8 @@ use native.Mathlib.Omega.{arith}
 use lib.Dec.{T, eqb, eqb→eq, eqb-refl}
 use borrow.Author.Tests.{eq-eqb, ne-eqb}
 use Rattle.theory.specs.Semilattice.{MeetSemilattice}
-use Rattle.theory.specs.Formula.{Formula, truth, variable, transition, output, conjunction, greatest, size, GuardedIn, Fits}
+use Rattle.theory.specs.Formula.{Formula, truth, variable, transition, output, conjunction, greatest, size}
+use Rattle.theory.specs.FormulaClasses.{GuardedIn, Fits}
 use Rattle.theory.specs.{Demands.{NodeSet}, DemandSets.{empty, only, union, binder-set, demands, moved}}
 use Rattle.theory.proofs.Order.{top-meet, top-top, meet-swap}
 

@@ -5,7 +5,9 @@ use mathlib.Core.List.{List, [], _∷_, _++_, reverse, reverse-cons, reverse-rev
 use Prim.Native.Nat.{ℕ, zero, suc, _≤_, _<_, zero-le}
 use native.Mathlib.Omega.{arith}
 use lib.{ListN.{length, getD}, Seq.{ext-getD}}
-use Rattle.theory.specs.{MealyMachine.{Machine, Word, after, Runs, States}, WordOrder.{Before, NoLater}}
+use Rattle.theory.specs.MealyMachine.{Machine, Word, after, States}
+use Rattle.theory.specs.MachineRuns.{Runs}
+use Rattle.theory.specs.WordOrder.{Before, NoLater}
 use Rattle.theory.specs.{ReachableStates.{state-at, Numbering, IsTable}, Exploration.{reached}}
 use Rattle.theory.proofs.Numbers.{Comparison, less, equal, greater, comparison}
 use Rattle.theory.proofs.WordOrder.{not-before-empty, before-irreflexive, before-asymmetric, no-later-antisymmetric}

@@ -4,8 +4,12 @@ use Prim.Native.Nat.{ℕ, zero, suc, _<_}
 use native.Mathlib.Nat.{le-of-suc-le-suc, not-suc-le-zero}
 use lib.ListN.{length}
 use Rattle.theory.specs.Semilattice.{MeetSemilattice}
-use Rattle.theory.specs.Formula.{Formula, truth, variable, transition, output, conjunction, greatest, FreeBelow, GuardedIn, Guarded, Fits, WellFormed}
-use Rattle.theory.specs.{MealyMachine.{Machine, Runs, BelowOnWords}, Satisfaction.{extend, SatisfiesIn}, Evaluation.{formulas}}
+use Rattle.theory.specs.Formula.{Formula, truth, variable, transition, output, conjunction, greatest}
+use Rattle.theory.specs.FormulaClasses.{FreeBelow, GuardedIn, Guarded, Fits, WellFormed}
+use Rattle.theory.specs.MealyMachine.{Machine}
+use Rattle.theory.specs.MachineRuns.{Runs, BelowOnWords}
+use Rattle.theory.specs.Satisfaction.{extend, SatisfiesIn}
+use Rattle.theory.specs.Evaluation.{formulas}
 use Rattle.theory.specs.Claims.{SatisfactionClaim}
 use Rattle.theory.proofs.Instantiation.{instantiate, nth, instantiate-truth, instantiate-transition, instantiate-output, instantiate-conjunction}
 use Rattle.theory.proofs.Instantiation.{instantiate-greatest, instantiate-variable, AllWellFormed, all-closed, well-formed-instantiate}

@@ -4,7 +4,8 @@ use Prim.Native.Nat.{ℕ, zero, suc, _<_}
 use native.Mathlib.{Nat.{not-suc-le-zero}, Omega.{arith}}
 use lib.Dec.{eqb}
 use borrow.Author.Tests.{eqb-true, eqb-false, eq-eqb, ne-eqb}
-use Rattle.theory.specs.Formula.{Formula, truth, variable, transition, output, conjunction, greatest, unfolded, WellFormed}
+use Rattle.theory.specs.Formula.{Formula, truth, variable, transition, output, conjunction, greatest, unfolded}
+use Rattle.theory.specs.FormulaClasses.{WellFormed}
 use Rattle.theory.specs.Semantics.{Steps, of-truth, of-transition, of-other-transition, of-output, of-other-output, of-conjunction, of-greatest, Answers}
 use Rattle.theory.specs.{Semantics.{now, later}, MealyMachine.{after}, Evaluation.{unguarded-depth, step-in, step, value, follower, formulas}}
 use Rattle.theory.specs.Claims.{SemanticsClaim, AnswersClaim, ConjunctionClaim}

@@ -4,8 +4,10 @@ use Prim.Native.Nat.{ℕ, zero, suc, max, _≤_, zero-le, suc-le-suc}
 use native.Mathlib.{Nat.{lt-of-lt-of-le}, Omega.{arith}}
 use lib.Dec.{eqb}
 use borrow.Author.Tests.{eqb-true, eqb-false, eq-eqb, ne-eqb}
-use Rattle.theory.specs.Formula.{Formula, truth, variable, transition, output, conjunction, greatest, FreeBelow, Closed, substitute, OpenPosition}
-use Rattle.theory.specs.{Formula.{ClosedPosition, GuardedIn, Guarded, Fits, WellFormed, Accepted}, Evaluation.{unguarded-depth}}
+use Rattle.theory.specs.Formula.{Formula, truth, variable, transition, output, conjunction, greatest, substitute}
+use Rattle.theory.specs.FormulaClasses.{FreeBelow, Closed, OpenPosition}
+use Rattle.theory.specs.FormulaClasses.{ClosedPosition, GuardedIn, Guarded, Fits, WellFormed, Accepted}
+use Rattle.theory.specs.Evaluation.{unguarded-depth}
 
 module _ {B : Type 0} where
   -- What substitution makes of a variable.

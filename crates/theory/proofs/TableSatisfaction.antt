@@ -6,8 +6,12 @@ use native.Mathlib.{Omega.{arith}, Decide.{decLt}}
 use lib.Dec.{T, ltb, lt→ltb, ltb→lt}
 use mir.Facts.{and-yes, yes-and}
 use Rattle.theory.specs.Semilattice.{MeetSemilattice, AtOrBelow}
-use Rattle.theory.specs.Formula.{Formula, truth, variable, transition, output, conjunction, greatest, Fits}
-use Rattle.theory.specs.{MealyMachine.{Machine, Runs, States}, Satisfaction.{extend, SatisfiesIn, TableSatisfiesIn}}
+use Rattle.theory.specs.Formula.{Formula, truth, variable, transition, output, conjunction, greatest}
+use Rattle.theory.specs.FormulaClasses.{Fits}
+use Rattle.theory.specs.MealyMachine.{Machine, States}
+use Rattle.theory.specs.MachineRuns.{Runs}
+use Rattle.theory.specs.Satisfaction.{extend, SatisfiesIn}
+use Rattle.theory.specs.TableSatisfaction.{TableSatisfiesIn}
 use Rattle.theory.specs.Claims.{TableSatisfactionClaim}
 use Rattle.theory.proofs.Counting.{count, count-le, Inside, inside-or-fewer}
 

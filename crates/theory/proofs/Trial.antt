@@ -1,8 +1,13 @@
 -- A device passes against the table of a formula exactly if its start satisfies the formula by the set definition.
 use mathlib.Core.{Path.{_≡_, subst, subst⁻¹}, Logic.{_↔_, Iff·trans, Iff·symm}, List.{List}}
 use Prim.Native.Nat.{ℕ, zero, _<_}
-use Rattle.theory.specs.{Semilattice.{MeetSemilattice, AtOrBelow}, Formula.{Formula, WellFormed}}
-use Rattle.theory.specs.{MealyMachine.{Machine, Word, after, States, BelowOnWords}, Evaluation.{value, formulas}, ReachableStates.{IsTableOf}}
+use Rattle.theory.specs.Semilattice.{MeetSemilattice, AtOrBelow}
+use Rattle.theory.specs.Formula.{Formula}
+use Rattle.theory.specs.FormulaClasses.{WellFormed}
+use Rattle.theory.specs.MealyMachine.{Machine, Word, after, States}
+use Rattle.theory.specs.MachineRuns.{BelowOnWords}
+use Rattle.theory.specs.Evaluation.{value, formulas}
+use Rattle.theory.specs.ReachableStates.{IsTableOf}
 use Rattle.theory.specs.Claims.{TrialClaim}
 use Rattle.theory.proofs.{SemanticsEquality.{only-answer}, Satisfaction.{satisfies-iff}, TableSatisfaction.{table-satisfaction-claim}}
 use Rattle.theory.proofs.{TableClaims.{table-values-claim}, ConformanceClaims.{passes-iff}}

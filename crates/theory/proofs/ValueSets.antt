@@ -5,8 +5,10 @@ use native.Mathlib.{Nat.{le-of-suc-le-suc, not-suc-le-zero, mod-eq-of-lt, eq-or-
 use borrow.Author.Tests.{ltb-true, eqb-true, lt-ltb, eq-eqb}
 use lib.{Dec.{ltb}, Pow.{pow-pos, pow-mono}, Bits.{bitAnd, and-comm, and-self, and-lt, and-mask, and-step, and-zero-l, and-mod, and-shr}}
 use Rattle.theory.specs.Semilattice.{MeetSemilattice}
-use Rattle.theory.specs.ValueSets.{Below, meetAt, four-value-meet, Masks, OfLines, meet-masks, top-masks, pack, unpack}
-use Rattle.theory.specs.ValueSetClaims.{every, closed-test, idempotent-test, commutative-test, associative-test, neutral-test, lawful, LawfulClaim}
+use Rattle.theory.specs.ValueSets.{Below, meetAt, four-value-meet, Masks, OfLines, top-masks, pack, unpack}
+use Rattle.theory.specs.ValueSetClaims.{meet-masks}
+use Rattle.theory.specs.ValueSetTests.{every, closed-test, idempotent-test, commutative-test, associative-test, neutral-test, lawful}
+use Rattle.theory.specs.ValueSetClaims.{LawfulClaim}
 use Rattle.theory.specs.ValueSetClaims.{FourValueClaim, MasksClaim, PackingClaim, PackedClaim}
 
 -- Tests joined by `&&`.

@@ -3,7 +3,8 @@ use mathlib.Core.{Path.{_≡_, refl, ap}, List.{List, [], _∷_}}
 use Prim.Native.Nat.{ℕ, zero, suc, _<_}
 use native.Mathlib.Nat.{not-suc-le-zero, le-of-suc-le-suc}
 use lib.ListN.{length, getD, take}
-use Rattle.theory.specs.MealyMachine.{Machine, after, word-values}
+use Rattle.theory.specs.MealyMachine.{Machine, after}
+use Rattle.theory.specs.MachineRuns.{word-values}
 
 pub length-word-values : (m : Machine ℕ ℕ) (q : ℕ) (w : List ℕ) → length (word-values m q w) ≡ length w
 length-word-values m q [] = refl

@@ -1,24 +1,21 @@
 -- The theorems of this crate as propositions, for every meet-semilattice and every limit; proofs/Claims has a proof of each.
-use mathlib.Core.Path.{_≡_}
-use mathlib.Core.Bool.{Bool}
-use mathlib.Core.Logic.{_↔_}
-use mathlib.Core.List.{List, []}
-use mathlib.Core.Option.{none, some}
+use mathlib.Core.{Path.{_≡_}, Bool.{Bool}, Logic.{_↔_, _⊎_}, List.{List, []}, Option.{none, some}}
 use Prim.Native.Nat.{ℕ, zero, suc, _+_, _*_, _≤_, _<_}
-use lib.Dec.{T}
-use lib.ListN.{length}
-use Rattle.theory.specs.Semilattice.{MeetSemilattice, AtOrBelow}
-use Rattle.theory.specs.Formula.{Formula, conjunction, size, binders, Closed, ClosedPosition, Fits, WellFormed, Accepted}
-use Rattle.theory.specs.Semantics.{Steps, Answers}
-use Rattle.theory.specs.MealyMachine.{Machine, Word, after, Runs, States, Simulated, SimulatedTable, BelowOnWords}
-use Rattle.theory.specs.Satisfaction.{Satisfies, TableSatisfies}
-use Rattle.theory.specs.Demands.{NodeSet, IsTransitionOrOutput, IsSetMachine}
-use Rattle.theory.specs.ReachableStates.{Numbering, IsTable, IsTableOf, StatesAtMost}
-use Rattle.theory.specs.CharacteristicFormula.{Writes, written}
-use Rattle.theory.specs.Conformance.{FirstCounterexample, counterexample}
-use Rattle.theory.specs.Evaluation.{value, follower, formulas}
-use Rattle.theory.specs.DemandSets.{set-machine, first-set}
-use Rattle.theory.specs.Exploration.{state-count, table-of}
+use lib.{Dec.{T}, ListN.{length}}
+use Rattle.theory.specs.{Semilattice.{MeetSemilattice, AtOrBelow}, Formula.{Formula, transition, output, conjunction, size}}
+use Rattle.theory.specs.{FormulaClasses.{binders, Closed, ClosedPosition, Fits, WellFormed, Accepted}, Semantics.{Steps, Answers}}
+use Rattle.theory.specs.{MealyMachine.{Machine, Word, after, States, Simulated}, MachineRuns.{Runs, SimulatedTable, BelowOnWords}}
+use Rattle.theory.specs.{Satisfaction.{Satisfies}, TableSatisfaction.{TableSatisfies}, PrefixCode.{Stands}, Demands.{NodeSet, IsSetMachine}}
+use Rattle.theory.specs.{ReachableStates.{Numbering, IsTable, IsTableOf, StatesAtMost}, CharacteristicFormula.{Writes}, FormulaWriting.{written}}
+use Rattle.theory.specs.{Conformance.{FirstCounterexample}, ConformanceCheck.{counterexample}, Evaluation.{value, follower, formulas}}
+use Rattle.theory.specs.{DemandSets.{set-machine, first-set}, Exploration.{state-count, table-of}}
+
+-- Node d is a G or an O node: document 01's states are sets of such.
+module _ {B : Type 0} (φ : Formula B) where
+  abbrev pub IsTransitionOrOutput : ℕ → Type 0
+  IsTransitionOrOutput d =
+      ((bs : List ℕ) × (e : ℕ) × (ψ : Formula B) × Stands φ d bs (transition e ψ))
+      ⊎ ((bs : List ℕ) × (e : ℕ) × (b : B) × Stands φ d bs (output e b))
 
 -- The grammar's class lies in the wider guarded class.
 abbrev pub GrammarClaim : Type 1

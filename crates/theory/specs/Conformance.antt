@@ -1,14 +1,7 @@
--- The check of one table against another (document 01, "Trial").
-use mathlib.Core.Path.{_≡_}
-use mathlib.Core.Bool.{Bool, not, _&&_, cond}
-use mathlib.Core.List.{List, [], _∷_, _++_, reverse}
-use mathlib.Core.Option.{Option, none, some}
-use Prim.Native.Nat.{ℕ, zero, suc, _*_}
-use lib.Dec.{eqb}
-use Rattle.theory.specs.Semilattice.{AtOrBelow}
-use Rattle.theory.specs.MealyMachine.{Machine, Word, after}
-use Rattle.theory.specs.WordOrder.{NoLater}
-use Rattle.theory.specs.Exploration.{reached, explored}
+-- The words on which one table fails against another (document 01, "Trial").
+use mathlib.Core.{Path.{_≡_}, List.{List, [], _∷_, _++_}}
+use Prim.Native.Nat.{ℕ}
+use Rattle.theory.specs.{Semilattice.{AtOrBelow}, MealyMachine.{Machine, Word, after}, WordOrder.{NoLater}}
 
 -- A word after whose last event the value of s is not at or below that of t.
 module _ {B : Type 0} (events : ℕ) (meet : B → B → B) (m q : Machine ℕ B) (s t : ℕ) where
@@ -23,38 +16,3 @@ module _ {B : Type 0} (events : ℕ) (meet : B → B → B) (m q : Machine ℕ B
   pub record FirstCounterexample (word : List ℕ) : Type 0 where
     pub fails : Counterexample word
     pub first : (other : List ℕ) → Counterexample other → NoLater word other
-
--- The same computed: breadth first over pairs of states, each pair judged once, events rising.
-abbrev pub or-else : Option (List ℕ) → Option (List ℕ) → Option (List ℕ)
-or-else none o = o
-or-else (some w) o = some w
-
-abbrev pub same-pair : ℕ × ℕ → ℕ × ℕ → Bool
-same-pair x y = eqb (x .0) (y .0) && eqb (x .1) (y .1)
-
-abbrev pub in-play-order : Option (List ℕ) → Option (List ℕ)
-in-play-order none = none
-in-play-order (some w) = some (reverse w)
-
-module _ {S : Type 0} (next : S → ℕ → S) (start : S) (bad : S → ℕ → Bool) where
-  -- Among the words w, then one of c events from e on. Words have their last event first.
-  abbrev pub bad-event : ℕ → ℕ → List ℕ → Option (List ℕ)
-  bad-event zero e w = none
-  bad-event (suc c) e w = cond (bad (reached next start w) e) (some (e ∷ w)) (bad-event c (suc e) w)
-
-  abbrev pub first-bad : ℕ → List (List ℕ) → Option (List ℕ)
-  first-bad events [] = none
-  first-bad events (w ∷ P) = or-else (bad-event events zero w) (first-bad events P)
-
--- The pair of states after an event.
-abbrev pub next-pair : {B : Type 0} → Machine ℕ B → Machine ℕ B → ℕ × ℕ → ℕ → ℕ × ℕ
-next-pair m q x e = (m .next (x .0) e, q .next (x .1) e)
-
-module _ {B : Type 0} (at-or-below : B → B → Bool) (m q : Machine ℕ B) where
-  abbrev pub bad-pair : ℕ × ℕ → ℕ → Bool
-  bad-pair x e = not (at-or-below (m .value (x .0) e) (q .value (x .1) e))
-
-  -- The first word on which a table of n states fails against one of k states.
-  abbrev pub counterexample : ℕ → ℕ → ℕ → ℕ → ℕ → Option (List ℕ)
-  counterexample events n k s t =
-      in-play-order (first-bad (next-pair m q) (s, t) bad-pair events (explored same-pair (next-pair m q) (s, t) events (n * k)))

@@ -1,13 +1,8 @@
 -- Demands, and the sets of nodes that are the states of a formula's table (document 01, "Table of a rule").
-use mathlib.Core.Path.{_≡_}
-use mathlib.Core.Logic.{_↔_, _⊎_}
-use mathlib.Core.Bool.{Bool, _&&_, cond}
-use mathlib.Core.List.{List, [], _∷_}
+use mathlib.Core.{Path.{_≡_}, Logic.{_↔_}, Bool.{Bool, _&&_, cond}, List.{List, [], _∷_}}
 use Prim.Native.Nat.{ℕ, zero, suc, _+_, _<_}
-use lib.Dec.{T, eqb}
-use lib.ListN.{length, getD}
-use Rattle.theory.specs.Formula.{Formula, variable, transition, output, conjunction, greatest, size}
-use Rattle.theory.specs.MealyMachine.{Machine}
+use lib.{Dec.{T, eqb}, ListN.{length, getD}}
+use Rattle.theory.specs.{Formula.{Formula, variable, transition, output, conjunction, greatest, size}, MealyMachine.{Machine}}
 use Rattle.theory.specs.PrefixCode.{Node, truth-node, variable-node, transition-node, output-node, conjunction-node, greatest-node, nodes, Stands}
 
 -- A set of node numbers.
@@ -26,12 +21,6 @@ module _ {B : Type 0} (φ : Formula B) where
     of-greatest : {i d : ℕ} {bs : List ℕ} {ψ : Formula B} → Stands φ i bs (greatest ψ) → Demands (suc i) d → Demands i d
     of-variable :
         {i d n : ℕ} {bs : List ℕ} → Stands φ i bs (variable n) → n < length bs → Demands (getD bs n zero) d → Demands i d
-
-  -- Node d is a G or an O node. A state is a set of such node numbers.
-  abbrev pub IsTransitionOrOutput : ℕ → Type 0
-  IsTransitionOrOutput d =
-      ((bs : List ℕ) × (e : ℕ) × (ψ : Formula B) × Stands φ d bs (transition e ψ))
-      ⊎ ((bs : List ℕ) × (e : ℕ) × (b : B) × Stands φ d bs (output e b))
 
   -- State 0 is the root's demands.
   abbrev pub IsFirstSet : NodeSet → Type 0

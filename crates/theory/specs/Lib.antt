@@ -2,8 +2,6 @@
 -- Value sets and their order.
 pub mod Semilattice
 pub mod ValueSets
--- What is claimed of the two kinds of values.
-pub mod ValueSetClaims
 -- Formulas and their meaning.
 pub mod Formula
 pub mod Semantics
@@ -15,12 +13,20 @@ pub mod PrefixCode
 pub mod Demands
 pub mod WordOrder
 pub mod ReachableStates
--- The formula of a table; the check of one table against another.
+-- The formula of a table; the words on which one table fails against another.
 pub mod CharacteristicFormula
 pub mod Conformance
--- The theorems as propositions.
-pub mod Claims
--- What contracts compute with: the computing twins of Semantics, Demands and ReachableStates.
+-- What contracts compute with: the twins of Semilattice, Semantics, Demands, ReachableStates, CharacteristicFormula and Conformance.
+pub mod ValueSetTests
 pub mod Evaluation
 pub mod DemandSets
 pub mod Exploration
+pub mod FormulaWriting
+pub mod ConformanceCheck
+-- What is proved with: classes of formulas, machines on words, decided relations and sets.
+pub mod FormulaClasses
+pub mod MachineRuns
+pub mod TableSatisfaction
+-- The theorems as propositions.
+pub mod ValueSetClaims
+pub mod Claims

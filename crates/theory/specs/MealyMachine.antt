@@ -1,9 +1,7 @@
 -- Mealy machines, values on event sequences, and simulation (source 000, section 2, definition 1).
 -- Document 01 calls a machine whose states are numbers a table, or a device where it is judged.
-use mathlib.Core.Bool.{Bool}
 use mathlib.Core.List.{List, [], _∷_}
 use Prim.Native.Nat.{ℕ, _<_}
-use lib.Dec.{T}
 use Rattle.theory.specs.Semilattice.{AtOrBelow}
 
 -- In each state, on each event, a value and a next state.
@@ -21,16 +19,6 @@ abbrev pub after : {S B : Type 0} → Machine S B → S → List ℕ → S
 after m s [] = s
 after m s (e ∷ w) = after m (m .next s e) w
 
--- The values of a sequence from a state: "An event returns the value and moves to the next state".
-abbrev pub word-values : {S B : Type 0} → Machine S B → S → List ℕ → List B
-word-values m s [] = []
-word-values m s (e ∷ w) = m .value s e ∷ word-values m (m .next s e) w
-
--- The states are those of `State`: from each of them every event gives a value of the set and leads to one of them.
-pub record Runs {S B : Type 0} (events : ℕ) (In : B → Type 0) (State : S → Type 0) (m : Machine S B) : Type 0 where
-  pub value-in : (s : S) → State s → (e : ℕ) → e < events → In (m .value s e)
-  pub next-in : (s : S) → State s → (e : ℕ) → e < events → State (m .next s e)
-
 -- The states of a table are the numbers below n.
 abbrev pub States : ℕ → ℕ → Type 0
 States n s = s < n
@@ -46,16 +34,3 @@ module _ {B S Q : Type 0} (events : ℕ) (meet : B → B → B)
   -- s is simulated by t: some simulation holds between them.
   abbrev pub Simulated : S → Q → Type 1
   Simulated s t = (R : S → Q → Type 0) × IsSimulation R × R s t
-
--- Definition 1 between tables of n and k states, with decided relations: the same, and it can stand in a contract.
-module _ {B : Type 0} (events : ℕ) (meet : B → B → B) (n : ℕ) (m : Machine ℕ B) (k : ℕ) (q : Machine ℕ B) where
-  abbrev pub SimulatedTable : ℕ → ℕ → Type 0
-  SimulatedTable s t =
-      (R : ℕ → ℕ → Bool) × IsSimulation events meet (States n) m (States k) q (λ x y. T (R x y)) × T (R s t)
-
--- After every sequence (w, then e) the value of s is at or below that of t.
-module _ {B S Q : Type 0} (events : ℕ) (meet : B → B → B) (m : Machine S B) (q : Machine Q B) where
-  abbrev pub BelowOnWords : S → Q → Type 0
-  BelowOnWords s t =
-      (w : List ℕ) → Word events w → (e : ℕ) → e < events →
-      AtOrBelow meet (m .value (after m s w) e) (q .value (after q t w) e)

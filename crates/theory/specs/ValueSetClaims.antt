@@ -1,42 +1,17 @@
--- What is claimed of the two kinds of values (document 01, "Value sets"; document 02, F-7), and the test of a meet table's laws.
-use mathlib.Core.Path.{_≡_}
-use mathlib.Core.Logic.{_↔_}
-use mathlib.Core.Bool.{Bool, true, _&&_}
-use mathlib.Core.List.{List}
-use Prim.Native.Nat.{ℕ, zero, suc, _^_, _≤_, _<_}
-use lib.Dec.{eqb, ltb}
+-- What is claimed of the two kinds of values (document 01, "Value sets"; document 02, F-7).
+use mathlib.Core.{Path.{_≡_}, Logic.{_↔_}, Bool.{true}, List.{List}}
+use Prim.Native.Nat.{ℕ, _^_, _≤_, _<_}
 use lib.Bits.{bitAnd}
-use Rattle.theory.specs.Semilattice.{MeetSemilattice}
-use Rattle.theory.specs.ValueSets.{Below, meetAt, four-value-meet, Masks, OfLines, meet-masks, top-masks, pack, unpack, Packed}
+use Rattle.theory.specs.{Semilattice.{MeetSemilattice}, ValueSets.{Below, meetAt, four-value-meet, Masks, OfLines, top-masks, pack, unpack}}
+use Rattle.theory.specs.ValueSetTests.{lawful}
 
--- A test passes at each number below n.
-unfoldable pub every : ℕ → (ℕ → Bool) → Bool
-every zero test = true
-every (suc n) test = test n && every n test
+-- Meet is the bitwise and of each mask.
+unfoldable pub meet-masks : Masks → Masks → Masks
+meet-masks a b = record { low = bitAnd (a .low) (b .low); high = bitAnd (a .high) (b .high) }
 
--- The laws of a table of n values as tests: of each value, of every two, of every three.
-unfoldable pub closed-test : ℕ → List ℕ → Bool
-closed-test n table = every n (λ a. every n (λ b. ltb (meetAt n table a b) n))
-
-unfoldable pub idempotent-test : ℕ → List ℕ → Bool
-idempotent-test n table = every n (λ a. eqb (meetAt n table a a) a)
-
-unfoldable pub commutative-test : ℕ → List ℕ → Bool
-commutative-test n table = every n (λ a. every n (λ b. eqb (meetAt n table a b) (meetAt n table b a)))
-
-unfoldable pub associative-test : ℕ → List ℕ → Bool
-associative-test n table =
-    every n (λ a. every n (λ b. every n (λ c. eqb (meetAt n table (meetAt n table a b) c) (meetAt n table a (meetAt n table b c)))))
-
-unfoldable pub neutral-test : ℕ → List ℕ → ℕ → Bool
-neutral-test n table top = every n (λ a. eqb (meetAt n table a top) a)
-
--- The computing twin of `MeetSemilattice (Below n) (meetAt n table) top`.
-unfoldable pub lawful : ℕ → List ℕ → ℕ → Bool
-lawful n table top =
-    ltb top n
-    && (closed-test n table
-    && (idempotent-test n table && (commutative-test n table && (associative-test n table && neutral-test n table top))))
+-- The packed register values of some lines, with bitwise and as meet.
+abbrev pub Packed : ℕ → ℕ → Type 0
+Packed lines v = OfLines lines (unpack v)
 
 -- The test passes exactly if the laws hold, at every size.
 abbrev pub LawfulClaim : Type 0

@@ -3,7 +3,6 @@
 use mathlib.Core.List.{List, [], _∷_}
 use Prim.Native.Nat.{ℕ, _+_, _*_, _-_, _/_, _%_, _^_, _<_}
 use lib.ListN.{getD}
-use lib.Bits.{bitAnd}
 
 -- Values are the numbers below n.
 abbrev pub Below : ℕ → ℕ → Type 0
@@ -27,10 +26,6 @@ pub record OfLines (lines : ℕ) (m : Masks) : Type 0 where
   pub low : m .low < 2 ^ lines
   pub high : m .high < 2 ^ lines
 
--- Meet is the bitwise and of each mask.
-unfoldable pub meet-masks : Masks → Masks → Masks
-meet-masks a b = record { low = bitAnd (a .low) (b .low); high = bitAnd (a .high) (b .high) }
-
 -- Top has all lines' bits set in both masks.
 unfoldable pub top-masks : ℕ → Masks
 top-masks lines = record { low = 2 ^ lines - 1; high = 2 ^ lines - 1 }
@@ -41,7 +36,3 @@ pack m = m .low + 65536 * m .high
 
 unfoldable pub unpack : ℕ → Masks
 unpack v = record { low = v % 65536; high = v / 65536 }
-
--- The packed register values of some lines, with bitwise and as meet.
-abbrev pub Packed : ℕ → ℕ → Type 0
-Packed lines v = OfLines lines (unpack v)

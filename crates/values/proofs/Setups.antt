@@ -8,10 +8,11 @@ use lib.{Arith.{digits-lt}, Dec.{leb, eqb, lit≤}, ListN.{length, getD}}
 use Rattle.refusal.specs.declared.Refusal.{Refusal}
 use Rattle.refusal.specs.declared.Refusal.the-variants.{Plain}
 use Rattle.refusal.specs.declared.Judgement.the-variants.{Accepted, Refused}
-use Rattle.refusal.specs.Refusal.{Condition, plain, First, plain-unless, or-else, has-place, order, part-of, condition-numbers, right-places, Judged, judgement}
+use Rattle.refusal.specs.Refusal.{Condition, plain, First, has-place, order, part-of, condition-numbers, right-places, Judged}
+use Rattle.refusal.specs.RefusalAnswers.{plain-unless, or-else, judgement}
 use Rattle.refusal.proofs.Refusals.{plain-first, first-append, judged, or-else-none, plain-none}
 use Rattle.theory.specs.{Semilattice.{MeetSemilattice}, ValueSets.{meetAt, four-value-meet}}
-use Rattle.theory.specs.ValueSetClaims.{closed-test, idempotent-test, commutative-test, associative-test, neutral-test, lawful}
+use Rattle.theory.specs.ValueSetTests.{closed-test, idempotent-test, commutative-test, associative-test, neutral-test, lawful}
 use Rattle.theory.proofs.ValueSets.{and-left, and-right, and-both, and-cases, every-at, every-of, every-some, laws-of-test, test-of-laws}
 use Rattle.theory.proofs.ValueSets.{four-value-semilattice}
 use Rattle.limits.specs.Limits.{event-limit, value-limit, meet-limit, line-limit}
@@ -19,7 +20,8 @@ use Rattle.values.specs.declared.ValueKind.{ValueKind}
 use Rattle.values.specs.declared.ValueKind.the-variants.{Numbered, Register}
 use Rattle.values.specs.ValueKind.{ValueIn, meetOf, topOf}
 use Rattle.values.specs.Setup.{Setup, setup, EventsFault, ValuesFault, values-out-of-limits, top-not-below, MeetFault, length-wrong, entry-not-below}
-use Rattle.values.specs.Setup.{law-broken, LinesFault, kind-conditions, setup-conditions, KindInLimits, WellFormed}
+use Rattle.values.specs.Setup.{law-broken, LinesFault, kind-conditions, setup-conditions}
+use Rattle.values.specs.SetupInOrder.{KindInLimits, WellFormed}
 use Rattle.values.specs.SetupTests.{events-test, values-test, entries-test, meet-test, lines-test, kind-refusal, setup-refusal, Square}
 use Rattle.values.specs.Claims.{SetupClaim, SetupAcceptedClaim, LawsClaim, FourValueSetupClaim}
 use Rattle.values.proofs.ValueKinds.{register-semilattice}

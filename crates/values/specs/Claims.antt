@@ -1,21 +1,12 @@
 -- What is claimed of values and set-ups; each claim is inhabited in proofs/.
-use mathlib.Core.Path.{_≡_}
-use mathlib.Core.Logic.{_↔_, _⊎_}
-use mathlib.Core.Bool.{true}
-use mathlib.Core.Option.{none}
-use mathlib.Core.List.{List}
+use mathlib.Core.{Path.{_≡_}, Logic.{_↔_, _⊎_}, Bool.{true}, Option.{none}, List.{List}}
 use Prim.Native.Nat.{ℕ, _+_, _≤_}
 use lib.ListN.{length, take, drop}
 use Rattle.limits.specs.Limits.{event-limit}
 use Rattle.refusal.specs.Refusal.{Judged}
-use Rattle.theory.specs.Semilattice.{AtOrBelow}
-use Rattle.theory.specs.ValueSets.{four-value-meet}
-use Rattle.values.specs.declared.ValueKind.{ValueKind}
-use Rattle.values.specs.ValueKind.{ValueIn, meetOf}
-use Rattle.values.specs.ValueTests.{value-fits, at-or-below}
-use Rattle.values.specs.ValueBytes.{value-width, value-bytes}
-use Rattle.values.specs.ValueReading.{value-from}
-use Rattle.values.specs.Setup.{Setup, setup, setup-conditions, WellFormed, Laws}
+use Rattle.theory.specs.{Semilattice.{AtOrBelow}, ValueSets.{four-value-meet}}
+use Rattle.values.specs.{declared.ValueKind.{ValueKind}, ValueKind.{ValueIn, meetOf}, ValueTests.{value-fits, at-or-below}}
+use Rattle.values.specs.{ValueBytes.{value-width, value-bytes, value-from}, Setup.{Setup, setup, setup-conditions, Laws}, SetupInOrder.{WellFormed}}
 use Rattle.values.specs.SetupTests.{setup-refusal}
 
 -- The test decides which numbers are values, and the comparison is the order.

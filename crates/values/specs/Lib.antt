@@ -3,11 +3,12 @@
 pub mod ValueKind
 -- Values in bytes.
 pub mod ValueBytes
--- A set-up, its refusals, and when it is accepted.
+-- A set-up and its refusals.
 pub mod Setup
--- What contracts compute with: tests of values, values read from bytes, tests of a set-up.
+-- What contracts compute with: tests of values and of a set-up.
 pub mod ValueTests
-pub mod ValueReading
 pub mod SetupTests
+-- What an accepted set-up is.
+pub mod SetupInOrder
 -- What is claimed of them.
 pub mod Claims

@@ -1,15 +1,11 @@
 -- A set-up and its refusals: 1, 2 and 3, or 1 and 20 (document 01, "Value sets" and "Who can cause a refusal"; document 02, F-7).
-use mathlib.Core.Path.{_≡_}
-use mathlib.Core.List.{List, [], _∷_}
+use mathlib.Core.{Path.{_≡_}, List.{List, [], _∷_}}
 use Prim.Native.Nat.{ℕ, _*_, _≤_, _<_}
 use lib.ListN.{length, getD}
 use Rattle.limits.specs.Limits.{event-limit, value-limit, line-limit}
 use Rattle.refusal.specs.Refusal.{Condition, plain}
-use Rattle.theory.specs.Semilattice.{MeetSemilattice}
-use Rattle.theory.specs.ValueSets.{Below, meetAt, pack, top-masks}
-use Rattle.values.specs.declared.ValueKind.{ValueKind}
-use Rattle.values.specs.declared.ValueKind.the-variants.{Numbered, Register}
-use Rattle.values.specs.ValueKind.{ValueIn, meetOf, topOf}
+use Rattle.theory.specs.{Semilattice.{MeetSemilattice}, ValueSets.{Below, meetAt, pack, top-masks}}
+use Rattle.values.specs.{declared.ValueKind.{ValueKind}, declared.ValueKind.the-variants.{Numbered, Register}, ValueKind.{ValueIn, meetOf, topOf}}
 
 -- A set-up as it is handed in: any numbers, and the meet table's entries, row by row. A register's top and meet are fixed: what
 -- stands there is not looked at.
@@ -70,24 +66,3 @@ kind-conditions (Register lines) top meet = plain 20 (LinesFault lines) ∷ []
 -- The conditions that a set-up meets, in document 01's order.
 unfoldable pub setup-conditions : Setup → List Condition
 setup-conditions s = plain 1 (EventsFault (s .events)) ∷ kind-conditions (s .kind) (s .top) (s .meet)
-
--- Its kind of values is within the limits, and the meet table of numbers is whole.
-pub record NumbersInLimits (values : ℕ) (meet : List ℕ) : Type 0 where
-  pub some-values : 1 ≤ values
-  pub few-values : values ≤ value-limit
-  pub whole : length meet ≡ values * values
-
-pub record LinesInLimits (lines : ℕ) : Type 0 where
-  pub some-lines : 1 ≤ lines
-  pub few-lines : lines ≤ line-limit
-
-abbrev pub KindInLimits : ValueKind → List ℕ → Type 0
-KindInLimits (Numbered values) meet = NumbersInLimits values meet
-KindInLimits (Register lines) meet = LinesInLimits lines
-
--- What an accepted set-up is: a meet-semilattice with that top, within the limits.
-pub record WellFormed (s : Setup) : Type 0 where
-  pub some-events : 1 ≤ s .events
-  pub few-events : s .events ≤ event-limit
-  pub of-kind : KindInLimits (s .kind) (s .meet)
-  pub laws : Laws s

@@ -1,18 +1,11 @@
 -- Which refusal a set-up meets, computed: the twin of `First (setup-conditions s)`.
-use mathlib.Core.Path.{_≡_}
-use mathlib.Core.Bool.{Bool, _&&_}
-use mathlib.Core.Option.{Option}
-use mathlib.Core.List.{List}
+use mathlib.Core.{Path.{_≡_}, Bool.{Bool, _&&_}, Option.{Option}, List.{List}}
 use Prim.Native.Nat.{ℕ, _*_, _≤_}
-use lib.Dec.{leb, ltb, eqb}
-use lib.ListN.{length, getD}
+use lib.{Dec.{leb, ltb, eqb}, ListN.{length, getD}}
 use Rattle.limits.specs.Limits.{event-limit, value-limit, line-limit}
-use Rattle.refusal.specs.declared.Refusal.{Refusal}
-use Rattle.refusal.specs.Refusal.{or-else, plain-unless}
-use Rattle.theory.specs.ValueSetClaims.{every, lawful}
-use Rattle.values.specs.declared.ValueKind.{ValueKind}
-use Rattle.values.specs.declared.ValueKind.the-variants.{Numbered, Register}
-use Rattle.values.specs.Setup.{Setup}
+use Rattle.refusal.specs.{declared.Refusal.{Refusal}, RefusalAnswers.{or-else, plain-unless}}
+use Rattle.theory.specs.ValueSetTests.{every, lawful}
+use Rattle.values.specs.{declared.ValueKind.{ValueKind}, declared.ValueKind.the-variants.{Numbered, Register}, Setup.{Setup}}
 
 -- A test for each condition: it fails where the condition is met.
 unfoldable pub events-test : ℕ → Bool

@@ -7,13 +7,13 @@ ghost use mathlib.Core.Path.{_≡_};
 ghost use mathlib.Core.Bool.{true};
 ghost use Prim.Native.Nat.{_+_, _^_, _<_, _≤_};
 ghost use lib.ListN.{length, getD};
-ghost use Rattle.refusal.specs.Refusal.{judgement};
+ghost use Rattle.refusal.specs.RefusalAnswers.{judgement};
 ghost use Rattle.theory.specs.ValueSets.{meetAt, four-value-meet};
-ghost use Rattle.theory.specs.ValueSetClaims.{idempotent-test, commutative-test, associative-test, neutral-test};
+ghost use Rattle.theory.specs.ValueSetTests.{idempotent-test, commutative-test, associative-test, neutral-test};
 ghost use Rattle.values.specs.Setup.{setup};
 ghost use Rattle.values.specs.SetupTests.{events-test, values-test, entries-test, meet-test, setup-refusal, Square};
 ghost use Rattle.values.specs.ValueBytes.{value-width};
-ghost use Rattle.values.specs.ValueReading.{masks-value, masks-from, value-from};
+ghost use Rattle.values.specs.ValueBytes.{masks-value, masks-from, value-from};
 ghost use Rattle.values.specs.ValueKind.{meetOf};
 ghost use Rattle.values.specs.ValueTests.{masks-fit, value-fits, at-or-below};
 

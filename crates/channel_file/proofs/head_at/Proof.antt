@@ -1,6 +1,6 @@
 -- `channel_file::head_at` meets its contract. Assumes nothing.
 use mathlib.Core.Path.{subst}
-use Rattle.text_format.specs.Format.{ascii}
+use Rattle.text_format.specs.Texts.{ascii}
 use Rattle.channel_file.specs.{FileFormat.{field}, Steps.{SawNumber}}
 use borrow.Author.Needs.{needs}
 use Rattle.channel_file.proofs.head_at.Statement.{statement}

@@ -1,7 +1,7 @@
 -- `channel_file::rule_line_at` meets its contract. Assumes nothing.
 use mathlib.Core.Path.{ap, subst}
 use lib.ListN.{drop}
-use Rattle.text_format.specs.Format.{ascii}
+use Rattle.text_format.specs.Texts.{ascii}
 use Rattle.channel_file.specs.{FileFormat.{tokens}, Steps.{SawWord, counted}}
 use Rattle.channel_file.proofs.Offsets.{keyed-bad, listed}
 use borrow.Author.Needs.{needs}

@@ -4,7 +4,7 @@ use mathlib.Core.{Path.{subst, _≡_, sym, _∙_, ap}, Logic.{⊎-elim}, List.{L
 use Rattle.formulas.proofs.{Answers.{tree-misfit, tree-end}, Trees.{TreeTo, tree-start, tree-node, tree-over}}
 use Rattle.formulas.proofs.{Ends.{end-over, end-short, end-none}, Search.{lowest-here, lowest-end}}
 use Rattle.formulas.specs.{NodeWalks.{field}, RuleRefusal.{misfit-place}, RuleReading.{kind-of, fields-fit}}
-use Rattle.refusal.specs.Refusal.{at-found, judgement}
+use Rattle.refusal.specs.RefusalAnswers.{at-found, judgement}
 use lib.ListN.{getD}
 use Rattle.values.specs.declared.ValueKind.{ValueKind}
 use native.Mathlib.Omega.{arith}

@@ -2,7 +2,7 @@
 use Rattle.formulas.proofs.Answers.{no-node, too-many, count-within, tree-met, tree-unmet, tree-clear, all-known, formula-reads}
 use Rattle.formulas.specs.NodeWalks.{field, VariablesJudged}
 use Rattle.refusal.proofs.Refusals.{judgement-accepted}
-use Rattle.refusal.specs.Refusal.{judgement}
+use Rattle.refusal.specs.RefusalAnswers.{judgement}
 use mathlib.Core.Path.{sym, _∙_, ap}
 use borrow.Author.Needs.{needs}
 use Rattle.formulas.proofs.check_nodes.Statement.{statement}

@@ -1,7 +1,7 @@
 -- `check_rule` meets its contract: 5 is answered first, and the decoded fields have the bytes' answer.
 use Rattle.formulas.proofs.Decoding.{decoded-refusal, rule-misfit}
 use Rattle.formulas.specs.{NodeWalks.{field}, RuleRefusal.{fields-refusal}}
-use Rattle.refusal.specs.Refusal.{judgement}
+use Rattle.refusal.specs.RefusalAnswers.{judgement}
 use borrow.Author.{Tests.{not-true, not-false}, Needs.{needs}}
 use mathlib.Core.Path.{sym, _∙_, ap}
 use Rattle.formulas.proofs.check_rule.Statement.{statement}

@@ -1,7 +1,7 @@
 -- `check_variables` meets its contract: 8's note is looked at before 9's.
 use Rattle.formulas.proofs.Answers.{kept-place, kept-clear, answer-unbound, answer-closed}
 use Rattle.formulas.specs.NodeWalks.{Judged, VariablesJudged}
-use Rattle.refusal.specs.Refusal.{at-found, judgement}
+use Rattle.refusal.specs.RefusalAnswers.{at-found, judgement}
 use native.Mathlib.Omega.{arith}
 use mathlib.Core.Path.{sym, _∙_, ap}
 use borrow.Author.Needs.{needs}

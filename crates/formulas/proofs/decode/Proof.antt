@@ -10,7 +10,7 @@ use Rattle.formulas.proofs.{Padding.{padded-none, padded-more}, NodeCod
 use borrow.Author.Needs.{needs}
 use Rattle.formulas.proofs.decode.Statement.{statement}
 use Rattle.formulas.proofs.decode.Tie as tie
-use Rattle.values.specs.ValueReading.{value-from}
+use Rattle.values.specs.ValueBytes.{value-from}
 
 abbrev Inv-loop : tie.InvT-loop
 Inv-loop kind bytes width count kinds₀ firsts₀ values₀ i₀ at₀ kinds firsts values i at =

@@ -4,7 +4,7 @@ use Prim.Native.Nat.{_*_, _≤_, _-_}
 use native.Mathlib.{Nat.{zero-mul}, Omega.{arith}}
 use borrow.Author.{Tests.{not-true, not-false}, Needs.{needs}}
 use Rattle.machines.specs.{TableBytes.{entry-width}, TableRefusal.{entry-test}}
-use Rattle.theory.specs.ValueSetClaims.{every}
+use Rattle.theory.specs.ValueSetTests.{every}
 use Rattle.theory.proofs.ValueSets.{every-none, every-more, every-not}
 use Rattle.machines.proofs.{TableRoundTrip.{entry-within, next-entry}, TableTests.{entry-tested}}
 use Rattle.machines.proofs.entries_in_order.Statement.{statement}

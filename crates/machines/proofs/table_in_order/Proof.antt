@@ -5,7 +5,7 @@ use native.Mathlib.{Nat.{div-add-mod'}, Omega.{arith}}
 use borrow.Author.{Tests.{not-true, not-false}, Needs.{needs}}
 use lib.{Dec.{eqb}, ListN.{length}}
 use Rattle.machines.specs.{TableBytes.{entry-width}, TableRefusal.{entry-test}}
-use Rattle.theory.specs.ValueSetClaims.{every}
+use Rattle.theory.specs.ValueSetTests.{every}
 use Rattle.machines.proofs.{Products.{quotient-of-product}, TableTests.{no-states, many-states, start-outside, wrong-length, entries-decide}}
 use Rattle.machines.proofs.table_in_order.Statement.{statement}
 use Rattle.machines.proofs.table_in_order.Tie as tie

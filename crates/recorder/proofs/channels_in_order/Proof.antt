@@ -5,9 +5,10 @@ use borrow.Author.{Needs.{needs}, Tests.{not-true, not-false}}
 use lib.ListN.{getD}
 use Rattle.limits.specs.Limits.{channel-limit}
 use Rattle.theory.proofs.ValueSets.{every-none, every-more, every-not, every-done}
-use Rattle.theory.specs.ValueSetClaims.{every}
+use Rattle.theory.specs.ValueSetTests.{every}
 use Rattle.values.specs.declared.ValueKind.the-variants.{Numbered}
-use Rattle.recorder.specs.{Store.{held}, ToolFault.{channel-test}}
+use Rattle.recorder.specs.Store.{held}
+use Rattle.recorder.specs.ToolTests.{channel-test}
 use Rattle.recorder.proofs.channels_in_order.Statement.{statement}
 use Rattle.recorder.proofs.channels_in_order.Tie as tie
 

@@ -4,7 +4,7 @@ use Prim.Native.Nat.{_+_, _≤_, _-_}
 use borrow.Author.{Needs.{needs}, Tests.{lt-ltb, le-ltb}}
 use lib.{Dec.{ltb}, ListN.{getD}}
 use Rattle.theory.proofs.ValueSets.{and-both, and-failed, and-false-right, every-none, every-more, every-not, every-done}
-use Rattle.theory.specs.ValueSetClaims.{every}
+use Rattle.theory.specs.ValueSetTests.{every}
 use Rattle.recorder.proofs.entries_in_order.Statement.{statement}
 use Rattle.recorder.proofs.entries_in_order.Tie as tie
 

@@ -4,7 +4,7 @@ use Prim.Native.Nat.{_≤_, _-_}
 use borrow.Author.{Needs.{needs}, Tests.{lt-ltb, le-ltb}}
 use lib.{Dec.{ltb}, ListN.{length, getD}}
 use Rattle.theory.proofs.ValueSets.{every-none, every-more, every-not, every-done}
-use Rattle.theory.specs.ValueSetClaims.{every}
+use Rattle.theory.specs.ValueSetTests.{every}
 use Rattle.recorder.proofs.word_in_order.Statement.{statement}
 use Rattle.recorder.proofs.word_in_order.Tie as tie
 

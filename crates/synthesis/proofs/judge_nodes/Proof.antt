@@ -3,7 +3,7 @@ use native.Mathlib.Omega.{arith}
 use borrow.Author.{Tests.{not-true, not-false}, Needs.{needs}}
 use Rattle.limits.specs.Limits.{node-limit}
 use Rattle.formulas.specs.{NodeBytes.{node-width}, NodeWalks.{field}, RuleRefusal.{count-fits, fields-refusal}}
-use Rattle.refusal.specs.Refusal.{or-else, plain-unless}
+use Rattle.refusal.specs.RefusalAnswers.{or-else, plain-unless}
 use Rattle.synthesis.proofs.Compilation.{judged-few, judged-many, judged-later, bytes-misfit, bytes-fit}
 use Rattle.synthesis.proofs.judge_nodes.Statement.{statement}
 use Rattle.synthesis.proofs.judge_nodes.Tie as tie

@@ -2,7 +2,8 @@
 use Prim.Native.Nat.{ℕ, _*_, _-_, _≤_}
 use mathlib.Core.Path.{_≡_, ap}
 use native.Mathlib.{Omega.{arith}, Nat.{mul-le-mul}}
-use Rattle.text_output.specs.Output.{Puts, each}
+use Rattle.text_output.specs.Output.{Puts}
+use Rattle.text_format.specs.Texts.{each}
 use Rattle.text_output.proofs.Outputs.{puts-length, puts-start, puts-then, puts-as, puts-each}
 use Rattle.values.specs.declared.ValueKind.the-variants.{Numbered}
 use Rattle.machines.specs.TableBytes.{machine-of}

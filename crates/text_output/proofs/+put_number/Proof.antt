@@ -2,7 +2,7 @@
 use native.Mathlib.Omega.{arith}
 use mathlib.Core.{Path.{sym, ap, _∙_}, List.{[], _∷_, _++_}}
 use Prim.Native.Nat.{_/_}
-use Rattle.text_output.specs.Output.{numeral}
+use Rattle.text_format.specs.Texts.{numeral}
 use Rattle.text_output.proofs.Outputs.{puts-as, puts-then, numeral-digit, numeral-more}
 use borrow.Author.Needs.{needs}
 use Prim.Native.Nat.{ℕ, _<_}

@@ -1,5 +1,5 @@
 use mathlib.Core.List.{[], _∷_, append-assoc}
-use Rattle.text_output.specs.Output.{numeral}
+use Rattle.text_format.specs.Texts.{numeral}
 use Rattle.text_output.proofs.Outputs.{puts-as, puts-then}
 use borrow.Author.Needs.{needs}
 use Rattle.text_output.proofs.put_line.Statement.{statement}

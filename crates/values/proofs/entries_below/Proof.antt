@@ -4,7 +4,7 @@ use Prim.Native.Nat.{_≤_, _-_}
 use native.Mathlib.Omega.{arith}
 use borrow.Author.{Needs.{needs}, Tests.{lt-ltb, le-ltb}}
 use lib.{Dec.{ltb}, ListN.{length, getD}}
-use Rattle.theory.specs.ValueSetClaims.{every}
+use Rattle.theory.specs.ValueSetTests.{every}
 use Rattle.theory.proofs.ValueSets.{every-none, every-more, every-not, every-done}
 use Rattle.values.specs.SetupTests.{entries-test}
 use Rattle.values.proofs.entries_below.Statement.{statement}

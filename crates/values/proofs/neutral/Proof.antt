@@ -4,7 +4,8 @@ use Prim.Native.Nat.{_≤_, _-_}
 use native.Mathlib.Omega.{arith}
 use borrow.Author.Tests.{eq-eqb, ne-eqb}
 use lib.Dec.{eqb}
-use Rattle.theory.specs.{ValueSets.{meetAt}, ValueSetClaims.{every, neutral-test}}
+use Rattle.theory.specs.ValueSets.{meetAt}
+use Rattle.theory.specs.ValueSetTests.{every, neutral-test}
 use Rattle.theory.proofs.ValueSets.{every-none, every-more, every-not, every-done}
 use Rattle.values.proofs.neutral.Statement.{statement}
 use Rattle.values.proofs.neutral.Tie as tie

@@ -1,0 +1,45 @@
+-- Twin of ToolFault, pinned by recorder_claims ToolTestClaim.
+-- Refusal 17, computed: tests that fail where it is met.
+use mathlib.Core.{Bool.{Bool, true, false, _&&_}, Option.{Option, none, some}}
+use Prim.Native.Nat.{ℕ}
+use lib.Dec.{ltb, leb}
+use Rattle.limits.specs.Limits.{channel-limit, table-limit}
+use Rattle.theory.specs.{MealyMachine.{Machine}, ValueSetTests.{every}}
+use Rattle.refusal.specs.declared.Refusal.{Refusal}
+use Rattle.values.specs.{declared.ValueKind.{ValueKind}, ValueTests.{value-fits}, Setup.{Setup}, SetupTests.{setup-refusal}}
+use Rattle.channel_log.specs.Calls.{Call, load, event, restart, restart-all, clear, Loaded}
+use Rattle.recorder.specs.Store.{Store, setup-of, channels}
+
+abbrev pub passed : Option Refusal → Bool
+passed none = true
+passed (some r) = false
+
+unfoldable pub setup-test : Setup → Bool
+setup-test s = passed (setup-refusal s)
+
+-- The entries of a table of k states are in range.
+unfoldable pub entries-test : ℕ → ValueKind → ℕ → Machine ℕ ℕ → Bool
+entries-test events kind k m = every k (λ l. every events (λ e. value-fits kind (m .value l e) && ltb (m .next l e) k))
+
+unfoldable pub loaded-test : ℕ → ValueKind → Loaded ℕ → Bool
+loaded-test events kind x =
+    ltb 0 (x .states) && (leb (x .states) table-limit
+    && (ltb (x .current) (x .states) && entries-test events kind (x .states) (x .table)))
+
+abbrev pub channel-test : ℕ → ValueKind → Option (Loaded ℕ) → Bool
+channel-test events kind none = true
+channel-test events kind (some x) = loaded-test events kind x
+
+-- The test of one channel, and of those that 17 looks at: the named one, or all.
+abbrev pub test-of : Store → ℕ → Bool
+test-of t c = channel-test (t .setup .events) (t .setup .kind) (channels t c)
+
+abbrev pub named-test : Store → Call ℕ → Bool
+named-test t (load c r) = test-of t c
+named-test t (event c e) = test-of t c
+named-test t (restart c) = test-of t c
+named-test t restart-all = every channel-limit (test-of t)
+named-test t (clear c) = test-of t c
+
+abbrev pub tool-test : Store → Call ℕ → Bool
+tool-test t call = setup-test (setup-of t) && named-test t call

@@ -1,0 +1,35 @@
+-- Texts as lists of byte values: words, numbers in decimal, items with one space between (document 01, "Channel file").
+use Prim.Native.{Nat.{ℕ, zero, suc, _+_, _/_, _%_}, Char.{code}, String.{String}}
+use mathlib.Core.{List.{List, [], _∷_, _++_}, Bool.{cond}}
+use lib.Dec.{ltb}
+use Prim.Native.String as Str
+
+-- The bytes of a text written in a definition.
+abbrev pub ascii : String → List ℕ
+ascii Str.[] = []
+ascii (Str._∷_ c s) = code c ∷ ascii s
+
+-- v in decimal without leading zero, where k + 1 digits are enough (NumeralClaim); twenty are for every number of 64 bits.
+abbrev pub decimal : ℕ → ℕ → List ℕ
+decimal zero v = (48 + v) ∷ []
+decimal (suc k) v = cond (ltb v 10) ((48 + v) ∷ []) (decimal k (v / 10) ++ ((48 + v % 10) ∷ []))
+
+unfoldable pub numeral : ℕ → List ℕ
+numeral v = decimal 19 v
+
+-- Texts with one space between.
+abbrev pub separated : List (List ℕ) → List ℕ
+separated [] = []
+separated (x ∷ []) = x
+separated (x ∷ y ∷ xs) = x ++ (ascii " " ++ separated (y ∷ xs))
+
+-- At least one item, and each as P says.
+abbrev pub OneOrMore : {A : Type 0} → (A → Type 0) → List A → Type 0
+OneOrMore P [] = ⊥
+OneOrMore P (a ∷ []) = P a
+OneOrMore P (a ∷ a′ ∷ xs) = P a × OneOrMore P (a′ ∷ xs)
+
+-- The texts of c items from item i on, one behind another.
+abbrev pub each : (ℕ → List ℕ) → ℕ → ℕ → List ℕ
+each text zero i = []
+each text (suc c) i = text i ++ each text c (suc i)
