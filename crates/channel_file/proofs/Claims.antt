@@ -12,7 +12,9 @@ use Rattle.text_format.specs.Claims.{AnswersText}
 use Rattle.text_format.proofs.{Decimal.{decimal-numeral}, Place.{answers, one-answer}, Combinators.{not-both}}
 use Rattle.text_format.proofs.Series.{series-fitting, series-of-fitting}
 use Rattle.channel_file.specs.ChannelFile.{Token, token-T, token-A, token-V, token-X, token-G, token-O, Contents, number, Small, SmallToken, token-text}
-use Rattle.channel_file.specs.{ChannelFile.{text, ShowsTokens, Shows}, FileFormat.{token-item, tokens, file}}
+use Rattle.channel_file.specs.ChannelFile.{text, Shows}
+use Rattle.channel_file.specs.Claims.{ShowsTokens}
+use Rattle.channel_file.specs.FileFormat.{token-item, tokens, file}
 use Rattle.channel_file.specs.ChannelFile.{over-long, off-form}
 use Rattle.channel_file.specs.Reading.{AnswersFile, read-file, read-tokens, tokens-stretch}
 use Rattle.channel_file.specs.Claims.{AnswerClaim, OneAnswerClaim, RewriteClaim, ReadBackClaim, LengthClaim}

@@ -64,11 +64,6 @@ pub record SmallContents (c : Contents) : Type 0 where
   pub meet : OneOrMore Small (c .meet)
   pub rule : OneOrMore SmallToken (c .rule)
 
--- t is the text of the tokens xs alone, as they stand in the rule line.
-pub record ShowsTokens (xs : List Token) (t : List ℕ) : Type 0 where
-  pub small : OneOrMore SmallToken xs
-  pub printed : separated (map token-text xs) ≡ t
-
 -- t is the text of the contents c.
 pub record Shows (c : Contents) (t : List ℕ) : Type 0 where
   pub small : SmallContents c
@@ -82,6 +77,14 @@ Form = FormOf Shows
 pub data Refused4 (t : List ℕ) : ℕ → Type 0 where
   over-long : file-limit < length t → Refused4 t file-limit
   off-form : (p : ℕ) → length t ≤ file-limit → Refused Form t p → Refused4 t p
+
+-- "The rule line's tokens are handed out as a stretch of the lent text. It runs from after `rule=` to before the last byte 10, and is
+-- empty for a text that 4 refuses."
+pub data TokensOf (t : List ℕ) : List ℕ → Type 0 where
+  of-contents :
+      (c : Contents) (front tokens : List ℕ) → length t ≤ file-limit → Shows c t → t ≡ front ++ (ascii "rule=" ++ (tokens ++ ascii "\n")) →
+      tokens ≡ separated (map token-text (c .rule)) → TokensOf t tokens
+  of-refused : (p : ℕ) → Refused4 t p → TokensOf t []
 
 -- Kinds: "0 T, 1 X, 2 G, 3 O, 4 A, 5 V".
 abbrev pub kind : Token → ℕ

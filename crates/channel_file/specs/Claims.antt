@@ -4,9 +4,15 @@ use mathlib.Core.{Path.{_≡_}, List.{List, [], map}, Logic.{_↔_}}
 use lib.ListN.{length}
 use Rattle.limits.specs.Limits.{meet-limit, node-limit, file-limit}
 use Rattle.text_format.specs.{Format.{Outcome, contents}, Texts.{separated}}
-use Rattle.channel_file.specs.ChannelFile.{Token, token-text, Contents, text, SmallContents, ShowsTokens}
+use Rattle.channel_file.specs.ChannelFile.{Token, token-text, Contents, text, SmallContents, SmallToken}
 use Rattle.channel_file.specs.{Reading.{AnswersFile, read-file, read-tokens, tokens-stretch}, Bytes.{clamp}, Steps.{SawNumber, line-parse}}
 use Rattle.channel_file.specs.{declared.Line.{Line}, declared.Number.{Number}}
+use Rattle.text_format.specs.Texts.{OneOrMore}
+
+-- t is the text of the tokens xs alone, as they stand in the rule line.
+pub record ShowsTokens (xs : List Token) (t : List ℕ) : Type 0 where
+  pub small : OneOrMore SmallToken xs
+  pub printed : separated (map token-text xs) ≡ t
 
 -- The answer to every text is the one that document 01 asks for: its contents, or 4's place.
 abbrev pub AnswerClaim : Type 0

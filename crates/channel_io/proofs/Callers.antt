@@ -13,9 +13,9 @@ use Rattle.limits.specs.Limits.{event-limit, value-limit, meet-limit, state-lim
 use Rattle.text_format.specs.Format.{Outcome, contents, refused}
 use Rattle.channel_file.specs.{ChannelFile.{Contents}, Reading.{read-file}}
 use Rattle.channel_io.specs.declared.{FileNumbers.{FileNumbers}, FileTable.{FileTable}}
-use Rattle.channel_io.specs.FileConditions.{setup-of}
+use Rattle.channel_io.specs.FileConditions.{file-setup}
 use Rattle.channel_file.specs.ChannelFile.{rule-numbers}
-use Rattle.channel_io.specs.FileReading.{numbers, file-numbers}
+use Rattle.channel_io.specs.FileAnswers.{numbers, file-numbers}
 use Rattle.channel_io.specs.FileRefusals.{has-table-room, pair-compile-refusal, file-states, file-table, contents-table-refusal, file-refusal}
 use Rattle.channel_io.specs.FileCompilation.{made-or, compile-answer, entries-after, table-after, CompilesFile}
 use Rattle.channel_io.specs.declared.FileTable.the-variants.{Made, Refused}
@@ -117,7 +117,7 @@ module _ {t meet to meet′ to′ : List ℕ} {x : FileTable} (k : CompilesFile 
           let en : n .entries ≡ length (c .meet) = ap (λ (z : FileNumbers). z .entries) (a .1) in
           let size : j * n .events * 2 ≡ length (file-table c) =
           ap₂ (λ (i : ℕ) (z : FileNumbers). i * z .events * 2) (a .2) (a .1)
-          ∙ sym (rows-length (setup-of c) (rule-numbers c)) in
+          ∙ sym (rows-length (file-setup c) (rule-numbers c)) in
           record {
             inside = c;
             reads = e;
@@ -149,7 +149,7 @@ module _ {t meet to meet′ to′ : List ℕ} {n : FileNumbers} {k : ℕ} (w : M
   pub limits : Limits
   unfolding numbers
   limits =
-      let s = setup-passed (setup-of (w .inside)) (rule-numbers (w .inside)) (w .passed) in
+      let s = setup-passed (file-setup (w .inside)) (rule-numbers (w .inside)) (w .passed) in
       let made = file-table-made (w .inside) (w .passed) in
       let values-are : n .values ≡ w .inside .values = ap (λ (z : FileNumbers). z .values) (w .numbers-are) in
       let top-is : n .top ≡ w .inside .top = ap (λ (z : FileNumbers). z .top) (w .numbers-are) in

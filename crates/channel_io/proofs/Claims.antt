@@ -29,9 +29,10 @@ use Rattle.text_format.specs.Format.{Outcome, contents, refused}
 use Rattle.channel_file.specs.ChannelFile.{Contents, Refused4}
 use Rattle.channel_file.specs.Reading.{AnswersFile, read-file}
 use Rattle.channel_file.proofs.Claims.{answer-claim, one-answer-claim}
-use Rattle.channel_io.specs.FileConditions.{setup-of, pair-conditions, pair-table-conditions, contents-table-conditions}
+use Rattle.channel_io.specs.FileConditions.{file-setup, contents-table-conditions}
+use Rattle.synthesis.specs.TableOfRule.{pair-conditions, pair-table-conditions}
 use Rattle.channel_file.specs.ChannelFile.{rule-numbers}
-use Rattle.channel_io.specs.FileConditions.{Short, short-meet, short-rule, ShortForTable, short-entries, short-table, read-conditions, file-conditions}
+use Rattle.channel_io.specs.FileConditions.{ReadShort, short-meet, short-rule, CompileShort, short-entries, short-table, read-conditions, file-conditions}
 use Rattle.channel_io.specs.FileJudgement.{shown-conditions, text-conditions, file-text, write-conditions}
 use Rattle.channel_io.specs.FileRefusals.{pair-refusal, has-room, stored-refusal, contents-read-refusal, pair-table-refusal}
 use Rattle.channel_io.specs.FileRefusals.{has-table-room, pair-compile-refusal, file-states, file-table, contents-table-refusal, file-refusal}
@@ -103,13 +104,13 @@ module _ (conditions : Contents → List Condition) (refusal : Contents → Opti
 
 -- ---- a file is read into two buffers
 module _ (c : Contents) (meet rule : List ℕ) where
-  read-short : has-room (setup-of c) (rule-numbers c) meet rule ≡ false → Short c meet rule
+  read-short : has-room (file-setup c) (rule-numbers c) meet rule ≡ false → ReadShort c meet rule
   unfolding has-room
   read-short e =
       ⊎-elim (λ h. short-meet (leb-false (length (c .meet)) (length meet) h)) (λ h. short-rule (leb-false (length (rule-numbers c)) (length rule) h))
       (and-cases (leb (length (c .meet)) (length meet)) (leb (length (rule-numbers c)) (length rule)) e)
 
-  read-room : has-room (setup-of c) (rule-numbers c) meet rule ≡ true → ¬ Short c meet rule
+  read-room : has-room (file-setup c) (rule-numbers c) meet rule ≡ true → ¬ ReadShort c meet rule
   unfolding has-room
   read-room e (short-meet h) =
       let l = leb-true (length (c .meet)) (length meet) (and-left (leb (length (c .meet)) (length meet)) _ e) in omega arith
@@ -119,8 +120,8 @@ module _ (c : Contents) (meet rule : List ℕ) where
   read-first : First (read-conditions c meet rule) (contents-read-refusal c meet rule)
   unfolding stored-refusal
   read-first =
-      first-append (pair-conditions (setup-of c) (rule-numbers c)) (plain 13 (Short c meet rule) ∷ []) _ _ (pair-first (setup-of c) (rule-numbers c))
-      (plain-first 13 (Short c meet rule) (has-room (setup-of c) (rule-numbers c) meet rule) read-short read-room)
+      first-append (pair-conditions (file-setup c) (rule-numbers c)) (plain 13 (ReadShort c meet rule) ∷ []) _ _ (pair-first (file-setup c) (rule-numbers c))
+      (plain-first 13 (ReadShort c meet rule) (has-room (file-setup c) (rule-numbers c) meet rule) read-short read-room)
 
 pub read-claim : ReadClaim
 unfolding setup-conditions kind-conditions condition-numbers right-places has-place part-of order
@@ -143,11 +144,11 @@ write-refusal-claim events values top meet rule old =
 pub contents-table-claim : ContentsTableClaim
 unfolding setup-conditions kind-conditions condition-numbers right-places has-place part-of order
 contents-table-claim c =
-    judged (contents-table-conditions c) (contents-table-refusal c) (table-first (setup-of c) (rule-numbers c)) refl refl
+    judged (contents-table-conditions c) (contents-table-refusal c) (table-first (file-setup c) (rule-numbers c)) refl refl
 
 pub file-table-made : FileTableMadeClaim
 file-table-made c ok =
-    let s = setup-of c in
+    let s = file-setup c in
     let w = setup-passed s (rule-numbers c) ok in
     let few = few-states s (rule-numbers c) ok in
     record {
@@ -165,7 +166,7 @@ none-later (C ∷ cs) ds x = none-later cs ds (x .1)
 
 module _ (c : Contents) (meet to : List ℕ) where
   abbrev s : Setup
-  s = setup-of c
+  s = file-setup c
 
   abbrev rows : List ℕ
   rows = file-table c
@@ -178,7 +179,7 @@ module _ (c : Contents) (meet to : List ℕ) where
   thirteen = buffer-condition (setup-meet s) (setup-top s) (s .events) (s .kind) (rule-numbers c) to
 
   module _ (ok : contents-table-refusal c ≡ none) where
-    table-room : has-table-room s (rule-numbers c) meet to ≡ true → ¬ ShortForTable c meet to
+    table-room : has-table-room s (rule-numbers c) meet to ≡ true → ¬ CompileShort c meet to
     unfolding has-table-room NoneMet
     table-room e (short-entries h) =
         let l = leb-true (length (c .meet)) (length meet) (and-left (leb (length (c .meet)) (length meet)) _ e) in omega arith
@@ -189,7 +190,7 @@ module _ (c : Contents) (meet to : List ℕ) where
         none-later (byte-conditions (s .events) (s .kind) (rule-numbers c)) (ten ∷ thirteen ∷ []) (none-later (setup-conditions s) _ none-met) in
         last .1 .0 (Plain 13) (h, refl)
 
-    table-short : has-table-room s (rule-numbers c) meet to ≡ false → ShortForTable c meet to
+    table-short : has-table-room s (rule-numbers c) meet to ≡ false → CompileShort c meet to
     unfolding has-table-room
     table-short e =
         let made = table-made s (rule-numbers c) ok in
@@ -210,8 +211,8 @@ module _ (c : Contents) (meet to : List ℕ) where
   file-first : First (file-conditions c meet to) (file-refusal c meet to)
   unfolding pair-compile-refusal
   file-first =
-      first-then (contents-table-conditions c) (plain 13 (ShortForTable c meet to) ∷ []) (contents-table-refusal c) _ (table-first s (rule-numbers c))
-      (λ ok. plain-first 13 (ShortForTable c meet to) (has-table-room s (rule-numbers c) meet to) (table-short ok) (table-room ok))
+      first-then (contents-table-conditions c) (plain 13 (CompileShort c meet to) ∷ []) (contents-table-refusal c) _ (table-first s (rule-numbers c))
+      (λ ok. plain-first 13 (CompileShort c meet to) (has-table-room s (rule-numbers c) meet to) (table-short ok) (table-room ok))
 
 pub file-table-claim : FileTableClaim
 unfolding setup-conditions kind-conditions condition-numbers right-places has-place part-of order
@@ -225,15 +226,15 @@ pub file-table-accepted :
 file-table-accepted c passed =
     let made = file-table-made c passed in
     let t = made .table in
-    let w = setup-passed (setup-of c) (rule-numbers c) passed in
+    let w = setup-passed (file-setup c) (rule-numbers c) passed in
     let runs =
-    table-values (SetupValue (setup-of c)) (setup-meet (setup-of c)) (setup-top (setup-of c)) (c .events) (w .laws) (t .formula)
-    (grammar ℕ node-limit (c .events) (SetupValue (setup-of c)) (t .formula) (t .code .accepted)) _ _ (t .is-table) in
+    table-values (SetupValue (file-setup c)) (setup-meet (file-setup c)) (setup-top (file-setup c)) (c .events) (w .laws) (t .formula)
+    (grammar ℕ node-limit (c .events) (SetupValue (file-setup c)) (t .formula) (t .code .accepted)) _ _ (t .is-table) in
     in-order-none table-limit (c .events) (Numbered (c .values)) (file-states c) 0 (file-table c)
     record {
       some-states = runs .0;
       few-states = made .few-states;
-      entry-count = rows-length (setup-of c) (rule-numbers c);
+      entry-count = rows-length (file-setup c) (rule-numbers c);
       start-in = runs .0;
       values-in = λ l e hl he. runs .1 .value-in l hl e he;
       nexts-in = λ l e hl he. runs .1 .next-in l hl e he;

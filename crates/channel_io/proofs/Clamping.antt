@@ -31,7 +31,7 @@ use Rattle.formulas.proofs.{Search.{lowest-same}, Prefix.{length-from}, Decodin
 use Rattle.channel_file.specs.ChannelFile.{Token, token-T, token-A, token-V, token-X, token-G, token-O, Contents}
 use Rattle.channel_file.specs.Bytes.{clamp, node, entry, meet-bytes, rule-bytes}
 use Rattle.channel_file.specs.ChannelFile.{encoded}
-use Rattle.channel_io.specs.FileConditions.{setup-of}
+use Rattle.channel_io.specs.FileConditions.{file-setup}
 use Rattle.channel_file.specs.ChannelFile.{node-numbers, rule-numbers}
 use Rattle.channel_io.specs.FileRefusals.{pair-refusal, contents-refusal}
 use Rattle.channel_io.specs.Claims.{ClampedClaim}
@@ -429,7 +429,7 @@ meet-kept events values top meet e =
 pub nothing-clamped : (c : Contents) → contents-refusal c ≡ none → (meet-bytes c ≡ c .meet) × (rule-bytes c ≡ rule-numbers c)
 unfolding pair-refusal
 nothing-clamped c e =
-    let w = or-else-none (setup-refusal (setup-of c)) (rule-refusal (c .events) (Numbered (c .values)) (rule-numbers c)) e in
+    let w = or-else-none (setup-refusal (file-setup c)) (rule-refusal (c .events) (Numbered (c .values)) (rule-numbers c)) e in
     let h = limits (c .events) (c .values) (c .top) (c .meet) (w .0) in (
       meet-clamped (c .meet) ∙ meet-kept (c .events) (c .values) (c .top) (c .meet) (w .0),
       rule-clamped (c .rule) ∙ rule-kept (c .events) (c .values) (rule-numbers c) (omega (arith, h .0)) (omega (arith, h .1)) (w .1),

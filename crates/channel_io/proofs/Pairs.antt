@@ -15,10 +15,11 @@ use Rattle.formulas.specs.RuleRefusal.{rule-refusal}
 use Rattle.channel_file.specs.ChannelFile.{Contents}
 use Rattle.channel_io.specs.declared.{FileNumbers.{FileNumbers}, FileRead.{FileRead}}
 use Rattle.channel_io.specs.declared.FileRead.the-variants.{Accepted as Read, Refused as Unread}
-use Rattle.channel_io.specs.FileConditions.{setup-of}
+use Rattle.channel_io.specs.FileConditions.{file-setup}
 use Rattle.channel_file.specs.ChannelFile.{rule-numbers}
 use Rattle.channel_io.specs.FileRefusals.{pair-refusal, contents-refusal, has-room, stored-refusal}
-use Rattle.channel_io.specs.FileReading.{numbers, file-numbers, accepted-or, read-answer, meet-after, rule-after, Reads}
+use Rattle.channel_io.specs.FileAnswers.{numbers, file-numbers}
+use Rattle.channel_io.specs.FileReading.{accepted-or, read-answer, meet-after, rule-after, Reads}
 use Rattle.channel_io.specs.Steps.{held-setup, shown-entries, shown-nodes, Holding, OffForm, Keeps}
 use Rattle.channel_io.proofs.ShownBytes.{file-shown, all-shown}
 
@@ -89,7 +90,7 @@ module _ (c : Contents) (meet rule meet′ rule′ : List ℕ) (r : FileRead) wh
           (subst (λ (y : List ℕ). Keeps (file-numbers c) (shown-entries c) y meet rule meet′ rule′ r) (same .1) k)
       go (some q) e =
           let a = earlier (held-setup (file-numbers c) (shown-entries c)) (shown-nodes c) q (file-shown c ∙ e) in
-          keeps (file-numbers c) (c .meet) (rule-numbers c) meet rule (some q) meet′ rule′ r (earlier (setup-of c) (rule-numbers c) q e)
+          keeps (file-numbers c) (c .meet) (rule-numbers c) meet rule (some q) meet′ rule′ r (earlier (file-setup c) (rule-numbers c) q e)
           (k .answer ∙ ap (λ (o : Option Refusal). accepted-or o (file-numbers c)) a)
           (k .meet-is ∙ ap (λ (o : Option Refusal). put-unless o (shown-entries c) meet) a)
           (k .rule-is ∙ ap (λ (o : Option Refusal). put-unless o (shown-nodes c) rule) a)

@@ -22,10 +22,11 @@ use Rattle.channel_file.specs.{ChannelFile.{Contents}, Reading.{read-file}}
 use Rattle.channel_file.specs.Bytes.{entry, node, meet-bytes, rule-bytes, put-front, stored-reply, stored-meet, stored-rule, Stores}
 use Rattle.channel_file.specs.declared.Stored.{Stored}
 use Rattle.channel_file.proofs.Buffers.{encoded-length, front-whole}
-use Rattle.channel_io.specs.FileConditions.{setup-of}
+use Rattle.channel_io.specs.FileConditions.{file-setup}
 use Rattle.channel_file.specs.ChannelFile.{node-numbers, rule-numbers}
 use Rattle.channel_io.specs.FileRefusals.{pair-refusal, contents-refusal}
-use Rattle.channel_io.specs.{FileReading.{numbers}, Steps.{shown-entries, shown-nodes, Holding}}
+use Rattle.channel_io.specs.FileAnswers.{numbers}
+use Rattle.channel_io.specs.Steps.{shown-entries, shown-nodes, Holding}
 use Rattle.channel_io.proofs.Clamping.{meet-clamped, rule-clamped, setup-same, rule-same, limits, nothing-clamped}
 
 -- ---- lengths
@@ -57,11 +58,11 @@ some-values : (values top : ℕ) → values-test values top ≡ true → 1 ≤ v
 unfolding values-test
 some-values values top e = leb-true 1 values (and-left (leb 1 values) _ e)
 
-shown-setup : (c : Contents) → setup-refusal (setup (c .events) (c .values) (c .top) (shown-entries c)) ≡ setup-refusal (setup-of c)
+shown-setup : (c : Contents) → setup-refusal (setup (c .events) (c .values) (c .top) (shown-entries c)) ≡ setup-refusal (file-setup c)
 shown-setup c = go (leb (length (c .meet)) meet-limit) refl
   where
     go : (b : Bool) → leb (length (c .meet)) meet-limit ≡ b
-        → setup-refusal (setup (c .events) (c .values) (c .top) (cond b (meet-bytes c) [])) ≡ setup-refusal (setup-of c)
+        → setup-refusal (setup (c .events) (c .values) (c .top) (cond b (meet-bytes c) [])) ≡ setup-refusal (file-setup c)
     go true e =
         ap (λ (m : List ℕ). setup-refusal (setup (c .events) (c .values) (c .top) m)) (meet-clamped (c .meet))
         ∙ setup-same (c .events) (c .values) (c .top) (c .meet)
@@ -109,22 +110,22 @@ pub file-shown : (c : Contents) → pair-refusal (setup (c .events) (c .values) 
 unfolding pair-refusal or-else
 file-shown c =
     ap (λ (o : Option Refusal). or-else o (rule-refusal (c .events) (Numbered (c .values)) (shown-nodes c))) (shown-setup c)
-    ∙ go (setup-refusal (setup-of c)) refl
+    ∙ go (setup-refusal (file-setup c)) refl
   where
-    go : (o : Option Refusal) → setup-refusal (setup-of c) ≡ o
-        → or-else (setup-refusal (setup-of c)) (rule-refusal (c .events) (Numbered (c .values)) (shown-nodes c))
-        ≡ or-else (setup-refusal (setup-of c)) (rule-refusal (c .events) (Numbered (c .values)) (rule-numbers c))
+    go : (o : Option Refusal) → setup-refusal (file-setup c) ≡ o
+        → or-else (setup-refusal (file-setup c)) (rule-refusal (c .events) (Numbered (c .values)) (shown-nodes c))
+        ≡ or-else (setup-refusal (file-setup c)) (rule-refusal (c .events) (Numbered (c .values)) (rule-numbers c))
     go none e =
         let h = limits (c .events) (c .values) (c .top) (c .meet) e in
-        ap (or-else (setup-refusal (setup-of c))) (shown-rule c (omega (arith, h .0)) (omega (arith, h .1)))
+        ap (or-else (setup-refusal (file-setup c))) (shown-rule c (omega (arith, h .0)) (omega (arith, h .1)))
     go (some r) e = rw e
 
 -- of an accepted one all is judged, and nothing is clamped
 pub all-shown : (c : Contents) → contents-refusal c ≡ none → (shown-entries c ≡ c .meet) × (shown-nodes c ≡ rule-numbers c)
 unfolding pair-refusal rule-refusal
 all-shown c e =
-    let p = or-else-none (setup-refusal (setup-of c)) (rule-refusal (c .events) (Numbered (c .values)) (rule-numbers c)) e in
-    let w : WellFormed (setup-of c) = setup-accepted (setup-of c) .0 (p .0) in
+    let p = or-else-none (setup-refusal (file-setup c)) (rule-refusal (c .events) (Numbered (c .values)) (rule-numbers c)) e in
+    let w : WellFormed (file-setup c) = setup-accepted (file-setup c) .0 (p .0) in
     let whole : length (c .meet) ≡ c .values * c .values = w .of-kind .whole in
     let few = square-small (w .of-kind .few-values) in
     let fits : CountFits 3 node-limit (length (rule-numbers c)) =

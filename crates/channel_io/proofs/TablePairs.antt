@@ -24,10 +24,11 @@ use Rattle.synthesis.proofs.CompileClaims.{compile-claim}
 use Rattle.channel_file.specs.ChannelFile.{Contents}
 use Rattle.channel_io.specs.declared.{FileNumbers.{FileNumbers}, FileTable.{FileTable}}
 use Rattle.channel_io.specs.declared.FileTable.the-variants.{Made, Refused}
-use Rattle.channel_io.specs.FileConditions.{setup-of}
+use Rattle.channel_io.specs.FileConditions.{file-setup}
 use Rattle.channel_file.specs.ChannelFile.{rule-numbers}
 use Rattle.channel_io.specs.FileRefusals.{pair-refusal, contents-refusal, pair-states, pair-table, pair-table-refusal, has-table-room}
-use Rattle.channel_io.specs.{FileRefusals.{pair-compile-refusal}, FileReading.{numbers, file-numbers}}
+use Rattle.channel_io.specs.FileRefusals.{pair-compile-refusal}
+use Rattle.channel_io.specs.FileAnswers.{numbers, file-numbers}
 use Rattle.channel_io.specs.FileCompilation.{made-or, compile-answer, entries-after, table-after, CompilesFile}
 use Rattle.channel_io.specs.Steps.{held-setup, shown-entries, shown-nodes, Holding, OffForm, CompilesPair}
 use Rattle.channel_io.proofs.ShownBytes.{file-shown, all-shown}
@@ -189,7 +190,7 @@ module _ (n : FileNumbers) (meet rule entries to : List ℕ) where
     answered = compile-refusal state-limit S rule (take j to)
 
     abbrev states : ℕ
-    states = setup-states state-limit S rule (take j to)
+    states = setup-states state-limit S rule
 
     pub pair-fits : (i : ℕ) → Count i ≡ counted answered states → length meet ≤ length entries
     pair-fits i e = room-found (sym (compiled j is .same) ∙ counted-accepted answered states i (sym e) .0)
@@ -244,7 +245,7 @@ module _ (c : Contents) (meet to meet′ to′ : List ℕ) (r : FileTable) where
       go (some q) e =
           let s = held-setup (file-numbers c) (shown-entries c) in
           let a = pair-earlier s (shown-nodes c) meet to q (file-shown c ∙ e) in
-          compiles (file-numbers c) (c .meet) (rule-numbers c) meet to (some q) meet′ to′ r (pair-earlier (setup-of c) (rule-numbers c) meet to q e)
+          compiles (file-numbers c) (c .meet) (rule-numbers c) meet to (some q) meet′ to′ r (pair-earlier (file-setup c) (rule-numbers c) meet to q e)
           (k .answer ∙ ap (λ (o : Option Refusal). made-or o (file-numbers c) (pair-states s (shown-nodes c))) a)
           (k .meet-is ∙ ap (λ (o : Option Refusal). put-unless o (shown-entries c) meet) a)
           (k .table-is ∙ ap (λ (o : Option Refusal). put-unless o (pair-table s (shown-nodes c)) to) a)

@@ -10,7 +10,7 @@ use Rattle.machines.specs.TableBytes.{machine-of}
 use Rattle.synthesis.specs.Claims.{RuleTable}
 use Rattle.text_format.specs.Format.{contents}
 use Rattle.channel_file.specs.{ChannelFile.{Contents, Form, rule-numbers}, Reading.{read-file}, Bytes.{clamp, meet-bytes, rule-bytes}}
-use Rattle.channel_io.specs.FileConditions.{setup-of, contents-table-conditions, read-conditions, file-conditions}
+use Rattle.channel_io.specs.FileConditions.{file-setup, contents-table-conditions, read-conditions, file-conditions}
 use Rattle.channel_io.specs.FileJudgement.{text-conditions, file-text, write-conditions}
 use Rattle.channel_io.specs.FileRefusals.{pair-refusal, contents-refusal, file-states, file-table, contents-table-refusal, read-refusal}
 use Rattle.channel_io.specs.FileRefusals.{compile-refusal, write-refusal}
@@ -51,8 +51,8 @@ pub record FileTableMade (c : Contents) : Type 0 where
   pub few-bytes : length (file-table c) ≤ table-bytes-limit
   pub few-entries : length (c .meet) ≤ meet-limit
   pub table :
-      RuleTable (setup-meet (setup-of c)) (setup-top (setup-of c)) (c .events) (setup-of c .kind) (rule-numbers c) (file-states c)
-      (machine-of (setup-of c .kind) (c .events) (file-table c))
+      RuleTable (setup-meet (file-setup c)) (setup-top (file-setup c)) (c .events) (file-setup c .kind) (rule-numbers c) (file-states c)
+      (machine-of (file-setup c .kind) (c .events) (file-table c))
 
 abbrev pub FileTableMadeClaim : Type 0
 FileTableMadeClaim = (c : Contents) → contents-table-refusal c ≡ none → FileTableMade c

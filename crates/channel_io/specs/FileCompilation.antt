@@ -1,3 +1,4 @@
+-- Twin of FileAnswers, pinned by product_claims DemandTwo.
 -- The table of a channel file's rule (document 01, "Channel file" and "Table of a rule"; refusals 4, 1 to 3, 5 to 10 and 13): the
 -- answer, and what two lent buffers hold afterwards.
 use Prim.Native.Nat.{ℕ}
@@ -13,7 +14,7 @@ use Rattle.channel_file.specs.Reading.{read-file}
 use Rattle.channel_io.specs.declared.FileNumbers.{FileNumbers}
 use Rattle.channel_io.specs.declared.FileTable.{FileTable}
 use Rattle.channel_io.specs.declared.FileTable.the-variants.{Made, Refused}
-use Rattle.channel_io.specs.FileReading.{file-numbers}
+use Rattle.channel_io.specs.FileAnswers.{file-numbers}
 use Rattle.channel_io.specs.FileRefusals.{file-states, file-table, file-refusal}
 
 unfoldable pub made-or : Option Refusal → FileNumbers → ℕ → FileTable

@@ -7,7 +7,7 @@ use Rattle.values.specs.Setup.{setup}
 use Rattle.text_format.specs.Format.{Outcome, contents, refused}
 use Rattle.channel_file.specs.{ChannelFile.{Contents, text, Refused4}, Reading.{read-file}}
 use Rattle.channel_writer.specs.Writing.{node-tokens, contents-of}
-use Rattle.channel_io.specs.FileConditions.{pair-conditions}
+use Rattle.synthesis.specs.TableOfRule.{pair-conditions}
 
 -- ---- a text
 

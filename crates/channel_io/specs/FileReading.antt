@@ -1,21 +1,14 @@
+-- Twin of FileAnswers, pinned by product_claims DemandTwo.
 -- Reading a channel file (document 01, "Channel file", refusals 4, 1 to 3, 5 to 9 and 13): the answer, and what two lent buffers
 -- hold afterwards.
 use Prim.Native.Nat.{ℕ}
 use mathlib.Core.{Path.{_≡_}, List.{List}, Option.{Option, none, some}}
-use lib.ListN.{length}
 use Rattle.refusal.specs.{declared.Refusal.{Refusal}, declared.Refusal.the-variants.{At}, LentBuffers.{put-unless}}
 use Rattle.text_format.specs.Format.{Outcome, contents, refused}
 use Rattle.channel_file.specs.{ChannelFile.{Contents, rule-numbers}, Reading.{read-file}}
 use Rattle.channel_io.specs.{declared.FileNumbers.{FileNumbers}, declared.FileRead.{FileRead}, declared.FileRead.the-variants.{Accepted, Refused}}
 use Rattle.channel_io.specs.FileRefusals.{contents-read-refusal}
-
--- The numbers of a file: those of its set-up, and how many meet entries and nodes it has.
-unfoldable pub numbers : ℕ → ℕ → ℕ → ℕ → ℕ → FileNumbers
-numbers events values top entries nodes =
-    record { events = events; values = values; top = top; entries = entries; nodes = nodes }
-
-abbrev pub file-numbers : Contents → FileNumbers
-file-numbers c = numbers (c .events) (c .values) (c .top) (length (c .meet)) (length (c .rule))
+use Rattle.channel_io.specs.FileAnswers.{file-numbers}
 
 unfoldable pub accepted-or : Option Refusal → FileNumbers → FileRead
 accepted-or none n = Accepted n

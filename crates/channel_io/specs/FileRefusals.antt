@@ -1,3 +1,4 @@
+-- Twin of FileConditions, pinned by channel_io ReadClaim.
 -- Which refusal a file meets, computed, and the table of its rule: the twins of FileJudgement's lists.
 use Prim.Native.Nat.{ℕ}
 use mathlib.Core.{List.{List}, Bool.{Bool, _&&_}, Option.{Option, some}}
@@ -10,7 +11,7 @@ use Rattle.machines.specs.TableBytes.{table-bytes, entry-bytes}
 use Rattle.synthesis.specs.Compilation.{rule-states, rule-table, rule-table-refusal}
 use Rattle.text_format.specs.Format.{Outcome, contents, refused}
 use Rattle.channel_file.specs.ChannelFile.{Contents, rule-numbers}
-use Rattle.channel_io.specs.{FileConditions.{setup-of}, FileJudgement.{file-text}}
+use Rattle.channel_io.specs.{FileConditions.{file-setup}, FileJudgement.{file-text}}
 
 -- ---- a set-up and a rule
 module _ (s : Setup) (rule : List ℕ) where
@@ -49,23 +50,23 @@ module _ (s : Setup) (rule : List ℕ) where
 -- ---- the same of a file's contents
 module _ (c : Contents) where
   abbrev pub contents-refusal : Option Refusal
-  contents-refusal = pair-refusal (setup-of c) (rule-numbers c)
+  contents-refusal = pair-refusal (file-setup c) (rule-numbers c)
 
   abbrev pub contents-read-refusal : List ℕ → List ℕ → Option Refusal
-  contents-read-refusal meet rule = stored-refusal (setup-of c) (rule-numbers c) meet rule
+  contents-read-refusal meet rule = stored-refusal (file-setup c) (rule-numbers c) meet rule
 
   abbrev pub file-states : ℕ
-  file-states = pair-states (setup-of c) (rule-numbers c)
+  file-states = pair-states (file-setup c) (rule-numbers c)
 
   abbrev pub file-table : List ℕ
-  file-table = pair-table (setup-of c) (rule-numbers c)
+  file-table = pair-table (file-setup c) (rule-numbers c)
 
   -- Whether there is a table.
   abbrev pub contents-table-refusal : Option Refusal
-  contents-table-refusal = pair-table-refusal (setup-of c) (rule-numbers c)
+  contents-table-refusal = pair-table-refusal (file-setup c) (rule-numbers c)
 
   abbrev pub file-refusal : List ℕ → List ℕ → Option Refusal
-  file-refusal meet to = pair-compile-refusal (setup-of c) (rule-numbers c) meet to
+  file-refusal meet to = pair-compile-refusal (file-setup c) (rule-numbers c) meet to
 
 -- ---- a text, by what the file reader says of it: 4, or what its contents meet
 unfoldable pub text-refusal : (Contents → Option Refusal) → Outcome Contents → Option Refusal

@@ -1,3 +1,4 @@
+-- Twin of FileAnswers, pinned by product_claims DemandTwo.
 -- Writing a channel file (document 01, "Channel file", refusals 1 to 3, 5 to 9 and 13): the answer, and what the lent buffer holds
 -- afterwards.
 use Prim.Native.Nat.{ℕ}

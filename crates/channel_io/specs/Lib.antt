@@ -1,6 +1,8 @@
 -- In reading order.
 -- What a file says, judged on its own numbers: the conditions.
 pub mod FileConditions
+-- The conditions of a text, and what an accepted call yields.
+pub mod FileAnswers
 -- The same by the file reader's answer.
 pub mod FileJudgement
 -- The same computed, and the table of a file's rule.

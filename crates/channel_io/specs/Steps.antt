@@ -20,7 +20,8 @@ use Rattle.channel_io.specs.declared.FileTable.{FileTable}
 use Rattle.channel_io.specs.declared.Held.{Held}
 use Rattle.channel_io.specs.declared.Held.the-variants.{File, Refused}
 use Rattle.channel_io.specs.FileRefusals.{stored-refusal, pair-states, pair-table, pair-compile-refusal}
-use Rattle.channel_io.specs.FileReading.{file-numbers, accepted-or}
+use Rattle.channel_io.specs.FileAnswers.{file-numbers}
+use Rattle.channel_io.specs.FileReading.{accepted-or}
 use Rattle.channel_io.specs.FileCompilation.{made-or}
 
 -- The entries and the nodes that are judged: those of a file within the limits, and none above them.

@@ -1,5 +1,5 @@
 -- The calls on a tool, what they reply, and what channels hold (document 01, "Tool").
-use mathlib.Core.{Bool.{cond}, List.{List, [], _∷_}, Option.{Option, none, some}}
+use mathlib.Core.{Bool.{cond}, List.{List, [], _∷_, map}, Option.{Option, none, some}}
 use Prim.Native.Nat.{ℕ}
 use lib.Dec.{eqb}
 use Rattle.theory.specs.{Formula.{Formula}, MealyMachine.{Machine}}
@@ -18,6 +18,11 @@ pub data Reply (Output : Type 0) : Type 0 where
   accepted : Reply Output
   returned : Output → Reply Output
   refused : Refusal → Reply Output
+
+abbrev pub reply-refusal : {Output : Type 0} → Reply Output → Option Refusal
+reply-refusal accepted = none
+reply-refusal (returned v) = none
+reply-refusal (refused refusal) = some refusal
 
 -- What each channel holds; none: it is empty.
 abbrev pub Channels : Type 0 → Type 0
@@ -54,3 +59,7 @@ module _ {C S A : Type 0} (f : C → S → A × S) where
   abbrev pub final : List C → S → S
   final [] s = s
   final (c ∷ cs) s = final cs (f c s .1)
+
+-- The event calls of a sequence of events on one channel.
+abbrev pub event-calls : {Input : Type 0} → ℕ → List Input → List (Call Input)
+event-calls c word = map (event c) word

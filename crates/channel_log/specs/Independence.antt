@@ -1,7 +1,6 @@
 -- The calls of a list that concern one channel (document 01, "Tool": calls that name another channel are struck out; a number
 -- above 7 counts as another, and restart all names none).
-use mathlib.Core.Bool.{Bool, true, cond}
-use mathlib.Core.List.{List, [], _∷_}
+use mathlib.Core.{Bool.{Bool, true, cond}, List.{List, [], _∷_}}
 use Prim.Native.Nat.{ℕ}
 use lib.Dec.{eqb}
 use Rattle.channel_log.specs.Calls.{Call, load, event, restart, restart-all, clear}

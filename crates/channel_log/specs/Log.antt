@@ -1,3 +1,4 @@
+-- Twin of ChannelLog, pinned by product_claims DemandThree.
 -- The log (document 01, "Tool"): for each channel nothing, or a rule and its events in order. It is fed the set-up and the calls
 -- with their inputs, and judges by document 01's list and the formula semantics; no table is built.
 use mathlib.Core.{Bool.{cond}, List.{List, [], _∷_, _++_}, Option.{Option, none, some}}

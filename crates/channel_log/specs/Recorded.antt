@@ -1,3 +1,4 @@
+-- Twin of Calls, pinned by product_claims DemandThree.
 -- A tool's channels: a table and a current state (document 01, "Tool").
 use mathlib.Core.{List.{List}, Option.{Option}}
 use Prim.Native.Nat.{ℕ, zero}

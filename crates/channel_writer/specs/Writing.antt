@@ -1,3 +1,4 @@
+-- Twin of ChannelFile, pinned by channel_writer NodeClaim.
 -- Writing a channel file from numbers, meet entries and node bytes.
 use Prim.Native.Nat.{ℕ, min}
 use mathlib.Core.Path.{_≡_}

@@ -1,12 +1,12 @@
 -- The rule of a table (document 01, "Rule of a table", refusals 12 and 13; document 02, F-7): the conditions that writing it meets, over a
 -- set-up of either kind. The limits of states and of nodes are parameters.
-use mathlib.Core.List.{List, [], _∷_, _++_}
+use mathlib.Core.{Path.{_≡_}, List.{List, [], _∷_, _++_}, Option.{none}}
 use Prim.Native.Nat.{ℕ, _<_}
 use lib.ListN.{length}
-use Rattle.theory.specs.{Formula.{Formula, size}, CharacteristicFormula.{Writes}}
-use Rattle.refusal.specs.Refusal.{Condition, plain}
-use Rattle.values.specs.{declared.ValueKind.{ValueKind}, Setup.{Setup, SetupValue, setup-conditions}}
-use Rattle.formulas.specs.NodeBytes.{encode-formula, node-bytes}
+use Rattle.theory.specs.{Formula.{Formula, size}, Semantics.{Answers}, MealyMachine.{Word, after}, CharacteristicFormula.{Writes}}
+use Rattle.refusal.specs.Refusal.{Condition, plain, First}
+use Rattle.values.specs.{declared.ValueKind.{ValueKind}, Setup.{Setup, SetupValue, setup-meet, setup-top, setup-conditions}}
+use Rattle.formulas.specs.{NodeBytes.{encode-formula, node-bytes}, RuleConditions.{byte-conditions}}
 use Rattle.machines.specs.TableBytes.{entry-width, machine-of, table-condition}
 
 -- φ is the rule of the table from the start: `Writes` of theory, with no state open yet.
@@ -31,3 +31,13 @@ module _ (table-most node-most : ℕ) (s : Setup) (states start : ℕ) (table : 
       ∷ plain 12 TooManyNodes
       ∷ plain 13 (BufferTooShort room)
       ∷ [])
+
+-- "Each rule so written is accepted as a rule and its values are the start state's on every event sequence."
+pub record IsWritten (s : Setup) (start : ℕ) (table : List ℕ) (φ : Formula ℕ) : Type 0 where
+  pub is-rule : IsRuleOf (s .events) (s .kind) start table φ
+  pub only : (χ : Formula ℕ) → IsRuleOf (s .events) (s .kind) start table χ → χ ≡ φ
+  pub accepted : First (byte-conditions (s .events) (s .kind) (encode-formula (node-bytes (s .kind)) φ)) none
+  pub same-values :
+      (w : List ℕ) → Word (s .events) w → (e : ℕ) → e < s .events →
+      Answers (setup-meet s) (setup-top s) φ w e
+      (machine-of (s .kind) (s .events) table .value (after (machine-of (s .kind) (s .events) table) start w) e)

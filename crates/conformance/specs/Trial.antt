@@ -1,8 +1,8 @@
 -- Trial (document 01, "Trial", and refusals 1 to 3, 11 and 13; document 02, F-7): a device judged against a rule's table, both in
 -- bytes, over a set-up of either kind.
-use mathlib.Core.{Logic.{_⊎_}, Option.{Option, none, some}, List.{List, [], _∷_, _++_}}
-use Prim.Native.Nat.{ℕ, zero, _*_, _<_}
-use lib.ListN.{length}
+use mathlib.Core.{Path.{_≡_}, Logic.{_⊎_}, Option.{Option, none, some}, List.{List, [], _∷_, _++_}}
+use Prim.Native.Nat.{ℕ, zero, _*_, _≤_, _<_}
+use lib.ListN.{length, take, drop}
 use Rattle.theory.specs.{MealyMachine.{Machine, States, Simulated}, Conformance.{FirstCounterexample}}
 use Rattle.refusal.specs.{declared.Refusal.{Refusal}, Refusal.{Condition, plain}}
 use Rattle.values.specs.Setup.{Setup, SetupValue, setup-meet, setup-conditions}
@@ -21,14 +21,7 @@ pub record TrialInput : Type 0 where
 
 unfoldable pub input : Setup → ℕ → List ℕ → ℕ → ℕ → List ℕ → TrialInput
 input set-up states table device-states device-start device =
-    record {
-      set-up = set-up;
-      states = states;
-      table = table;
-      device-states = device-states;
-      device-start = device-start;
-      device = device;
-    }
+    record { set-up = set-up; states = states; table = table; device-states = device-states; device-start = device-start; device = device }
 
 -- Both are read as machines over the set-up's events and values.
 abbrev pub meet : TrialInput → ℕ → ℕ → ℕ
@@ -68,6 +61,14 @@ module _ (device-most table-most : ℕ) (x : TrialInput) (buffer : List ℕ) whe
   trial-conditions =
       setup-conditions (x .set-up)
       ++ (plain 11 ((¬ DeviceInOrder) ⊎ (¬ RuleTableInOrder)) ∷ plain 13 (length buffer < device-most * table-most) ∷ [])
+
+-- A failed trial: the front of the buffer holds the word, of "1 to 4,096 events", and the bytes after it keep their contents.
+pub record FailsBy (x : TrialInput) (longest : ℕ) (old new : List ℕ) (n : ℕ) : Type 1 where
+  pub some-events : 1 ≤ n
+  pub few-events : n ≤ longest
+  pub word : FirstFailure x (take n new)
+  pub rest-kept : drop n new ≡ drop n old
+  pub not-passed : ¬ Passes x
 
 -- What each answer says: the refusal, that the device passed, the length of a failed trial's word.
 abbrev pub refusal-of : Verdict → Option Refusal

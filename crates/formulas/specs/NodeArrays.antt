@@ -1,3 +1,4 @@
+-- Twin of NodeBytes, pinned by formulas DecodedClaim.
 -- The fields of nodes as lists of fixed length, one for each field: what nodes decode to.
 use mathlib.Core.Bool.{cond}
 use mathlib.Core.List.{List, [], _∷_}

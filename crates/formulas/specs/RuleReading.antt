@@ -1,3 +1,4 @@
+-- Twin of RuleConditions, pinned by formulas RuleRefusalClaim.
 -- Computing twins of RuleConditions, in parts: what is read from a node's fields, where nodes run out or are left over, the
 -- formula whose nodes these are, and the lowest variable at fault. Nodes are reached through accessors, as in NodeReading.
 use mathlib.Core.Bool.{Bool, true, false, cond, not, _&&_}

@@ -1,3 +1,4 @@
+-- Twin of RuleConditions, pinned by formulas RuleRefusalClaim.
 -- Which of refusals 5 to 9 a rule in bytes meets, computed: the twin of `First rule-conditions`. Each is answered over the whole
 -- input before the next.
 use mathlib.Core.{Bool.{Bool, not, _&&_}, Option.{Option}, List.{List}}

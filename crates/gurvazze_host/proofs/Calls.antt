@@ -20,8 +20,8 @@ use Rattle.conformance.specs.declared.Verdict.{Verdict}
 use Rattle.conformance.specs.Trial.{TrialInput, input}
 use Rattle.conformance.specs.TrialAnswer.{trial-refusal, trial-answer, trial-buffer, first-failure, answer-unless, buffer-unless}
 use Rattle.channel_io.specs.declared.FileNumbers.{FileNumbers}
-use Rattle.channel_io.specs.FileConditions.{setup-of}
-use Rattle.channel_io.specs.FileReading.{numbers}
+use Rattle.channel_io.specs.FileConditions.{file-setup}
+use Rattle.channel_io.specs.FileAnswers.{numbers}
 use Rattle.channel_io.specs.FileRefusals.{file-states, file-table, contents-table-refusal}
 use Rattle.channel_io.specs.Claims.{FileTableMade}
 use Rattle.channel_io.proofs.{Claims.{file-table-made}, Callers.{meet-fits, table-fits, Unmade, off-form, turned-away, MadeOf, limits, events-are}}
@@ -158,10 +158,10 @@ module _ {t meet old meet′ new : List ℕ} {n : FileNumbers} {k : ℕ} (w : Ma
       ≡ file-trial c states start device
   unfolding numbers
   same-trial states start device =
-      let s : setup (n .events) (n .values) (n .top) (take (n .entries) meet′) ≡ setup-of c =
+      let s : setup (n .events) (n .values) (n .top) (take (n .entries) meet′) ≡ file-setup c =
       ap₂ (λ (z : FileNumbers) (m : List ℕ). setup (z .events) (z .values) (z .top) m) (w .numbers-are) (w .entries-taken) in
       ap₂ (λ (x : Setup) (y : List ℕ). input x k y states start device) s (w .table-taken)
-      ∙ ap (λ (j : ℕ). input (setup-of c) j (file-table c) states start device) (w .states-are)
+      ∙ ap (λ (j : ℕ). input (file-setup c) j (file-table c) states start device) (w .states-are)
 
   pub trial-made :
       (states start : ℕ) (device word word′ : List ℕ) (v : Verdict)

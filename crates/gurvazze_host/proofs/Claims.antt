@@ -21,7 +21,7 @@ use Rattle.text_format.specs.Format.{contents}
 use Rattle.channel_file.specs.ChannelFile.{Contents}
 use Rattle.machines.specs.TableRefusal.{table-refusal}
 use Rattle.machines.proofs.TableRefusals.{table-refusal-first}
-use Rattle.channel_io.specs.FileConditions.{setup-of}
+use Rattle.channel_io.specs.FileConditions.{file-setup}
 use Rattle.channel_io.specs.FileRefusals.{pair-table-refusal, file-states, file-table, contents-table-refusal}
 use Rattle.channel_io.specs.FileConditions.{contents-table-conditions}
 use Rattle.conformance.specs.Trial.{input, Passed}
@@ -73,7 +73,7 @@ replay-claim c word old e =
       rule-is = made .code;
       same-length = length-word-values (file-machine c) 0 word;
       answers = λ i l.
-          subst (λ (v : ℕ). Answers (setup-meet (setup-of c)) (c .top) (made .formula) (take i word) (getD word i 0) v)
+          subst (λ (v : ℕ). Answers (setup-meet (file-setup c)) (c .top) (made .formula) (take i word) (getD word i 0) v)
           (sym (word-values-at (file-machine c) 0 word i l))
           (made .answers (take i word) (word-of (c .events) word below i) (getD word i 0) (below i l));
     }
@@ -125,9 +125,9 @@ file-trial-first c states start device old =
     first-then (contents-table-conditions c) _ (contents-table-refusal c) _ (contents-table-claim c .first)
     (λ ok.
     subst (First _)
-    (trial-behind (setup-refusal (setup-of c)) (table-refusal device-limit (c .events) (Numbered (c .values)) states start device)
+    (trial-behind (setup-refusal (file-setup c)) (table-refusal device-limit (c .events) (Numbered (c .values)) states start device)
     (table-refusal table-limit (c .events) (Numbered (c .values)) (file-states c) 0 (file-table c)) (plain-unless (leb word-limit (length old)) 13)
-    (or-else-none (setup-refusal (setup-of c)) _ ok .0) (file-table-accepted c ok))
+    (or-else-none (setup-refusal (file-setup c)) _ ok .0) (file-table-accepted c ok))
     (first-append _ _ _ _ (table-refusal-first device-limit (c .events) (Numbered (c .values)) states start device)
     (plain-first 13 (length old < word-limit) (leb word-limit (length old)) (λ e. leb-false word-limit (length old) e)
     (λ e h. let l = leb-true word-limit (length old) e in omega arith))))

@@ -19,7 +19,7 @@ use Rattle.channel_file.specs.ChannelFile.{Contents, Form, Refused4, over-long,
 use Rattle.channel_file.specs.Reading.{AnswersFile, read-file}
 use Rattle.channel_file.proofs.Claims.{answer-claim}
 use Rattle.synthesis.specs.Compilation.{rule-table-refusal}
-use Rattle.channel_io.specs.FileConditions.{setup-of}
+use Rattle.channel_io.specs.FileConditions.{file-setup}
 use Rattle.channel_file.specs.ChannelFile.{rule-numbers}
 use Rattle.channel_io.proofs.Clamping.{read-size}
 use Rattle.channel_io.specs.FileRefusals.{pair-table-refusal, has-table-room, pair-compile-refusal, file-states, contents-table-refusal, file-refusal}
@@ -118,9 +118,9 @@ pub file-small : (c : Contents) (meet to : List ℕ) → SmallAnswer (file-refus
 unfolding pair-compile-refusal pair-table-refusal rule-table-refusal
 file-small c meet to =
     or-small (contents-table-refusal c) _
-    (or-small (setup-refusal (setup-of c)) _ (setup-small (setup-of c))
+    (or-small (setup-refusal (file-setup c)) _ (setup-small (file-setup c))
     (or-small _ _ (rule-small _ _ (rule-numbers c)) (plain-small (leb (file-states c) state-limit) 10)))
-    (plain-small (has-table-room (setup-of c) (rule-numbers c) meet to) 13)
+    (plain-small (has-table-room (file-setup c) (rule-numbers c) meet to) 13)
 
 -- 4
 form-small : (t : List ℕ) (p : ℕ) → length t ≤ file-limit → Refused Form t p → p ≤ file-limit

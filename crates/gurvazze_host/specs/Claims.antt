@@ -11,7 +11,7 @@ use Rattle.channel_file.specs.ChannelFile.{Contents, rule-numbers}
 use Rattle.machines.specs.TableBytes.{machine-of, table-condition}
 use Rattle.values.specs.{declared.ValueKind.the-variants.{Numbered}, Setup.{setup-meet}}
 use Rattle.conformance.specs.Trial.{Passed}
-use Rattle.channel_io.specs.FileConditions.{contents-table-conditions, setup-of}
+use Rattle.channel_io.specs.FileConditions.{contents-table-conditions, file-setup}
 use Rattle.gurvazze_host.specs.{Codes.{code}, FileCalls.{file-machine, replay-refusal, file-trial-refusal, file-trial-answer}}
 use Rattle.limits.specs.Limits.{device-limit, word-limit}
 
@@ -42,7 +42,7 @@ pub record Replayed (c : Contents) (word : List ℕ) : Type 0 where
   pub same-length : length (word-values (file-machine c) 0 word) ≡ length word
   pub answers :
       (i : ℕ) → i < length word →
-      Answers (setup-meet (setup-of c)) (c .top) rule (take i word) (getD word i 0) (getD (word-values (file-machine c) 0 word) i 0)
+      Answers (setup-meet (file-setup c)) (c .top) rule (take i word) (getD word i 0) (getD (word-values (file-machine c) 0 word) i 0)
 
 abbrev pub ReplayClaim : Type 0
 ReplayClaim = (c : Contents) (word old : List ℕ) → replay-refusal c word old ≡ none → Replayed c word
@@ -67,7 +67,7 @@ pub record Tried (c : Contents) (states start : ℕ) (device old : List ℕ) : T
   pub rule-is : AcceptedFormula (c .events) (Numbered (c .values)) (rule-numbers c) rule
   pub passes :
       Passed (file-trial-answer (contents c) states start device old)
-      ↔ TableSatisfies (setup-meet (setup-of c)) states (machine-of (Numbered (c .values)) (c .events) device) rule start
+      ↔ TableSatisfies (setup-meet (file-setup c)) states (machine-of (Numbered (c .values)) (c .events) device) rule start
 
 abbrev pub FileTrialClaim : Type 0
 FileTrialClaim =

@@ -11,7 +11,7 @@ use Rattle.values.specs.declared.ValueKind.the-variants.{Numbered}
 use Rattle.machines.specs.TableBytes.{machine-of}
 use Rattle.conformance.specs.{declared.Verdict.{Verdict}, declared.Verdict.the-variants.{Refused}, Trial.{TrialInput, input}}
 use Rattle.conformance.specs.TrialAnswer.{trial-refusal, first-failure, answer-unless, buffer-unless}
-use Rattle.channel_io.specs.{FileConditions.{setup-of}, FileRefusals.{file-states, file-table, contents-table-refusal}}
+use Rattle.channel_io.specs.{FileConditions.{file-setup}, FileRefusals.{file-states, file-table, contents-table-refusal}}
 use Rattle.gurvazze_host.specs.Codes.{refusal-code, code, table-numbers}
 use Rattle.limits.specs.Limits.{device-limit, event-limit, state-limit, table-limit}
 
@@ -58,7 +58,7 @@ replay-after (contents c) word old = put-unless (replay-refusal c word old) (wor
 
 -- The rule's table and the device, as a trial takes them.
 abbrev pub file-trial : Contents → ℕ → ℕ → List ℕ → TrialInput
-file-trial c states start device = input (setup-of c) (file-states c) (file-table c) states start device
+file-trial c states start device = input (file-setup c) (file-states c) (file-table c) states start device
 
 -- 1 to 3, 5 to 10, then 11 and 13.
 unfoldable pub file-trial-refusal : Contents → ℕ → ℕ → List ℕ → List ℕ → Option Refusal

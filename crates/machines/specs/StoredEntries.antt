@@ -1,3 +1,4 @@
+-- Twin of TableBytes, pinned by machines StoredTableClaim.
 -- Entries stored to a lent buffer (document 01, "Table of a rule", and refusal 13: "What lies after an output keeps its
 -- contents").
 use mathlib.Core.{Bool.{Bool, _&&_, cond}, List.{List, [], _∷_, _++_}}

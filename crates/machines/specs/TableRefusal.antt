@@ -1,3 +1,4 @@
+-- Twin of TableBytes, pinned by machines TableRefusalClaim.
 -- Refusal 11 computed by tests (document 01, "Who can cause a refusal"). The sentence is `table-condition`; the tests decide it.
 use mathlib.Core.{Bool.{Bool, _&&_}, Option.{Option}, List.{List}}
 use Prim.Native.Nat.{ℕ, _*_}

@@ -58,10 +58,10 @@ module _ (s : Setup) (rule old : List ℕ) (accepted : compile-refusal state-lim
   top = setup-top s
 
   abbrev n : ℕ
-  n = setup-states state-limit s rule old
+  n = setup-states state-limit s rule
 
   abbrev t : Machine ℕ ℕ
-  t = setup-table state-limit s rule old
+  t = setup-table state-limit s rule
 
   abbrev output : List ℕ
   output = table-bytes (entry-bytes (s .kind)) (s .events) t n
@@ -185,7 +185,7 @@ module _ (s : Setup) (states start : ℕ) (table buffer : List ℕ)
 
   module _ (old : List ℕ) (long : state-limit * s .events * entry-width (s .kind) ≤ length old) where
     abbrev count : ℕ
-    count = setup-states state-limit s bytes old
+    count = setup-states state-limit s bytes
 
     bounded : count ≤ state-limit
     bounded =

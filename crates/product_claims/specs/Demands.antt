@@ -43,7 +43,7 @@ pub record DemandOne : Type 0 where
 
 -- The bytes of a rule's table, at the front of the lent buffer after `compile`.
 abbrev pub compiled-bytes : Setup → List ℕ → List ℕ → List ℕ
-compiled-bytes s rule old = take (setup-states state-limit s rule old * s .events * entry-width (s .kind)) (compile-contents state-limit s rule old)
+compiled-bytes s rule old = take (setup-states state-limit s rule * s .events * entry-width (s .kind)) (compile-contents state-limit s rule old)
 
 -- The rule of an accepted table, handed to the compiler, is accepted by 1 to 3 and 5 to 10, whatever lent buffer has room for it, and
 -- its table has the start's values on every event sequence.
@@ -76,7 +76,7 @@ pub record DemandTwo : Type 0 where
 
 -- A device's trial against the table that `compile` stored for a rule.
 abbrev pub trial-of : Setup → List ℕ → List ℕ → ℕ → ℕ → List ℕ → TrialInput
-trial-of s rule old states start device = input s (setup-states state-limit s rule old) (compiled-bytes s rule old) states start device
+trial-of s rule old states start device = input s (setup-states state-limit s rule) (compiled-bytes s rule old) states start device
 
 -- For every accepted set-up and rule, every well-formed device (11 does not refuse it) and every word buffer that is long enough (13
 -- does not refuse it): the device passes exactly if its start satisfies the rule by the set definition.

@@ -16,6 +16,8 @@ use Rattle.values.proofs.Setups.{accepted-events}
 use Rattle.formulas.specs.{RuleRefusal.{formula-of}, NodeArrays.{padded}}
 use Rattle.machines.proofs.EntryIndex.{state-below, event-below}
 use Rattle.synthesis.specs.Compilation.{entry-count, flat, rule-states, rule-table-refusal, compile-rule-refusal, compiled, compiled-within}
+use Rattle.synthesis.specs.Compilation.{compiled-unless, compiled-setup}
+use Rattle.synthesis.specs.declared.Compiled.{Compiled}
 use Rattle.synthesis.proofs.{CompiledTable.{table-runs}, LentTable.{laws, few, formula-well-formed, formula-small}}
 use Rattle.recorder.specs.CompiledRule.{rule-judged, states-of-rule, table-of-rule, values-of-rule, nexts-of-rule, compiled-rule}
 use Rattle.recorder.specs.Decisions.{low-byte}
@@ -38,9 +40,18 @@ module _ (s : Setup) (rule : List ℕ) (ok : setup-refusal s ≡ none) where
       ap (λ b. or-else (plain-unless b 1) (rule-table-refusal (s .kind) (s .events) (setup-top s) (s .meet) rule state-limit))
       (accepted-events s ok)
 
+  abbrev made : Compiled
+  made = compiled (s .kind) (s .events) (setup-top s) (s .meet) rule
+
+  made-is : compiled-rule s rule ≡ made
+  unfolding compiled-rule compiled-setup compiled-unless
+  made-is = ap (λ o. compiled-unless o made) ok
+
   verdict-is : compiled-rule s rule .verdict ≡ counted (rule-judged s rule) (states-of-rule s rule)
-  unfolding compiled-rule compiled compiled-within states-of-rule
-  verdict-is = ap (λ a. counted a (rule-states (s .kind) (s .events) (setup-top s) (s .meet) rule state-limit)) answer-is
+  unfolding compiled compiled-within states-of-rule
+  verdict-is =
+      ap (λ A. A .verdict) made-is
+      ∙ ap (λ a. counted a (rule-states (s .kind) (s .events) (setup-top s) (s .meet) rule state-limit)) answer-is
 
   pub rule-refused : (r : Refusal) → compiled-rule s rule .verdict ≡ Refused r → rule-judged s rule ≡ some r
   rule-refused r e = counted-refused (rule-judged s rule) (states-of-rule s rule) r (sym verdict-is ∙ e)
@@ -50,15 +61,17 @@ module _ (s : Setup) (rule : List ℕ) (ok : setup-refusal s ≡ none) where
 
   module _ (fine : rule-judged s rule ≡ none) where
     pub values-are : compiled-rule s rule .values ≡ values-of-rule s rule
-    unfolding compiled-rule compiled compiled-within values-of-rule states-of-rule entry-count
+    unfolding compiled compiled-within values-of-rule states-of-rule entry-count
     values-are =
-        ap (λ a. flat (table-of-rule s rule .value) (s .events) (entry-count a (states-of-rule s rule * s .events)) entry-limit)
+        ap (λ A. A .values) made-is
+        ∙ ap (λ a. flat (table-of-rule s rule .value) (s .events) (entry-count a (states-of-rule s rule * s .events)) entry-limit)
         (answer-is ∙ fine)
 
     pub nexts-are : compiled-rule s rule .nexts ≡ nexts-of-rule s rule
-    unfolding compiled-rule compiled compiled-within nexts-of-rule states-of-rule entry-count
+    unfolding compiled compiled-within nexts-of-rule states-of-rule entry-count
     nexts-are =
-        ap (λ a. flat (table-of-rule s rule .next) (s .events) (entry-count a (states-of-rule s rule * s .events)) entry-limit)
+        ap (λ A. A .nexts) made-is
+        ∙ ap (λ a. flat (table-of-rule s rule .next) (s .events) (entry-count a (states-of-rule s rule * s .events)) entry-limit)
         (answer-is ∙ fine)
 
     pub few-states : states-of-rule s rule ≤ state-limit

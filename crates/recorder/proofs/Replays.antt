@@ -16,7 +16,8 @@ use Rattle.channel_log.specs.CallSteps.{channel-refusal, empty-refusal}
 use Rattle.recorder.specs.Store.{Store, setup-of, table-at, rows-start, channels}
 use Rattle.recorder.specs.ToolTests.{channel-test, test-of, setup-test}
 use Rattle.recorder.specs.Called.{with-current, called}
-use Rattle.recorder.specs.Replay.{event-calls, returned-values, word-test, replay-refusal, replay-settled, replayed}
+use Rattle.channel_log.specs.Calls.{event-calls}
+use Rattle.recorder.specs.Replay.{returned-values, word-test, replay-refusal, replay-settled, replayed}
 use Rattle.recorder.specs.Decisions.{refusal-of, first-number, number-unless, replay-number, plain-reply, Runnable}
 use Rattle.recorder.proofs.{Numbers.{first-refusal, unless-refusal, number-some, plain-refused}, Rows.{rows-in, entries-fit}}
 use Rattle.recorder.proofs.Held.{held-some, test-of-in-order, flat-next}

@@ -1,3 +1,4 @@
+-- Twin of ToolFault, pinned by product_claims DemandThree.
 -- The calls on a tool (document 01, "Tool"): what each answers and what the tool holds afterwards, whatever it held before.
 use mathlib.Core.{List.{List, _++_}, Option.{Option, none, some}}
 use Prim.Native.Nat.{ℕ, _-_}

@@ -1,3 +1,4 @@
+-- Twin of TableOfRule, pinned by product_claims DemandThree.
 -- What load takes from the compiler, for a set-up and a rule's bytes (document 01, "Table of a rule" and refusals 5 to 10).
 use mathlib.Core.{List.{List}, Option.{Option}}
 use Prim.Native.Nat.{ℕ, _*_}
@@ -5,7 +6,7 @@ use Rattle.limits.specs.Limits.{state-limit, entry-limit}
 use Rattle.theory.specs.MealyMachine.{Machine}
 use Rattle.refusal.specs.declared.Refusal.{Refusal}
 use Rattle.values.specs.Setup.{Setup, setup-top}
-use Rattle.synthesis.specs.{declared.Compiled.{Compiled}, Compilation.{rule-states, rule-table, rule-table-refusal, flat, compiled}}
+use Rattle.synthesis.specs.{declared.Compiled.{Compiled}, Compilation.{rule-states, rule-table, rule-table-refusal, flat, compiled-setup}}
 use Rattle.channel_log.specs.Calls.{Loaded}
 use Rattle.recorder.specs.Store.{loaded-at}
 
@@ -34,4 +35,4 @@ module _ (s : Setup) (rule : List ℕ) where
 
   -- The answer of `compile_rule`, whose arrays hold these.
   unfoldable pub compiled-rule : Compiled
-  compiled-rule = compiled (s .kind) (s .events) (setup-top s) (s .meet) rule
+  compiled-rule = compiled-setup s rule

@@ -1,22 +1,14 @@
 -- What the private functions decide before anything is written: the number of a refusal, 13 to 17, or 0 where there is none (document 01,
 -- "Who can cause a refusal"), and what an event comes to.
-use mathlib.Core.Path.{_≡_}
-use mathlib.Core.Bool.{Bool, cond}
-use mathlib.Core.List.{List}
-use mathlib.Core.Option.{Option, none, some}
+use mathlib.Core.{Path.{_≡_}, Bool.{Bool, cond}, List.{List}, Option.{Option, none, some}}
 use Prim.Native.Nat.{ℕ, zero, suc, _+_, _*_, _%_, _≤_, _<_}
-use lib.Dec.{ltb}
-use lib.ListN.{getD, length, replicate}
+use lib.{Dec.{ltb}, ListN.{getD, length, replicate}}
 use Rattle.limits.specs.Limits.{channel-limit, event-limit, table-limit, entry-limit, store-limit}
-use Rattle.refusal.specs.declared.Refusal.{Refusal}
-use Rattle.refusal.specs.declared.Refusal.the-variants.{Plain}
-use Rattle.refusal.specs.declared.Counted.{Counted}
-use Rattle.refusal.specs.declared.Counted.the-variants.{Count, Refused as NotCounted}
-use Rattle.refusal.specs.declared.Judgement.{Judgement}
+use Rattle.refusal.specs.{declared.Refusal.{Refusal}, declared.Refusal.the-variants.{Plain}, declared.Counted.{Counted}}
+use Rattle.refusal.specs.{declared.Counted.the-variants.{Count, Refused as NotCounted}, declared.Judgement.{Judgement}}
 use Rattle.refusal.specs.declared.Judgement.the-variants.{Accepted, Refused}
 use Rattle.channel_log.specs.Calls.{Reply, accepted, returned, refused}
-use Rattle.recorder.specs.Store.{rows-start}
-use Rattle.recorder.specs.declared.Decision.{Decision}
+use Rattle.recorder.specs.{Store.{rows-start}, declared.Decision.{Decision}}
 
 -- The refusal of a number; 0 is none.
 abbrev pub refusal-of : ℕ → Option Refusal

@@ -1,15 +1,13 @@
+-- Twin of CallConditions, pinned by product_claims DemandThree.
 -- A sequence of events on one channel into a lent buffer: the event call repeated (document 01, "Tool"), all or nothing.
-use mathlib.Core.{Bool.{Bool}, List.{List, [], _∷_, map}, Option.{Option}}
+use mathlib.Core.{Bool.{Bool}, List.{List, [], _∷_}, Option.{Option}}
 use Prim.Native.Nat.{ℕ}
 use lib.{Dec.{ltb, leb}, ListN.{getD, length}}
 use Rattle.theory.specs.ValueSetTests.{every}
 use Rattle.refusal.specs.{declared.Refusal.{Refusal}, RefusalAnswers.{or-else, plain-unless}, LentBuffers.{put-unless}}
-use Rattle.channel_log.specs.{Calls.{Call, event, Reply, accepted, returned, refused, replies, final}, CallSteps.{channel-refusal, empty-refusal}}
+use Rattle.channel_log.specs.{Calls.{event, Reply, accepted, returned, refused, replies, final}, CallSteps.{channel-refusal, empty-refusal}}
 use Rattle.recorder.specs.{Store.{Store, channels}, ToolTests.{tool-test}, Called.{settled-store, called}}
-
--- The event calls, one for each event of the sequence.
-abbrev pub event-calls : ℕ → List ℕ → List (Call ℕ)
-event-calls c word = map (event c) word
+use Rattle.channel_log.specs.Calls.{event-calls}
 
 -- The values that replies return.
 abbrev pub returned-values : List (Reply ℕ) → List ℕ

@@ -1,9 +1,9 @@
 -- What a tool holds, however it is represented (document 01, "Tool": "one set-up and eight channels"; "a channel is empty or has a table
 -- and a current state").
-use mathlib.Core.{Bool.{_&&_, cond}, List.{List}, Option.{Option, none, some}}
+use mathlib.Core.{Path.{_≡_}, Bool.{_&&_, cond}, List.{List}, Option.{Option, none, some}}
 use Prim.Native.Nat.{ℕ, _+_, _*_}
-use lib.{Dec.{ltb}, ListN.{getD, take, drop}}
-use Rattle.limits.specs.Limits.{channel-limit, entry-limit}
+use lib.{Dec.{ltb}, ListN.{length, getD, take, drop}}
+use Rattle.limits.specs.Limits.{channel-limit, entry-limit, store-limit}
 use Rattle.theory.specs.MealyMachine.{Machine}
 use Rattle.values.specs.{declared.ValueKind.{ValueKind}, declared.ValueKind.the-variants.{Numbered, Register}, Setup.{Setup, setup-of-kind}}
 use Rattle.channel_log.specs.Calls.{Channels, Loaded}
@@ -53,3 +53,10 @@ held c events k q value next = cond (ltb c channel-limit && ltb 0 k) (some (load
 -- What the channels hold.
 abbrev pub channels : Store → Channels (Loaded ℕ)
 channels t c = held c (t .setup .events) (getD (t .states) c 0) (getD (t .current) c 0) (t .value) (t .next)
+
+-- All cells of eight channels are there.
+pub record AllCells (t : Store) : Type 0 where
+  pub states-are : length (t .states) ≡ channel-limit
+  pub current-are : length (t .current) ≡ channel-limit
+  pub values-are : length (t .value) ≡ store-limit
+  pub nexts-are : length (t .next) ≡ store-limit

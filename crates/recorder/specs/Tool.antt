@@ -1,14 +1,11 @@
 -- The tool of numbered values is one representation of the store: its cells, and nothing else (document 01, "Tool").
-use mathlib.Core.Path.{_≡_}
-use mathlib.Core.List.{List}
+use mathlib.Core.{Path.{_≡_}, List.{List}}
 use Prim.Native.Nat.{ℕ}
 use Rattle.values.specs.Setup.{setup}
 use Rattle.channel_log.specs.Calls.{Reply, accepted, returned, refused}
-use Rattle.recorder.specs.declared.Tool.{Tool}
-use Rattle.recorder.specs.declared.Answer.{Answer}
+use Rattle.recorder.specs.{declared.Tool.{Tool}, declared.Answer.{Answer}, Store.{Store}}
 use Rattle.recorder.specs.declared.Reply as declared
 use Rattle.recorder.specs.declared.Reply.the-variants as variant
-use Rattle.recorder.specs.Store.{Store}
 
 abbrev pub store-of : Tool → Store
 store-of t =

@@ -11,7 +11,6 @@ use refusal::Judgement;
 use refusal::Refusal;
 use synthesis::Compiled;
 use synthesis::compile_rule;
-use values::ValueKind;
 ghost use mathlib.Core.Path.{_≡_};
 ghost use mathlib.Core.Bool.{_&&_};
 ghost use mathlib.Core.List.{map};
@@ -75,12 +74,6 @@ fn wide(x: u8) -> usize
     ensures { λ r. ⌜ r ≡ x ⌝ }
 {
     x as usize
-}
-
-fn wide32(x: u8) -> u32
-    ensures { λ r. ⌜ r ≡ x ⌝ }
-{
-    x as u32
 }
 
 fn wide16(x: u16) -> usize
@@ -714,8 +707,7 @@ fn compile_for(meet: &[u8], events: u8, values: u8, top: u8, rule: &[u8]) -> Com
 {
     let v = wide(values);
     let count = v * v;
-    let kind = ValueKind::Numbered(wide32(values));
-    compile_rule(kind, wide(events), wide32(top), &meet[..count], rule)
+    compile_rule(wide(events), v, wide(top), &meet[..count], rule)
 }
 
 fn counted_reply(verdict: Counted) -> Reply

@@ -4,13 +4,16 @@ use mathlib.Core.{Path.{_≡_}, Logic.{_↔_}, Bool.{true}, List.{List, map}, Op
 use Prim.Native.Nat.{ℕ}
 use lib.ListN.{length}
 use Rattle.limits.specs.Limits.{channel-limit}
+use Rattle.recorder_claims.specs.ChannelLog.{AsLogged, LoadedAs}
 use Rattle.refusal.specs.declared.Refusal.the-variants.{Plain}
 use Rattle.values.specs.{declared.ValueKind.{ValueKind}, Setup.{Setup, setup-meet, setup-top}, SetupTests.{setup-refusal}}
 use Rattle.formulas.specs.RuleRefusal.{formula-of}
-use Rattle.channel_log.specs.{Calls.{Call, returned, refused, replies, History}, CallSteps.{Content}, Log.{log}, Standing.{StandsAs}}
+use Rattle.channel_log.specs.{Calls.{Call, returned, refused, replies, History, event-calls}, CallSteps.{Content}, Log.{log}, Standing.{StandsAs}}
 use Rattle.channel_log.specs.Claims.{RecordClaim, IndependenceClaim}
 use Rattle.recorder.specs.{Store.{Store, channels}, ToolFault.{ToolFault}, ToolTests.{tool-test}, CompiledRule.{rule-judged}}
-use Rattle.recorder.specs.{Called.{called, new-store, blank}, Replay.{event-calls, replay-refusal}}
+use Rattle.recorder.specs.{Called.{called, new-store, blank}, Replay.{replay-refusal}}
+use Rattle.recorder.specs.Store.{setup-of, AllCells}
+use Rattle.channel_log.specs.Calls.{final, load, accepted}
 
 -- The log of a set-up: 5 to 10 by their list, the rule that accepted bytes are, and its values by the formula semantics.
 abbrev pub setup-log : Setup → Content (History ℕ) ℕ ℕ
@@ -41,3 +44,15 @@ abbrev pub ReplayClaim : Type 0
 ReplayClaim =
     (t : Store) → length (t .current) ≡ channel-limit → (c : ℕ) (word buffer : List ℕ) → replay-refusal t c word buffer ≡ none →
     (values : List ℕ) × (replies called (event-calls c word) t ≡ map returned values) × (length values ≡ length word)
+
+-- Demand 3 against document 01's log by its own sentences.
+abbrev pub PrintedRecordClaim : Type 0
+PrintedRecordClaim =
+    (s : Setup) → setup-refusal s ≡ none → (calls : List (Call ℕ)) →
+    AsLogged s calls (replies called calls (new-store s)) (setup-of (final called calls (new-store s))) (channels (final called calls (new-store s)))
+
+-- A load on any tool that has all its cells.
+abbrev pub LoadClaim : Type 0
+LoadClaim =
+    (t : Store) → AllCells t → (c : ℕ) (rule : List ℕ) → called (load c rule) t .0 ≡ accepted →
+    LoadedAs (setup-of t) c rule (channels t) (channels (called (load c rule) t .1))

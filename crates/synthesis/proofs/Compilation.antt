@@ -10,11 +10,11 @@ use Rattle.theory.proofs.Claims.{grammar}
 use Rattle.refusal.specs.declared.{Refusal.{Refusal}, Counted.{Counted}, Judgement.{Judgement}}
 use Rattle.refusal.specs.declared.Refusal.the-variants.{Plain}
 use Rattle.refusal.specs.declared.Counted.the-variants.{Count, Refused}
-use Rattle.refusal.specs.declared.Judgement.the-variants.{Refused as RefusedJudgement}
+use Rattle.refusal.specs.declared.Judgement.the-variants.{Accepted, Refused as RefusedJudgement}
 use Rattle.refusal.specs.RefusalAnswers.{or-else, plain-unless, judgement, counted}
-use Rattle.refusal.proofs.Refusals.{or-else-none, or-else-assoc, plain-none, counted-refused}
+use Rattle.refusal.proofs.Refusals.{or-else-none, or-else-assoc, plain-none, counted-refused, judgement-refused, judgement-accepted}
 use Rattle.values.specs.declared.ValueKind.{ValueKind}
-use Rattle.values.specs.{ValueKind.{ValueIn, meetOf}, ValueTests.{value-fits}, SetupTests.{events-test}}
+use Rattle.values.specs.{ValueKind.{ValueIn, meetOf}, ValueTests.{value-fits}, Setup.{Setup, setup-top}, SetupTests.{events-test, setup-refusal}}
 use Rattle.formulas.specs.{NodeBytes.{node-width}, NodeArrays.{padded, decoded}, RuleRefusal.{count-fits, fields-refusal, rule-refusal, formula-of}}
 use Rattle.formulas.specs.NodeWalks.{field}
 use Rattle.formulas.specs.declared.Nodes.{Nodes}
@@ -23,7 +23,7 @@ use Rattle.formulas.proofs.RuleClaims.{accepted-formula-of, decoded-reads}
 use Rattle.synthesis.specs.declared.Compiled.{Compiled}
 use Rattle.synthesis.specs.{Exploring.{Unchanged}, TableEntries.{EntriesTo}, MadeTable.{Tabled, Tables}}
 use Rattle.synthesis.specs.Compilation.{rule-states, rule-table, rule-table-refusal, compile-rule-refusal, entry-count, flat, refused, compiled-within}
-use Rattle.synthesis.specs.Compilation.{compiled, Made}
+use Rattle.synthesis.specs.Compilation.{compiled, compiled-unless, compiled-setup, Made}
 use Rattle.limits.specs.Limits.{event-limit, state-limit, entry-limit, node-limit}
 
 -- Entries and zeros after them.
@@ -316,3 +316,16 @@ module _ (kind : ValueKind) (events top : ℕ) (table rule : List ℕ) where
     unfolding compiled
     compiled-table h v x = within-table state-limit kind events top table rule e values nexts n
         (tables-of state-limit kind events top table rule nodes values₀ nexts₀ values nexts n d u w t) h v x
+
+-- `compile_rule` beside a refused set-up, and beside an accepted one.
+pub setup-refused : (s : Setup) (rule : List ℕ) (r : Refusal) → judgement (setup-refusal s) ≡ RefusedJudgement r → refused r ≡ compiled-setup s rule
+unfolding compiled-setup compiled-unless
+setup-refused s rule r e =
+    sym (ap (λ o. compiled-unless o (compiled (s .kind) (s .events) (setup-top s) (s .meet) rule)) (judgement-refused (setup-refusal s) r e))
+
+pub setup-made :
+    (s : Setup) (rule : List ℕ) → judgement (setup-refusal s) ≡ Accepted →
+    compiled (s .kind) (s .events) (setup-top s) (s .meet) rule ≡ compiled-setup s rule
+unfolding compiled-setup compiled-unless
+setup-made s rule e =
+    sym (ap (λ o. compiled-unless o (compiled (s .kind) (s .events) (setup-top s) (s .meet) rule)) (judgement-accepted (setup-refusal s) e))

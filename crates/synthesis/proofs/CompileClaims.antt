@@ -33,7 +33,7 @@ use Rattle.machines.proofs.TableRoundTrip.{read-back, entry-length, entry-width
 use Rattle.synthesis.specs.FormulaTable.{formula-states, formula-table}
 use Rattle.synthesis.specs.Compilation.{rule-states, rule-table, rule-table-refusal, compile-rule-refusal, entry-count, flat, compiled-within}
 use Rattle.synthesis.specs.Compilation.{setup-states, setup-table, compile-refusal, compile-contents}
-use Rattle.synthesis.specs.TableOfRule.{states-condition, buffer-condition, compile-conditions}
+use Rattle.synthesis.specs.TableOfRule.{states-condition, buffer-condition, compile-conditions, IsRuleTable}
 use Rattle.synthesis.specs.Claims.{CompileRefusalClaim, RuleTable, CompiledBytes, CompileClaim}
 use Rattle.synthesis.specs.Claims.{compile-rule-conditions, array-machine, CompiledArrays, CompileRuleClaim}
 use Rattle.synthesis.proofs.{Compilation.{flat-at, few-events}, CompiledTable.{few-states, is-table}, LentTable.{contents-at, laws, few}}
@@ -205,10 +205,10 @@ compile-refusal-claim limit s rule old =
 -- What an accepted call leaves in the buffer.
 module _ (limit : ℕ) (s : Setup) (rule old : List ℕ) (accepted : compile-refusal limit s rule old ≡ none) where
   abbrev n : ℕ
-  n = setup-states limit s rule old
+  n = setup-states limit s rule
 
   abbrev t : Machine ℕ ℕ
-  t = setup-table limit s rule old
+  t = setup-table limit s rule
 
   abbrev output : List ℕ
   output = table-bytes (entry-bytes (s .kind)) (s .events) t n
@@ -358,3 +358,10 @@ pub compile-rule-claim : CompileRuleClaim
 unfolding condition-numbers right-places has-place part-of order
 compile-rule-claim limit kind events top table rule little L =
     (judged _ _ (rule-first limit kind events top table rule little L) refl refl, arrays limit kind events top table rule little L)
+
+-- What is claimed of a rule's table, in document 01's words alone.
+pub printed-table :
+    (s : Setup) (rule : List ℕ) (n : ℕ) (t : Machine ℕ ℕ) → RuleTable (setup-meet s) (setup-top s) (s .events) (s .kind) rule n t →
+    IsRuleTable s rule n t
+printed-table s rule n t x =
+    record { formula = x .formula; code = x .code .written; only = x .only; is-table = x .is-table; answers = x .answers }

@@ -37,12 +37,12 @@ use Rattle.limits.specs.Limits.{event-limit, value-limit, node-limit, state-lim
 pub contents-at :
     (limit : ℕ) (s : Setup) (rule old : List ℕ) (answer : Option Refusal) → compile-refusal limit s rule old ≡ answer →
     compile-contents limit s rule old
-    ≡ put-unless answer (table-bytes (entry-bytes (s .kind)) (s .events) (setup-table limit s rule old) (setup-states limit s rule old)) old
+    ≡ put-unless answer (table-bytes (entry-bytes (s .kind)) (s .events) (setup-table limit s rule) (setup-states limit s rule)) old
 unfolding compile-contents
 contents-at limit s rule old answer e =
     ap
     (λ (a : Option Refusal).
-    put-unless a (table-bytes (entry-bytes (s .kind)) (s .events) (setup-table limit s rule old) (setup-states limit s rule old)) old)
+    put-unless a (table-bytes (entry-bytes (s .kind)) (s .events) (setup-table limit s rule) (setup-states limit s rule)) old)
     e
 
 -- A value of an accepted set-up lies in its bytes.
@@ -90,7 +90,7 @@ module _ (s : Setup) (ok : setup-refusal s ≡ none) where
 -- The cases of the answer.
 module _ (limit : ℕ) (s : Setup) (rule old : List ℕ) where
   abbrev states : ℕ
-  states = setup-states limit s rule old
+  states = setup-states limit s rule
 
   abbrev answer : Option Refusal
   answer = compile-refusal limit s rule old
@@ -121,7 +121,7 @@ module _ (limit : ℕ) (s : Setup) (rule old : List ℕ) where
   accepted-there :
       answer ≡ none →
       (Count states ≡ counted answer states)
-      × (put (table-bytes (entry-bytes (s .kind)) (s .events) (setup-table limit s rule old) states) old ≡ compile-contents limit s rule old)
+      × (put (table-bytes (entry-bytes (s .kind)) (s .events) (setup-table limit s rule) states) old ≡ compile-contents limit s rule old)
   unfolding counted put-unless
   accepted-there e = (sym (ap (λ a. counted a states) e), sym (contents-at limit s rule old _ e))
 
@@ -150,17 +150,17 @@ module _ (limit : ℕ) (s : Setup) (rule old : List ℕ) where
       pub few-of : n ≤ limit
       few-of = subst (λ x. x ≤ limit) (fine .1) (few s ok limit rule (fine .0))
 
-      values-are : c .values ≡ flat (setup-table limit s rule old .value) (s .events) (states * s .events) entry-limit
+      values-are : c .values ≡ flat (setup-table limit s rule .value) (s .events) (states * s .events) entry-limit
       unfolding compiled-within entry-count
       values-are =
           ap (λ d. d .values) made
-          ∙ ap (λ a. flat (setup-table limit s rule old .value) (s .events) (entry-count a (states * s .events)) entry-limit) (rule-answer ok ∙ fine .0)
+          ∙ ap (λ a. flat (setup-table limit s rule .value) (s .events) (entry-count a (states * s .events)) entry-limit) (rule-answer ok ∙ fine .0)
 
-      nexts-are : c .nexts ≡ flat (setup-table limit s rule old .next) (s .events) (states * s .events) entry-limit
+      nexts-are : c .nexts ≡ flat (setup-table limit s rule .next) (s .events) (states * s .events) entry-limit
       unfolding compiled-within entry-count
       nexts-are =
           ap (λ d. d .nexts) made
-          ∙ ap (λ a. flat (setup-table limit s rule old .next) (s .events) (entry-count a (states * s .events)) entry-limit) (rule-answer ok ∙ fine .0)
+          ∙ ap (λ a. flat (setup-table limit s rule .next) (s .events) (entry-count a (states * s .events)) entry-limit) (rule-answer ok ∙ fine .0)
 
       module _ (little : n * s .events ≤ entry-limit) where
         entry-is :
@@ -173,8 +173,8 @@ module _ (limit : ℕ) (s : Setup) (rule old : List ℕ) where
         pub sized : (length (c .values) ≡ entry-limit) × (length (c .nexts) ≡ entry-limit)
         unfolding flat
         sized = (
-          ap length values-are ∙ padded-length (λ x. setup-table limit s rule old .value (x / s .events) (x % s .events)) (states * s .events) entry-limit 0,
-          ap length nexts-are ∙ padded-length (λ x. setup-table limit s rule old .next (x / s .events) (x % s .events)) (states * s .events) entry-limit 0,
+          ap length values-are ∙ padded-length (λ x. setup-table limit s rule .value (x / s .events) (x % s .events)) (states * s .events) entry-limit 0,
+          ap length nexts-are ∙ padded-length (λ x. setup-table limit s rule .next (x / s .events) (x % s .events)) (states * s .events) entry-limit 0,
         )
 
         room-is : storable (entry-width (s .kind)) (c .values) (c .nexts) (n * s .events) old ≡ leb (states * s .events * entry-width (s .kind)) (length old)
@@ -192,17 +192,17 @@ module _ (limit : ℕ) (s : Setup) (rule old : List ℕ) where
             (w .0, q ∙ after-none (entry-width (s .kind)) (kept-bytes (s .kind)) (c .values) (c .nexts) (n * s .events) old f ∙ w .1)
 
         bytes-are : stored (kept-bytes (s .kind)) (c .values) (c .nexts) (n * s .events) ≡ table-bytes (entry-bytes (s .kind)) (s .events)
-            (setup-table limit s rule old) states
+            (setup-table limit s rule) states
         bytes-are =
-            stored-table (s .kind) (s .events) n (setup-table limit s rule old) (c .values) (c .nexts)
-            (entry-is (setup-table limit s rule old .value) (c .values) values-are)
-            (entry-is (setup-table limit s rule old .next) (c .nexts) nexts-are)
+            stored-table (s .kind) (s .events) n (setup-table limit s rule) (c .values) (c .nexts)
+            (entry-is (setup-table limit s rule .value) (c .values) values-are)
+            (entry-is (setup-table limit s rule .next) (c .nexts) nexts-are)
             (λ i h.
             of-bytes (s .kind) (s .top) (s .meet) (kind-passed s ok) _
-            (subst (ValueIn (s .kind)) (sym (entry-is (setup-table limit s rule old .value) (c .values) values-are i h))
+            (subst (ValueIn (s .kind)) (sym (entry-is (setup-table limit s rule .value) (c .values) values-are i h))
             (entries-run s ok limit rule (fine .0) .value-in (i / s .events)
             (subst (λ x. i / s .events < x) (sym (fine .1)) (state-below (s .events) n i h)) (i % s .events) (event-below (s .events) n i h))))
-            ∙ ap (table-bytes (entry-bytes (s .kind)) (s .events) (setup-table limit s rule old)) (sym (fine .1))
+            ∙ ap (table-bytes (entry-bytes (s .kind)) (s .events) (setup-table limit s rule)) (sym (fine .1))
 
         pub case-stored :
             (now : List ℕ) → storable (entry-width (s .kind)) (c .values) (c .nexts) (n * s .events) old ≡ true →
@@ -236,7 +236,7 @@ module _ (events : ℕ) (kind : ValueKind) (top : ℕ) (meet rule old : List ℕ
   module _ (verdict : Counted) (entries nexts : List ℕ) (made : Made c₀ verdict entries nexts) where
     pub rule-case :
         (r : Refusal) → verdict ≡ Refused r →
-        (verdict ≡ counted (compile-refusal state-limit s₀ rule old) (setup-states state-limit s₀ rule old)) × (old ≡ compile-contents state-limit s₀ rule old)
+        (verdict ≡ counted (compile-refusal state-limit s₀ rule old) (setup-states state-limit s₀ rule)) × (old ≡ compile-contents state-limit s₀ rule old)
     rule-case r e =
         let w = case-rule state-limit s₀ rule old ok c₀ within r (sym (made .answer) ∙ e) in
         (made .answer ∙ w .0, w .1)
@@ -254,7 +254,7 @@ module _ (events : ℕ) (kind : ValueKind) (top : ℕ) (meet rule old : List ℕ
       pub room-case :
           (now : List ℕ) (b : Bool) → b ≡ storable (entry-width kind) entries nexts (n * events) old → b ≡ false →
           now ≡ after-store (entry-width kind) (kept-bytes kind) entries nexts (n * events) old →
-          (Refused (Plain 13) ≡ counted (compile-refusal state-limit s₀ rule old) (setup-states state-limit s₀ rule old))
+          (Refused (Plain 13) ≡ counted (compile-refusal state-limit s₀ rule old) (setup-states state-limit s₀ rule))
           × (now ≡ compile-contents state-limit s₀ rule old)
       room-case now b q f z =
           case-room state-limit s₀ rule old ok c₀ within n counts entries-few now
@@ -263,7 +263,7 @@ module _ (events : ℕ) (kind : ValueKind) (top : ℕ) (meet rule old : List ℕ
       pub stored-case :
           (now : List ℕ) (b : Bool) → b ≡ storable (entry-width kind) entries nexts (n * events) old → b ≡ true →
           now ≡ after-store (entry-width kind) (kept-bytes kind) entries nexts (n * events) old →
-          (Count n ≡ counted (compile-refusal state-limit s₀ rule old) (setup-states state-limit s₀ rule old))
+          (Count n ≡ counted (compile-refusal state-limit s₀ rule old) (setup-states state-limit s₀ rule))
           × (now ≡ compile-contents state-limit s₀ rule old)
       stored-case now b q f z =
           case-stored state-limit s₀ rule old ok c₀ within n counts entries-few now

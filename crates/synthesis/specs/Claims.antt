@@ -40,7 +40,7 @@ pub record CompiledBytes (limit : ℕ) (s : Setup) (rule old : List ℕ) (n : �
 pub record CompileClaim : Type 0 where
   pub accepted :
       (limit : ℕ) (s : Setup) (rule old : List ℕ) → compile-refusal limit s rule old ≡ none →
-      CompiledBytes limit s rule old (setup-states limit s rule old) (compile-contents limit s rule old)
+      CompiledBytes limit s rule old (setup-states limit s rule) (compile-contents limit s rule old)
   pub refused :
       (limit : ℕ) (s : Setup) (rule old : List ℕ) (r : Refusal) → compile-refusal limit s rule old ≡ some r →
       compile-contents limit s rule old ≡ old

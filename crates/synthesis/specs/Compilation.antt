@@ -1,3 +1,4 @@
+-- Twin of TableOfRule, pinned by product_claims DemandTwo.
 -- What the two compilers answer: the computing twins of the conditions and claims in `Claims`.
 use mathlib.Core.{Path.{_≡_}, List.{List}, Option.{Option, none, some}}
 use Prim.Native.Nat.{ℕ, _*_, _/_, _%_}
@@ -60,6 +61,14 @@ compiled-within limit kind events top table rule =
 unfoldable pub compiled : ValueKind → ℕ → ℕ → List ℕ → List ℕ → Compiled
 compiled = compiled-within state-limit
 
+-- The answer of `compile_rule` for a set-up of either kind, which it judges first: 1 to 3, or 1 and 20.
+unfoldable pub compiled-unless : Option Refusal → Compiled → Compiled
+compiled-unless none made = made
+compiled-unless (some refusal) made = refused refusal
+
+unfoldable pub compiled-setup : Setup → List ℕ → Compiled
+compiled-setup s rule = compiled-unless (setup-refusal s) (compiled (s .kind) (s .events) (setup-top s) (s .meet) rule)
+
 -- What `make_table` leaves: the answer, and beside a number of states the entries.
 pub record Made (c : Compiled) (verdict : Counted) (values nexts : List ℕ) : Type 0 where
   pub sized : (length values ≡ entry-limit) × (length nexts ≡ entry-limit)
@@ -67,20 +76,25 @@ pub record Made (c : Compiled) (verdict : Counted) (values nexts : List ℕ) : T
   pub entries : (n : ℕ) → verdict ≡ Count n → (values ≡ c .values) × (nexts ≡ c .nexts)
 
 -- The answer of `compile` for a set-up of either kind, a rule and what the lent buffer held.
-module _ (limit : ℕ) (s : Setup) (rule old : List ℕ) where
+module _ (limit : ℕ) (s : Setup) (rule : List ℕ) where
   abbrev pub setup-states : ℕ
   setup-states = rule-states (s .kind) (s .events) (setup-top s) (s .meet) rule limit
 
   abbrev pub setup-table : Machine ℕ ℕ
   setup-table = rule-table (s .kind) (s .events) (setup-top s) (s .meet) rule limit
 
-  -- 1 to 3, or 1 and 20; 5 to 10; 13.
-  unfoldable pub compile-refusal : Option Refusal
-  compile-refusal =
-      or-else (setup-refusal s)
-      (or-else (rule-table-refusal (s .kind) (s .events) (setup-top s) (s .meet) rule limit)
-      (plain-unless (leb (setup-states * s .events * entry-width (s .kind)) (length old)) 13))
+  module _ (old : List ℕ) where
+    -- 1 to 3, or 1 and 20; 5 to 10; 13.
+    unfoldable pub compile-refusal : Option Refusal
+    compile-refusal =
+        or-else (setup-refusal s)
+        (or-else (rule-table-refusal (s .kind) (s .events) (setup-top s) (s .meet) rule limit)
+        (plain-unless (leb (setup-states * s .events * entry-width (s .kind)) (length old)) 13))
 
-  -- The buffer afterwards: the table's bytes, and what lies after them as it was; beside a refusal all as it was.
-  unfoldable pub compile-contents : List ℕ
-  compile-contents = put-unless compile-refusal (table-bytes (entry-bytes (s .kind)) (s .events) setup-table setup-states) old
+    -- The count of states, or the refusal.
+    abbrev pub compile-answer : Counted
+    compile-answer = counted compile-refusal setup-states
+
+    -- The buffer afterwards: the table's bytes, and what lies after them as it was; beside a refusal all as it was.
+    unfoldable pub compile-contents : List ℕ
+    compile-contents = put-unless compile-refusal (table-bytes (entry-bytes (s .kind)) (s .events) setup-table setup-states) old

@@ -1,3 +1,4 @@
+-- Twin of ReachableStates, pinned by theory TableClaim.
 -- The table of a formula as the computing twin gives it (theory's Exploration), for a limit of states. Contracts cite these two;
 -- theory's `TableClaim` says what they are.
 use Prim.Native.Nat.{ℕ}

@@ -1,16 +1,17 @@
 -- The table of a rule in bytes (document 01, "Table of a rule", refusals 10 and 13; document 02, F-7): the conditions that compiling meets.
-use mathlib.Core.List.{List, [], _∷_, _++_}
-use Prim.Native.Nat.{ℕ, _*_, _<_}
-use lib.ListN.{length}
-use Rattle.theory.specs.{Formula.{Formula}, MealyMachine.{Machine}, ReachableStates.{IsTableOf, StatesAtMost}}
+use mathlib.Core.{Path.{_≡_}, List.{List, [], _∷_, _++_}}
+use Prim.Native.Nat.{ℕ, zero, _*_, _≤_, _<_}
+use lib.ListN.{length, getD}
+use Rattle.theory.specs.{Formula.{Formula}, Semantics.{Answers}, MealyMachine.{Machine, Word, after}, ReachableStates.{IsTableOf, StatesAtMost}}
+use Rattle.limits.specs.Limits.{state-limit}
 use Rattle.refusal.specs.Refusal.{Condition, plain}
 use Rattle.values.specs.{declared.ValueKind.{ValueKind}, Setup.{Setup, setup-meet, setup-top, setup-conditions}}
-use Rattle.formulas.specs.{NodeBytes.{node-bytes}, RuleConditions.{OfFormula, byte-conditions}}
-use Rattle.machines.specs.TableBytes.{entry-width}
+use Rattle.formulas.specs.{NodeBytes.{node-bytes, encode-formula}, RuleConditions.{OfFormula, byte-conditions}}
+use Rattle.machines.specs.TableBytes.{entry-width, entries}
 
 module _ (meet : ℕ → ℕ → ℕ) (top events : ℕ) (kind : ValueKind) where
   -- The buffer is shorter than the output: so many bytes an entry of the formula's table.
-  pub record Short (φ : Formula ℕ) (old : List ℕ) : Type 0 where
+  pub record TableShort (φ : Formula ℕ) (old : List ℕ) : Type 0 where
     pub states : ℕ
     pub table : Machine ℕ ℕ
     pub is-table : IsTableOf meet top events φ states table
@@ -22,7 +23,7 @@ module _ (meet : ℕ → ℕ → ℕ) (top events : ℕ) (kind : ValueKind) wher
 
   -- 13: lent buffer shorter than the output.
   abbrev pub buffer-condition : List ℕ → List ℕ → Condition
-  buffer-condition rule old = plain 13 (OfFormula (node-bytes kind) rule (λ φ. Short φ old))
+  buffer-condition rule old = plain 13 (OfFormula (node-bytes kind) rule (λ φ. TableShort φ old))
 
 -- The conditions of compiling, in order: those of the set-up, 5 to 9, 10, 13.
 abbrev pub compile-conditions : ℕ → Setup → List ℕ → List ℕ → List Condition
@@ -32,3 +33,28 @@ compile-conditions limit s rule old =
     ++ (states-condition (setup-meet s) (setup-top s) (s .events) (s .kind) rule limit
     ∷ buffer-condition (setup-meet s) (setup-top s) (s .events) (s .kind) rule old
     ∷ []))
+
+-- Of a set-up and a rule: 1 to 3, then 5 to 9; and 10 where the rule's table is made.
+abbrev pub pair-conditions : Setup → List ℕ → List Condition
+pair-conditions s rule = setup-conditions s ++ byte-conditions (s .events) (s .kind) rule
+
+abbrev pub pair-table-conditions : Setup → List ℕ → List Condition
+pair-table-conditions s rule =
+    setup-conditions s
+    ++ (byte-conditions (s .events) (s .kind) rule
+    ++ (states-condition (setup-meet s) (setup-top s) (s .events) (s .kind) rule state-limit ∷ []))
+
+-- What is made of a rule: the table of the one formula whose code the bytes are, which has that formula's values on every event sequence.
+pub record IsRuleTable (s : Setup) (rule : List ℕ) (n : ℕ) (t : Machine ℕ ℕ) : Type 0 where
+  pub formula : Formula ℕ
+  pub code : rule ≡ encode-formula (node-bytes (s .kind)) formula
+  pub only : (χ : Formula ℕ) → rule ≡ encode-formula (node-bytes (s .kind)) χ → χ ≡ formula
+  pub is-table : IsTableOf (setup-meet s) (setup-top s) (s .events) formula n t
+  pub answers :
+      (w : List ℕ) → Word (s .events) w → (e : ℕ) → e < s .events →
+      Answers (setup-meet s) (setup-top s) formula w e (t .value (after t zero w) e)
+
+-- The same in two arrays, entries by state, then event, and zeros after them.
+pub record ArraysHold (s : Setup) (rule values nexts : List ℕ) (n : ℕ) : Type 0 where
+  pub table : IsRuleTable s rule n (entries (s .events) (λ i. getD values i 0) (λ i. getD nexts i 0))
+  pub zeros : (i : ℕ) → n * s .events ≤ i → (getD values i 0 ≡ 0) × (getD nexts i 0 ≡ 0)

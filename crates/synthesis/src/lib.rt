@@ -34,7 +34,7 @@ ghost use Rattle.values.specs.Setup.{setup-of-kind, setup};
 ghost use Rattle.formulas.specs.NodeBytes.{node-width};
 ghost use Rattle.formulas.specs.NodeWalks.{field};
 ghost use Rattle.formulas.specs.RuleRefusal.{count-fits, fields-refusal};
-ghost use Rattle.synthesis.specs.Compilation.{refused, compiled, Made, compile-refusal, setup-states, compile-contents};
+ghost use Rattle.synthesis.specs.Compilation.{refused, compiled, compiled-setup, Made, compile-answer, compile-contents};
 ghost use Rattle.values.specs.SetupTests.{events-test, setup-refusal};
 ghost use Rattle.values.specs.ValueTests.{value-fits};
 ghost use Rattle.limits.specs.Limits.{node-limit, state-limit, entry-limit};
@@ -135,8 +135,25 @@ fn make_table(
     Counted::Count(n)
 }
 
-// The table of a rule as a value: 1, then 5 to 10.
-pub fn compile_rule(kind: ValueKind, events: usize, top: u32, meet: &[u8], rule: &[u8]) -> Compiled
+// The table of a rule as a value: 1 to 3, 5 to 10.
+pub fn compile_rule(
+    events: usize,
+    values: usize,
+    top: usize,
+    meet: &[u8],
+    rule: &[u8],
+) -> Compiled
+    ensures { λ r. ⌜ r ≡ compiled-setup (setup events values top (now (meet .entry))) (now (rule .entry)) ⌝ }
+{
+    let judged = check_setup(events, values, top, meet);
+    if let Judgement::Refused(refusal) = judged {
+        return refused(refusal);
+    }
+    compile_arrays(ValueKind::Numbered(values as u32), events, top as u32, meet, rule)
+}
+
+// The same for a set-up that was accepted: 5 to 10.
+fn compile_arrays(kind: ValueKind, events: usize, top: u32, meet: &[u8], rule: &[u8]) -> Compiled
     ensures { λ r. ⌜ r ≡ compiled kind events top (now (meet .entry)) (now (rule .entry)) ⌝ }
 {
     let mut values = [0u32; ENTRY_LIMIT];
@@ -162,8 +179,7 @@ fn compile_accepted(
     to: &mut [u8],
 ) -> Counted
     requires { ⌜ (setup-refusal (setup-of-kind events kind top (now meet)) ≡ none) × (topOf kind top ≡ top) ⌝ }
-    ensures answer { λ r. ⌜ r ≡ counted (compile-refusal state-limit (setup-of-kind events kind top (now (meet .entry))) (now (rule .entry)) (now (to .entry)))
-        (setup-states state-limit (setup-of-kind events kind top (now (meet .entry))) (now (rule .entry)) (now (to .entry))) ⌝ }
+    ensures answer { λ r. ⌜ r ≡ compile-answer state-limit (setup-of-kind events kind top (now (meet .entry))) (now (rule .entry)) (now (to .entry)) ⌝ }
     ensures contents { λ _. ⌜ now (to .exit) ≡ compile-contents state-limit (setup-of-kind events kind top (now (meet .entry))) (now (rule .entry))
         (now (to .entry)) ⌝ }
 {
@@ -188,8 +204,7 @@ pub fn compile(
     rule: &[u8],
     to: &mut [u8],
 ) -> Counted
-    ensures answer { λ r. ⌜ r ≡ counted (compile-refusal state-limit (setup events values top (now (meet .entry))) (now (rule .entry)) (now (to .entry)))
-        (setup-states state-limit (setup events values top (now (meet .entry))) (now (rule .entry)) (now (to .entry))) ⌝ }
+    ensures answer { λ r. ⌜ r ≡ compile-answer state-limit (setup events values top (now (meet .entry))) (now (rule .entry)) (now (to .entry)) ⌝ }
     ensures contents { λ _. ⌜ now (to .exit) ≡ compile-contents state-limit (setup events values top (now (meet .entry))) (now (rule .entry))
         (now (to .entry)) ⌝ }
 {

@@ -8,11 +8,13 @@ use Rattle.refusal.specs.declared.{Refusal.{Refusal}, Counted.{Counted}}
 use Rattle.refusal.specs.declared.Counted.the-variants.{Count}
 use Rattle.refusal.proofs.Refusals.{counted-accepted}
 use Rattle.channel_io.specs.declared.FileNumbers.{FileNumbers}
-use Rattle.channel_io.specs.{FileReading.{numbers}, FileRefusals.{file-states, file-table}}
+use Rattle.channel_io.specs.FileAnswers.{numbers}
+use Rattle.channel_io.specs.FileRefusals.{file-states, file-table}
 use Rattle.channel_io.proofs.Callers.{table-fits, Unmade, off-form, turned-away, MadeOf, events-are}
 use Rattle.table_rows.specs.{Rendering.{handed-refusal, Renders}, Rows.{rows-text}}
 use Rattle.table_rows.proofs.Renderings.{renders-as}
-use Rattle.table_report.specs.Report.{refusal-text, answer-text, outcome-text, report-text, report-limit, Reports}
+use Rattle.table_report.specs.PrintedTable.{refusal-text}
+use Rattle.table_report.specs.Report.{answer-text, outcome-text, report-text, report-limit, Reports}
 use Rattle.table_report.proofs.Tables.{handed-passed, report-length}
 
 -- ---- a file that was refused

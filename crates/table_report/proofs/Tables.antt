@@ -14,7 +14,7 @@ use Rattle.values.specs.SetupTests.{values-test, kind-refusal, setup-refusal}
 use Rattle.values.proofs.Setups.{accepted-events, kind-passed, top-below}
 use Rattle.text_format.specs.Format.{Outcome, contents, refused}
 use Rattle.channel_file.specs.{ChannelFile.{Contents}, Reading.{read-file}}
-use Rattle.channel_io.specs.FileConditions.{setup-of}
+use Rattle.channel_io.specs.FileConditions.{file-setup}
 use Rattle.channel_io.specs.FileRefusals.{pair-table-refusal, file-states, file-table, contents-table-refusal}
 use Rattle.channel_io.proofs.Claims.{file-table-accepted}
 use Rattle.table_rows.specs.Rendering.{handed-refusal}
@@ -31,18 +31,18 @@ zero-top values top e =
     (lt-ltb 0 values (let h = top-below values top e in omega arith)))
 
 module _ (c : Contents) (passed : contents-table-refusal c ≡ none) where
-  setup-accepted : setup-refusal (setup-of c) ≡ none
+  setup-accepted : setup-refusal (file-setup c) ≡ none
   unfolding pair-table-refusal
-  setup-accepted = or-else-none (setup-refusal (setup-of c)) _ passed .0
+  setup-accepted = or-else-none (setup-refusal (file-setup c)) _ passed .0
 
   values-passed : values-test (c .values) (c .top) ≡ true
   unfolding kind-refusal
   values-passed =
-      plain-none _ 2 (or-else-none (plain-unless (values-test (c .values) (c .top)) 2) _ (kind-passed (setup-of c) setup-accepted) .0)
+      plain-none _ 2 (or-else-none (plain-unless (values-test (c .values) (c .top)) 2) _ (kind-passed (file-setup c) setup-accepted) .0)
 
   pub handed-passed : handed-refusal (c .events) (c .values) 0 (file-states c) (file-table c) ≡ none
   handed-passed =
-      handed-none (c .events) (c .values) 0 (file-states c) (file-table c) (accepted-events (setup-of c) setup-accepted)
+      handed-none (c .events) (c .values) 0 (file-states c) (file-table c) (accepted-events (file-setup c) setup-accepted)
       (zero-top (c .values) (c .top) values-passed) (file-table-accepted c passed)
 
 outcome-length : (x : Outcome Contents) → length (outcome-text x) ≤ report-limit

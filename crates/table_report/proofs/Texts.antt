@@ -10,7 +10,8 @@ use Rattle.text_format.specs.Texts.{numeral}
 use Rattle.text_output.proofs.Outputs.{numeral-length}
 use Rattle.channel_file.specs.ChannelFile.{line}
 use Rattle.table_rows.proofs.Texts.{line-length}
-use Rattle.table_report.specs.Report.{refusal-text, report-limit}
+use Rattle.table_report.specs.PrintedTable.{refusal-text}
+use Rattle.table_report.specs.Report.{report-limit}
 
 pub refusal-plain : (r : Refusal) (n x : ℕ) → r ≡ Plain n → x ≡ n → line (ascii "refused=") (numeral x) ≡ refusal-text r
 unfolding refusal-text

@@ -8,20 +8,12 @@ use Rattle.text_format.specs.Format.{contents}
 use Rattle.channel_file.specs.{ChannelFile.{Contents, Refused4, rule-numbers}, Reading.{AnswersFile}}
 use Rattle.values.specs.Setup.{setup-meet, setup-top}
 use Rattle.synthesis.specs.Claims.{RuleTable}
-use Rattle.channel_io.specs.FileConditions.{setup-of, contents-table-conditions}
+use Rattle.channel_io.specs.FileConditions.{file-setup, contents-table-conditions}
 use Rattle.table_rows.specs.TableText.{table-text}
-use Rattle.table_report.specs.Report.{refusal-text, report-text, report-limit}
+use Rattle.table_report.specs.PrintedTable.{refusal-text, Prints}
+use Rattle.table_report.specs.Report.{report-text, report-limit}
 
--- What is printed for a text: the refusal, or the table of its rule, which has the rule's values on every event sequence.
-pub data Prints (t : List ℕ) : List ℕ → Type 0 where
-  off-form : (p : ℕ) → Refused4 t p → Prints t (refusal-text (At 4 p))
-  refused :
-      (c : Contents) (r : Refusal) → AnswersFile t (contents c) → First (contents-table-conditions c) (some r) → Prints t (refusal-text r)
-  table :
-      (c : Contents) (n : ℕ) (m : Machine ℕ ℕ) → AnswersFile t (contents c) → First (contents-table-conditions c) none
-      → RuleTable (setup-meet (setup-of c)) (setup-top (setup-of c)) (c .events) (setup-of c .kind) (rule-numbers c) n m
-      → Prints t (table-text (c .events) n m)
-
+-- What is printed for a text is the refusal, or the table of its rule.
 abbrev pub ReportClaim : Type 0
 ReportClaim = (t : List ℕ) → Prints t (report-text t)
 

@@ -1,3 +1,4 @@
+-- Twin of PrintedTable, pinned by table_report OneReportClaim.
 -- What is printed for a text (document 01, "Channel file"): the table of its rule, or the refusal, where 4, 1 to 3, 5 to 9 and 10
 -- are looked at in this order.
 use Prim.Native.Nat.{ℕ, _≤_}
@@ -8,11 +9,7 @@ use Rattle.text_format.specs.{Format.{Outcome, contents, refused}, Texts.{ascii
 use Rattle.channel_file.specs.{ChannelFile.{Contents, line}, Reading.{read-file}}
 use Rattle.table_rows.specs.{Rendering.{Renders}, Rows.{rows-text, rows-limit}}
 use Rattle.channel_io.specs.FileRefusals.{file-states, file-table, contents-table-refusal}
-
--- "The single line `refused=` with the number and, if there is a place, a space and the place."
-unfoldable pub refusal-text : Refusal → List ℕ
-refusal-text (Plain n) = line (ascii "refused=") (numeral n)
-refusal-text (At n p) = line (ascii "refused=") (separated (numeral n ∷ numeral p ∷ []))
+use Rattle.table_report.specs.PrintedTable.{refusal-text}
 
 -- The lines for an answer: those of a table of n states in bytes, or of a refusal.
 unfoldable pub answer-text : Option Refusal → ℕ → ℕ → ℕ → List ℕ → List ℕ

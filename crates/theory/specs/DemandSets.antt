@@ -1,3 +1,4 @@
+-- Twin of Demands, pinned by theory DemandClaim.
 -- First set and next set computed: the computing twin of `Demands`.
 use mathlib.Core.Bool.{false, _||_, _&&_, cond}
 use mathlib.Core.List.{List, [], _∷_}

@@ -1,3 +1,4 @@
+-- Twin of ReachableStates, pinned by theory TableClaim.
 -- Reachable states found breadth first, and the table computed from them: the computing twin of `ReachableStates`.
 -- Here a sequence is kept with its LAST event first.
 use mathlib.Core.Bool.{Bool, true, false, _&&_, _||_, cond, Bool·beq}

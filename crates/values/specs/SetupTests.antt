@@ -1,3 +1,4 @@
+-- Twin of Setup, pinned by values SetupClaim.
 -- Which refusal a set-up meets, computed: the twin of `First (setup-conditions s)`.
 use mathlib.Core.{Path.{_≡_}, Bool.{Bool, _&&_}, Option.{Option}, List.{List}}
 use Prim.Native.Nat.{ℕ, _*_, _≤_}

@@ -1,3 +1,4 @@
+-- Twin of ValueKind, pinned by values ValueKindClaim.
 -- Which numbers are values of a kind, and the order of values, computed: the twins of `ValueIn` and `AtOrBelow`.
 use mathlib.Core.Bool.{Bool, _&&_}
 use mathlib.Core.List.{List}

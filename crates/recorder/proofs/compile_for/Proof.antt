@@ -17,7 +17,7 @@ mul-count c =
 
 slice-aggregate-compile-rule : tie.Need-slice-aggregate-compile-rule
 slice-aggregate-compile-rule c =
-    let h : c .before .before .before .before .wide .result * c .before .before .before .before .wide .result ≤ meet-limit = square-small (omega arith) in
+    let h : c .before .before .before .wide .result * c .before .before .before .wide .result ≤ meet-limit = square-small (omega arith) in
     sym (length-take-le _ _ (omega arith))
 
 returns : tie.Need-returns
@@ -25,5 +25,5 @@ unfolding compiled-rule
 returns c = cc
 
 pub compile-for-spec : {M : Type 1} → statement M
-compile-for-spec = tie.close (tie.spec (λ c κs. search needs) mul-count (λ c κs. search needs) (λ c κs. search needs) (λ c κs. search needs)
-    slice-aggregate-compile-rule (λ c κs. search needs) returns)
+compile-for-spec = tie.close (tie.spec (λ c κs. search needs) mul-count (λ c κs. search needs) (λ c κs. search needs) slice-aggregate-compile-rule
+    (λ c κs. search needs) returns)

@@ -1,0 +1,72 @@
+-- Document 01's log ("Tool"), by its own sentences: "It is fed the set-up and the calls with their inputs, nothing of the tool's and no
+-- answers. For each channel it has nothing, or a rule and its events in order; at set-up all have nothing."
+use mathlib.Core.{Path.{_≡_}, List.{List, [], _∷_, _++_}, Option.{none, some}}
+use Prim.Native.Nat.{ℕ, _<_}
+use Rattle.limits.specs.Limits.{channel-limit}
+use Rattle.theory.specs.{Formula.{Formula}, Semantics.{Answers}}
+use Rattle.refusal.specs.{declared.Refusal.{Refusal}, Refusal.{Condition, plain, First}}
+use Rattle.values.specs.Setup.{Setup, setup-meet, setup-top}
+use Rattle.formulas.specs.NodeBytes.{encode-formula, node-bytes}
+use Rattle.channel_log.specs.Calls.{Call, load, event, restart, restart-all, clear, Reply, accepted, returned, refused, Channels, with-channel, map-option}
+use Rattle.channel_log.specs.Calls.{History}
+use Rattle.channel_log.specs.{Calls.{map-option, History, Loaded}, Standing.{StandsAs}}
+use Rattle.recorder_claims.specs.CallConditions.{rule-conditions-of, channel-condition}
+use Rattle.channel_log.specs.Calls.{all-empty}
+
+abbrev pub history : Formula ℕ → List ℕ → History ℕ
+history φ w = record { rule = φ; events = w }
+
+module _ (s : Setup) (L : Channels (History ℕ)) where
+  -- "The list of refusals below says whether a call is refused, and with what number and place: there a channel with nothing is empty,
+  -- and any other is loaded": 14, 15, 16, then 5 to 10. "17 never arises."
+  abbrev pub log-conditions : Call ℕ → List Condition
+  log-conditions (load c bytes) = channel-condition c ∷ rule-conditions-of s bytes
+  log-conditions (event c e) = channel-condition c ∷ plain 15 (L c ≡ none) ∷ plain 16 (¬ (e < s .events)) ∷ []
+  log-conditions (restart c) = channel-condition c ∷ plain 15 (L c ≡ none) ∷ []
+  log-conditions restart-all = []
+  log-conditions (clear c) = channel-condition c ∷ []
+
+  -- `Takes call reply L′`: the log's reply to a call, and the log afterwards.
+  pub data Takes : Call ℕ → Reply ℕ → Channels (History ℕ) → Type 0 where
+    -- "A refused call changes nothing in the log."
+    refuses : (call : Call ℕ) (r : Refusal) → First (log-conditions call) (some r) → Takes call (refused r) L
+    -- "The channel gets that rule and no events, whatever it had": the rule whose code the bytes are.
+    loads :
+        (c : ℕ) (bytes : List ℕ) (φ : Formula ℕ) → First (log-conditions (load c bytes)) none →
+        bytes ≡ encode-formula (node-bytes (s .kind)) φ → Takes (load c bytes) accepted (with-channel c (some (history φ [])) L)
+    -- "Returns the rule's value on it after the channel's events, the follower being taken on each in turn; then it is added at their end."
+    returns :
+        (c e : ℕ) (h : History ℕ) (v : ℕ) → First (log-conditions (event c e)) none → L c ≡ some h →
+        Answers (setup-meet s) (setup-top s) (h .rule) (h .events) e v →
+        Takes (event c e) (returned v) (with-channel c (some (history (h .rule) (h .events ++ (e ∷ [])))) L)
+    -- "The channel's events go."
+    restarts :
+        (c : ℕ) (h : History ℕ) → First (log-conditions (restart c)) none → L c ≡ some h →
+        Takes (restart c) accepted (with-channel c (some (history (h .rule) [])) L)
+    -- "All channels' events go, rules stay."
+    restarts-all : Takes restart-all accepted (λ d. map-option (λ h. history (h .rule) []) (L d))
+    -- "The channel has nothing."
+    clears : (c : ℕ) → First (log-conditions (clear c)) none → Takes (clear c) accepted (with-channel c none L)
+
+-- A list of calls, from a log: the replies, and the log afterwards.
+pub data Logs (s : Setup) : Channels (History ℕ) → List (Call ℕ) → List (Reply ℕ) → Channels (History ℕ) → Type 0 where
+  no-calls : {L : Channels (History ℕ)} → Logs s L [] [] L
+  one-more :
+      {L M N : Channels (History ℕ)} {call : Call ℕ} {calls : List (Call ℕ)} {reply : Reply ℕ} {rs : List (Reply ℕ)} →
+      Takes s L call reply M → Logs s M calls rs N → Logs s L (call ∷ calls) (reply ∷ rs) N
+
+-- What is claimed of a list of calls on the tool of a set-up: its replies are the log's, and the log's only ones; afterwards the tool has the
+-- same set-up, and each channel stands as the log says.
+pub record AsLogged (s : Setup) (calls : List (Call ℕ)) (replied : List (Reply ℕ)) (set-up-after : Setup) (after : Channels (Loaded ℕ)) : Type 0 where
+  pub log : Channels (History ℕ)
+  pub logged : Logs s all-empty calls replied log
+  pub only : (rs : List (Reply ℕ)) (M : Channels (History ℕ)) → Logs s all-empty calls rs M → (rs ≡ replied) × ((c : ℕ) → M c ≡ log c)
+  pub same-set-up : set-up-after ≡ s
+  pub stands : (c : ℕ) → c < channel-limit → StandsAs (setup-meet s) (setup-top s) (s .events) (after c) (log c)
+
+-- What is claimed of an accepted load on any tool: the channel stands as one with the rule and no events, and no other channel changes.
+pub record LoadedAs (s : Setup) (c : ℕ) (rule : List ℕ) (before after : Channels (Loaded ℕ)) : Type 0 where
+  pub formula : Formula ℕ
+  pub code : rule ≡ encode-formula (node-bytes (s .kind)) formula
+  pub stands : StandsAs (setup-meet s) (setup-top s) (s .events) (after c) (some (history formula []))
+  pub others : (d : ℕ) → ¬ (d ≡ c) → after d ≡ before d
