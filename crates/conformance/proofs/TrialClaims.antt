@@ -10,7 +10,7 @@ use Rattle.theory.specs.Semilattice.{AtOrBelow}
 use Rattle.theory.specs.MachineRuns.{Runs}
 use Rattle.theory.specs.MealyMachine.{States}
 use Rattle.theory.specs.ConformanceCheck.{counterexample}
-use Rattle.theory.proofs.{ConformanceClaims.{conformance-claim}, Trial.{trial-claim}}
+use Rattle.theory.proofs.{ConformanceClaims.{table-simulation-claim, conformance-claim}, Trial.{trial-claim}}
 use Rattle.refusal.specs.declared.Refusal.{Refusal}
 use Rattle.refusal.specs.Refusal.{plain, First, has-place, condition-numbers, right-places, part-of, order}
 use Rattle.refusal.specs.RefusalAnswers.{or-else}
@@ -19,6 +19,7 @@ use Rattle.refusal.proofs.Refusals.{plain-first, first-append}
 use Rattle.values.specs.Setup.{SetupValue, setup-top}
 use Rattle.values.proofs.{Setups.{setup-first, judged-after-setup}, ValueKinds.{value-kinds}}
 use Rattle.machines.proofs.TableRefusals.{table-refusal-first}
+use Rattle.conformance.specs.Trial.{Passes, FailsBy}
 use Rattle.conformance.specs.declared.Verdict.{Verdict}
 use Rattle.conformance.specs.declared.Verdict.the-variants.{Pass, Fail, Refused}
 use Rattle.conformance.specs.Trial.{TrialInput, meet, device-machine, table-machine, FirstFailure, DeviceInOrder}
@@ -126,7 +127,7 @@ module _ (d t : ℕ) where
         ((found ≡ none) ↔ PassesDecided x)
         × ((word : List ℕ) → found ≡ some word → FirstFailure x word × (0 < length word) × (length word ≤ x .device-states * x .states))
     says =
-        conformance-claim (SetupValue (x .set-up)) (meet x) (setup-top (x .set-up)) (ok .set-up .laws) (x .set-up .events) (below x) decides
+        conformance-claim (SetupValue (x .set-up)) (meet x) (setup-top (x .set-up)) (x .set-up .events) (below x) decides
         (x .device-states) (device-machine x) (x .states) (table-machine x) device-runs table-runs (x .device-start) zero
         (ok .tables .device-ok .start-in) (ok .tables .table-ok .some-states)
 
@@ -139,6 +140,13 @@ module _ (d t : ℕ) where
 
     few : (word : List ℕ) → length word ≤ x .device-states * x .states → length word ≤ d * t
     few word h = omega (arith, all-pairs d t _ _ _ _ _ _ _ old (ok .tables))
+
+    -- Definition 1, with decided relations or without.
+    by-definition : PassesDecided x ↔ Passes x
+    by-definition =
+        table-simulation-claim (SetupValue (x .set-up)) (meet x) (setup-top (x .set-up)) (x .set-up .events) (below x) decides
+        (x .device-states) (device-machine x) (x .states) (table-machine x) device-runs table-runs (x .device-start) zero
+        (ok .tables .device-ok .start-in) (ok .tables .table-ok .some-states)
 
   pub trial-passes : PassClaim d t
   unfolding trial-answer trial-buffer buffer-unless shown
@@ -187,3 +195,25 @@ module _ (d t : ℕ) where
         (λ s u hs hu r e l. (low s e (table-machine x .value u e) hs l (table-runs x old z .value-in u hu e l), tt)),
         tt,
       )
+
+  -- The same by document 01's definitions.
+  pub trial-simulated :
+      (x : TrialInput) (old : List ℕ) → trial-refusal d t x old ≡ none → Passed (trial-answer d t x old) ↔ Passes x
+  trial-simulated x old z =
+      let e = trial-passes .exactly x old z in
+      let f = by-definition x old z in
+      ((λ p. f .0 (e .0 p)), λ q. e .1 (f .1 q))
+
+  pub trial-fails-by :
+      (x : TrialInput) (old : List ℕ) (n : ℕ) → word-length (trial-answer d t x old) ≡ some n → FailsBy x (d * t) old (trial-buffer d t x old) n
+  unfolding trial-answer
+  trial-fails-by x old n e =
+      let w = trial-fails x old n e in
+      let z = failed-some (trial-refusal d t x old) (first-failure x) n e .0 in
+      record {
+        some-events = w .some-events;
+        few-events = w .few-events;
+        word = w .word;
+        rest-kept = w .rest-kept;
+        not-passed = λ p. w .not-passed (by-definition x old z .1 p);
+      }

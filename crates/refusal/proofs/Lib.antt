@@ -1,2 +1,3 @@
 -- Laws of the first refusal, of the lowest place and of their computing twins.
 pub mod Refusals
+pub mod Answers

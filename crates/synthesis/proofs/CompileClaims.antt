@@ -259,6 +259,11 @@ module _ (limit : ℕ) (s : Setup) (rule old : List ℕ) (accepted : compile-ref
             ∙ read-back (s .kind) (s .events) n t .nexts-agree l e hl he;
       }
 
+  pub made-table : RuleTable (setup-meet s) (setup-top s) (s .events) (s .kind) rule n t
+  made-table =
+      rule-table-is (setup-meet s) (setup-top s) (s .events) (s .kind) limit rule (laws s (none-of .0)) rule-fine t
+      (few s (none-of .0) limit rule (none-of .1)) (record { values-agree = λ l e hl he. refl; nexts-agree = λ l e hl he. refl })
+
   compiled-bytes : CompiledBytes limit s rule old n (compile-contents limit s rule old)
   compiled-bytes =
       record {

@@ -16,13 +16,13 @@ module _ (In : ℕ → Type 0) (meet : ℕ → ℕ → ℕ) (top : ℕ) (laws : 
     (φ : Formula ℕ) (w : WellFormed events In φ) (small : size φ ≤ node-limit) where
   pub few-states : (formula-states meet top φ events limit ≤ limit) ↔ StatesAtMost meet top events φ limit
   unfolding formula-states
-  few-states = table In meet top events laws φ w node-limit limit small .0
+  few-states = table In meet top events φ w node-limit limit small .0
 
   pub is-table :
       formula-states meet top φ events limit ≤ limit →
       IsTableOf meet top events φ (formula-states meet top φ events limit) (formula-table meet top φ events limit)
   unfolding formula-states formula-table
-  is-table h = table In meet top events laws φ w node-limit limit small .1 h
+  is-table h = table In meet top events φ w node-limit limit small .1 h
 
   pub table-runs :
       formula-states meet top φ events limit ≤ limit →

@@ -64,6 +64,6 @@ module _ {B : Type 0} (In : B → Type 0) (meet : B → B → B) (top : B) (laws
             (sym (writes-values m events In n runs meet top laws w l v h e u))),
         writes-size m events w,
         (λ k t h. table-count m events meet top w k t (table-of-iff meet top φ (g .guarded) events k t .0 h)),
-        table-claim In meet top laws events φ g (size φ) (binders φ) (omega arith) .0 .0
+        table-claim In meet top events φ g (size φ) (binders φ) (omega arith) .0 .0
             (written-few m s φ w (size φ) (binders φ) (omega arith)),
       )

@@ -29,33 +29,33 @@ module _ {B : Type 0} (In : B → Type 0) (meet : B → B → B) (top : B) (even
   pub numbering : NumberingClaim In meet top events
   numbering = numbering-claim In meet top events
 
-  module _ (laws : MeetSemilattice In meet top) where
-    pub table-simulation : TableSimulationClaim In meet top laws events
-    table-simulation = table-simulation-claim In meet top laws events
+  pub table-simulation : TableSimulationClaim In meet top events
+  table-simulation = table-simulation-claim In meet top events
 
+  pub demands : DemandClaim In meet top events
+  demands = demand-claim In meet top events
+
+  pub table : TableClaim In meet top events
+  table = table-claim In meet top events
+
+  pub conformance : ConformanceClaim In meet top events
+  conformance = conformance-claim In meet top events
+
+  module _ (laws : MeetSemilattice In meet top) where
     pub satisfaction : SatisfactionClaim In meet top laws events
     satisfaction = satisfaction-claim In meet top laws events
 
     pub table-satisfaction : TableSatisfactionClaim In meet top laws events
     table-satisfaction = table-satisfaction-claim In meet top laws events
 
-    pub demands : DemandClaim In meet top laws events
-    demands = demand-claim In meet top laws events
-
     pub demand-values : DemandValuesClaim In meet top laws events
     demand-values = demand-values-claim In meet top laws events
-
-    pub table : TableClaim In meet top laws events
-    table = table-claim In meet top laws events
 
     pub table-values : TableValuesClaim In meet top laws events
     table-values = table-values-claim In meet top laws events
 
     pub characteristic : CharacteristicClaim In meet top laws events
     characteristic = characteristic-claim In meet top laws events
-
-    pub conformance : ConformanceClaim In meet top laws events
-    conformance = conformance-claim In meet top laws events
 
     pub trial : TrialClaim In meet top laws events
     trial = trial-claim In meet top laws events

@@ -57,15 +57,15 @@ module _ {B : Type 0} (In : B → Type 0) (meet : B → B → B) (at-or-below : 
     λ r. passes-iff s t hs ht .1 (simulated-below s t hs ht r),
   )
 
-module _ {B : Type 0} (In : B → Type 0) (meet : B → B → B) (top : B) (laws : MeetSemilattice In meet top) (events : ℕ) where
-  pub table-simulation-claim : TableSimulationClaim In meet top laws events
+module _ {B : Type 0} (In : B → Type 0) (meet : B → B → B) (top : B) (events : ℕ) where
+  pub table-simulation-claim : TableSimulationClaim In meet top events
   table-simulation-claim at-or-below decides n m k q runs-m runs-q s t hs ht = (
     (λ r. ((λ x y. T (r .0 x y)), r .1, r .2)),
     λ r. below-simulated In meet at-or-below decides events n m k q runs-m runs-q s t hs ht
         (simulation-below events In meet (States n) m (States k) q runs-m runs-q (r .0) (r .1) s t hs ht (r .2)),
   )
 
-  pub conformance-claim : ConformanceClaim In meet top laws events
+  pub conformance-claim : ConformanceClaim In meet top events
   conformance-claim at-or-below decides n m k q runs-m runs-q s t hs ht = (
     passes-iff-simulated In meet at-or-below decides events n m k q runs-m runs-q s t hs ht,
     conformance In meet at-or-below decides events n m k q runs-m runs-q s t hs ht .1,

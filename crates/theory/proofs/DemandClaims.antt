@@ -10,14 +10,14 @@ use Rattle.theory.specs.{DemandSets.{set-machine, first-set}, Claims.{De
 use Rattle.theory.proofs.{SemanticsEquality.{answers}, Demands.{shown-is-value}, ReachedSets.{reached-nodes}, DemandValues.{demand-values}}
 use Rattle.theory.proofs.SetMachine.{set-machine-is, only-set-machine}
 
-module _ {B : Type 0} (In : B → Type 0) (meet : B → B → B) (top : B) (laws : MeetSemilattice In meet top) (events : ℕ) where
-  pub demand-claim : DemandClaim In meet top laws events
-  demand-claim φ w = (
-    set-machine-is meet top φ (w .guarded),
-    only-set-machine meet top φ (w .guarded),
-    reached-nodes φ meet top,
-  )
+pub demand-claim : {B : Type 0} (In : B → Type 0) (meet : B → B → B) (top : B) (events : ℕ) → DemandClaim In meet top events
+demand-claim In meet top events φ w = (
+  set-machine-is meet top φ (w .guarded),
+  only-set-machine meet top φ (w .guarded),
+  reached-nodes φ meet top,
+)
 
+module _ {B : Type 0} (In : B → Type 0) (meet : B → B → B) (top : B) (laws : MeetSemilattice In meet top) (events : ℕ) where
   -- The value of the set that a sequence reaches is the formula's.
   pub set-answers :
       (φ : Formula B) → WellFormed events In φ → (w : List ℕ) (e : ℕ) →

@@ -43,9 +43,9 @@ module _ {B : Type 0} (meet : B → B → B) (top : B) (events : ℕ) (φ : Form
       (explored-table same-bits same-bits-iff events (bit-machine width meet top φ) (first-bits width meet top φ) limit few)
 
 pub table-claim :
-    {B : Type 0} (In : B → Type 0) (meet : B → B → B) (top : B) (laws : MeetSemilattice In meet top) (events : ℕ) →
-    TableClaim In meet top laws events
-table-claim In meet top laws events φ g width limit wide = (
+    {B : Type 0} (In : B → Type 0) (meet : B → B → B) (top : B) (events : ℕ) →
+    TableClaim In meet top events
+table-claim In meet top events φ g width limit wide = (
   Iff·trans (states-at-most meet top events φ width limit wide)
       (Iff·symm (states-at-most-iff meet top φ (g .guarded) events limit)),
   λ few. table-of-iff meet top φ (g .guarded) events (state-count width meet top φ events limit)

@@ -61,8 +61,6 @@ module _ {B : Type 0} (In : B → Type 0) (meet : B → B → B) (top : B) (even
       × ((n k : ℕ) (t u : Machine ℕ B) → IsTable events m start n t → IsTable events m start k u →
       (n ≡ k) × ((l e : ℕ) → l < n → e < events → (t .value l e ≡ u .value l e) × (t .next l e ≡ u .next l e)))
 
--- For any value set that obeys the laws.
-module _ {B : Type 0} (In : B → Type 0) (meet : B → B → B) (top : B) (laws : MeetSemilattice In meet top) (events : ℕ) where
   -- Between tables, definition 1 with decided relations is definition 1.
   abbrev pub TableSimulationClaim : Type 1
   TableSimulationClaim =
@@ -71,6 +69,36 @@ module _ {B : Type 0} (In : B → Type 0) (meet : B → B → B) (top : B) (laws
       (s t : ℕ) → s < n → t < k →
       SimulatedTable events meet n m k q s t ↔ Simulated events meet (States n) m (States k) q s t
 
+  -- The computed machine of sets is document 01's, and the only one; the sets that it reaches are sets of G and O nodes.
+  abbrev pub DemandClaim : Type 0
+  DemandClaim =
+      (φ : Formula B) → WellFormed events In φ →
+      IsSetMachine meet top φ (set-machine meet top φ) (first-set φ)
+      × ((m : Machine NodeSet B) (first : NodeSet) → IsSetMachine meet top φ m first →
+      (m ≡ set-machine meet top φ) × (first ≡ first-set φ))
+      × ((w : List ℕ) (d : ℕ) → T (after (set-machine meet top φ) (first-set φ) w d) → IsTransitionOrOutput φ d)
+
+  -- The computed table is the formula's where at most `limit` states are reached, and the count tells where more are.
+  abbrev pub TableClaim : Type 0
+  TableClaim =
+      (φ : Formula B) → WellFormed events In φ → (width limit : ℕ) → size φ ≤ width →
+      ((state-count width meet top φ events limit ≤ limit) ↔ StatesAtMost meet top events φ limit)
+      × (state-count width meet top φ events limit ≤ limit →
+      IsTableOf meet top events φ (state-count width meet top φ events limit) (table-of width meet top φ events limit))
+
+  -- The check of one table against another: no word is found exactly where the start is simulated by definition 1; a word that
+  -- is found is the first of all counterexamples, and has at most n × k events.
+  abbrev pub ConformanceClaim : Type 0
+  ConformanceClaim =
+      (at-or-below : B → B → Bool) → ((b c : B) → T (at-or-below b c) ↔ AtOrBelow meet b c) →
+      (n : ℕ) (m : Machine ℕ B) (k : ℕ) (q : Machine ℕ B) → Runs events In (States n) m → Runs events In (States k) q →
+      (s t : ℕ) → s < n → t < k →
+      ((counterexample at-or-below m q events n k s t ≡ none) ↔ SimulatedTable events meet n m k q s t)
+      × ((word : List ℕ) → counterexample at-or-below m q events n k s t ≡ some word →
+      FirstCounterexample events meet m q s t word × (0 < length word) × (length word ≤ n * k))
+
+-- For any value set that obeys the laws.
+module _ {B : Type 0} (In : B → Type 0) (meet : B → B → B) (top : B) (laws : MeetSemilattice In meet top) (events : ℕ) where
   -- A state satisfies a formula by the set definition exactly if the formula simulates it, for every machine.
   abbrev pub SatisfactionClaim : Type 1
   SatisfactionClaim =
@@ -85,28 +113,11 @@ module _ {B : Type 0} (In : B → Type 0) (meet : B → B → B) (top : B) (laws
       (n : ℕ) (m : Machine ℕ B) → Runs events In (States n) m → (φ : Formula B) → WellFormed events In φ →
       (s : ℕ) → s < n → TableSatisfies meet n m φ s ↔ Satisfies meet (States n) m φ s
 
-  -- The computed machine of sets is document 01's, and the only one; the sets that it reaches are sets of G and O nodes.
-  abbrev pub DemandClaim : Type 0
-  DemandClaim =
-      (φ : Formula B) → WellFormed events In φ →
-      IsSetMachine meet top φ (set-machine meet top φ) (first-set φ)
-      × ((m : Machine NodeSet B) (first : NodeSet) → IsSetMachine meet top φ m first →
-      (m ≡ set-machine meet top φ) × (first ≡ first-set φ))
-      × ((w : List ℕ) (d : ℕ) → T (after (set-machine meet top φ) (first-set φ) w d) → IsTransitionOrOutput φ d)
-
   -- The machine of demand sets has the formula's values on every event sequence.
   abbrev pub DemandValuesClaim : Type 0
   DemandValuesClaim =
       (φ : Formula B) → WellFormed events In φ → (m : Machine NodeSet B) (first : NodeSet) → IsSetMachine meet top φ m first →
       (w : List ℕ) (e : ℕ) → Answers meet top φ w e (m .value (after m first w) e)
-
-  -- The computed table is the formula's where at most `limit` states are reached, and the count tells where more are.
-  abbrev pub TableClaim : Type 0
-  TableClaim =
-      (φ : Formula B) → WellFormed events In φ → (width limit : ℕ) → size φ ≤ width →
-      ((state-count width meet top φ events limit ≤ limit) ↔ StatesAtMost meet top events φ limit)
-      × (state-count width meet top φ events limit ≤ limit →
-      IsTableOf meet top events φ (state-count width meet top φ events limit) (table-of width meet top φ events limit))
 
   -- The table of a formula has the formula's values on every event sequence, and its entries are states and values.
   abbrev pub TableValuesClaim : Type 0
@@ -129,17 +140,6 @@ module _ {B : Type 0} (In : B → Type 0) (meet : B → B → B) (top : B) (laws
       × (size (written m n last s) + binders (written m n last s) ≡ suc (5 * (events * binders (written m n last s))))
       × ((k : ℕ) (t : Machine ℕ B) → IsTableOf meet top events (written m n last s) k t → k ≡ binders (written m n last s))
       × StatesAtMost meet top events (written m n last s) (binders (written m n last s))
-
-  -- The check of one table against another: no word is found exactly where the start is simulated by definition 1; a word that
-  -- is found is the first of all counterexamples, and has at most n × k events.
-  abbrev pub ConformanceClaim : Type 0
-  ConformanceClaim =
-      (at-or-below : B → B → Bool) → ((b c : B) → T (at-or-below b c) ↔ AtOrBelow meet b c) →
-      (n : ℕ) (m : Machine ℕ B) (k : ℕ) (q : Machine ℕ B) → Runs events In (States n) m → Runs events In (States k) q →
-      (s t : ℕ) → s < n → t < k →
-      ((counterexample at-or-below m q events n k s t ≡ none) ↔ SimulatedTable events meet n m k q s t)
-      × ((word : List ℕ) → counterexample at-or-below m q events n k s t ≡ some word →
-      FirstCounterexample events meet m q s t word × (0 < length word) × (length word ≤ n * k))
 
   -- A device of n states passes against the table of a formula exactly if its start satisfies the formula by the set definition.
   abbrev pub TrialClaim : Type 0
