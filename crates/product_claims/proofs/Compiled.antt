@@ -1,11 +1,11 @@
 -- What `compile` stores, as input of a trial; and the rule of a table as input of `compile`.
-use mathlib.Core.{Path.{_≡_, refl, sym, _∙_, ap, subst}, Bool.{Bool, true, false}, Logic.{_↔_, Iff·trans}, List.{List, _++_}, Option.{Option, none}}
+use mathlib.Core.{Path.{_≡_, refl, sym, _∙_, ap, subst}, Bool.{Bool, true, false}, Logic.{_↔_, Iff·trans}, List.{List, _++_}, Option.{Option, none, some, Option·some-ne-none}}
 use Prim.Native.Nat.{ℕ, zero, _*_, _≤_, _<_}
 use native.Mathlib.{Nat.{mul-le-mul-right}, Omega.{arith}}
 use borrow.Author.Tests.{le-leb}
 use lib.{Dec.{T, leb}, ListN.{length, take, drop}, Seq.{take-append-seam}}
 use Rattle.theory.specs.Semilattice.{MeetSemilattice, AtOrBelow}
-use Rattle.theory.specs.Formula.{Formula}
+use Rattle.theory.specs.Formula.{Formula, size}
 use Rattle.theory.specs.FormulaClasses.{WellFormed}
 use Rattle.theory.specs.Semantics.{Answers}
 use Rattle.theory.specs.MealyMachine.{Machine, Word, after, States}
@@ -17,24 +17,27 @@ use Rattle.theory.proofs.Claims.{grammar, answers, table-satisfaction}
 use Rattle.refusal.specs.declared.Refusal.{Refusal}
 use Rattle.refusal.specs.RefusalAnswers.{or-else, plain-unless}
 use Rattle.refusal.specs.LentBuffers.{put, put-unless}
-use Rattle.refusal.proofs.Refusals.{or-else-none}
+use Rattle.refusal.specs.declared.Refusal.the-variants.{Plain}
+use Rattle.refusal.specs.Refusal.{First, JudgedCall, counted-refusal, count-of}
+use Rattle.refusal.proofs.{Refusals.{or-else-none}, Answers.{counted-refusal-is, count-of-counted, judged-call}}
 use Rattle.limits.specs.Limits.{node-limit, state-limit, device-limit, table-limit, word-limit}
 use Rattle.values.specs.{Setup.{Setup, SetupValue, setup-meet, setup-top}, ValueTests.{at-or-below}, SetupTests.{setup-refusal}}
 use Rattle.values.proofs.ValueKinds.{value-kinds}
 use Rattle.machines.specs.{TableBytes.{table-bytes, entry-width, entry-bytes, machine-of}, TableRefusal.{table-refusal}}
-use Rattle.machines.proofs.{EntryBytes.{table-length}, TableRoundTrip.{read-back, entry-length}, TableRefusals.{table-accepted, accepted-table}}
+use Rattle.machines.proofs.{EntryBytes.{table-length}, TableRoundTrip.{read-back, entry-length}, TableRefusals.{table-accepted, accepted-table, in-order-none}}
 use Rattle.formulas.specs.{NodeBytes.{encode-formula, node-bytes}, RuleRefusal.{rule-refusal, formula-of}, Claims.{AcceptedFormula}}
-use Rattle.formulas.proofs.RuleClaims.{accepted-formula-of, formula-of-only}
-use Rattle.synthesis.specs.{Compilation.{rule-table-refusal, setup-states, setup-table, compile-refusal, compile-contents}, Claims.{CompiledBytes}}
+use Rattle.formulas.proofs.RuleClaims.{accepted-formula-of, formula-of-only, rule-judged as bytes-judged}
+use Rattle.synthesis.specs.{Compilation.{rule-table-refusal, setup-states, setup-table, compile-refusal, compile-answer, compile-contents}, Claims.{CompiledBytes}}
+use Rattle.synthesis.specs.TableOfRule.{compile-conditions, IsRuleTable}
 use Rattle.synthesis.proofs.{CompiledTable.{few-states, is-table, table-runs}, LentTable.{contents-at, laws, few}}
-use Rattle.synthesis.proofs.CompileClaims.{table-agrees, compile-claim}
+use Rattle.synthesis.proofs.CompileClaims.{table-agrees, compile-refusal-claim, compile-claim, made-table, printed-table}
 use Rattle.characteristic.specs.RuleWriting.{write-refusal}
 use Rattle.characteristic.specs.Claims.{Written}
-use Rattle.characteristic.proofs.Claims.{written-claim}
+use Rattle.characteristic.proofs.Claims.{write-refusal-claim, refused-claim, written-claim}
 use Rattle.conformance.specs.Trial.{input, Passed}
 use Rattle.conformance.specs.TrialAnswer.{tables-refusal, trial-refusal, trial-answer}
 use Rattle.conformance.proofs.TrialClaims.{trial-satisfies}
-use Rattle.product_claims.specs.Demands.{compiled-bytes, trial-of, RuleTrialClaim, Recompiled, RecompiledClaim}
+use Rattle.product_claims.specs.Demands.{rule-trial-input, Recompiled}
 
 -- Where no earlier condition refuses, the next decides.
 passed : (a b : Option Refusal) → a ≡ none → b ≡ none → or-else a b ≡ none
@@ -97,7 +100,10 @@ module _ (s : Setup) (rule old : List ℕ) (accepted : compile-refusal state-lim
   little : n ≤ state-limit
   little = few s (none-of .0) state-limit rule (none-of .1)
 
-  front : compiled-bytes s rule old ≡ output
+  abbrev compiled-bytes : List ℕ
+  compiled-bytes = take (n * s .events * entry-width (s .kind)) (compile-contents state-limit s rule old)
+
+  front : compiled-bytes ≡ output
   unfolding put-unless put
   front =
       ap (take (n * s .events * entry-width (s .kind))) (contents-at state-limit s rule old _ accepted)
@@ -108,12 +114,12 @@ module _ (s : Setup) (rule old : List ℕ) (accepted : compile-refusal state-lim
   runs : (0 < n) × Runs (s .events) (SetupValue s) (States n) t
   runs = let r = table-runs (SetupValue s) meet (setup-top s) obeys (s .events) state-limit φ₀ well (there .accepted .within) little in (r .0, r .1)
 
-  in-order : table-refusal table-limit (s .events) (s .kind) n zero (compiled-bytes s rule old) ≡ none
+  in-order : table-refusal table-limit (s .events) (s .kind) n zero (compiled-bytes) ≡ none
   in-order =
       ap (table-refusal table-limit (s .events) (s .kind) n zero) front
       ∙ table-accepted table-limit (s .events) (s .kind) n zero t (runs .1) little (runs .0)
 
-  its-table : IsTableOf meet (setup-top s) (s .events) φ₀ n (machine-of (s .kind) (s .events) (compiled-bytes s rule old))
+  its-table : IsTableOf meet (setup-top s) (s .events) φ₀ n (machine-of (s .kind) (s .events) (compiled-bytes))
   its-table =
       subst (λ l. IsTableOf meet (setup-top s) (s .events) φ₀ n (machine-of (s .kind) (s .events) l)) (sym front)
       (table-agrees meet (setup-top s) (s .events) φ₀ n t (machine-of (s .kind) (s .events) output) (read-back (s .kind) (s .events) n t)
@@ -121,7 +127,7 @@ module _ (s : Setup) (rule old : List ℕ) (accepted : compile-refusal state-lim
 
   module _ (states start : ℕ) (device : List ℕ) (whole : table-refusal device-limit (s .events) (s .kind) states start device ≡ none)
       (buffer : List ℕ) (long : word-limit ≤ length buffer) where
-    none-met : trial-refusal device-limit table-limit (trial-of s rule old states start device) buffer ≡ none
+    none-met : trial-refusal device-limit table-limit (rule-trial-input s rule old n states start device) buffer ≡ none
     unfolding trial-refusal tables-refusal input
     none-met =
         passed (setup-refusal s) _ (none-of .0)
@@ -136,13 +142,13 @@ module _ (s : Setup) (rule old : List ℕ) (accepted : compile-refusal state-lim
     decides b c = Iff·trans (true-iff (at-or-below (s .kind) (s .meet) b c)) (value-kinds .order (s .kind) (s .meet) b c)
 
     by-sets :
-        Passed (trial-answer device-limit table-limit (trial-of s rule old states start device) buffer)
+        Passed (trial-answer device-limit table-limit (rule-trial-input s rule old n states start device) buffer)
         ↔ TableSatisfies meet states (machine-of (s .kind) (s .events) device) φ₀ start
     unfolding input
-    by-sets = trial-satisfies device-limit table-limit (trial-of s rule old states start device) buffer none-met φ₀ well its-table
+    by-sets = trial-satisfies device-limit table-limit (rule-trial-input s rule old n states start device) buffer none-met φ₀ well its-table
 
     by-definition :
-        Passed (trial-answer device-limit table-limit (trial-of s rule old states start device) buffer)
+        Passed (trial-answer device-limit table-limit (rule-trial-input s rule old n states start device) buffer)
         ↔ Satisfies meet (States states) (machine-of (s .kind) (s .events) device) φ₀ start
     by-definition =
         let exact = table-satisfaction (SetupValue s) meet (setup-top s) (s .events) obeys (at-or-below (s .kind) (s .meet)) decides
@@ -150,13 +156,25 @@ module _ (s : Setup) (rule old : List ℕ) (accepted : compile-refusal state-lim
         (accepted-table device-limit (s .events) (s .kind) states start device whole .start-in) in
         ((λ p. exact .0 (by-sets .0 p)), λ q. by-sets .1 (exact .1 q))
 
-pub rule-trial : RuleTrialClaim
-rule-trial s rule old accepted states start device whole buffer long φ code =
+pub rule-trial :
+    (s : Setup) (rule to : List ℕ) (n : ℕ) → count-of (compile-answer state-limit s rule to) ≡ some n →
+    (states start : ℕ) (device word : List ℕ) →
+    DeviceInOrder device-limit table-limit (rule-trial-input s rule to n states start device) word → word-limit ≤ length word →
+    (φ : Formula ℕ) → rule ≡ encode-formula (node-bytes (s .kind)) φ →
+    Passed (trial-answer device-limit table-limit (rule-trial-input s rule to n states start device) word)
+    ↔ Satisfies (setup-meet s) (States states) (machine-of (s .kind) (s .events) device) φ start
+unfolding input
+rule-trial s rule to n h states start device word whole long φ code =
+    let p = count-of-counted (compile-refusal state-limit s rule to) (setup-states state-limit s rule) n h in
     subst
-    (λ χ. Passed (trial-answer device-limit table-limit (trial-of s rule old states start device) buffer)
+    (λ k. Passed (trial-answer device-limit table-limit (rule-trial-input s rule to k states start device) word)
+    ↔ Satisfies (setup-meet s) (States states) (machine-of (s .kind) (s .events) device) φ start)
+    (p .1)
+    (subst
+    (λ χ. Passed (trial-answer device-limit table-limit (rule-trial-input s rule to (setup-states state-limit s rule) states start device) word)
     ↔ Satisfies (setup-meet s) (States states) (machine-of (s .kind) (s .events) device) χ start)
     (sym (formula-of-only (s .kind) rule φ code))
-    (by-definition s rule old accepted states start device whole buffer long)
+    (by-definition s rule to (p .0) states start device (in-order-none device-limit (s .events) (s .kind) states start device whole) word long))
 
 -- The rule of an accepted table, compiled.
 module _ (s : Setup) (states start : ℕ) (table buffer : List ℕ)
@@ -183,52 +201,125 @@ module _ (s : Setup) (states start : ℕ) (table buffer : List ℕ)
   read : formula-of (s .kind) bytes ≡ ψ
   read = sym (formula-of-only (s .kind) bytes ψ refl)
 
-  module _ (old : List ℕ) (long : state-limit * s .events * entry-width (s .kind) ≤ length old) where
-    abbrev count : ℕ
-    count = setup-states state-limit s bytes
+  abbrev count : ℕ
+  count = setup-states state-limit s bytes
 
-    bounded : count ≤ state-limit
-    bounded =
-        subst (λ χ. Rattle.synthesis.specs.FormulaTable.formula-states (setup-meet s) (setup-top s) χ (s .events) state-limit ≤ state-limit)
-        (sym read)
-        (few-states (SetupValue s) (setup-meet s) (setup-top s) obeyed (s .events) state-limit ψ sound
-        (made .rule-written .accepted .within) .1 (made .rule-written .few-states))
+  bounded : count ≤ state-limit
+  bounded =
+      subst (λ χ. Rattle.synthesis.specs.FormulaTable.formula-states (setup-meet s) (setup-top s) χ (s .events) state-limit ≤ state-limit)
+      (sym read)
+      (few-states (SetupValue s) (setup-meet s) (setup-top s) obeyed (s .events) state-limit ψ sound
+      (made .rule-written .accepted .within) .1 (made .rule-written .few-states))
 
-    compiles : compile-refusal state-limit s bytes old ≡ none
-    unfolding compile-refusal rule-table-refusal
-    compiles =
-        passed (setup-refusal s) _ setup-fine
-        (passed _ _
+  module _ (to : List ℕ) where
+    abbrev room : Option Refusal
+    room = plain-unless (leb (count * s .events * entry-width (s .kind)) (length to)) 13
+
+    -- 13 alone is left.
+    for-room : compile-refusal state-limit s bytes to ≡ room
+    unfolding compile-refusal rule-table-refusal or-else
+    for-room =
+        ap (λ o. or-else o (or-else (rule-table-refusal (s .kind) (s .events) (setup-top s) (s .meet) bytes state-limit) room)) setup-fine
+        ∙ ap (λ o. or-else o room)
         (passed (rule-refusal (s .events) (s .kind) bytes) _ (made .rule-written .accepted-bytes)
         (unless-true (leb count state-limit) 10 (le-leb count state-limit bounded)))
-        (unless-true (leb (count * s .events * entry-width (s .kind)) (length old)) 13
-        (le-leb (count * s .events * entry-width (s .kind)) (length old)
-        (omega (arith, mul-le-mul-right (entry-width (s .kind)) (mul-le-mul-right (s .events) bounded), long)))))
 
-    stored : CompiledBytes state-limit s bytes old count (compile-contents state-limit s bytes old)
-    stored = compile-claim .accepted state-limit s bytes old compiles
+    room-13 : (b : Bool) (r : Refusal) → plain-unless b 13 ≡ some r → r ≡ Plain 13
+    unfolding plain-unless
+    room-13 true r e = absurd (Option·some-ne-none r (sym e))
+    room-13 false r e = cc
 
-    abbrev machine : Machine ℕ ℕ
-    machine = machine-of (s .kind) (s .events) (compile-contents state-limit s bytes old)
+    module _ (compiles : compile-refusal state-limit s bytes to ≡ none) where
+      stored : CompiledBytes state-limit s bytes to count (compile-contents state-limit s bytes to)
+      stored = compile-claim .accepted state-limit s bytes to compiles
 
-    answered :
-        (w : List ℕ) → Word (s .events) w → (e : ℕ) → e < s .events →
-        Answers (setup-meet s) (setup-top s) ψ w e (machine .value (after machine zero w) e)
-    answered w hw e he =
-        subst (λ χ. Answers (setup-meet s) (setup-top s) χ w e (machine .value (after machine zero w) e))
-        (sym (stored .table .only ψ refl)) (stored .table .answers w hw e he)
+      abbrev machine : Machine ℕ ℕ
+      machine = machine-of (s .kind) (s .events) (compile-contents state-limit s bytes to)
 
-    recompiled : Recompiled s start table bytes old
+      answered :
+          (w : List ℕ) → Word (s .events) w → (e : ℕ) → e < s .events →
+          Answers (setup-meet s) (setup-top s) ψ w e (machine .value (after machine zero w) e)
+      answered w hw e he =
+          subst (λ χ. Answers (setup-meet s) (setup-top s) χ w e (machine .value (after machine zero w) e))
+          (sym (stored .table .only ψ refl)) (stored .table .answers w hw e he)
+
+    recompiled : Recompiled s start table bytes to
     recompiled =
+        let read-back = counted-refusal-is (compile-refusal state-limit s bytes to) count in
         record {
-          accepted = compiles;
-          same-values = λ w hw e he.
+          only-13 = λ r h. room-13 (leb (count * s .events * entry-width (s .kind)) (length to)) r (sym for-room ∙ sym read-back ∙ h);
+          same-values = λ h w hw e he.
               let one = answers (SetupValue s) (setup-meet s) (setup-top s) (s .events) ψ sound w e in
-              one _ .0 (answered w hw e he) ∙ sym (one _ .0 (made .rule-written .same-values w hw e he));
+              one _ .0 (answered (sym read-back ∙ h) w hw e he) ∙ sym (one _ .0 (made .rule-written .same-values w hw e he));
         }
 
-pub recompiled-claim : RecompiledClaim
-recompiled-claim s states start table buffer fine φ is-rule old long =
-    subst (λ χ. Recompiled s start table (encode-formula (node-bytes (s .kind)) χ) old)
-    (sym (written-claim s states start table buffer fine .rule-written .only-rule φ is-rule))
-    (recompiled s states start table buffer fine old long)
+-- What an accepted `write_rule` writes.
+module _ (s : Setup) (states start : ℕ) (table old : List ℕ) where
+  abbrev refusal : Option Refusal
+  refusal = write-refusal table-limit node-limit s states start table (length old)
+
+  pub rule-judged :
+      JudgedCall (write-conditions table-limit node-limit s states start table (length old))
+      (counted-refusal (write-answer table-limit node-limit s states start table old)) old
+      (write-contents table-limit node-limit s states start table old)
+  unfolding write-answer
+  rule-judged =
+      judged-call _ refusal _ old _ (write-refusal-claim table-limit node-limit s states start table (length old))
+      (λ r h. refused-claim table-limit node-limit s states start table old r h .1)
+
+  accepted-write : (n : ℕ) → count-of (write-answer table-limit node-limit s states start table old) ≡ some n → refusal ≡ none
+  unfolding write-answer
+  accepted-write n h = count-of-counted refusal _ n h .0
+
+  is-written : (fine : refusal ≡ none) → IsWritten s start table (written-claim s states start table old fine .rule)
+  is-written fine =
+      let w = written-claim s states start table old fine .rule-written in
+      record {
+        is-rule = w .is-rule;
+        only = w .only-rule;
+        accepted = subst (First _) (w .accepted-bytes) (bytes-judged (s .events) (s .kind) _ .first);
+        same-values = w .same-values;
+      }
+
+  pub table-to-rule :
+      (n : ℕ) → count-of (write-answer table-limit node-limit s states start table old) ≡ some n →
+      (φ : Formula ℕ) × IsWritten s start table φ × (n ≡ size φ)
+      × (write-contents table-limit node-limit s states start table old ≡ put (encode-formula (node-bytes (s .kind)) φ) old)
+  table-to-rule n h =
+      let fine = accepted-write n h in
+      let w = written-claim s states start table old fine in
+      (w .rule, is-written fine, same-count n (size (w .rule)) (sym h ∙ ap count-of (w .count-is-size)), w .bytes-put)
+    where
+      same-count : (n m : ℕ) → some n ≡ some m → n ≡ m
+      same-count n m e = cc
+
+  pub table-to-rule-to-table :
+      (n : ℕ) → count-of (write-answer table-limit node-limit s states start table old) ≡ some n →
+      (φ : Formula ℕ) → IsWritten s start table φ → (to : List ℕ) → Recompiled s start table (encode-formula (node-bytes (s .kind)) φ) to
+  table-to-rule-to-table n h φ w to =
+      let fine = accepted-write n h in
+      subst (λ χ. Recompiled s start table (encode-formula (node-bytes (s .kind)) χ) to)
+      (w .only (written-claim s states start table old fine .rule) (written-claim s states start table old fine .rule-written .is-rule))
+      (recompiled s states start table old fine to)
+
+-- `compile`.
+module _ (s : Setup) (rule old : List ℕ) where
+  pub compile-judged :
+      JudgedCall (compile-conditions state-limit s rule old) (counted-refusal (compile-answer state-limit s rule old)) old
+      (compile-contents state-limit s rule old)
+  compile-judged =
+      judged-call _ (compile-refusal state-limit s rule old) _ old _ (compile-refusal-claim state-limit s rule old)
+      (λ r h. compile-claim .refused state-limit s rule old r h)
+
+  pub rule-to-table :
+      (k : ℕ) → count-of (compile-answer state-limit s rule old) ≡ some k →
+      (u : Machine ℕ ℕ) × IsRuleTable s rule k u
+      × (compile-contents state-limit s rule old ≡ put (table-bytes (entry-bytes (s .kind)) (s .events) u k) old)
+  unfolding put-unless
+  rule-to-table k h =
+      let p = count-of-counted (compile-refusal state-limit s rule old) (setup-states state-limit s rule) k h in
+      subst
+      (λ k. (u : Machine ℕ ℕ) × IsRuleTable s rule k u
+      × (compile-contents state-limit s rule old ≡ put (table-bytes (entry-bytes (s .kind)) (s .events) u k) old))
+      (p .1)
+      (setup-table state-limit s rule, printed-table s rule _ _ (made-table state-limit s rule old (p .0)), contents-at state-limit s rule old _ (p .0))

@@ -1,96 +1,173 @@
--- The user's three demands, each as one proposition over the definitions that the contracts cite; proofs/Demands has a proof of each.
-use mathlib.Core.{Path.{_≡_}, Logic.{_↔_}, List.{List}, Option.{none}}
+-- The user's three demands, each as one record: over document 01's definitions, and the functions that the contracts of the public entries
+-- state. proofs/Demands has a proof of each.
+use mathlib.Core.{Path.{_≡_}, Logic.{_↔_}, List.{List, map}, Option.{none, some}}
 use Prim.Native.Nat.{ℕ, zero, _*_, _≤_, _<_}
-use lib.ListN.{length, take}
-use Rattle.limits.specs.Limits.{node-limit, state-limit, device-limit, table-limit, word-limit}
-use Rattle.theory.specs.{Formula.{Formula}, MealyMachine.{Word, after, States}, Satisfaction.{Satisfies}}
-use Rattle.values.specs.{Setup.{Setup, setup-meet}, Claims.{SetupClaim, SetupAcceptedClaim}}
-use Rattle.machines.specs.{TableBytes.{entry-width, machine-of}, TableRefusal.{table-refusal}}
+use lib.ListN.{length, take, replicate}
+use Rattle.limits.specs.Limits.{channel-limit, entry-limit, node-limit, state-limit, device-limit, table-limit, word-limit}
+use Rattle.theory.specs.{Formula.{Formula, size}, MealyMachine.{Machine, Word, after, States}, Satisfaction.{Satisfies}}
+use Rattle.refusal.specs.{declared.Refusal.the-variants.{Plain}, declared.Refusal.{Refusal}, declared.Counted.{Counted}}
+use Rattle.refusal.specs.{Refusal.{Judged, JudgedCall, judgement-refusal, counted-refusal, count-of}, RefusalAnswers.{judgement}, LentBuffers.{put}}
+use Rattle.values.specs.{Setup.{Setup, setup, setup-meet, setup-conditions}, SetupTests.{setup-refusal}}
+use Rattle.machines.specs.TableBytes.{table-bytes, entry-width, entry-bytes, machine-of}
 use Rattle.formulas.specs.NodeBytes.{encode-formula, node-bytes}
-use Rattle.synthesis.specs.Compilation.{setup-states, compile-refusal, compile-contents}
-use Rattle.characteristic.specs.{RuleOfTable.{IsRuleOf}, RuleWriting.{write-refusal}}
-use Rattle.conformance.specs.{Trial.{TrialInput, input, Passed}, TrialAnswer.{trial-answer}}
-use Rattle.recorder_claims.specs.CallConditions.{CallRefusalClaim, ReplayRefusalClaim}
-use Rattle.table_graph.specs.Graph.{GraphRefusalClaim}
-use Rattle.machines.specs.Claims as machines
-use Rattle.formulas.specs.Claims as formulas
-use Rattle.synthesis.specs.Claims as synthesis
-use Rattle.characteristic.specs.Claims as characteristic
-use Rattle.conformance.specs.Claims as conformance
-use Rattle.recorder_claims.specs.Claims as recorder
-use Rattle.channel_io.specs.Claims as channel_io
+use Rattle.synthesis.specs.TableOfRule.{compile-conditions, pair-table-conditions, IsRuleTable, ArraysHold}
+use Rattle.synthesis.specs.Compilation.{compile-answer, compile-contents, compiled-setup}
+use Rattle.characteristic.specs.{RuleOfTable.{write-conditions, IsWritten}, RuleWriting.{write-answer, write-contents}}
+use Rattle.conformance.specs.{Trial.{TrialInput, input, DeviceInOrder, trial-conditions, Passes, FailsBy, refusal-of, Passed, word-length}}
+use Rattle.conformance.specs.TrialAnswer.{trial-answer, trial-buffer}
+use Rattle.channel_log.specs.Calls.{Call, load, accepted, returned, refused, reply-refusal, replies, final, event-calls}
+use Rattle.channel_log.specs.Independence.{struck, replies-on}
+use Rattle.recorder.specs.{Store.{Store, AllCells, setup-of, channels}, Tool.{StoreClaim}, Called.{called, set-up-called}, Replay.{replayed}}
+use Rattle.recorder_claims.specs.{CallConditions.{call-conditions, replay-conditions}, ChannelLog.{AsLogged, LoadedAs}}
+use Rattle.channel_file.specs.{ChannelFile.{TokensOf}, Reading.{read-file, tokens-stretch}}
+use Rattle.channel_io.specs.declared.{FileRead.{FileRead}, FileTable.{FileTable}, FileNumbers.{FileNumbers}}
+use Rattle.channel_io.specs.{FileConditions.{read-conditions, file-conditions}, FileAnswers.{JudgedText, refusal-read, numbers-read, ReadsAs}}
+use Rattle.channel_io.specs.FileAnswers.{refusal-made, table-made, MakesTableOf, write-file-conditions, WritesAs}
+use Rattle.channel_io.specs.{FileReading.{Reads}, FileCompilation.{CompilesFile}, FileWriting.{WritesFile}}
+use Rattle.table_report.specs.{PrintedTable.{Prints, report-conditions}, Report.{Reports}}
 
--- Demand 1: each call refuses by document 01's list, with the first condition that is met and no other, in document 01's order, and
--- accepts where none is met; a refusal changes no lent memory.
-pub record DemandOne : Type 0 where
-  pub set-up : SetupClaim
-  pub set-up-accepted : SetupAcceptedClaim
-  pub table-handed-in : machines.TableRefusalClaim
-  pub rule : formulas.RuleRefusalClaim
-  pub compiling : synthesis.CompileRefusalClaim
-  pub compiling-refused : synthesis.CompileClaim
-  pub writing-a-rule : characteristic.WriteRefusalClaim
-  pub writing-a-rule-refused : characteristic.RefusedClaim
-  pub trial : conformance.TrialRefusalClaim device-limit table-limit
-  pub trial-refused : conformance.RefusedClaim device-limit table-limit
-  pub calls : CallRefusalClaim
-  pub sequence-of-events : ReplayRefusalClaim
-  pub calls-on-a-refused-set-up : recorder.BlankClaim
-  pub reading-a-file : channel_io.ReadClaim
-  pub writing-a-file : channel_io.WriteRefusalClaim
-  pub table-of-a-file : channel_io.FileTableClaim
-  pub digraph-of-a-table : GraphRefusalClaim
+-- Demand 1: "any public entry takes any input of its type: the call .. accepts or refuses by document 01's list, and a refusal changes no
+-- lent memory." That calls end and do nothing undefined is what a proved crate is; no public function has a requires.
+pub record DemandOne : Type 1 where
+  -- values `check_setup`
+  pub checking-a-set-up : (s : Setup) → Judged (setup-conditions s) (judgement-refusal (judgement (setup-refusal s)))
+  -- synthesis `compile` and `compile_rule`
+  pub compiling :
+      (s : Setup) (rule old : List ℕ) →
+      JudgedCall (compile-conditions state-limit s rule old) (counted-refusal (compile-answer state-limit s rule old)) old
+      (compile-contents state-limit s rule old)
+  pub compiling-to-arrays : (s : Setup) (rule : List ℕ) → Judged (pair-table-conditions s rule) (counted-refusal (compiled-setup s rule .verdict))
+  -- characteristic `write_rule`
+  pub writing-a-rule :
+      (s : Setup) (states start : ℕ) (table old : List ℕ) →
+      JudgedCall (write-conditions table-limit node-limit s states start table (length old))
+      (counted-refusal (write-answer table-limit node-limit s states start table old)) old
+      (write-contents table-limit node-limit s states start table old)
+  -- conformance `trial`
+  pub trying :
+      (x : TrialInput) (old : List ℕ) →
+      JudgedCall (trial-conditions device-limit table-limit x old) (refusal-of (trial-answer device-limit table-limit x old)) old
+      (trial-buffer device-limit table-limit x old)
+  -- recorder `set_up`; `load`, `event`, `restart`, `restart_all` and `clear`; `replay`
+  pub setting-up : (s : Setup) → Judged (setup-conditions s) (reply-refusal (set-up-called s .0))
+  pub calling : (t : Store) (call : Call ℕ) → JudgedCall (call-conditions t call) (reply-refusal (called call t .0)) t (called call t .1)
+  pub replaying :
+      (t : Store) (c : ℕ) (word old : List ℕ) →
+      JudgedCall (replay-conditions t c word old) (reply-refusal (replayed t c word old .0 .0)) (t, old)
+      (replayed t c word old .0 .1, replayed t c word old .1)
+  -- channel_io `read_file`, `compile_file` and `write_file`
+  pub reading-a-file :
+      (t meet rule meet′ rule′ : List ℕ) (r : FileRead) → Reads t meet rule meet′ rule′ r →
+      JudgedText t (λ c. read-conditions c meet rule) (refusal-read r) (meet, rule) (meet′, rule′)
+  pub compiling-a-file :
+      (t meet to meet′ to′ : List ℕ) (r : FileTable) → CompilesFile t meet to meet′ to′ r →
+      JudgedText t (λ c. file-conditions c meet to) (refusal-made r) (meet, to) (meet′, to′)
+  pub writing-a-file :
+      (events values top : ℕ) (meet rule old new : List ℕ) (r : Counted) → WritesFile events values top meet rule old new r →
+      JudgedCall (write-file-conditions (setup events values top meet) rule old) (counted-refusal r) old new
+  -- table_report `report`
+  pub reporting : (t old new : List ℕ) (r : Counted) → Reports t old new r → JudgedCall (report-conditions t old) (counted-refusal r) old new
 
--- The bytes of a rule's table, at the front of the lent buffer after `compile`.
-abbrev pub compiled-bytes : Setup → List ℕ → List ℕ → List ℕ
-compiled-bytes s rule old = take (setup-states state-limit s rule * s .events * entry-width (s .kind)) (compile-contents state-limit s rule old)
-
--- The rule of an accepted table, handed to the compiler, is accepted by 1 to 3 and 5 to 10, whatever lent buffer has room for it, and
--- its table has the start's values on every event sequence.
-pub record Recompiled (s : Setup) (start : ℕ) (table rule old : List ℕ) : Type 0 where
-  pub accepted : compile-refusal state-limit s rule old ≡ none
+-- The rule of a table, handed to `compile`: nothing but 13 refuses it, and its table has the start's values on every event sequence.
+pub record Recompiled (s : Setup) (start : ℕ) (table rule to : List ℕ) : Type 0 where
+  pub only-13 : (r : Refusal) → counted-refusal (compile-answer state-limit s rule to) ≡ some r → r ≡ Plain 13
   pub same-values :
-      (w : List ℕ) → Word (s .events) w → (e : ℕ) → e < s .events →
-      machine-of (s .kind) (s .events) (compile-contents state-limit s rule old) .value
-      (after (machine-of (s .kind) (s .events) (compile-contents state-limit s rule old)) zero w) e
+      counted-refusal (compile-answer state-limit s rule to) ≡ none → (w : List ℕ) → Word (s .events) w → (e : ℕ) → e < s .events →
+      machine-of (s .kind) (s .events) (compile-contents state-limit s rule to) .value
+      (after (machine-of (s .kind) (s .events) (compile-contents state-limit s rule to)) zero w) e
       ≡ machine-of (s .kind) (s .events) table .value (after (machine-of (s .kind) (s .events) table) start w) e
 
-abbrev pub RecompiledClaim : Type 0
-RecompiledClaim =
-    (s : Setup) (states start : ℕ) (table buffer : List ℕ) → write-refusal table-limit node-limit s states start table (length buffer) ≡ none →
-    (φ : Formula ℕ) → IsRuleOf (s .events) (s .kind) start table φ → (old : List ℕ) → state-limit * s .events * entry-width (s .kind) ≤ length old →
-    Recompiled s start table (encode-formula (node-bytes (s .kind)) φ) old
-
--- Demand 2: rule to table, table to rule, file to rule.
+-- Demand 2: "rule to table, table to rule, file to rule agree with source 000 and document 01".
 pub record DemandTwo : Type 0 where
-  -- the table has the rule's values on every event sequence
-  pub rule-to-table : synthesis.CompileClaim
-  -- a rule written from a table has the table's values
-  pub table-to-rule : characteristic.WrittenClaim
-  pub table-to-rule-to-table : RecompiledClaim
-  -- an accepted file written out again is the same bytes
-  pub file-to-rule : channel_io.ReadClaim
-  pub rule-to-file : channel_io.WriteClaim
-  -- the table of a file's rule has the rule's values on every event sequence
-  pub file-to-table : channel_io.FileTableMadeClaim
+  -- "the table has the rule's values on every event sequence"; beside a refusal `compile_rule` hands back zeros
+  pub rule-to-table :
+      (s : Setup) (rule old : List ℕ) (n : ℕ) → count-of (compile-answer state-limit s rule old) ≡ some n →
+      (t : Machine ℕ ℕ) × IsRuleTable s rule n t
+      × (compile-contents state-limit s rule old ≡ put (table-bytes (entry-bytes (s .kind)) (s .events) t n) old)
+  pub rule-to-arrays :
+      (s : Setup) (rule : List ℕ) (n : ℕ) → count-of (compiled-setup s rule .verdict) ≡ some n →
+      ArraysHold s rule (compiled-setup s rule .values) (compiled-setup s rule .nexts) n
+  pub refused-arrays :
+      (s : Setup) (rule : List ℕ) (r : Refusal) → counted-refusal (compiled-setup s rule .verdict) ≡ some r →
+      (compiled-setup s rule .values ≡ replicate entry-limit 0) × (compiled-setup s rule .nexts ≡ replicate entry-limit 0)
+  -- "a rule written from a table has the table's values"
+  pub table-to-rule :
+      (s : Setup) (states start : ℕ) (table old : List ℕ) (n : ℕ) →
+      count-of (write-answer table-limit node-limit s states start table old) ≡ some n →
+      (φ : Formula ℕ) × IsWritten s start table φ × (n ≡ size φ)
+      × (write-contents table-limit node-limit s states start table old ≡ put (encode-formula (node-bytes (s .kind)) φ) old)
+  -- and handed to `compile` it is refused for room alone, and its table has the start's values
+  pub table-to-rule-to-table :
+      (s : Setup) (states start : ℕ) (table old : List ℕ) (n : ℕ) →
+      count-of (write-answer table-limit node-limit s states start table old) ≡ some n →
+      (φ : Formula ℕ) → IsWritten s start table φ → (to : List ℕ) → Recompiled s start table (encode-formula (node-bytes (s .kind)) φ) to
+  -- what a file says is read; what is read is written as that file: "an accepted file written out again is the same bytes"
+  pub file-to-rule :
+      (t meet rule meet′ rule′ : List ℕ) (r : FileRead) → Reads t meet rule meet′ rule′ r →
+      (found : FileNumbers) → numbers-read r ≡ some found → ReadsAs t meet rule meet′ rule′ found
+  pub rule-to-file :
+      (events values top : ℕ) (meet rule old new : List ℕ) (r : Counted) → WritesFile events values top meet rule old new r →
+      (n : ℕ) → count-of r ≡ some n → WritesAs (setup events values top meet) rule old new n
+  pub file-to-rule-to-file :
+      (t meet rule meet′ rule′ : List ℕ) (r : FileRead) → Reads t meet rule meet′ rule′ r →
+      (found : FileNumbers) → numbers-read r ≡ some found → (old new : List ℕ) (w : Counted) →
+      WritesFile (found .events) (found .values) (found .top) (take (found .entries) meet′) (take (3 * found .nodes) rule′) old new w →
+      length t ≤ length old → (count-of w ≡ some (length t)) × (new ≡ put t old)
+  pub file-to-table :
+      (t meet to meet′ to′ : List ℕ) (r : FileTable) → CompilesFile t meet to meet′ to′ r →
+      (found : FileNumbers) (n : ℕ) → table-made r ≡ some (found, n) → MakesTableOf t meet to meet′ to′ found n
+  -- what the program prints, and the tokens of a file
+  pub file-to-report :
+      (t old new : List ℕ) (r : Counted) → Reports t old new r → (n : ℕ) → count-of r ≡ some n →
+      (s : List ℕ) × Prints t s × ((other : List ℕ) → Prints t other → other ≡ s) × (n ≡ length s) × (new ≡ put s old)
+  pub file-to-tokens :
+      (t : List ℕ) →
+      TokensOf t (tokens-stretch t (read-file t)) × ((other : List ℕ) → TokensOf t other → other ≡ tokens-stretch t (read-file t))
 
--- A device's trial against the table that `compile` stored for a rule.
-abbrev pub trial-of : Setup → List ℕ → List ℕ → ℕ → ℕ → List ℕ → TrialInput
-trial-of s rule old states start device = input s (setup-states state-limit s rule) (compiled-bytes s rule old) states start device
+-- A device's trial against the table of n states that `compile` stored for a rule.
+abbrev pub rule-trial-input : Setup → List ℕ → List ℕ → ℕ → ℕ → ℕ → List ℕ → TrialInput
+rule-trial-input s rule to n states start device =
+    input s n (take (n * s .events * entry-width (s .kind)) (compile-contents state-limit s rule to)) states start device
 
--- For every accepted set-up and rule, every well-formed device (11 does not refuse it) and every word buffer that is long enough (13
--- does not refuse it): the device passes exactly if its start satisfies the rule by the set definition.
-abbrev pub RuleTrialClaim : Type 1
-RuleTrialClaim =
-    (s : Setup) (rule old : List ℕ) → compile-refusal state-limit s rule old ≡ none →
-    (states start : ℕ) (device : List ℕ) → table-refusal device-limit (s .events) (s .kind) states start device ≡ none →
-    (buffer : List ℕ) → word-limit ≤ length buffer → (φ : Formula ℕ) → rule ≡ encode-formula (node-bytes (s .kind)) φ →
-    Passed (trial-answer device-limit table-limit (trial-of s rule old states start device) buffer)
-    ↔ Satisfies (setup-meet s) (States states) (machine-of (s .kind) (s .events) device) φ start
-
--- Demand 3: the channel's record is its rule's meaning, for every list of calls; channels are independent; a device passes trial
--- exactly if its start satisfies the rule by the set definition.
+-- Demand 3: "the channel's record is its rule's meaning", for every list of calls; "channels are independent"; "a device passes trial
+-- exactly if its start satisfies the rule by the set definition, which builds no table".
 pub record DemandThree : Type 1 where
-  pub record-of-calls : recorder.ToolRecordClaim
-  pub independence : recorder.ToolIndependenceClaim
-  pub trial : RuleTrialClaim
+  pub record-of-calls :
+      (s : Setup) → reply-refusal (set-up-called s .0) ≡ none → (calls : List (Call ℕ)) →
+      AsLogged s calls (replies called calls (set-up-called s .1)) (setup-of (final called calls (set-up-called s .1)))
+      (channels (final called calls (set-up-called s .1)))
+  pub independence :
+      (s : Setup) → reply-refusal (set-up-called s .0) ≡ none → (c : ℕ) → c < channel-limit →
+      (calls others : List (Call ℕ)) → struck c calls ≡ struck c others →
+      (replies-on c calls (replies called calls (set-up-called s .1)) ≡ replies-on c others (replies called others (set-up-called s .1)))
+      × (channels (final called calls (set-up-called s .1)) c ≡ channels (final called others (set-up-called s .1)) c)
+  -- on any tool, not only one that a list of calls made: what a load leaves, and a replay is its event calls
+  pub loading :
+      (t : Store) → AllCells t → (c : ℕ) (rule : List ℕ) → called (load c rule) t .0 ≡ accepted →
+      LoadedAs (setup-of t) c rule (channels t) (channels (called (load c rule) t .1))
+  pub replaying :
+      (t : Store) → AllCells t → (c : ℕ) (word old : List ℕ) → reply-refusal (replayed t c word old .0 .0) ≡ none →
+      (values : List ℕ) × (replies called (event-calls c word) t ≡ map returned values) × (length values ≡ length word)
+      × (replayed t c word old .0 .1 ≡ final called (event-calls c word) t) × (replayed t c word old .1 ≡ put values old)
+  -- what a refused set-up hands back is of no use, and a store says all of a tool
+  pub refused-set-up :
+      (s : Setup) (r : Refusal) → reply-refusal (set-up-called s .0) ≡ some r → (call : Call ℕ) →
+      called call (set-up-called s .1) ≡ (refused (Plain 17), set-up-called s .1)
+  pub one-tool : StoreClaim
+  -- a trial of any two tables in order
+  pub passes :
+      (x : TrialInput) (old : List ℕ) → refusal-of (trial-answer device-limit table-limit x old) ≡ none →
+      Passed (trial-answer device-limit table-limit x old) ↔ Passes x
+  pub pass-keeps :
+      (x : TrialInput) (old : List ℕ) → Passed (trial-answer device-limit table-limit x old) → trial-buffer device-limit table-limit x old ≡ old
+  pub fails :
+      (x : TrialInput) (old : List ℕ) (n : ℕ) → word-length (trial-answer device-limit table-limit x old) ≡ some n →
+      FailsBy x word-limit old (trial-buffer device-limit table-limit x old) n
+  -- "for every accepted set-up and rule, every well-formed device and every word buffer that is long enough"
+  pub rule-trial :
+      (s : Setup) (rule to : List ℕ) (n : ℕ) → count-of (compile-answer state-limit s rule to) ≡ some n →
+      (states start : ℕ) (device word : List ℕ) →
+      DeviceInOrder device-limit table-limit (rule-trial-input s rule to n states start device) word → word-limit ≤ length word →
+      (φ : Formula ℕ) → rule ≡ encode-formula (node-bytes (s .kind)) φ →
+      Passed (trial-answer device-limit table-limit (rule-trial-input s rule to n states start device) word)
+      ↔ Satisfies (setup-meet s) (States states) (machine-of (s .kind) (s .events) device) φ start

@@ -33,7 +33,7 @@ use Rattle.machines.proofs.TableRoundTrip.{read-back, entry-length, entry-width
 use Rattle.synthesis.specs.FormulaTable.{formula-states, formula-table}
 use Rattle.synthesis.specs.Compilation.{rule-states, rule-table, rule-table-refusal, compile-rule-refusal, entry-count, flat, compiled-within}
 use Rattle.synthesis.specs.Compilation.{setup-states, setup-table, compile-refusal, compile-contents}
-use Rattle.synthesis.specs.TableOfRule.{states-condition, buffer-condition, compile-conditions, IsRuleTable}
+use Rattle.synthesis.specs.TableOfRule.{states-condition, buffer-condition, compile-conditions, IsRuleTable, pair-table-conditions}
 use Rattle.synthesis.specs.Claims.{CompileRefusalClaim, RuleTable, CompiledBytes, CompileClaim}
 use Rattle.synthesis.specs.Claims.{compile-rule-conditions, array-machine, CompiledArrays, CompileRuleClaim}
 use Rattle.synthesis.proofs.{Compilation.{flat-at, few-events}, CompiledTable.{few-states, is-table}, LentTable.{contents-at, laws, few}}
@@ -363,6 +363,20 @@ pub compile-rule-claim : CompileRuleClaim
 unfolding condition-numbers right-places has-place part-of order
 compile-rule-claim limit kind events top table rule little L =
     (judged _ _ (rule-first limit kind events top table rule little L) refl refl, arrays limit kind events top table rule little L)
+
+-- A set-up and a rule: 1 to 3, then 5 to 10.
+pub setup-rule-first :
+    (s : Setup) (rule : List ℕ) →
+    First (pair-table-conditions s rule)
+    (or-else (setup-refusal s) (rule-table-refusal (s .kind) (s .events) (setup-top s) (s .meet) rule state-limit))
+unfolding rule-table-refusal First
+setup-rule-first s rule =
+    first-then (setup-conditions s) _ (setup-refusal s) _ (setup-first s)
+    (λ ok. subst
+    (First (byte-conditions (s .events) (s .kind) rule ++ (states-condition (setup-meet s) (setup-top s) (s .events) (s .kind) rule state-limit ∷ [])))
+    (append-none (or-else (rule-refusal (s .events) (s .kind) rule)
+    (plain-unless (leb (rule-states (s .kind) (s .events) (setup-top s) (s .meet) rule state-limit) state-limit) 10)))
+    (ten-first (setup-meet s) (setup-top s) (s .events) (s .kind) state-limit rule (laws s ok) [] none (λ fine h. refl)))
 
 -- What is claimed of a rule's table, in document 01's words alone.
 pub printed-table :

@@ -14,3 +14,4 @@ pub mod Compilation
 pub mod CompiledTable
 pub mod LentTable
 pub mod CompileClaims
+pub mod SetupArrays

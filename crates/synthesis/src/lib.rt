@@ -136,20 +136,20 @@ fn make_table(
 }
 
 // The table of a rule as a value: 1 to 3, 5 to 10.
-pub fn compile_rule(
-    events: usize,
-    values: usize,
-    top: usize,
-    meet: &[u8],
-    rule: &[u8],
-) -> Compiled
+pub fn compile_rule(events: usize, values: usize, top: usize, meet: &[u8], rule: &[u8]) -> Compiled
     ensures { λ r. ⌜ r ≡ compiled-setup (setup events values top (now (meet .entry))) (now (rule .entry)) ⌝ }
 {
     let judged = check_setup(events, values, top, meet);
     if let Judgement::Refused(refusal) = judged {
         return refused(refusal);
     }
-    compile_arrays(ValueKind::Numbered(values as u32), events, top as u32, meet, rule)
+    compile_arrays(
+        ValueKind::Numbered(values as u32),
+        events,
+        top as u32,
+        meet,
+        rule,
+    )
 }
 
 // The same for a set-up that was accepted: 5 to 10.
