@@ -10,3 +10,5 @@ pub mod Claims
 pub mod CallRefusals
 -- Document 01's log by its own sentences.
 pub mod PrintedLog
+-- The public entries by what they reply and hand back.
+pub mod Calls
