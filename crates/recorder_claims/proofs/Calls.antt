@@ -29,7 +29,7 @@ call-accepted K L (restart c) = refl
 call-accepted K L restart-all = refl
 call-accepted K L (clear c) = refl
 
-call-refused : (t : Store) (call : Call ℕ) → reply-refusal (called call t .0) ≡ tool-refusal t call
+pub call-refused : (t : Store) (call : Call ℕ) → reply-refusal (called call t .0) ≡ tool-refusal t call
 unfolding called
 call-refused t call = go (tool-refusal t call)
   where

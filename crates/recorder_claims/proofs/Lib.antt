@@ -12,3 +12,5 @@ pub mod CallRefusals
 pub mod PrintedLog
 -- The public entries by what they reply and hand back.
 pub mod Calls
+-- A load on any tool.
+pub mod Loading
