@@ -1,5 +1,5 @@
 -- An accepted load on any tool that has all its cells: its channel has the rule's table at state 0. Another channel stays as it was where it
--- has at most 64 states; with more its table reaches into the rows of the channels after it.
+-- has at most 64 states; with more its table may reach into the rows of the channels after it.
 use mathlib.Core.{Path.{_≡_, refl, sym, _∙_, ap, subst⁻¹}, Bool.{true}, List.{List, []}, Option.{none, some}}
 use Prim.Native.Nat.{ℕ, _≤_, _<_}
 use Rattle.limits.specs.Limits.{channel-limit, table-limit}
