@@ -79,7 +79,7 @@ repeated (e ∷ w) t c g l h =
           ∙ ap (with-current t) (set-set (t .current) c q (after (table-of t c) q w)),
     )
 
-values-back : (l : List ℕ) → returned-values (map returned l) ≡ l
+pub values-back : (l : List ℕ) → returned-values (map returned l) ≡ l
 values-back [] = refl
 values-back (v ∷ l) = ap (λ l. v ∷ l) (values-back l)
 

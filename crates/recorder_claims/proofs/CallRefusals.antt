@@ -1,5 +1,5 @@
 -- Each call on a tool, and a sequence of events, is judged by its conditions.
-use mathlib.Core.{Path.{_≡_, refl}, Logic.{inl, inr}, Bool.{Bool, true, false, cond}, List.{List, [], _∷_}}
+use mathlib.Core.{Path.{_≡_, refl, subst}, Logic.{inl, inr}, Bool.{Bool, true, false, cond}, List.{List, [], _∷_}}
 use mathlib.Core.Option.{Option, none, some, Option·some-ne-none}
 use Prim.Native.Nat.{ℕ, _<_}
 use native.Mathlib.Omega.{arith}
@@ -12,8 +12,8 @@ use Rattle.refusal.specs.declared.Refusal.the-variants.{Plain}
 use Rattle.refusal.specs.Refusal.{has-place, part-of, order, condition-numbers, right-places, Condition, plain, First}
 use Rattle.refusal.specs.RefusalAnswers.{or-else, plain-unless}
 use Rattle.refusal.proofs.Refusals.{plain-none, plain-first, first-append, first-then, judged}
-use Rattle.channel_log.specs.Calls.{Call, load, event, restart, restart-all, clear, Loaded}
-use Rattle.channel_log.specs.CallSteps.{channel-refusal, empty-refusal, on-event}
+use Rattle.channel_log.specs.Calls.{Call, load, event, restart, restart-all, clear}
+use Rattle.channel_log.specs.{CallSteps.{Content, channel-refusal, empty-refusal, on-event}, Log.{large-event}}
 use Rattle.recorder.specs.Store.{Store, setup-of, channels}
 use Rattle.recorder.specs.ToolFault.{ToolFault}
 use Rattle.recorder.specs.ToolTests.{setup-test, named-test, tool-test}
@@ -26,7 +26,7 @@ use Rattle.recorder_claims.specs.CallConditions.{LargeEvent, large-at, r
 use Rattle.recorder_claims.proofs.{Claims.{fault-of, tool-tested}, LoadedRules.{rule-first}}
 
 -- A number that is not below another.
-number-first : (n a b : ℕ) → First (plain n (¬ (a < b)) ∷ []) (cond (ltb a b) none (some (Plain n)))
+pub number-first : (n a b : ℕ) → First (plain n (¬ (a < b)) ∷ []) (cond (ltb a b) none (some (Plain n)))
 unfolding plain-unless
 number-first n a b = go (ltb a b) (plain-first n (¬ (a < b)) (ltb a b) (λ f l. omega (arith, ltb-false a b f)) (λ p f. f (ltb-true a b p)))
   where
@@ -34,21 +34,27 @@ number-first n a b = go (ltb a b) (plain-first n (¬ (a < b)) (ltb a b) (λ f l.
     go true f = f
     go false f = f
 
-empty-first : (o : Option (Loaded ℕ)) → First (plain 15 (o ≡ none) ∷ []) (empty-refusal o)
+-- 15, and 16 after it, whatever a loaded channel holds.
+pub empty-first : {X : Type 0} (o : Option X) → First (plain 15 (o ≡ none) ∷ []) (empty-refusal o)
 unfolding First
 empty-first none = inl (Plain 15, (refl, refl), refl)
 empty-first (some x) = inr (λ r m. Option·some-ne-none x (m .0), refl)
 
-on-event-first :
-    (t : Store) (o : Option (Loaded ℕ)) (e : ℕ) →
-    First (plain 15 (o ≡ none) ∷ plain 16 (¬ (e < t .setup .events)) ∷ []) (on-event (content t) o e)
+pub on-event-first :
+    {X : Type 0} (K : Content X ℕ ℕ) (n : ℕ) → ((x : X) (e : ℕ) → large-event n e ≡ K .event-refusal x e) → (o : Option X) (e : ℕ) →
+    First (plain 15 (o ≡ none) ∷ plain 16 (¬ (e < n)) ∷ []) (on-event K o e)
 unfolding First
-on-event-first t none e = inl (Plain 15, (refl, refl), refl)
-on-event-first t (some x) e = inr (λ r m. Option·some-ne-none x (m .0), number-first 16 e (t .setup .events))
+on-event-first K n same none e = inl (Plain 15, (refl, refl), refl)
+on-event-first K n same (some x) e =
+    inr (λ r m. Option·some-ne-none x (m .0), subst (First (plain 16 (¬ (e < n)) ∷ [])) (same x e) (number-first 16 e n))
 
-no-conditions : First [] none
+pub no-conditions : First [] none
 unfolding First
 no-conditions = refl
+
+-- 14, and what comes after it.
+pub after-14 : (c : ℕ) (cs : List Condition) (later : Option Refusal) → First cs later → First (channel-condition c ∷ cs) (or-else (channel-refusal c) later)
+after-14 c cs later h = first-append (channel-condition c ∷ []) cs (channel-refusal c) later (number-first 14 c channel-limit) h
 
 -- 17, and what comes after it.
 module _ (t : Store) where
@@ -60,23 +66,20 @@ module _ (t : Store) where
       (plain-first 17 (ToolFault t call) (tool-test t call) (fault-of t call) (tool-tested t call .0))
       (λ e. h (and-left (setup-test (setup-of t)) (named-test t call) (plain-none (tool-test t call) 17 e)))
 
-  -- 14, and what comes after it.
-  after-14 : (c : ℕ) (cs : List Condition) (later : Option Refusal) → First cs later → First (channel-condition c ∷ cs) (or-else (channel-refusal c) later)
-  after-14 c cs later h = first-append (channel-condition c ∷ []) cs (channel-refusal c) later (number-first 14 c channel-limit) h
-
 call-first : (t : Store) (call : Call ℕ) → First (call-conditions t call) (tool-refusal t call)
 unfolding call-conditions
 call-first t (load c r) =
     after-17 t (load c r) (channel-condition c ∷ rule-conditions-of (setup-of t) r) (or-else (channel-refusal c) (rule-judged (setup-of t) r))
-    (λ h. after-14 t c (rule-conditions-of (setup-of t) r) (rule-judged (setup-of t) r) (rule-first (setup-of t) r (accepted-of-test (setup-of t) h)))
+    (λ h. after-14 c (rule-conditions-of (setup-of t) r) (rule-judged (setup-of t) r) (rule-first (setup-of t) r (accepted-of-test (setup-of t) h)))
 call-first t (event c e) =
     after-17 t (event c e) (channel-condition c ∷ empty-condition t c ∷ event-condition t e ∷ [])
     (or-else (channel-refusal c) (on-event (content t) (channels t c) e))
     (λ h.
-    after-14 t c (empty-condition t c ∷ event-condition t e ∷ []) (on-event (content t) (channels t c) e) (on-event-first t (channels t c) e))
+    after-14 c (empty-condition t c ∷ event-condition t e ∷ []) (on-event (content t) (channels t c) e)
+    (on-event-first (content t) (t .setup .events) (λ x e. refl) (channels t c) e))
 call-first t (restart c) =
     after-17 t (restart c) (channel-condition c ∷ empty-condition t c ∷ []) (or-else (channel-refusal c) (empty-refusal (channels t c)))
-    (λ h. after-14 t c (empty-condition t c ∷ []) (empty-refusal (channels t c)) (empty-first (channels t c)))
+    (λ h. after-14 c (empty-condition t c ∷ []) (empty-refusal (channels t c)) (empty-first (channels t c)))
 call-first t restart-all = after-17 t restart-all [] none (λ h. no-conditions)
 call-first t (clear c) = after-17 t (clear c) (channel-condition c ∷ []) (channel-refusal c) (λ h. number-first 14 c channel-limit)
 
@@ -114,7 +117,7 @@ replay-first t c word buffer =
     after-17 t (event c 0) (channel-condition c ∷ empty-condition t c ∷ large ∷ short ∷ [])
     (or-else (channel-refusal c) (or-else (empty-refusal (channels t c)) (or-else O F)))
     (λ h.
-    after-14 t c (empty-condition t c ∷ large ∷ short ∷ []) (or-else (empty-refusal (channels t c)) (or-else O F))
+    after-14 c (empty-condition t c ∷ large ∷ short ∷ []) (or-else (empty-refusal (channels t c)) (or-else O F))
     (first-append (empty-condition t c ∷ []) (large ∷ short ∷ []) (empty-refusal (channels t c)) (or-else O F) (empty-first (channels t c))
     (first-append (large ∷ []) (short ∷ []) O F (word-first n word) (room-first (length word) (length buffer)))))
 

@@ -51,7 +51,7 @@ module _ (s : Setup) (ok : setup-refusal s ≡ none) where
   unfolding new-store empty-store
   nothing-loaded = fun-ext λ d. held-empty d (s .events) _ _ _ _ (getD-zeros channel-limit d)
 
-  sound : Sound s (new-store s)
+  pub sound : Sound s (new-store s)
   unfolding new-store empty-store
   sound =
       record {

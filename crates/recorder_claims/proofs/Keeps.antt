@@ -186,8 +186,8 @@ module _ (t : Store) (g : Sound (setup-of t) t) where
       let ns = nexts-of-rule S r in
       let e =
       loaded-view t (g .states-length) (g .current-length) (g .value-length) (g .next-length)
-      (few-events S setup-passes) (g .in-order) c (states-of-rule S r) vs ns i (f .some-states) (f .few-states)
-      (length-values S r) (length-nexts S r) in
+      (few-events S setup-passes) c (states-of-rule S r) vs ns i (f .some-states) (f .few-states)
+      (length-values S r) (length-nexts S r) (g .in-order) in
       kept-rows c (states-of-rule S r) (stored-rows (t .value) c vs) (stored-rows (t .next) c ns) (effect (content t) L (load c r))
       (length-paste (t .value) (rows-start c) vs entry-limit (omega (arith, g .value-length, rows-in c i)) (omega (arith, length-values S r)) ∙ g .value-length)
       (length-paste (t .next) (rows-start c) ns entry-limit (omega (arith, g .next-length, rows-in c i)) (omega (arith, length-nexts S r)) ∙ g .next-length)

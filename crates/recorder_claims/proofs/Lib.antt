@@ -8,3 +8,9 @@ pub mod Keeps
 pub mod Claims
 -- The refusal of a call is the first that its conditions give.
 pub mod CallRefusals
+-- Document 01's log by its own sentences.
+pub mod PrintedLog
+-- The public entries by what they reply and hand back.
+pub mod Calls
+-- A load on any tool.
+pub mod Loading

@@ -73,8 +73,8 @@ module _ (t : Store) where
   -- A table stored into a channel's rows; those of the others lie elsewhere.
   module _ (states-length : length (t .states) ≡ channel-limit) (current-length : length (t .current) ≡ channel-limit)
       (value-length : length (t .value) ≡ store-limit) (next-length : length (t .next) ≡ store-limit) (few-events : n ≤ event-limit)
-      (in-order : (d : ℕ) → test-of t d ≡ true) (c k : ℕ) (A B : List ℕ) (h : c < channel-limit) (some-states : 0 < k)
-      (few-states : k ≤ table-limit) (A-length : length A ≡ entry-limit) (B-length : length B ≡ entry-limit) where
+      (c k : ℕ) (A B : List ℕ) (h : c < channel-limit) (some-states : 0 < k) (few-states : k ≤ table-limit)
+      (A-length : length A ≡ entry-limit) (B-length : length B ≡ entry-limit) where
     abbrev value-rows : List ℕ
     value-rows = stored-rows (t .value) c A
 
@@ -87,7 +87,7 @@ module _ (t : Store) where
     mine L S a b =
         part-inside L (rows-start c) S entry-limit (omega (arith, rows-in c h)) (omega arith) (k * n) (entries-fit k n few-states few-events)
 
-    here : channels (with-rows t c k value-rows next-rows) c ≡ some (loaded-at 0 n k 0 A B)
+    pub here : channels (with-rows t c k value-rows next-rows) c ≡ some (loaded-at 0 n k 0 A B)
     here =
         ap₂ (λ k q. held c n k q value-rows next-rows) (getD-set-same (t .states) c k 0 (omega arith)) (getD-set-same (t .current) c 0 0 (omega arith))
         ∙ held-some c n k 0 value-rows next-rows h some-states
@@ -126,9 +126,11 @@ module _ (t : Store) where
         }))
         (theirs d (j * n) (t .value) A value-length A-length l g e) (theirs d (j * n) (t .next) B next-length B-length l g e)
 
-    -- What another channel holds.
-    there : (d : ℕ) → (d ≡ c → ⊥) → channels (with-rows t c k value-rows next-rows) d ≡ channels t d
-    there d e =
+    -- What another channel holds, where its table has room in its rows.
+    pub there :
+        (d : ℕ) → (d ≡ c → ⊥) → ((x : Loaded ℕ) → channels t d ≡ some x → x .states ≤ table-limit) →
+        channels (with-rows t c k value-rows next-rows) d ≡ channels t d
+    there d e small =
         ap₂ (λ k q. held d n k q value-rows next-rows) (getD-set-other (t .states) c d k 0 e) (getD-set-other (t .current) c d 0 0 e)
         ∙ go (ltb d channel-limit) refl (ltb 0 (getD (t .states) d 0)) refl
       where
@@ -140,10 +142,7 @@ module _ (t : Store) where
 
         fits : d < channel-limit → 0 < j → j * n ≤ entry-limit
         fits l g =
-            entries-fit j n
-            (in-order-of-test n (t .setup .kind) (loaded-at (rows-start d) n j q (t .value) (t .next))
-            (subst (λ o. channel-test n (t .setup .kind) o ≡ true) (held-some d n j q (t .value) (t .next) l g) (in-order d)) .few-states)
-            few-events
+            entries-fit j n (small (loaded-at (rows-start d) n j q (t .value) (t .next)) (held-some d n j q (t .value) (t .next) l g)) few-events
 
         go : (i : Bool) → ltb d channel-limit ≡ i → (b : Bool) → ltb 0 j ≡ b → held d n j q value-rows next-rows ≡ channels t d
         go true p true r =
@@ -156,5 +155,11 @@ module _ (t : Store) where
         go false p b r =
             held-above d n j q value-rows next-rows (ltb-false d channel-limit p) ∙ sym (held-above d n j q (t .value) (t .next) (ltb-false d channel-limit p))
 
-    pub loaded-view : channels (with-rows t c k value-rows next-rows) ≡ with-channel c (some (loaded-at 0 n k 0 A B)) (channels t)
-    loaded-view = channels-with c (some (loaded-at 0 n k 0 A B)) (channels t) (channels (with-rows t c k value-rows next-rows)) here there
+    pub loaded-view :
+        ((d : ℕ) → test-of t d ≡ true) →
+        channels (with-rows t c k value-rows next-rows) ≡ with-channel c (some (loaded-at 0 n k 0 A B)) (channels t)
+    loaded-view in-order =
+        channels-with c (some (loaded-at 0 n k 0 A B)) (channels t) (channels (with-rows t c k value-rows next-rows)) here
+        (λ d e.
+        there d e
+        (λ x p. in-order-of-test n (t .setup .kind) x (subst (λ o. channel-test n (t .setup .kind) o ≡ true) p (in-order d)) .few-states))
