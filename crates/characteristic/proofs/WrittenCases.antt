@@ -114,7 +114,7 @@ case-11 =
       nodes = λ old room. answer-fits (four-values 2) 2 0 case-11-rows old two-events rows-passed 19 rule-size (lit≤ tt) room;
       same-table =
           let claim =
-          table (Below 4) (setup-meet (four-values 2)) 3 2 four-value-semilattice case-rule rule-well-formed 19
+          table (Below 4) (setup-meet (four-values 2)) 3 2 case-rule rule-well-formed 19
           state-limit (subst (λ n. n ≤ 19) (sym rule-size) (lit≤ tt)) .1 (subst (λ n. n ≤ state-limit) (sym rule-states) (lit≤ tt)) in
           let (m, first, is-machine, is-table) = claim in
           (m, first, is-machine, table-as (subst (λ n. IsTable 2 m first n case-table) rule-states is-table) rows-agree);

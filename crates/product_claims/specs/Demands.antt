@@ -53,15 +53,15 @@ pub record DemandOne : Type 1 where
   pub calling : (t : Store) (call : Call ℕ) → JudgedCall (call-conditions t call) (reply-refusal (called call t .0)) t (called call t .1)
   pub replaying :
       (t : Store) (c : ℕ) (word old : List ℕ) →
-      JudgedCall (replay-conditions t c word old) (reply-refusal (replayed t c word old .0 .0)) (t, old)
+      JudgedCall {M = Store × List ℕ} (replay-conditions t c word old) (reply-refusal (replayed t c word old .0 .0)) (t, old)
       (replayed t c word old .0 .1, replayed t c word old .1)
   -- channel_io `read_file`, `compile_file` and `write_file`
   pub reading-a-file :
       (t meet rule meet′ rule′ : List ℕ) (r : FileRead) → Reads t meet rule meet′ rule′ r →
-      JudgedText t (λ c. read-conditions c meet rule) (refusal-read r) (meet, rule) (meet′, rule′)
+      JudgedText {M = List ℕ × List ℕ} t (λ c. read-conditions c meet rule) (refusal-read r) (meet, rule) (meet′, rule′)
   pub compiling-a-file :
       (t meet to meet′ to′ : List ℕ) (r : FileTable) → CompilesFile t meet to meet′ to′ r →
-      JudgedText t (λ c. file-conditions c meet to) (refusal-made r) (meet, to) (meet′, to′)
+      JudgedText {M = List ℕ × List ℕ} t (λ c. file-conditions c meet to) (refusal-made r) (meet, to) (meet′, to′)
   pub writing-a-file :
       (events values top : ℕ) (meet rule old new : List ℕ) (r : Counted) → WritesFile events values top meet rule old new r →
       JudgedCall (write-file-conditions (setup events values top meet) rule old) (counted-refusal r) old new

@@ -13,7 +13,7 @@ use Rattle.recorder.specs.{Store.{Store, AllCells, setup-of, channels}, ToolFau
 use Rattle.recorder.specs.CompiledRule.{rule-judged, states-of-rule, values-of-rule, nexts-of-rule, loaded-rule}
 use Rattle.recorder.specs.Called.{content, tool-refusal, effect-on, called}
 use Rattle.recorder.proofs.{Held.{channel-below, accepted-of-test, few-events}, Decided.{accepted-call}}
-use Rattle.recorder_claims.specs.ChannelLog.{history, LoadedAs}
+use Rattle.recorder_claims.specs.{ChannelLog.{history}, Claims.{LoadClaim}}
 use Rattle.recorder_claims.proofs.{View.{here, there}, LoadedRules.{rule-in-order, rule-table-is, length-values, length-nexts}}
 use Rattle.recorder_claims.proofs.{PrintedLog.{accepted-code}, Calls.{call-refused}}
 
@@ -75,15 +75,11 @@ module _ (t : Store) (cells : AllCells t) (c : ℕ) (rule : List ℕ) (went : ca
       (states-of-rule S rule) (values-of-rule S rule) (nexts-of-rule S rule) channel-fine (table-fine .some-states) (table-fine .few-states)
       (length-values S rule) (length-nexts S rule) d e small
 
--- All of it, on a tool whose other channels have at most 64 states each.
-pub loaded-as :
-    (t : Store) → AllCells t → (c : ℕ) (rule : List ℕ) → called (load c rule) t .0 ≡ accepted →
-    ((d : ℕ) → ¬ (d ≡ c) → (x : Loaded ℕ) → channels t d ≡ some x → x .states ≤ table-limit) →
-    LoadedAs (setup-of t) c rule (channels t) (channels (called (load c rule) t .1))
-loaded-as t cells c rule went small =
+pub load-claim : LoadClaim
+load-claim t cells c rule went =
     record {
       formula = formula-of (t .setup .kind) rule;
       code = load-code t cells c rule went;
       stands = load-stands t cells c rule went;
-      others = λ d e. load-others t cells c rule went d e (small d e);
+      others = load-others t cells c rule went;
     }

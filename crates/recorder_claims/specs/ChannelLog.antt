@@ -1,8 +1,8 @@
 -- Document 01's log ("Tool"), by its own sentences: "It is fed the set-up and the calls with their inputs, nothing of the tool's and no
 -- answers. For each channel it has nothing, or a rule and its events in order; at set-up all have nothing."
 use mathlib.Core.{Path.{_≡_}, List.{List, [], _∷_, _++_}, Option.{none, some}}
-use Prim.Native.Nat.{ℕ, _<_}
-use Rattle.limits.specs.Limits.{channel-limit}
+use Prim.Native.Nat.{ℕ, _≤_, _<_}
+use Rattle.limits.specs.Limits.{channel-limit, table-limit}
 use Rattle.theory.specs.{Formula.{Formula}, Semantics.{Answers}}
 use Rattle.refusal.specs.{declared.Refusal.{Refusal}, Refusal.{Condition, plain, First}}
 use Rattle.values.specs.Setup.{Setup, setup-meet, setup-top}
@@ -64,9 +64,10 @@ pub record AsLogged (s : Setup) (calls : List (Call ℕ)) (replied : List (Reply
   pub same-set-up : set-up-after ≡ s
   pub stands : (c : ℕ) → c < channel-limit → StandsAs (setup-meet s) (setup-top s) (s .events) (after c) (log c)
 
--- What is claimed of an accepted load on any tool: the channel stands as one with the rule and no events, and no other channel changes.
+-- What is claimed of an accepted load on any tool: the channel stands as one with the rule and no events, and no other channel changes that
+-- has at most as many states as a channel has room for.
 pub record LoadedAs (s : Setup) (c : ℕ) (rule : List ℕ) (before after : Channels (Loaded ℕ)) : Type 0 where
   pub formula : Formula ℕ
   pub code : rule ≡ encode-formula (node-bytes (s .kind)) formula
   pub stands : StandsAs (setup-meet s) (setup-top s) (s .events) (after c) (some (history formula []))
-  pub others : (d : ℕ) → ¬ (d ≡ c) → after d ≡ before d
+  pub others : (d : ℕ) → ¬ (d ≡ c) → ((x : Loaded ℕ) → before d ≡ some x → x .states ≤ table-limit) → after d ≡ before d
