@@ -1,85 +1,55 @@
-// A mixed list of calls on all eight channels of a tool, accepted and refused, against stored output.
-use libc::STDOUT_FILENO;
-use recorder::Reply;
+// A mixed list of calls on all eight channels of a tool, accepted and refused, against stored output; then every call on tools that no
+// list of calls makes.
+mod answers;
+mod calls;
+mod spoilt;
+
+use answers::say;
+use answers::say_number;
+use answers::say_reply;
 use recorder::Tool;
-use refusal::Refusal;
+use spoilt::spoilt_tools;
 
-fn print_number(n: usize) {
-    io::print_decimal(STDOUT_FILENO, n as u64);
-}
-
-fn print_refusal(r: Refusal) {
-    io::write_all(STDOUT_FILENO, b"refused=");
-    match r {
-        Refusal::Plain(n) => print_number(n as usize),
-        Refusal::At(n, p) => {
-            print_number(n as usize);
-            io::write_all(STDOUT_FILENO, b" ");
-            print_number(p);
-        }
-    }
-    io::write_all(STDOUT_FILENO, b"\n");
-}
-
-fn print_reply(r: Reply) {
-    match r {
-        Reply::Accepted => {
-            io::write_all(STDOUT_FILENO, b"accepted\n");
-        }
-        Reply::Value(v) => {
-            io::write_all(STDOUT_FILENO, b"value=");
-            print_number(v as usize);
-            io::write_all(STDOUT_FILENO, b"\n");
-        }
-        Reply::Refused(x) => print_refusal(x),
-    }
-}
-
-fn print_call(name: &[u8], channel: usize) {
-    io::write_all(STDOUT_FILENO, name);
-    io::write_all(STDOUT_FILENO, b" ");
-    print_number(channel);
-    io::write_all(STDOUT_FILENO, b": ");
+fn say_call(name: &[u8], channel: usize) {
+    say(name);
+    say(b" ");
+    say_number(channel);
+    say(b": ");
 }
 
 fn load(tool: Tool, channel: usize, rule: &[u8]) -> Tool {
-    print_call(b"load", channel);
-    let answer = recorder::load(tool, channel, rule);
-    let reply = answer.reply;
-    print_reply(reply);
-    answer.tool
+    say_call(b"load", channel);
+    let t = calls::load(tool, channel, rule);
+    say(b"\n");
+    t
 }
 
 fn event(tool: Tool, channel: usize, e: usize) -> Tool {
-    print_call(b"event", channel);
-    let answer = recorder::event(tool, channel, e);
-    let reply = answer.reply;
-    print_reply(reply);
-    answer.tool
+    say_call(b"event", channel);
+    let t = calls::event(tool, channel, e);
+    say(b"\n");
+    t
 }
 
 fn restart(tool: Tool, channel: usize) -> Tool {
-    print_call(b"restart", channel);
-    let answer = recorder::restart(tool, channel);
-    let reply = answer.reply;
-    print_reply(reply);
-    answer.tool
+    say_call(b"restart", channel);
+    let t = calls::restart(tool, channel);
+    say(b"\n");
+    t
 }
 
 fn clear(tool: Tool, channel: usize) -> Tool {
-    print_call(b"clear", channel);
-    let answer = recorder::clear(tool, channel);
-    let reply = answer.reply;
-    print_reply(reply);
-    answer.tool
+    say_call(b"clear", channel);
+    let t = calls::clear(tool, channel);
+    say(b"\n");
+    t
 }
 
 fn restart_all(tool: Tool) -> Tool {
-    io::write_all(STDOUT_FILENO, b"restart all: ");
-    let answer = recorder::restart_all(tool);
-    let reply = answer.reply;
-    print_reply(reply);
-    answer.tool
+    say(b"restart all: ");
+    let t = calls::restart_all(tool);
+    say(b"\n");
+    t
 }
 
 // Two events on a channel.
@@ -129,7 +99,8 @@ fn main() {
     let meet = values::four_values();
     let made = recorder::set_up(2, 4, 3, &meet);
     let reply = made.reply;
-    print_reply(reply);
+    say_reply(reply);
+    say(b"\n");
     let tool = made.tool;
     let t = round(tool, 1);
     let t = loads(t);
@@ -151,9 +122,11 @@ fn main() {
     let again = values::four_values();
     let spoilt = recorder::set_up(2, 4, 4, &again);
     let reply = spoilt.reply;
-    print_reply(reply);
+    say_reply(reply);
+    say(b"\n");
     let blank = spoilt.tool;
     let u = event(blank, 0, 0);
     restart_all(u);
     restart_all(t);
+    spoilt_tools();
 }

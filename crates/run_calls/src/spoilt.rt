@@ -1,0 +1,148 @@
+// Tools that no list of calls makes: what 17 is said of, and what it passes over.
+use crate::answers::say;
+use crate::answers::say_number;
+use crate::calls;
+use limits::ENTRY_LIMIT;
+use limits::MEET_LIMIT;
+use recorder::Tool;
+
+// Each call that names a channel; the rule loaded is T.
+fn calls_on(tool: Tool, channel: usize) -> Tool {
+    say(b"channel ");
+    say_number(channel);
+    say(b": event ");
+    let t = calls::event(tool, channel, 1);
+    say(b", event 9 ");
+    let t = calls::event(t, channel, 9);
+    say(b", replay ");
+    let t = calls::replay(t, channel);
+    say(b", restart ");
+    let t = calls::restart(t, channel);
+    say(b", load ");
+    let t = calls::load(t, channel, &[0, 0, 0]);
+    say(b", clear ");
+    let t = calls::clear(t, channel);
+    say(b"\n");
+    t
+}
+
+// The calls on a loaded channel, an empty one, another loaded one and a number above 7; then restart all.
+fn every_call(name: &[u8], tool: Tool) {
+    say(name);
+    say(b"\n");
+    let t = calls_on(tool, 2);
+    let t = calls_on(t, 3);
+    let t = calls_on(t, 7);
+    let t = calls_on(t, 10);
+    say(b"restart all: ");
+    calls::restart_all(t);
+    say(b"\n");
+}
+
+// Channels 2 and 7 loaded, with three states each.
+fn sound() -> Tool {
+    let meet = values::four_values();
+    let made = recorder::set_up(2, 4, 3, &meet);
+    let tool = made.tool;
+    // A O1.1 V G1 X0
+    let first = recorder::load(tool, 2, &[4, 0, 0, 3, 1, 1, 5, 0, 0, 2, 1, 0, 1, 0, 0]);
+    let tool = first.tool;
+    // V A G1 O1.1 G1 X0
+    let second = recorder::load(
+        tool,
+        7,
+        &[5, 0, 0, 4, 0, 0, 2, 1, 0, 3, 1, 1, 2, 1, 0, 1, 0, 0],
+    );
+    second.tool
+}
+
+// One channel is spoilt.
+fn spoilt_channels() {
+    let mut t = sound();
+    t.states[2] = 65;
+    every_call(b"states=65 in channel 2", t);
+    let mut t = sound();
+    t.current[2] = 3;
+    every_call(b"current=3 in channel 2", t);
+    let mut t = sound();
+    t.next[2 * ENTRY_LIMIT] = 3;
+    every_call(b"next=3 in channel 2", t);
+    let mut t = sound();
+    t.value[7 * ENTRY_LIMIT + 5] = 4;
+    every_call(b"value=4 in channel 7", t);
+}
+
+// The limits themselves, and what is no part of a table.
+fn sound_channels() {
+    let mut t = sound();
+    t.states[2] = 64;
+    every_call(b"states=64 in channel 2", t);
+    let mut t = sound();
+    t.current[2] = 2;
+    every_call(b"current=2 in channel 2", t);
+    let mut t = sound();
+    t.value[2 * ENTRY_LIMIT + 6] = 255;
+    t.next[2 * ENTRY_LIMIT + 6] = 255;
+    every_call(b"255 behind the table of channel 2", t);
+    let mut t = sound();
+    t.current[3] = 255;
+    t.value[3 * ENTRY_LIMIT] = 255;
+    t.next[3 * ENTRY_LIMIT] = 255;
+    every_call(b"255 in channel 3, which is empty", t);
+}
+
+// The set-up is spoilt.
+fn spoilt_setups() {
+    let mut t = sound();
+    t.setup.events = 0;
+    every_call(b"events=0", t);
+    let mut t = sound();
+    t.setup.events = 17;
+    every_call(b"events=17", t);
+    let mut t = sound();
+    t.setup.values = 0;
+    every_call(b"values=0", t);
+    let mut t = sound();
+    t.setup.values = 17;
+    every_call(b"values=17", t);
+    let mut t = sound();
+    t.setup.top = 4;
+    every_call(b"top=4", t);
+}
+
+// A tool whose meet has two entries set.
+fn with_entries(tool: Tool, i: usize, first: u8, j: usize, second: u8) -> Tool {
+    let mut t = tool;
+    let mut setup = t.setup;
+    setup.meet[i % MEET_LIMIT] = first;
+    setup.meet[j % MEET_LIMIT] = second;
+    t.setup = setup;
+    t
+}
+
+// An entry of the meet is no value, or a law is broken.
+fn spoilt_meets() {
+    every_call(b"1 and 1 give 4", with_entries(sound(), 5, 4, 5, 4));
+    every_call(
+        b"not idempotent: 1 and 1 give 0",
+        with_entries(sound(), 5, 0, 5, 0),
+    );
+    every_call(
+        b"not commutative: 0 and 1 give 1",
+        with_entries(sound(), 1, 1, 1, 1),
+    );
+    every_call(
+        b"not associative: 0 and 1 give 2",
+        with_entries(sound(), 1, 2, 4, 2),
+    );
+    let mut t = sound();
+    t.setup.top = 0;
+    every_call(b"top=0, which is not neutral", t);
+}
+
+pub fn spoilt_tools() {
+    spoilt_channels();
+    sound_channels();
+    spoilt_setups();
+    spoilt_meets();
+}
