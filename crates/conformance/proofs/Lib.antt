@@ -14,5 +14,3 @@ pub mod Starts
 pub mod Trials
 -- The claims on a trial.
 pub mod TrialClaims
--- The marked case of a trial.
-pub mod Cases

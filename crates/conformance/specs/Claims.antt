@@ -1,17 +1,14 @@
 -- What is claimed of a trial (document 01, "Trial"), for every limit on the device's and the table's states; proofs/TrialClaims has a
 -- proof of each.
-use mathlib.Core.{Path.{_≡_}, Logic.{_↔_}, List.{List, [], _∷_}, Option.{none, some}}
+use mathlib.Core.{Path.{_≡_}, Logic.{_↔_}, List.{List}, Option.{none, some}}
 use Prim.Native.Nat.{ℕ, _*_, _≤_, _<_}
-use lib.ListN.{length, take, drop}
-use Rattle.theory.specs.{Semilattice.{AtOrBelow}, ValueSets.{four-value-meet}, Formula.{Formula, output, conjunction}, FormulaClasses.{WellFormed}}
-use Rattle.theory.specs.{TableSatisfaction.{TableSatisfies}, ReachableStates.{IsTableOf}, Exploration.{state-count, table-of}}
+use lib.ListN.{take, drop}
+use Rattle.theory.specs.{Semilattice.{AtOrBelow}, Formula.{Formula}, FormulaClasses.{WellFormed}}
+use Rattle.theory.specs.{TableSatisfaction.{TableSatisfies}, ReachableStates.{IsTableOf}}
 use Rattle.refusal.specs.{declared.Refusal.{Refusal}, Refusal.{Judged}}
-use Rattle.values.specs.{declared.ValueKind.the-variants.{Numbered}, Setup.{SetupValue, setup-top, setup}, ValueKind.{meetOf}}
-use Rattle.machines.specs.TableBytes.{table-bytes, entry-bytes}
-use Rattle.conformance.specs.Trial.{TrialInput, input, meet, device-machine, table-machine, FirstFailure, trial-conditions, refusal-of, Passed}
-use Rattle.conformance.specs.Trial.{word-length}
+use Rattle.values.specs.Setup.{SetupValue, setup-top}
+use Rattle.conformance.specs.Trial.{TrialInput, meet, device-machine, table-machine, FirstFailure, trial-conditions, refusal-of, Passed, word-length}
 use Rattle.conformance.specs.TrialAnswer.{PassesDecided, trial-refusal, trial-answer, trial-buffer}
-use Rattle.limits.specs.Limits.{device-limit, table-limit, word-limit}
 
 -- A trial is judged as document 01 asks; its conditions stand in the order, 11 once for both tables.
 module _ (device-most table-most : ℕ) where
@@ -65,23 +62,3 @@ module _ (device-most table-most : ℕ) where
       ((s e b : ℕ) → s < x .device-states → e < x .set-up .events → SetupValue (x .set-up) b →
       AtOrBelow (meet x) (device-machine x .value s e) b) →
       Passed (trial-answer device-most table-most x old)
-
--- Case 12: four-value set, two events; one state with the same value on both events, against the table of `A O0.1 O0.2`.
-abbrev pub case-3-formula : Formula ℕ
-case-3-formula = conjunction (output 0 1) (output 0 2)
-
-abbrev pub case-3-bytes : List ℕ
-case-3-bytes = 0 ∷ 1 ∷ 3 ∷ 1 ∷ 3 ∷ 1 ∷ 3 ∷ 1 ∷ []
-
-abbrev pub case-12-input : ℕ → TrialInput
-case-12-input value = input (setup 2 4 3 four-value-meet) 2 case-3-bytes 1 0 (value ∷ 0 ∷ value ∷ 0 ∷ [])
-
-pub record Case12Claim : Type 0 where
-  -- The bytes are those of the formula's table.
-  pub states : state-count 3 (meetOf (Numbered 4) four-value-meet) 3 case-3-formula 2 table-limit ≡ 2
-  pub bytes : table-bytes (entry-bytes (Numbered 4)) 2 (table-of 3 (meetOf (Numbered 4) four-value-meet) 3 case-3-formula 2 table-limit) 2 ≡ case-3-bytes
-  -- Both values 3: fails, word 0.
-  pub fails : (old : List ℕ) → word-limit ≤ length old → word-length (trial-answer device-limit table-limit (case-12-input 3) old) ≡ some 1
-  pub word : (old : List ℕ) → word-limit ≤ length old → take 1 (trial-buffer device-limit table-limit (case-12-input 3) old) ≡ 0 ∷ []
-  -- Both values 0: passes.
-  pub passes : (old : List ℕ) → word-limit ≤ length old → Passed (trial-answer device-limit table-limit (case-12-input 0) old)

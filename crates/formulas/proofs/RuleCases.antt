@@ -15,6 +15,6 @@ unfolding CasesHold unpack masks-fit masks-value rule-refusal or-else plain-unle
     lowest-variable unbound-below closed-there
 rule-cases-hold =
     record {
-      numbered = (refl, (refl, (refl, (refl, (refl, (refl, (refl, (refl, (refl, (refl, (refl, (refl, (refl, (refl, tt))))))))))))));
+      numbered = (refl, (refl, (refl, (refl, (refl, (refl, tt))))));
       register = (refl, (refl, (refl, (refl, (refl, (refl, (refl, (refl, tt))))))));
     }

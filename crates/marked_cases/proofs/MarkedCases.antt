@@ -1,29 +1,38 @@
--- The marked cases, each by computing from the definitions.
-use mathlib.Core.Path.{_≡_, refl, _∙_, ap}
-use Prim.Native.Nat.{ℕ, zero, suc}
-use Rattle.theory.specs.{ValueSets.{meetAt, four-value-meet}, MealyMachine.{after}, DemandSets.{empty, only, union}}
+-- The marked cases: each is computed from the definitions, and lifted.
+use mathlib.Core.Path.{refl}
+use Rattle.theory.specs.{ValueSets.{meetAt, four-value-meet}, DemandSets.{empty, only, union}}
+use Rattle.theory.specs.ValueSetTests.{every, closed-test, idempotent-test, commutative-test, associative-test, neutral-test, lawful}
 use Rattle.refusal.specs.RefusalAnswers.{or-else, plain-unless, at-found}
-use Rattle.values.specs.ValueKind.{meetOf}
+use Rattle.values.specs.{ValueKind.{meetOf}, SetupTests.{events-test, values-test, entries-test, meet-test, kind-refusal, setup-refusal}}
 use Rattle.formulas.specs.RuleReading.{lowest-from, kind-of, fields-fit, awaited, end-fault, first-of, node-of, nodes-from, with-parts, formulas}
 use Rattle.formulas.specs.RuleReading.{first-formula, formula-read, lowest-variable, unbound-below, closed-there}
 use Rattle.formulas.specs.RuleRefusal.{count-fits, variables-refusal, structure-refusal, misfit-place, nodes-refusal, rule-refusal, formula-of}
-use Rattle.marked_cases.specs.MarkedCases.{Holds, AllHold, MarkedCasesClaim, ones, table, case-4, ForEverClaim}
+use Rattle.machines.specs.TableRefusal.{table-test, entry-test, table-refusal}
+use Rattle.synthesis.specs.{FormulaTable.{formula-states, formula-table}, Compilation.{rule-table-refusal}}
+use Rattle.text_format.specs.Texts.{numeral}
+use Rattle.table_rows.specs.TableText.{row-line, table-text}
+use Rattle.channel_io.specs.FileRefusals.{pair-table-refusal}
+use Rattle.table_report.specs.Report.{answer-text, outcome-text}
+use Rattle.marked_cases.specs.MarkedCases.{cases, MarkedCasesClaim}
+use Rattle.marked_cases.proofs.Lifting.{Checked, AllChecked, all-lifted}
 
--- All of them, one computation each.
-pub marked-cases : MarkedCasesClaim
-unfolding AllHold Holds rule-refusal formula-of or-else plain-unless at-found count-fits nodes-refusal misfit-place structure-refusal
+-- All of them, one computation each. The state of case 4 to which event 1 leads, and where it stays, is 2.
+all-checked : AllChecked cases
+unfolding AllChecked Checked rule-refusal formula-of or-else plain-unless at-found count-fits nodes-refusal misfit-place structure-refusal
     variables-refusal lowest-from kind-of fields-fit awaited end-fault first-of node-of nodes-from with-parts formulas first-formula formula-read
-    lowest-variable unbound-below closed-there meetOf meetAt four-value-meet empty only union
-marked-cases = (
-  (refl, refl, refl),
+    lowest-variable unbound-below closed-there meetOf meetAt four-value-meet empty only union table-refusal table-test entry-test every
+    closed-test idempotent-test commutative-test associative-test neutral-test lawful events-test values-test entries-test meet-test kind-refusal
+    setup-refusal formula-states formula-table rule-table-refusal pair-table-refusal numeral row-line table-text answer-text outcome-text
+all-checked = (
+  (refl, refl, refl, refl),
   (
-    (refl, refl, refl),
+    refl,
     (
-      (refl, refl, refl),
+      (refl, refl, refl, refl),
       (
-        (refl, refl, refl),
+        (refl, refl, refl, refl),
         (
-          refl,
+          (refl, refl, refl, refl, (2, refl, refl, refl)),
           (
             refl,
             (
@@ -33,12 +42,15 @@ marked-cases = (
                 (
                   refl,
                   (
-                    (refl, refl, refl),
+                    refl,
                     (
-                      (refl, refl, refl),
+                      (refl, refl, refl, refl),
                       (
-                        refl,
-                        (refl, tt),
+                        (refl, refl, refl, refl, refl, refl),
+                        (
+                          (refl, refl, refl, refl),
+                          (refl, tt),
+                        ),
                       ),
                     ),
                   ),
@@ -52,29 +64,5 @@ marked-cases = (
   ),
 )
 
--- From state 2 of case 4's table event 1 leads to state 2.
-loop : table case-4 .next 2 1 ≡ 2
-unfolding formula-of lowest-from kind-of node-of nodes-from with-parts formulas first-formula formula-read meetOf meetAt four-value-meet empty only union
-loop = refl
-
-stays : (k : ℕ) → after (table case-4) 2 (ones k) ≡ 2
-stays zero = refl
-stays (suc k) = ap (λ s. after (table case-4) s (ones k)) loop ∙ stays k
-
-first : table case-4 .next 0 1 ≡ 2
-unfolding formula-of lowest-from kind-of node-of nodes-from with-parts formulas first-formula formula-read meetOf meetAt four-value-meet empty only union
-first = refl
-
-opening : table case-4 .value 0 1 ≡ 3
-unfolding formula-of lowest-from kind-of node-of nodes-from with-parts formulas first-formula formula-read meetOf meetAt four-value-meet empty only union
-opening = refl
-
-later : table case-4 .value 2 1 ≡ 1
-unfolding formula-of lowest-from kind-of node-of nodes-from with-parts formulas first-formula formula-read meetOf meetAt four-value-meet empty only union
-later = refl
-
-pub for-ever : ForEverClaim
-for-ever = (
-  opening,
-  λ k. ap (λ s. table case-4 .value (after (table case-4) s (ones k)) 1) first ∙ ap (λ s. table case-4 .value s 1) (stays k) ∙ later,
-)
+pub marked-cases : MarkedCasesClaim
+marked-cases = all-lifted cases all-checked

@@ -1,0 +1,243 @@
+-- What is computed of a case, and the lemma that lifts it to document 01's definitions, a clause for each kind of case.
+use mathlib.Core.{Path.{_≡_, refl, sym, _∙_, ap, subst}, Logic.{_↔_, Iff·trans}, Bool.{Bool, true, false, false≢true}, Option.{none, some}}
+use mathlib.Core.List.{List, [], _∷_, _++_}
+use Prim.Native.Nat.{ℕ, zero, suc, _≤_, _<_}
+use native.Mathlib.Omega.{arith}
+use borrow.Author.Tests.{leb-true, ltb-true}
+use lib.Dec.{T, leb, ltb}
+use Rattle.limits.specs.Limits.{node-limit, state-limit, device-limit}
+use Rattle.theory.specs.{Semilattice.{AtOrBelow}, ValueSetTests.{every}, Formula.{Formula, size}, FormulaClasses.{WellFormed}, Semantics.{Answers}}
+use Rattle.theory.specs.{PrefixCode.{Node, nodes}, MealyMachine.{Machine, Word, after, States}, MachineRuns.{Runs}, Exploration.{state-count, table-of}}
+use Rattle.theory.specs.{FormulaWriting.{written as rule-written}, Conformance.{Counterexample, FirstCounterexample}, ConformanceCheck.{counterexample}}
+use Rattle.theory.proofs.Claims.{grammar, answers, table, table-values, characteristic, conformance}
+use Rattle.theory.proofs.{ValueSets.{every-at}, WordOrder.{word-left, word-right}}
+use Rattle.refusal.specs.Refusal.{First}
+use Rattle.values.specs.{Setup.{setup-meet, setup-top, SetupValue, Laws}, ValueTests.{at-or-below}}
+use Rattle.values.proofs.{Setups.{laws-hold, four-value-setup}, ValueKinds.{value-kinds}}
+use Rattle.formulas.specs.{NodeBytes.{encode-all, node-width, node-bytes}, RuleConditions.{byte-conditions}, RuleRefusal.{rule-refusal, formula-of}}
+use Rattle.formulas.specs.Claims.{AcceptedFormula}
+use Rattle.formulas.proofs.{Encoding.{encode-unique}, NodeCodes.{node-code}, RuleClaims.{rule-judged, accepted-formula-of, formula-of-only}}
+use Rattle.machines.specs.{TableBytes.{machine-of}, TableRefusal.{table-refusal}}
+use Rattle.machines.proofs.TableRefusals.{accepted-table}
+use Rattle.table_report.specs.{PrintedTable.{Prints}, Report.{report-text}}
+use Rattle.table_report.proofs.ReportClaims.{report-claim}
+use Rattle.marked_cases.specs.MarkedCases.{Case, tabled, printed, repeated, refused, written, failing, passing, times, s, IsRule, TableOf, rows-of}
+use Rattle.marked_cases.specs.MarkedCases.{device, Holds, AllHold}
+
+-- ---- what is computed: a rule's bytes, its formula, and a formula's count of states and table
+abbrev bytes : List (Node ℕ) → List ℕ
+bytes rule = encode-all (node-bytes (s .kind)) rule
+
+abbrev formula : List (Node ℕ) → Formula ℕ
+formula rule = formula-of (s .kind) (bytes rule)
+
+abbrev states : Formula ℕ → ℕ
+states φ = state-count node-limit (setup-meet s) (setup-top s) φ (s .events) state-limit
+
+abbrev made : Formula ℕ → Machine ℕ ℕ
+made φ = table-of node-limit (setup-meet s) (setup-top s) φ (s .events) state-limit
+
+abbrev below : ℕ → ℕ → Bool
+below = at-or-below (s .kind) (s .meet)
+
+-- Of a case; of an event repeated, that it leads from state 0 to a state l, and from there nowhere else.
+unfoldable pub Checked : Case → Type 0
+Checked (tabled rule n rows) =
+    (rule-refusal (s .events) (s .kind) (bytes rule) ≡ none)
+    × (states (formula rule) ≡ n) × (leb n state-limit ≡ true) × (rows-of (made (formula rule)) n ≡ rows)
+Checked (printed text output) = report-text text ≡ output
+Checked (repeated rule e first later) =
+    (rule-refusal (s .events) (s .kind) (bytes rule) ≡ none)
+    × (leb (states (formula rule)) state-limit ≡ true) × (ltb e (s .events) ≡ true)
+    × (made (formula rule) .value 0 e ≡ first)
+    × ((l : ℕ) × (made (formula rule) .next 0 e ≡ l) × (made (formula rule) .next l e ≡ l) × (made (formula rule) .value l e ≡ later))
+Checked (refused rule refusal) = rule-refusal (s .events) (s .kind) (bytes rule) ≡ some refusal
+Checked (written n rows count) =
+    let φ = rule-written (machine-of (s .kind) (s .events) rows) n 1 0 in
+    (table-refusal state-limit (s .events) (s .kind) n 0 rows ≡ none)
+    × (size φ ≡ count) × (leb count node-limit ≡ true)
+    × (states φ ≡ n) × (leb n state-limit ≡ true) × (rows-of (made φ) n ≡ rows)
+Checked (failing v rule word) =
+    (rule-refusal (s .events) (s .kind) (bytes rule) ≡ none)
+    × (leb (states (formula rule)) state-limit ≡ true)
+    × (table-refusal device-limit (s .events) (s .kind) 1 0 (v ∷ 0 ∷ v ∷ 0 ∷ []) ≡ none)
+    × (counterexample below (device v) (made (formula rule)) (s .events) 1 (states (formula rule)) 0 0 ≡ some word)
+Checked (passing v) = every 4 (λ b. below v b) ≡ true
+
+-- ---- the set-up
+laws : Laws s
+laws = laws-hold s (four-value-setup 2 (omega arith) (omega arith))
+
+true-iff : (b : Bool) → T b ↔ (b ≡ true)
+true-iff true = ((λ h. refl), λ e. tt)
+true-iff false = ((λ h. absurd h), λ e. absurd (false≢true e))
+
+decides : (b c : ℕ) → T (below b c) ↔ AtOrBelow (setup-meet s) b c
+decides b c = Iff·trans (true-iff (below b c)) (value-kinds .order (s .kind) (s .meet) b c)
+
+-- ---- rules
+abbrev Well : Formula ℕ → Type 0
+Well φ = WellFormed (s .events) (SetupValue s) φ
+
+module _ (rule : List (Node ℕ)) where
+  first-of : First (byte-conditions (s .events) (s .kind) (bytes rule)) (rule-refusal (s .events) (s .kind) (bytes rule))
+  first-of = rule-judged (s .events) (s .kind) (bytes rule) .first
+
+  module _ (ok : rule-refusal (s .events) (s .kind) (bytes rule) ≡ none) where
+    code : AcceptedFormula (s .events) (s .kind) (bytes rule) (formula rule)
+    code = accepted-formula-of (s .events) (s .kind) (bytes rule) ok
+
+    is-rule : IsRule rule (formula rule)
+    is-rule =
+        record {
+          of-nodes =
+              sym (encode-unique (node-width (s .kind)) (node-bytes (s .kind)) (node-code (s .kind)) rule (nodes (formula rule)) (code .written));
+          accepted = subst (First (byte-conditions (s .events) (s .kind) (bytes rule))) ok first-of;
+        }
+
+    well : Well (formula rule)
+    well = grammar ℕ node-limit (s .events) (SetupValue s) (formula rule) (code .accepted)
+
+-- Every accepted rule is well-formed.
+rule-well : (rule : List (Node ℕ)) (φ : Formula ℕ) → IsRule rule φ → Well φ
+rule-well rule φ r =
+    subst Well (sym (formula-of-only (s .kind) (bytes rule) φ (ap bytes (sym (r .of-nodes)))))
+    (well rule (sym (rule-judged (s .events) (s .kind) (bytes rule) .only none (r .accepted))))
+
+-- ---- tables
+module _ (φ : Formula ℕ) (good : Well φ) where
+  module _ (small : size φ ≤ node-limit) where
+    made-is : leb (states φ) state-limit ≡ true → TableOf φ (states φ) (made φ)
+    made-is few =
+        table (SetupValue s) (setup-meet s) (setup-top s) (s .events) laws φ good node-limit state-limit small .1
+        (leb-true (states φ) state-limit few)
+
+    table-of-states : (n : ℕ) → states φ ≡ n → leb n state-limit ≡ true → TableOf φ n (made φ)
+    table-of-states n e few = subst (λ k. TableOf φ k (made φ)) e (made-is (ap (λ k. leb k state-limit) e ∙ few))
+
+  -- What any table of the formula has: a state, values of the set, and the formula's values.
+  table-has :
+      (n : ℕ) (t : Machine ℕ ℕ) → TableOf φ n t →
+      (0 < n) × Runs (s .events) (SetupValue s) (States n) t
+      × ((w : List ℕ) → Word (s .events) w → (e : ℕ) → e < s .events → Answers (setup-meet s) (setup-top s) φ w e (t .value (after t 0 w) e))
+  table-has n t x = table-values (SetupValue s) (setup-meet s) (setup-top s) (s .events) laws φ good n t x
+
+-- ---- an event repeated
+module _ (t : Machine ℕ ℕ) (e l : ℕ) (leads : t .next 0 e ≡ l) (loop : t .next l e ≡ l) where
+  stays : (k : ℕ) → after t l (times k e) ≡ l
+  stays zero = refl
+  stays (suc k) = ap (λ x. after t x (times k e)) loop ∙ stays k
+
+  repeats : (k : ℕ) → after t 0 (times (suc k) e) ≡ l
+  repeats k = ap (λ x. after t x (times k e)) leads ∙ stays k
+
+times-word : (e : ℕ) → e < s .events → (k : ℕ) → Word (s .events) (times k e)
+times-word e h zero = tt
+times-word e h (suc k) = (h, times-word e h k)
+
+-- ---- failing words: the same against tables with the same values
+abbrev SameValues : Machine ℕ ℕ → Machine ℕ ℕ → Type 0
+SameValues t u = (w : List ℕ) → Word (s .events) w → (e : ℕ) → e < s .events → t .value (after t 0 w) e ≡ u .value (after u 0 w) e
+
+module _ (m : Machine ℕ ℕ) where
+  fails-as :
+      (t u : Machine ℕ ℕ) → SameValues t u → (word : List ℕ) → Counterexample (s .events) (setup-meet s) m t 0 0 word →
+      Counterexample (s .events) (setup-meet s) m u 0 0 word
+  fails-as t u same word c =
+      let v : Word (s .events) (c .before ++ (c .last ∷ [])) = subst (Word (s .events)) (c .ends) (c .events-of) in
+      let e = same (c .before) (word-left (s .events) (c .before) (c .last ∷ []) v) (c .last) (word-right (s .events) (c .before) (c .last ∷ []) v .0) in
+      record {
+        events-of = c .events-of;
+        before = c .before;
+        last = c .last;
+        ends = c .ends;
+        not-below = λ b. c .not-below (subst (AtOrBelow (setup-meet s) (m .value (after m 0 (c .before)) (c .last))) (sym e) b);
+      }
+
+  first-as :
+      (t u : Machine ℕ ℕ) → SameValues t u → (word : List ℕ) → FirstCounterexample (s .events) (setup-meet s) m t 0 0 word →
+      FirstCounterexample (s .events) (setup-meet s) m u 0 0 word
+  first-as t u same word c =
+      record {
+        fails = fails-as t u same word (c .fails);
+        first = λ other x. c .first other (fails-as u t (λ w v e h. sym (same w v e h)) other x);
+      }
+
+-- So have all tables of one formula.
+same-values : (φ : Formula ℕ) → Well φ → (n k : ℕ) (t u : Machine ℕ ℕ) → TableOf φ n t → TableOf φ k u → SameValues t u
+same-values φ good n k t u x y w v e h =
+    let only = answers (SetupValue s) (setup-meet s) (setup-top s) (s .events) φ good w e in
+    only (t .value (after t 0 w) e) .0 (table-has φ good n t x .2 w v e h)
+    ∙ sym (only (u .value (after u 0 w) e) .0 (table-has φ good k u y .2 w v e h))
+
+-- ---- a device of one state
+device-value : (v l e : ℕ) → l < 1 → e < s .events → device v .value l e ≡ v
+device-value v zero zero hl he = refl
+device-value v zero (suc zero) hl he = refl
+device-value v zero (suc (suc e)) hl he = absurd (omega arith)
+device-value v (suc l) e hl he = absurd (omega arith)
+
+-- ---- the lemma
+lifted : (c : Case) → Checked c → Holds c
+unfolding Checked Holds
+lifted (tabled rule n rows) (ok, states-are, few, same) =
+    let φ = formula rule in
+    record { lower = (φ, is-rule rule ok, (made φ, table-of-states φ (well rule ok) (code rule ok .accepted .within) n states-are few, same)) }
+lifted (printed text output) e = record { lower = subst (Prints text) e (report-claim text) }
+lifted (repeated rule e first later) (ok, few, event, now, (l, leads, loop, then)) =
+    let φ = formula rule in
+    let says = table-has φ (well rule ok) (states φ) (made φ) (made-is φ (well rule ok) (code rule ok .accepted .within) few) .2 in
+    let h = ltb-true e (s .events) event in
+    record {
+      lower = (
+        φ,
+        is-rule rule ok,
+        subst (Answers (setup-meet s) (setup-top s) φ [] e) now (says [] tt e h),
+        λ k. subst (Answers (setup-meet s) (setup-top s) φ (times (suc k) e) e)
+            (ap (λ x. made φ .value x e) (repeats (made φ) e l leads loop k) ∙ then) (says (times (suc k) e) (times-word e h (suc k)) e h),
+      );
+    }
+lifted (refused rule refusal) e = record { lower = subst (First (byte-conditions (s .events) (s .kind) (bytes rule))) e (first-of rule) }
+lifted (written n rows count) (in-order, nodes-are, small, states-are, few, same) =
+    let m = machine-of (s .kind) (s .events) rows in
+    let φ = rule-written m n 1 0 in
+    let accepted = accepted-table state-limit (s .events) (s .kind) n 0 rows in-order in
+    let w = characteristic (SetupValue s) (setup-meet s) (setup-top s) (s .events) laws n 1 m refl (accepted .runs) 0 (accepted .start-in) in
+    let within : size φ ≤ node-limit = subst (λ k. k ≤ node-limit) (sym nodes-are) (leb-true count node-limit small) in
+    let good : Well φ = grammar ℕ node-limit (s .events) (SetupValue s) φ (record { within = within; closed = w .2; position = w .3; fits = w .4 }) in
+    record { lower = (φ, w .0, nodes-are, (made φ, table-of-states φ good within n states-are few, same)) }
+lifted (failing v rule word) (ok, few, in-order, found) =
+    let φ = formula rule in
+    let x = made-is φ (well rule ok) (code rule ok .accepted .within) few in
+    let has = table-has φ (well rule ok) (states φ) (made φ) x in
+    let runs = accepted-table device-limit (s .events) (s .kind) 1 0 (v ∷ 0 ∷ v ∷ 0 ∷ []) in-order .runs in
+    let first =
+    conformance (SetupValue s) (setup-meet s) (setup-top s) (s .events) laws below decides 1 (device v) (states φ) (made φ) runs (has .1) 0 0
+    (omega arith) (has .0) .1 word found .0 in
+    record {
+      lower = (
+        φ,
+        is-rule rule ok,
+        λ n t y. first-as (device v) (made φ) t (same-values φ (well rule ok) (states φ) n (made φ) t x y) word first,
+      );
+    }
+lifted (passing v) low = λ rule φ r n t x.
+    let runs = table-has φ (rule-well rule φ r) n t x .1 in (
+      (λ l k. Unit {0}),
+      (λ l k hl hk u e he. (
+        subst (λ b. AtOrBelow (setup-meet s) b (t .value k e)) (sym (device-value v l e hl he))
+            (value-kinds .order (s .kind) (s .meet) v (t .value k e) .0 (every-at 4 (λ b. below v b) low (t .value k e) (runs .value-in k hk e he))),
+        tt,
+      )),
+      tt,
+    )
+
+-- ---- a list of cases
+unfoldable pub AllChecked : List Case → Type 0
+AllChecked [] = Unit {0}
+AllChecked (c ∷ cs) = Checked c × AllChecked cs
+
+pub all-lifted : (cs : List Case) → AllChecked cs → AllHold cs
+unfolding AllChecked AllHold
+all-lifted [] h = tt
+all-lifted (c ∷ cs) h = (lifted c (h .0), all-lifted cs (h .1))
