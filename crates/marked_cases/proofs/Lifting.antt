@@ -109,7 +109,7 @@ module _ (φ : Formula ℕ) (good : Well φ) where
   module _ (small : size φ ≤ node-limit) where
     made-is : leb (states φ) state-limit ≡ true → TableOf φ (states φ) (made φ)
     made-is few =
-        table (SetupValue s) (setup-meet s) (setup-top s) (s .events) laws φ good node-limit state-limit small .1
+        table (SetupValue s) (setup-meet s) (setup-top s) (s .events) φ good node-limit state-limit small .1
         (leb-true (states φ) state-limit few)
 
     table-of-states : (n : ℕ) → states φ ≡ n → leb n state-limit ≡ true → TableOf φ n (made φ)
@@ -212,7 +212,7 @@ lifted (failing v rule word) (ok, few, in-order, found) =
     let has = table-has φ (well rule ok) (states φ) (made φ) x in
     let runs = accepted-table device-limit (s .events) (s .kind) 1 0 (v ∷ 0 ∷ v ∷ 0 ∷ []) in-order .runs in
     let first =
-    conformance (SetupValue s) (setup-meet s) (setup-top s) (s .events) laws below decides 1 (device v) (states φ) (made φ) runs (has .1) 0 0
+    conformance (SetupValue s) (setup-meet s) (setup-top s) (s .events) below decides 1 (device v) (states φ) (made φ) runs (has .1) 0 0
     (omega arith) (has .0) .1 word found .0 in
     record {
       lower = (
