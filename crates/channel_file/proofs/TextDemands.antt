@@ -1,6 +1,6 @@
 -- What a text of any length shows, and its tokens: by document 01's definitions alone.
 use Prim.Native.Nat.{ℕ}
-use mathlib.Core.{Path.{_≡_, refl, sym, ap, _∙_, subst}, Logic.{_⊎_, inl, inr}, List.{List, [], _++_, map, append-assoc}}
+use mathlib.Core.{Path.{_≡_, refl, sym, ap, _∙_, subst}, Logic.{_⊎_, inl, inr}, List.{List, _++_, map, append-assoc}}
 use Rattle.text_format.specs.{Format.{Outcome, contents, refused, read}, Texts.{ascii, separated}, Claims.{AnswersText}}
 use Rattle.text_format.proofs.Place.{place-claim, answers, one-contents as one-contents-of}
 use Rattle.channel_file.specs.ChannelFile.{Contents, token-text, text, Shows, Form, TokensOf, of-contents, of-refused}
