@@ -1,4 +1,4 @@
--- The format's laws, then what the functions' proofs share, then the claims.
+-- The format's laws, then what the functions' proofs share, then the claims; and last what document 01 alone says of a text.
 pub mod FileFormat
 pub mod Offsets
 pub mod TokenReading
@@ -9,3 +9,4 @@ pub mod Storing
 pub mod Claims
 pub mod Accepted
 pub mod Readers
+pub mod TextDemands

@@ -76,6 +76,7 @@ pub record MadeOf (t meet to meet′ to′ : List ℕ) (n : FileNumbers) (k : �
   pub passed : contents-table-refusal inside ≡ none
   pub numbers-are : n ≡ file-numbers inside
   pub states-are : k ≡ file-states inside
+  pub entries-put : meet′ ≡ put (inside .meet) meet
   pub table-put : to′ ≡ put (file-table inside) to
   pub entries-in : n .entries ≤ length meet′
   pub entries-taken : take (n .entries) meet′ ≡ inside .meet
@@ -87,7 +88,7 @@ front-in : (output old new : List ℕ) (n : ℕ) → n ≡ length output → new
 unfolding put
 front-in output old new n e h = omega (arith, ap length h, length-append output (drop (length output) old))
 
-front-taken : (output old new : List ℕ) (n : ℕ) → n ≡ length output → new ≡ put output old → take n new ≡ output
+pub front-taken : (output old new : List ℕ) (n : ℕ) → n ≡ length output → new ≡ put output old → take n new ≡ output
 unfolding put
 front-taken output old new n e h = ap (take n) h ∙ take-at output (drop (length output) old) n (sym e)
 
@@ -125,6 +126,7 @@ module _ {t meet to meet′ to′ : List ℕ} {x : FileTable} (k : CompilesFile 
             passed = or-else-none (contents-table-refusal c) _ (a .0) .0;
             numbers-are = a .1;
             states-are = a .2;
+            entries-put = m;
             table-put = b;
             entries-in = front-in (c .meet) meet meet′ (n .entries) en m;
             entries-taken = front-taken (c .meet) meet meet′ (n .entries) en m;

@@ -1,6 +1,6 @@
 -- The answers to reading and writing a file and to making its table are those that document 01 asks for, and the only ones.
 use Prim.Native.Nat.{ℕ, _<_}
-use mathlib.Core.{Path.{_≡_, refl, subst}, Logic.{inl, inr, ⊎-elim}, List.{List, [], _∷_, _++_}, Bool.{true, false}, Option.{Option, none}}
+use mathlib.Core.{Path.{_≡_, refl, subst}, Logic.{inl, inr, ⊎-elim}, List.{List, [], _∷_, _++_}, Bool.{true, false}, Option.{Option, none, some}}
 use native.Mathlib.{Omega.{arith}, Nat.{mul-le-mul}}
 use lib.{Dec.{leb}, ListN.{length}}
 use borrow.Author.Tests.{leb-true, leb-false}
@@ -8,7 +8,7 @@ use Rattle.limits.specs.Limits.{node-limit, state-limit, table-limit}
 use Rattle.theory.proofs.{Claims.{grammar, table-values}, ValueSets.{and-left, and-right, and-cases}}
 use Rattle.refusal.specs.declared.Refusal.{Refusal}
 use Rattle.refusal.specs.declared.Refusal.the-variants.{Plain, At}
-use Rattle.refusal.specs.Refusal.{Condition, plain, at-lowest, First, has-place, part-of, order, condition-numbers, right-places, Judged}
+use Rattle.refusal.specs.Refusal.{Condition, plain, at-lowest, Gives, First, has-place, part-of, order, condition-numbers, right-places, Judged}
 use Rattle.refusal.specs.RefusalAnswers.{or-else}
 use Rattle.refusal.specs.RefusalAnswers.{plain-unless}
 use Rattle.refusal.specs.RefusalClaims.{NoneMet}
@@ -42,7 +42,7 @@ use Rattle.channel_io.proofs.TablePairs.{rows-length, compile-passed, f
 
 -- ---- 1 to 3, then 5 to 9, and 10
 module _ (s : Setup) (rule : List ℕ) where
-  pair-first : First (pair-conditions s rule) (pair-refusal s rule)
+  pub pair-first : First (pair-conditions s rule) (pair-refusal s rule)
   unfolding pair-refusal
   pair-first = first-append (setup-conditions s) (byte-conditions (s .events) (s .kind) rule) _ _ (setup-first s)
       (rule-judged (s .events) (s .kind) rule .first)
@@ -61,20 +61,17 @@ module _ (s : Setup) (rule : List ℕ) where
           ≡ rule-table-refusal (s .kind) (s .events) (setup-top s) (s .meet) rule state-limit = rw (accepted-events s ok) in
           subst (First _) e (first-rest _ _ _ (λ r g. g .0 (w .some-events, w .few-events)) f)
 
--- ---- 4, then what a text's contents meet
-module _ (conditions : Contents → List Condition) (refusal : Contents → Option Refusal) (first : (c : Contents) → First (conditions c) (refusal c))
-    (t : List ℕ) where
-  text-first : (x : Outcome Contents) → AnswersFile t x → First (at-lowest 4 (Refused4 t) ∷ shown-conditions conditions x) (text-refusal refusal x)
-  unfolding text-refusal First
-  text-first (contents c) a =
-      inr (
-        (λ r g.
-            let e = one-answer-claim t (contents c) (refused (g .0)) a (g .1 .holds) in
-            let z : _≡_ {A = ℕ} 0 1 = cc in
-            absurd (omega arith)),
-        first c,
-      )
-  text-first (refused p) a =
+-- ---- 4: a text that is read does not meet it, and any other meets it at one place
+module _ (t : List ℕ) where
+  pub not-off-form : (c : Contents) → AnswersFile t (contents c) → (r : Refusal) → ¬ Gives (at-lowest 4 (Refused4 t)) r
+  not-off-form c a r g =
+      let e = one-answer-claim t (contents c) (refused (g .0)) a (g .1 .holds) in
+      let z : _≡_ {A = ℕ} 0 1 = cc in
+      absurd (omega arith)
+
+  pub off-form-first : (p : ℕ) → Refused4 t p → (cs : List Condition) → First (at-lowest 4 (Refused4 t) ∷ cs) (some (At 4 p))
+  unfolding First
+  off-form-first p a cs =
       inl (
         At 4 p,
         (
@@ -85,6 +82,14 @@ module _ (conditions : Contents → List Condition) (refusal : Contents → Opti
         ),
         refl,
       )
+
+-- ---- 4, then what a text's contents meet
+module _ (conditions : Contents → List Condition) (refusal : Contents → Option Refusal) (first : (c : Contents) → First (conditions c) (refusal c))
+    (t : List ℕ) where
+  text-first : (x : Outcome Contents) → AnswersFile t x → First (at-lowest 4 (Refused4 t) ∷ shown-conditions conditions x) (text-refusal refusal x)
+  unfolding text-refusal First
+  text-first (contents c) a = inr (not-off-form t c a, first c)
+  text-first (refused p) a = off-form-first t p a []
 
   pub text-judged :
       ((c : Contents) → part-of (4 ∷ condition-numbers (conditions c)) order ≡ true) → ((c : Contents) → right-places (conditions c) ≡ true)
@@ -117,7 +122,7 @@ module _ (c : Contents) (meet rule : List ℕ) where
   read-room e (short-rule h) =
       let l = leb-true (length (rule-numbers c)) (length rule) (and-right (leb (length (c .meet)) (length meet)) _ e) in omega arith
 
-  read-first : First (read-conditions c meet rule) (contents-read-refusal c meet rule)
+  pub read-first : First (read-conditions c meet rule) (contents-read-refusal c meet rule)
   unfolding stored-refusal
   read-first =
       first-append (pair-conditions (file-setup c) (rule-numbers c)) (plain 13 (ReadShort c meet rule) ∷ []) _ _ (pair-first (file-setup c) (rule-numbers c))
@@ -208,7 +213,7 @@ module _ (c : Contents) (meet to : List ℕ) where
         ))
         (and-cases (leb (length (c .meet)) (length meet)) (leb (length rows) (length to)) e)
 
-  file-first : First (file-conditions c meet to) (file-refusal c meet to)
+  pub file-first : First (file-conditions c meet to) (file-refusal c meet to)
   unfolding pair-compile-refusal
   file-first =
       first-then (contents-table-conditions c) (plain 13 (CompileShort c meet to) ∷ []) (contents-table-refusal c) _ (table-first s (rule-numbers c))

@@ -1,4 +1,5 @@
--- Numbers held in bytes, and which of them are judged; then what the functions' proofs share; then the claims.
+-- Numbers held in bytes, and which of them are judged; then what the functions' proofs share; then the claims; and last what document 01
+-- alone says of reading, writing and compiling.
 pub mod Clamping
 pub mod ShownBytes
 pub mod Pairs
@@ -7,3 +8,4 @@ pub mod Claims
 pub mod Callers
 pub mod WriteAnswers
 pub mod WriteClaims
+pub mod FileDemands

@@ -37,7 +37,7 @@ entries-length c = omega (arith, encoded-length entry 1 (λ a. refl) (c .meet))
 nodes-length : (c : Contents) → length (rule-bytes c) ≡ 3 * length (c .rule)
 nodes-length c = omega (arith, encoded-length node 3 (λ a. refl) (c .rule))
 
-numbers-length : (c : Contents) → length (rule-numbers c) ≡ 3 * length (c .rule)
+pub numbers-length : (c : Contents) → length (rule-numbers c) ≡ 3 * length (c .rule)
 numbers-length c = omega (arith, encoded-length node-numbers 3 (λ a. refl) (c .rule))
 
 -- ---- 1 to 3

@@ -45,7 +45,7 @@ again t c e a =
     ∙ again-claim .same-text t c e
 
 module _ (events values top : ℕ) (meet rule : List ℕ) (a : pair-refusal (setup events values top meet) rule ≡ none) where
-  written : file-text events values top meet rule ≡ text (textual events values top meet rule a .inside)
+  pub written : file-text events values top meet rule ≡ text (textual events values top meet rule a .inside)
   unfolding file-text
   written = ap text-or-empty (textual events values top meet rule a .is)
 

@@ -1,5 +1,6 @@
--- The line of a refusal, the table of a file, the answers, and the claims.
+-- The line of a refusal, the table of a file, the answers, and the claims; and last what document 01 alone says of a report.
 pub mod Texts
 pub mod Tables
 pub mod Answers
 pub mod ReportClaims
+pub mod ReportDemands

@@ -1,0 +1,340 @@
+-- Reading, writing and compiling a file answer and leave what document 01's definitions say, with no word on how a text is read.
+use Prim.Native.Nat.{ℕ, _*_, _≤_, _<_}
+use mathlib.Core.{Path.{_≡_, refl, sym, ap, ap₂, _∙_, subst}, Logic.{_⊎_, inl, inr}, List.{List, [], _∷_}, Bool.{Bool, true, false}}
+use mathlib.Core.Option.{Option, none, some, Option·some-ne-none}
+use native.Mathlib.Omega.{arith}
+use lib.{Dec.{leb}, ListN.{length, take}}
+use borrow.Author.Tests.{le-leb, leb-true, leb-false}
+use Rattle.limits.specs.Limits.{table-limit}
+use Rattle.refusal.specs.{declared.Refusal.{Refusal}, declared.Counted.{Counted}, RefusalAnswers.{or-else, plain-unless, counted}}
+use Rattle.refusal.specs.LentBuffers.{put, put-unless}
+use Rattle.refusal.specs.Refusal.{Condition, plain, First, has-place, part-of, order, condition-numbers, right-places, Judged, JudgedCall}
+use Rattle.refusal.specs.Refusal.{counted-refusal, count-of}
+use Rattle.refusal.proofs.Refusals.{plain-first, judged, first-then, or-else-none, counted-judged, counted-put}
+use Rattle.values.specs.{declared.ValueKind.the-variants.{Numbered}, Setup.{Setup, setup, setup-conditions, kind-conditions}}
+use Rattle.machines.specs.TableBytes.{table-bytes, entry-bytes, machine-of}
+use Rattle.machines.proofs.TableRefusals.{accepted-table}
+use Rattle.synthesis.specs.TableOfRule.{pair-conditions, IsRuleTable}
+use Rattle.synthesis.proofs.CompileClaims.{printed-table}
+use Rattle.text_format.specs.Format.{Outcome, contents, refused}
+use Rattle.channel_file.specs.ChannelFile.{Token, Contents, text, Shows, encoded, node-numbers, rule-numbers}
+use Rattle.channel_file.specs.Reading.{AnswersFile, read-file}
+use Rattle.channel_file.proofs.{Claims.{answer-claim, shown}, TextDemands.{one-contents, shows-or-not}}
+use Rattle.channel_writer.specs.Writing.{with-token, node-tokens}
+use Rattle.channel_writer.proofs.Claims.{node-claim}
+use Rattle.channel_io.specs.declared.{FileNumbers.{FileNumbers}, FileRead.{FileRead}, FileTable.{FileTable}}
+use Rattle.channel_io.specs.declared.FileTable.the-variants.{Made, Refused as Unmade}
+use Rattle.channel_io.specs.FileConditions.{file-setup, read-conditions, file-conditions}
+use Rattle.channel_io.specs.FileAnswers.{TextConditions, of-contents, no-contents, JudgedText, refusal-read, numbers-read, refusal-made, table-made}
+use Rattle.channel_io.specs.FileAnswers.{numbers, file-numbers, ReadsAs, MakesTableOf, IsFileOf, write-file-conditions, WritesAs}
+use Rattle.channel_io.specs.FileJudgement.{file-text}
+use Rattle.channel_io.specs.FileRefusals.{pair-refusal, stored-refusal, contents-refusal, contents-read-refusal, file-states, file-table}
+use Rattle.channel_io.specs.FileRefusals.{file-refusal, text-refusal, write-refusal}
+use Rattle.channel_io.specs.FileReading.{accepted-or, read-answer, meet-after, rule-after, Reads}
+use Rattle.channel_io.specs.FileCompilation.{made-or, compile-answer, entries-after, table-after, CompilesFile}
+use Rattle.channel_io.specs.FileWriting.{WritesFile}
+use Rattle.channel_io.proofs.Claims.{pair-first, not-off-form, off-form-first, read-first, file-first, file-table-made, file-table-accepted}
+use Rattle.channel_io.proofs.{ShownBytes.{numbers-length}, Callers.{front-taken, made-of}}
+use Rattle.channel_io.proofs.{WriteAnswers.{textual}, WriteClaims.{written, write-claim}}
+
+-- ---- a call on a text is judged by what the text shows
+
+module _ (conditions : Contents → List Condition) (refusal : Contents → Option Refusal) (first : (c : Contents) → First (conditions c) (refusal c))
+    (ordered : (c : Contents) → part-of (4 ∷ condition-numbers (conditions c)) order ≡ true) (placed : (c : Contents) → right-places (conditions c) ≡ true)
+    (t : List ℕ) where
+  listed : (cs : List Condition) × TextConditions t conditions cs
+  listed = go (shows-or-not t)
+    where
+      go : ((c : Contents) × Shows c t) ⊎ ((c : Contents) → ¬ Shows c t) → (cs : List Condition) × TextConditions t conditions cs
+      go (inl (c, s)) = (_, of-contents c s)
+      go (inr n) = (_, no-contents n)
+
+  -- a text that 4 refuses is refused whatever it shows; any other shows what was read of it
+  listed-first : (x : Outcome Contents) → AnswersFile t x → (cs : List Condition) → TextConditions t conditions cs → First cs (text-refusal refusal x)
+  unfolding text-refusal First
+  listed-first (contents c) a cs (of-contents d s) =
+      inr (not-off-form t c a, subst (λ (z : Contents). First (conditions z) (refusal c)) (one-contents t c d (a .1) s) (first c))
+  listed-first (contents c) a cs (no-contents n) = absurd (n c (a .1))
+  listed-first (refused p) a cs (of-contents d s) = off-form-first t p a (conditions d)
+  listed-first (refused p) a cs (no-contents n) = off-form-first t p a []
+
+  listed-order : (cs : List Condition) → TextConditions t conditions cs → part-of (condition-numbers cs) order ≡ true
+  unfolding condition-numbers part-of order
+  listed-order cs (of-contents d s) = ordered d
+  listed-order cs (no-contents n) = refl
+
+  listed-places : (cs : List Condition) → TextConditions t conditions cs → right-places cs ≡ true
+  unfolding right-places has-place
+  listed-places cs (of-contents d s) = placed d
+  listed-places cs (no-contents n) = refl
+
+  judged-text :
+      {M : Type 0} {before after : M} {answer : Option Refusal} → answer ≡ text-refusal refusal (read-file t)
+      → ((q : Refusal) → text-refusal refusal (read-file t) ≡ some q → after ≡ before) → JudgedText t conditions answer before after
+  judged-text is kept =
+      record {
+        listed = listed;
+        judged = λ cs l.
+            record {
+              judged =
+                  subst (Judged cs) (sym is)
+                  (judged cs (text-refusal refusal (read-file t)) (listed-first (read-file t) (answer-claim t) cs l) (listed-order cs l) (listed-places cs l));
+              kept = λ q e. kept q (sym is ∙ e);
+            };
+      }
+
+-- ---- a file is read
+
+accepted-refusal : (o : Option Refusal) (n : FileNumbers) → refusal-read (accepted-or o n) ≡ o
+unfolding accepted-or
+accepted-refusal none n = refl
+accepted-refusal (some q) n = refl
+
+accepted-numbers : (o : Option Refusal) (n m : FileNumbers) → numbers-read (accepted-or o n) ≡ some m → (o ≡ none) × (m ≡ n)
+unfolding accepted-or
+accepted-numbers none n m e = (refl, cc)
+accepted-numbers (some q) n m e = absurd (Option·some-ne-none m (sym e))
+
+module _ (meet rule : List ℕ) where
+  abbrev reading : Contents → Option Refusal
+  reading c = contents-read-refusal c meet rule
+
+  read-refused : (x : Outcome Contents) → refusal-read (read-answer x meet rule) ≡ text-refusal reading x
+  unfolding read-answer text-refusal
+  read-refused (refused p) = refl
+  read-refused (contents c) = accepted-refusal (reading c) (file-numbers c)
+
+  read-kept :
+      (x : Outcome Contents) (q : Refusal) → text-refusal reading x ≡ some q →
+      _≡_ {A = List ℕ × List ℕ} (meet-after x meet rule, rule-after x meet rule) (meet, rule)
+  unfolding meet-after rule-after text-refusal put-unless
+  read-kept (refused p) q e = refl
+  read-kept (contents c) q e = ap (λ (o : Option Refusal). (put-unless o (c .meet) meet, put-unless o (rule-numbers c) rule)) e
+
+pub reading-a-file :
+    (t meet rule meet′ rule′ : List ℕ) (r : FileRead) → Reads t meet rule meet′ rule′ r →
+    JudgedText {M = List ℕ × List ℕ} t (λ c. read-conditions c meet rule) (refusal-read r) (meet, rule) (meet′, rule′)
+unfolding setup-conditions kind-conditions condition-numbers right-places has-place part-of order
+reading-a-file t meet rule meet′ rule′ r k =
+    judged-text (λ c. read-conditions c meet rule) (reading meet rule) (λ c. read-first c meet rule) (λ c. refl) (λ c. refl) t
+    (ap refusal-read (k .answer) ∙ read-refused meet rule (read-file t))
+    (λ q e. ap₂ (λ (m n : List ℕ). (m, n)) (k .meet-is) (k .rule-is) ∙ read-kept meet rule (read-file t) q e)
+
+-- An accepted reading: the contents that were read, and what stands in the buffers.
+record ReadOf (t meet rule meet′ rule′ : List ℕ) (found : FileNumbers) : Type 0 where
+  inside : Contents
+  reads : read-file t ≡ contents inside
+  accepted : contents-read-refusal inside meet rule ≡ none
+  numbers-are : found ≡ file-numbers inside
+  meet-put : meet′ ≡ put (inside .meet) meet
+  rule-put : rule′ ≡ put (rule-numbers inside) rule
+
+read-of : {t meet rule meet′ rule′ : List ℕ} {r : FileRead} {found : FileNumbers} → Reads t meet rule meet′ rule′ r → numbers-read r ≡ some found
+    → ReadOf t meet rule meet′ rule′ found
+unfolding read-answer meet-after rule-after put-unless
+read-of {t} {meet} {rule} {meet′} {rule′} {found = found} k is = go (read-file t) refl (sym (ap numbers-read (k .answer)) ∙ is) (k .meet-is) (k .rule-is)
+  where
+    go : (x : Outcome Contents) → read-file t ≡ x → numbers-read (read-answer x meet rule) ≡ some found → meet′ ≡ meet-after x meet rule
+        → rule′ ≡ rule-after x meet rule → ReadOf t meet rule meet′ rule′ found
+    go (refused p) e f g h = absurd (Option·some-ne-none found (sym f))
+    go (contents c) e f g h =
+        let a = accepted-numbers (contents-read-refusal c meet rule) (file-numbers c) found f in
+        record {
+          inside = c;
+          reads = e;
+          accepted = a .0;
+          numbers-are = a .1;
+          meet-put = g ∙ ap (λ (o : Option Refusal). put-unless o (c .meet) meet) (a .0);
+          rule-put = h ∙ ap (λ (o : Option Refusal). put-unless o (rule-numbers c) rule) (a .0);
+        }
+
+pub file-to-rule :
+    (t meet rule meet′ rule′ : List ℕ) (r : FileRead) → Reads t meet rule meet′ rule′ r →
+    (found : FileNumbers) → numbers-read r ≡ some found → ReadsAs t meet rule meet′ rule′ found
+file-to-rule t meet rule meet′ rule′ r k found is =
+    let w = read-of k is in
+    record {
+      contents = w .inside;
+      shown = shown t (w .inside) (w .reads) .1;
+      numbers-are = w .numbers-are;
+      meet-put = w .meet-put;
+      rule-put = w .rule-put;
+    }
+
+-- ---- its table is made
+
+made-refusal : (o : Option Refusal) (n : FileNumbers) (k : ℕ) → refusal-made (made-or o n k) ≡ o
+unfolding made-or
+made-refusal none n k = refl
+made-refusal (some q) n k = refl
+
+made-from : (r : FileTable) (n : FileNumbers) (k : ℕ) → table-made r ≡ some (n, k) → r ≡ Made n k
+made-from (Made m j) n k e = let z : _≡_ {A = FileNumbers × ℕ} (m, j) (n, k) = cc in ap (λ (p : FileNumbers × ℕ). Made (p .0) (p .1)) z
+made-from (Unmade q) n k e = absurd (Option·some-ne-none {A = FileNumbers × ℕ} (n, k) (sym e))
+
+module _ (meet to : List ℕ) where
+  abbrev making : Contents → Option Refusal
+  making c = file-refusal c meet to
+
+  made-refused : (x : Outcome Contents) → refusal-made (compile-answer x meet to) ≡ text-refusal making x
+  unfolding compile-answer text-refusal
+  made-refused (refused p) = refl
+  made-refused (contents c) = made-refusal (making c) (file-numbers c) (file-states c)
+
+  made-kept :
+      (x : Outcome Contents) (q : Refusal) → text-refusal making x ≡ some q →
+      _≡_ {A = List ℕ × List ℕ} (entries-after x meet to, table-after x meet to) (meet, to)
+  unfolding entries-after table-after text-refusal put-unless
+  made-kept (refused p) q e = refl
+  made-kept (contents c) q e = ap (λ (o : Option Refusal). (put-unless o (c .meet) meet, put-unless o (file-table c) to)) e
+
+pub compiling-a-file :
+    (t meet to meet′ to′ : List ℕ) (r : FileTable) → CompilesFile t meet to meet′ to′ r →
+    JudgedText {M = List ℕ × List ℕ} t (λ c. file-conditions c meet to) (refusal-made r) (meet, to) (meet′, to′)
+unfolding setup-conditions kind-conditions condition-numbers right-places has-place part-of order
+compiling-a-file t meet to meet′ to′ r k =
+    judged-text (λ c. file-conditions c meet to) (making meet to) (λ c. file-first c meet to) (λ c. refl) (λ c. refl) t
+    (ap refusal-made (k .answer) ∙ made-refused meet to (read-file t))
+    (λ q e. ap₂ (λ (m n : List ℕ). (m, n)) (k .meet-is) (k .table-is) ∙ made-kept meet to (read-file t) q e)
+
+pub file-to-table :
+    (t meet to meet′ to′ : List ℕ) (r : FileTable) → CompilesFile t meet to meet′ to′ r →
+    (found : FileNumbers) (n : ℕ) → table-made r ≡ some (found, n) → MakesTableOf t meet to meet′ to′ found n
+file-to-table t meet to meet′ to′ r k found n is =
+    let w = made-of k (made-from r found n is) in
+    let c = w .inside in
+    let m = machine-of (file-setup c .kind) (c .events) (file-table c) in
+    let whole : table-bytes (entry-bytes (file-setup c .kind)) (c .events) m (file-states c) ≡ file-table c =
+    accepted-table table-limit (c .events) (file-setup c .kind) (file-states c) 0 (file-table c) (file-table-accepted c (w .passed)) .bytes-of in
+    record {
+      contents = c;
+      shown = shown t c (w .reads) .1;
+      numbers-are = w .numbers-are;
+      meet-put = w .entries-put;
+      table = m;
+      is-table =
+          subst (λ (j : ℕ). IsRuleTable (file-setup c) (rule-numbers c) j m) (sym (w .states-are))
+          (printed-table (file-setup c) (rule-numbers c) (file-states c) m (file-table-made c (w .passed) .table));
+      table-put =
+          w .table-put
+          ∙ ap (λ (b : List ℕ). put b to)
+          (sym whole ∙ ap (table-bytes (entry-bytes (file-setup c .kind)) (c .events) m) (sym (w .states-are)));
+    }
+
+-- ---- a file is written
+
+-- the nodes of a rule have one list of tokens
+numbered : (xs : List Token) → node-tokens (encoded node-numbers xs) ≡ some xs
+numbered [] = refl
+numbered (x ∷ xs) = ap₂ with-token (node-claim .its-token x) (numbered xs)
+
+-- so a set-up and a rule have no two contents
+one-file : (s : Setup) (rule : List ℕ) (c d : Contents) → IsFileOf s rule c → IsFileOf s rule d → c ≡ d
+one-file s rule c d x y =
+    let e : file-setup c ≡ file-setup d = x .0 ∙ sym (y .0) in
+    let kinds : Numbered (c .values) ≡ Numbered (d .values) = ap (λ (z : Setup). z .kind) e in
+    let values : c .values ≡ d .values = cc in
+    let tokens : some (c .rule) ≡ some (d .rule) = sym (numbered (c .rule)) ∙ ap node-tokens (x .1 ∙ sym (y .1)) ∙ numbered (d .rule) in
+    let rules : c .rule ≡ d .rule = cc in
+    λ i. record { events = e i .events; values = values i; top = e i .top; meet = e i .meet; rule = rules i }
+
+module _ (events values top : ℕ) (meet rule : List ℕ) where
+  abbrev s : Setup
+  s = setup events values top meet
+
+  abbrev T : List ℕ
+  T = file-text events values top meet rule
+
+  -- where 1 to 3 and 5 to 9 are not met, there are such contents, and their text is the one that is written
+  module _ (ok : pair-refusal s rule ≡ none) where
+    abbrev inside : Contents
+    inside = textual events values top meet rule ok .inside
+
+    of-these : IsFileOf s rule inside
+    of-these =
+        let w = textual events values top meet rule ok in
+        (λ i. setup (w .events-is i) (w .values-is i) (w .top-is i) (w .meet-is i), w .rule-is)
+
+    text-of : (c : Contents) → IsFileOf s rule c → T ≡ text c
+    text-of c x = written events values top meet rule ok ∙ ap text (one-file s rule inside c of-these x)
+
+  module _ (old : List ℕ) where
+    abbrev Short : Type 0
+    Short = (c : Contents) × IsFileOf s rule c × (length old < length (text c))
+
+    abbrev room : Bool
+    room = leb (length T) (length old)
+
+    text-short : pair-refusal s rule ≡ none → room ≡ false → Short
+    text-short ok e = (inside ok, of-these ok, let h = leb-false (length T) (length old) e in omega (arith, ap length (text-of ok (inside ok) (of-these ok))))
+
+    text-room : pair-refusal s rule ≡ none → room ≡ true → ¬ Short
+    text-room ok e (c, x, h) = let l = leb-true (length T) (length old) e in omega (arith, ap length (text-of ok c x))
+
+    write-first : First (write-file-conditions s rule old) (write-refusal events values top meet rule old)
+    unfolding write-refusal
+    write-first =
+        first-then (pair-conditions s rule) (plain 13 Short ∷ []) (pair-refusal s rule) _ (pair-first s rule)
+        (λ ok. plain-first 13 Short room (text-short ok) (text-room ok))
+
+pub writing-a-file :
+    (events values top : ℕ) (meet rule old new : List ℕ) (r : Counted) → WritesFile events values top meet rule old new r →
+    JudgedCall (write-file-conditions (setup events values top meet) rule old) (counted-refusal r) old new
+unfolding setup-conditions kind-conditions condition-numbers right-places has-place part-of order
+writing-a-file events values top meet rule old new r k =
+    counted-judged (write-refusal events values top meet rule old) (length (file-text events values top meet rule)) (file-text events values top meet rule) old
+    (k .answer) (k .buffer)
+    (judged (write-file-conditions (setup events values top meet) rule old) (write-refusal events values top meet rule old)
+    (write-first events values top meet rule old) refl refl)
+
+pub rule-to-file :
+    (events values top : ℕ) (meet rule old new : List ℕ) (r : Counted) → WritesFile events values top meet rule old new r →
+    (n : ℕ) → count-of r ≡ some n → WritesAs (setup events values top meet) rule old new n
+unfolding write-refusal
+rule-to-file events values top meet rule old new r k n is =
+    let a = counted-put (write-refusal events values top meet rule old) (length (file-text events values top meet rule))
+    (file-text events values top meet rule) old (k .answer) (k .buffer) n is in
+    let ok = or-else-none (pair-refusal (setup events values top meet) rule) _ (a .0) .0 in
+    let w = textual events values top meet rule ok in
+    let t = written events values top meet rule ok in
+    record {
+      contents = w .inside;
+      of-these = of-these events values top meet rule ok;
+      shown = record { small = w .small; printed = refl };
+      within = w .short;
+      count-is = a .1 ∙ ap length t;
+      text-put = a .2 ∙ ap (λ (l : List ℕ). put l old) t;
+    }
+
+-- ---- what was read is written again
+
+write-passed :
+    (events values top : ℕ) (meet rule old : List ℕ) → pair-refusal (setup events values top meet) rule ≡ none →
+    length (file-text events values top meet rule) ≤ length old → write-refusal events values top meet rule old ≡ none
+unfolding write-refusal or-else plain-unless
+write-passed events values top meet rule old ok h =
+    let room = le-leb (length (file-text events values top meet rule)) (length old) h in
+    rw (ok, room)
+
+pub file-to-rule-to-file :
+    (t meet rule meet′ rule′ : List ℕ) (r : FileRead) → Reads t meet rule meet′ rule′ r →
+    (found : FileNumbers) → numbers-read r ≡ some found → (old new : List ℕ) (w : Counted) →
+    WritesFile (found .events) (found .values) (found .top) (take (found .entries) meet′) (take (3 * found .nodes) rule′) old new w →
+    length t ≤ length old → (count-of w ≡ some (length t)) × (new ≡ put t old)
+unfolding numbers stored-refusal counted put-unless
+file-to-rule-to-file t meet rule meet′ rule′ r k found is old new w x room =
+    let a = read-of k is in
+    let c = a .inside in
+    let entries = front-taken (c .meet) meet meet′ (found .entries) (ap (λ (z : FileNumbers). z .entries) (a .numbers-are)) (a .meet-put) in
+    let nodes = front-taken (rule-numbers c) rule rule′ (3 * found .nodes)
+    (ap (λ (z : FileNumbers). 3 * z .nodes) (a .numbers-are) ∙ sym (numbers-length c)) (a .rule-put) in
+    let x₁ = subst (λ (z : FileNumbers). WritesFile (z .events) (z .values) (z .top) (take (found .entries) meet′) (take (3 * found .nodes) rule′) old new w)
+    (a .numbers-are) x in
+    let x₂ = subst (λ (z : List ℕ). WritesFile (c .events) (c .values) (c .top) z (take (3 * found .nodes) rule′) old new w) entries x₁ in
+    let y = subst (λ (z : List ℕ). WritesFile (c .events) (c .values) (c .top) (c .meet) z old new w) nodes x₂ in
+    let ok : contents-refusal c ≡ none = or-else-none (contents-refusal c) _ (a .accepted) .0 in
+    let same = write-claim .again t c (a .reads) ok in
+    let passed = write-passed (c .events) (c .values) (c .top) (c .meet) (rule-numbers c) old ok (omega (arith, ap length same)) in
+    let counts = ap count-of (y .answer) ∙ ap₂ (λ (o : Option Refusal) (l : List ℕ). count-of (counted o (length l))) passed same in
+    let holds = y .buffer ∙ ap₂ (λ (o : Option Refusal) (l : List ℕ). put-unless o l old) passed same in
+    (counts, holds)
