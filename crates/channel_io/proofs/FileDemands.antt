@@ -10,7 +10,7 @@ use Rattle.refusal.specs.{declared.Refusal.{Refusal}, declared.Counted.{Counted
 use Rattle.refusal.specs.LentBuffers.{put, put-unless}
 use Rattle.refusal.specs.Refusal.{Condition, plain, First, has-place, part-of, order, condition-numbers, right-places, Judged, JudgedCall}
 use Rattle.refusal.specs.Refusal.{counted-refusal, count-of}
-use Rattle.refusal.proofs.Refusals.{plain-first, judged, first-then, or-else-none, counted-judged, counted-put}
+use Rattle.refusal.proofs.{Refusals.{plain-first, judged, first-then, or-else-none}, Answers.{counted-judged, counted-put}}
 use Rattle.values.specs.{declared.ValueKind.the-variants.{Numbered}, Setup.{Setup, setup, setup-conditions, kind-conditions}}
 use Rattle.machines.specs.TableBytes.{table-bytes, entry-bytes, machine-of}
 use Rattle.machines.proofs.TableRefusals.{accepted-table}

@@ -1,5 +1,5 @@
 -- What `compile` stores, as input of a trial; and the rule of a table as input of `compile`.
-use mathlib.Core.{Path.{_≡_, refl, sym, _∙_, ap, subst}, Bool.{Bool, true, false}, Logic.{_↔_, Iff·trans}, List.{List, _++_}, Option.{Option, none, some, Option·some-ne-none}}
+use mathlib.Core.{Path.{_≡_, refl, sym, _∙_, ap, subst, subst⁻¹}, Bool.{Bool, true, false}, Logic.{_↔_, Iff·trans}, List.{List, _++_}, Option.{Option, none, some, Option·some-ne-none}}
 use Prim.Native.Nat.{ℕ, zero, _*_, _≤_, _<_}
 use native.Mathlib.{Nat.{mul-le-mul-right}, Omega.{arith}}
 use borrow.Author.Tests.{le-leb}
@@ -19,7 +19,7 @@ use Rattle.refusal.specs.RefusalAnswers.{or-else, plain-unless}
 use Rattle.refusal.specs.LentBuffers.{put, put-unless}
 use Rattle.refusal.specs.declared.Refusal.the-variants.{Plain}
 use Rattle.refusal.specs.Refusal.{First, JudgedCall, counted-refusal, count-of}
-use Rattle.refusal.proofs.{Refusals.{or-else-none}, Answers.{counted-refusal-is, count-of-counted, judged-call}}
+use Rattle.refusal.proofs.{Refusals.{or-else-none}, Answers.{counted-refusal-is, count-of-counted, counted-judged, counted-put}}
 use Rattle.limits.specs.Limits.{node-limit, state-limit, device-limit, table-limit, word-limit}
 use Rattle.values.specs.{Setup.{Setup, SetupValue, setup-meet, setup-top}, ValueTests.{at-or-below}, SetupTests.{setup-refusal}}
 use Rattle.values.proofs.ValueKinds.{value-kinds}
@@ -31,10 +31,10 @@ use Rattle.synthesis.specs.{Compilation.{rule-table-refusal, setup-states, setu
 use Rattle.synthesis.specs.TableOfRule.{compile-conditions, IsRuleTable}
 use Rattle.synthesis.proofs.{CompiledTable.{few-states, is-table, table-runs}, LentTable.{contents-at, laws, few}}
 use Rattle.synthesis.proofs.CompileClaims.{table-agrees, compile-refusal-claim, compile-claim, made-table, printed-table}
-use Rattle.characteristic.specs.RuleWriting.{write-refusal}
+use Rattle.characteristic.specs.{RuleOfTable.{write-conditions, IsWritten}, RuleWriting.{write-refusal, write-answer, write-contents}}
 use Rattle.characteristic.specs.Claims.{Written}
-use Rattle.characteristic.proofs.Claims.{write-refusal-claim, refused-claim, written-claim}
-use Rattle.conformance.specs.Trial.{input, Passed}
+use Rattle.characteristic.proofs.Claims.{write-refusal-claim, written-claim}
+use Rattle.conformance.specs.Trial.{input, DeviceInOrder, Passed}
 use Rattle.conformance.specs.TrialAnswer.{tables-refusal, trial-refusal, trial-answer}
 use Rattle.conformance.proofs.TrialClaims.{trial-satisfies}
 use Rattle.product_claims.specs.Demands.{rule-trial-input, Recompiled}
@@ -212,15 +212,15 @@ module _ (s : Setup) (states start : ℕ) (table buffer : List ℕ)
       (made .rule-written .accepted .within) .1 (made .rule-written .few-states))
 
   module _ (to : List ℕ) where
-    abbrev room : Option Refusal
-    room = plain-unless (leb (count * s .events * entry-width (s .kind)) (length to)) 13
+    abbrev for-13 : Option Refusal
+    for-13 = plain-unless (leb (count * s .events * entry-width (s .kind)) (length to)) 13
 
     -- 13 alone is left.
-    for-room : compile-refusal state-limit s bytes to ≡ room
+    for-room : compile-refusal state-limit s bytes to ≡ for-13
     unfolding compile-refusal rule-table-refusal or-else
     for-room =
-        ap (λ o. or-else o (or-else (rule-table-refusal (s .kind) (s .events) (setup-top s) (s .meet) bytes state-limit) room)) setup-fine
-        ∙ ap (λ o. or-else o room)
+        ap (λ o. or-else o (or-else (rule-table-refusal (s .kind) (s .events) (setup-top s) (s .meet) bytes state-limit) for-13)) setup-fine
+        ∙ ap (λ o. or-else o for-13)
         (passed (rule-refusal (s .events) (s .kind) bytes) _ (made .rule-written .accepted-bytes)
         (unless-true (leb count state-limit) 10 (le-leb count state-limit bounded)))
 
@@ -262,10 +262,8 @@ module _ (s : Setup) (states start : ℕ) (table old : List ℕ) where
       JudgedCall (write-conditions table-limit node-limit s states start table (length old))
       (counted-refusal (write-answer table-limit node-limit s states start table old)) old
       (write-contents table-limit node-limit s states start table old)
-  unfolding write-answer
-  rule-judged =
-      judged-call _ refusal _ old _ (write-refusal-claim table-limit node-limit s states start table (length old))
-      (λ r h. refused-claim table-limit node-limit s states start table old r h .1)
+  unfolding write-answer write-contents
+  rule-judged = counted-judged refusal _ _ old refl refl (write-refusal-claim table-limit node-limit s states start table (length old))
 
   accepted-write : (n : ℕ) → count-of (write-answer table-limit node-limit s states start table old) ≡ some n → refusal ≡ none
   unfolding write-answer
@@ -308,18 +306,16 @@ module _ (s : Setup) (rule old : List ℕ) where
       JudgedCall (compile-conditions state-limit s rule old) (counted-refusal (compile-answer state-limit s rule old)) old
       (compile-contents state-limit s rule old)
   compile-judged =
-      judged-call _ (compile-refusal state-limit s rule old) _ old _ (compile-refusal-claim state-limit s rule old)
-      (λ r h. compile-claim .refused state-limit s rule old r h)
+      counted-judged (compile-refusal state-limit s rule old) (setup-states state-limit s rule) _ old refl (contents-at state-limit s rule old _ refl)
+      (compile-refusal-claim state-limit s rule old)
 
   pub rule-to-table :
       (k : ℕ) → count-of (compile-answer state-limit s rule old) ≡ some k →
       (u : Machine ℕ ℕ) × IsRuleTable s rule k u
       × (compile-contents state-limit s rule old ≡ put (table-bytes (entry-bytes (s .kind)) (s .events) u k) old)
-  unfolding put-unless
   rule-to-table k h =
-      let p = count-of-counted (compile-refusal state-limit s rule old) (setup-states state-limit s rule) k h in
-      subst
+      let p = counted-put (compile-refusal state-limit s rule old) (setup-states state-limit s rule) _ old refl (contents-at state-limit s rule old _ refl) k h in
+      subst⁻¹
       (λ k. (u : Machine ℕ ℕ) × IsRuleTable s rule k u
       × (compile-contents state-limit s rule old ≡ put (table-bytes (entry-bytes (s .kind)) (s .events) u k) old))
-      (p .1)
-      (setup-table state-limit s rule, printed-table s rule _ _ (made-table state-limit s rule old (p .0)), contents-at state-limit s rule old _ (p .0))
+      (p .1) (setup-table state-limit s rule, printed-table s rule _ _ (made-table state-limit s rule old (p .0)), p .2)

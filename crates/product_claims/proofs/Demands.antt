@@ -1,51 +1,72 @@
 -- A proof of each demand.
+use mathlib.Core.Path.{sym, _∙_, subst⁻¹}
 use Rattle.limits.specs.Limits.{device-limit, table-limit}
+use Rattle.refusal.specs.Refusal.{Judged}
+use Rattle.refusal.proofs.Answers.{judgement-refusal-is}
+use Rattle.values.specs.{Setup.{setup-conditions}, SetupTests.{setup-refusal}}
+use Rattle.values.proofs.Setups.{setup-judged}
+use Rattle.synthesis.proofs.SetupArrays.{arrays-judged, arrays-hold, arrays-refused}
+use Rattle.conformance.specs.{Trial.{refusal-of}, TrialAnswer.{trial-refusal}}
+use Rattle.conformance.proofs.TrialClaims.{trial-refusals, trial-refused, trial-passes, trial-simulated, trial-fails-by}
+use Rattle.recorder.proofs.Tools.{one-store}
+use Rattle.recorder_claims.proofs.Calls.{calls-judged, replay-judged, replay-events, set-up-judged, refused-set-up, record-of-calls, independence}
+use Rattle.recorder_claims.proofs.Loading.{load-claim}
+use Rattle.channel_file.proofs.TextDemands.{file-to-tokens}
+use Rattle.channel_io.proofs.FileDemands.{reading-a-file, file-to-rule, compiling-a-file, file-to-table, writing-a-file, rule-to-file, file-to-rule-to-file}
+use Rattle.table_report.proofs.ReportDemands.{reporting, file-to-report}
 use Rattle.product_claims.specs.Demands.{DemandOne, DemandTwo, DemandThree}
-use Rattle.values.proofs.Setups.{setup-judged, setup-accepted}
-use Rattle.machines.proofs.TableRefusals.{table-judged}
-use Rattle.formulas.proofs.RuleClaims.{rule-judged}
-use Rattle.synthesis.proofs.CompileClaims.{compile-refusal-claim, compile-claim}
-use Rattle.characteristic.proofs.Claims.{write-refusal-claim, refused-claim, written-claim}
-use Rattle.conformance.proofs.TrialClaims.{trial-refusals, trial-refused}
-use Rattle.recorder_claims.proofs.{CallRefusals.{call-refusals, replay-refusals}, Claims.{tool-record, tool-independence, blank-refused}}
-use Rattle.channel_io.proofs.{Claims.{read-claim, write-refusal-claim as file-write-refusal}, WriteClaims.{write-claim}}
-use Rattle.channel_io.proofs.Claims.{file-table-claim, file-table-made}
-use Rattle.table_graph.proofs.GraphClaims.{graph-refusals}
-use Rattle.product_claims.proofs.Compiled.{rule-trial, recompiled-claim}
+use Rattle.product_claims.proofs.Compiled.{rule-trial, rule-judged, table-to-rule, table-to-rule-to-table, compile-judged, rule-to-table}
 
 pub demand-one : DemandOne
 demand-one =
     record {
-      set-up = setup-judged;
-      set-up-accepted = setup-accepted;
-      table-handed-in = table-judged;
-      rule = rule-judged;
-      compiling = compile-refusal-claim;
-      compiling-refused = compile-claim;
-      writing-a-rule = write-refusal-claim;
-      writing-a-rule-refused = refused-claim;
-      trial = trial-refusals device-limit table-limit;
-      trial-refused = trial-refused device-limit table-limit;
-      calls = call-refusals;
-      sequence-of-events = replay-refusals;
-      calls-on-a-refused-set-up = blank-refused;
-      reading-a-file = read-claim;
-      writing-a-file = file-write-refusal;
-      table-of-a-file = file-table-claim;
-      digraph-of-a-table = graph-refusals;
+      checking-a-set-up = λ s. subst⁻¹ (Judged (setup-conditions s)) (judgement-refusal-is (setup-refusal s)) (setup-judged s);
+      compiling = compile-judged;
+      compiling-to-arrays = arrays-judged;
+      writing-a-rule = rule-judged;
+      trying = λ x old.
+          let e = trial-refused device-limit table-limit .answer x old in
+          record {
+            judged = subst⁻¹ (Judged _) e (trial-refusals device-limit table-limit x old);
+            kept = trial-refused device-limit table-limit .kept x old;
+          };
+      setting-up = set-up-judged;
+      calling = calls-judged;
+      replaying = replay-judged;
+      reading-a-file = reading-a-file;
+      compiling-a-file = compiling-a-file;
+      writing-a-file = writing-a-file;
+      reporting = reporting;
     }
 
 pub demand-two : DemandTwo
 demand-two =
     record {
-      rule-to-table = compile-claim;
-      table-to-rule = written-claim;
-      table-to-rule-to-table = recompiled-claim;
-      file-to-rule = read-claim;
-      rule-to-file = write-claim;
-      file-to-table = file-table-made;
+      rule-to-table = rule-to-table;
+      rule-to-arrays = arrays-hold;
+      refused-arrays = arrays-refused;
+      table-to-rule = table-to-rule;
+      table-to-rule-to-table = table-to-rule-to-table;
+      file-to-rule = file-to-rule;
+      rule-to-file = rule-to-file;
+      file-to-rule-to-file = file-to-rule-to-file;
+      file-to-table = file-to-table;
+      file-to-report = file-to-report;
+      file-to-tokens = file-to-tokens;
     }
 
 pub demand-three : DemandThree
 demand-three =
-    record { record-of-calls = tool-record; independence = tool-independence; trial = rule-trial }
+    record {
+      record-of-calls = record-of-calls;
+      independence = independence;
+      loading = load-claim;
+      replaying = replay-events;
+      refused-set-up = refused-set-up;
+      one-tool = one-store;
+      passes = λ x old z.
+          trial-simulated device-limit table-limit x old (sym (trial-refused device-limit table-limit .answer x old) ∙ z);
+      pass-keeps = trial-passes device-limit table-limit .kept;
+      fails = trial-fails-by device-limit table-limit;
+      rule-trial = rule-trial;
+    }

@@ -1,11 +1,10 @@
 -- Document 01's answer is read back from each enum; what is judged and kept beside a refusal.
-use mathlib.Core.{Path.{_≡_, refl, sym, _∙_, ap, subst⁻¹}, Option.{Option, none, some, Option·some-ne-none}, List.{List}}
+use mathlib.Core.{Path.{_≡_, refl, sym, _∙_, ap, subst}, Option.{Option, none, some, Option·some-ne-none}, List.{List}}
 use Prim.Native.Nat.{ℕ}
-use native.Mathlib.Omega.{arith}
 use Rattle.refusal.specs.declared.{Refusal.{Refusal}, Counted.{Counted}}
 use Rattle.refusal.specs.declared.Counted.the-variants.{Count, Refused}
 use Rattle.refusal.specs.Refusal.{Condition, Judged, JudgedCall, judgement-refusal, counted-refusal, count-of}
-use Rattle.refusal.specs.RefusalAnswers.{judgement, counted}
+use Rattle.refusal.specs.{RefusalAnswers.{judgement, counted}, LentBuffers.{put, put-unless}}
 
 pub judgement-refusal-is : (a : Option Refusal) → judgement-refusal (judgement a) ≡ a
 unfolding judgement
@@ -26,13 +25,21 @@ pub refused-of : (c : Counted) (r : Refusal) → counted-refusal c ≡ some r �
 refused-of (Count n) r e = absurd (Option·some-ne-none r (sym e))
 refused-of (Refused s) r e = cc
 
-pub count-is : (c : Counted) (n : ℕ) → count-of c ≡ some n → c ≡ Count n
-count-is (Count m) n e = cc
-count-is (Refused s) n e = absurd (Option·some-ne-none n (sym e))
+-- A call that puts an output into a lent buffer and counts it: its answer is judged as the refusal is, and beside one the buffer is as
+-- before; an accepted one puts the output.
+module _ (a : Option Refusal) (n : ℕ) (output old : List ℕ) {new : List ℕ} {r : Counted} (answer : r ≡ counted a n)
+    (buffer : new ≡ put-unless a output old) where
+  pub counted-judged : {cs : List Condition} → Judged cs a → JudgedCall cs (counted-refusal r) old new
+  unfolding put-unless
+  counted-judged {cs} j =
+      let e : counted-refusal r ≡ a = ap counted-refusal answer ∙ counted-refusal-is a n in
+      record {
+        judged = subst (Judged cs) (sym e) j;
+        kept = λ q d. buffer ∙ ap (λ (o : Option Refusal). put-unless o output old) (sym e ∙ d);
+      }
 
--- A call that answers a count.
-pub judged-call :
-    {M : Type 0} (cs : List Condition) (a : Option Refusal) (n : ℕ) (before after : M) → Judged cs a → ((r : Refusal) → a ≡ some r → after ≡ before) →
-    JudgedCall cs (counted-refusal (counted a n)) before after
-judged-call cs a n before after j k =
-    record { judged = subst⁻¹ (Judged cs) (counted-refusal-is a n) j; kept = λ r e. k r (sym (counted-refusal-is a n) ∙ e) }
+  pub counted-put : (m : ℕ) → count-of r ≡ some m → (a ≡ none) × (m ≡ n) × (new ≡ put output old)
+  unfolding put-unless
+  counted-put m e =
+      let h = count-of-counted a n m (sym (ap count-of answer) ∙ e) in
+      (h .0, sym (h .1), buffer ∙ ap (λ (o : Option Refusal). put-unless o output old) (h .0))

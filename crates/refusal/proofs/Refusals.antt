@@ -1,15 +1,14 @@
 -- There is one first refusal and one lowest place; the computing twins yield them.
-use mathlib.Core.{Path.{_≡_, refl, sym, _∙_, ap, subst}, Logic.{inl, inr}, Bool.{Bool, true, false}, Option.{Option, none, some, Option·some-ne-none}}
+use mathlib.Core.{Path.{_≡_, refl, sym, _∙_, ap}, Logic.{inl, inr}, Bool.{Bool, true, false}, Option.{Option, none, some, Option·some-ne-none}}
 use mathlib.Core.List.{List, [], _∷_, _++_}
 use Prim.Native.Nat.{ℕ, _<_}
 use native.Mathlib.Omega.{arith}
 use Rattle.refusal.specs.declared.Refusal.{Refusal}
 use Rattle.refusal.specs.declared.Refusal.the-variants.{Plain, At}
 use Rattle.refusal.specs.declared.Judgement.the-variants.{Accepted, Refused}
-use Rattle.refusal.specs.declared.Counted.{Counted}
 use Rattle.refusal.specs.declared.Counted.the-variants.{Count, Refused as Uncounted}
-use Rattle.refusal.specs.Refusal.{Condition, plain, at-lowest, Gives, Lowest, First, Judged, JudgedCall, counted-refusal, count-of}
-use Rattle.refusal.specs.{RefusalAnswers.{or-else, plain-unless, judgement, counted}, LentBuffers.{put, put-unless}}
+use Rattle.refusal.specs.Refusal.{Condition, plain, at-lowest, Gives, Lowest, First}
+use Rattle.refusal.specs.RefusalAnswers.{or-else, plain-unless, judgement, counted}
 use Rattle.refusal.specs.RefusalClaims.{LowestUniqueClaim, FirstUniqueClaim, JudgedClaim, FirstAppendClaim, NoneMet, AcceptedClaim}
 
 -- The lowest place is one, so that a condition gives one refusal at most.
@@ -122,34 +121,3 @@ pub first-rest : (C : Condition) (cs : List Condition) (a : Option Refusal) → 
 unfolding First
 first-rest C cs a unmet (inl (r, met, e)) = absurd (unmet r met)
 first-rest C cs a unmet (inr (u, rest)) = rest
-
--- ---- a call that puts an output into a lent buffer and counts it
-
-counted-as : (a : Option Refusal) (n : ℕ) → counted-refusal (counted a n) ≡ a
-unfolding counted
-counted-as none n = refl
-counted-as (some r) n = refl
-
-count-made : (a : Option Refusal) (n m : ℕ) → count-of (counted a n) ≡ some m → (a ≡ none) × (m ≡ n)
-unfolding counted
-count-made none n m e = (refl, cc)
-count-made (some r) n m e = absurd (Option·some-ne-none m (sym e))
-
-module _ (a : Option Refusal) (n : ℕ) (output old : List ℕ) {new : List ℕ} {r : Counted} (answer : r ≡ counted a n)
-    (buffer : new ≡ put-unless a output old) where
-  -- its answer is judged as the refusal is, and beside one the buffer is as before
-  pub counted-judged : {cs : List Condition} → Judged cs a → JudgedCall cs (counted-refusal r) old new
-  unfolding put-unless
-  counted-judged {cs} j =
-      let e : counted-refusal r ≡ a = ap counted-refusal answer ∙ counted-as a n in
-      record {
-        judged = subst (Judged cs) (sym e) j;
-        kept = λ q d. buffer ∙ ap (λ (o : Option Refusal). put-unless o output old) (sym e ∙ d);
-      }
-
-  -- an accepted one puts the output
-  pub counted-put : (m : ℕ) → count-of r ≡ some m → (a ≡ none) × (m ≡ n) × (new ≡ put output old)
-  unfolding put-unless
-  counted-put m e =
-      let h = count-made a n m (sym (ap count-of answer) ∙ e) in
-      (h .0, h .1, buffer ∙ ap (λ (o : Option Refusal). put-unless o output old) (h .0))

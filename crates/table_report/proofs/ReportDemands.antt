@@ -6,7 +6,7 @@ use lib.{Dec.{leb}, ListN.{length}}
 use borrow.Author.Tests.{leb-true, leb-false}
 use Rattle.refusal.specs.{declared.Refusal.{Refusal}, declared.Counted.{Counted}, RefusalAnswers.{or-else}, LentBuffers.{put}}
 use Rattle.refusal.specs.Refusal.{First, has-place, part-of, order, condition-numbers, right-places, JudgedCall, counted-refusal, count-of}
-use Rattle.refusal.proofs.Refusals.{plain-first, judged, counted-judged, counted-put}
+use Rattle.refusal.proofs.{Refusals.{plain-first, judged}, Answers.{counted-judged, counted-put}}
 use Rattle.table_rows.specs.Rendering.{rendering-refusal}
 use Rattle.table_report.specs.{PrintedTable.{Prints, report-conditions}, Report.{report-text, Reports}}
 use Rattle.table_report.proofs.ReportClaims.{report-claim, one-report}
