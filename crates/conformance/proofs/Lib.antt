@@ -14,5 +14,7 @@ pub mod Starts
 pub mod Trials
 -- The claims on a trial.
 pub mod TrialClaims
+-- The same by definition 1 itself.
+pub mod PrintedTrials
 -- The marked case of a trial.
 pub mod Cases
