@@ -1,6 +1,6 @@
 -- Reading, writing and compiling a file answer and leave what document 01's definitions say, with no word on how a text is read.
 use Prim.Native.Nat.{ℕ, _*_, _≤_, _<_}
-use mathlib.Core.{Path.{_≡_, refl, sym, ap, ap₂, _∙_, subst}, Logic.{_⊎_, inl, inr}, List.{List, [], _∷_}, Bool.{Bool, true, false}}
+use mathlib.Core.{Path.{_≡_, refl, sym, ap, ap₂, _∙_, subst, subst⁻¹}, List.{List, [], _∷_}, Bool.{Bool, true, false}}
 use mathlib.Core.Option.{Option, none, some, Option·some-ne-none}
 use native.Mathlib.Omega.{arith}
 use lib.{Dec.{leb}, ListN.{length, take}}
@@ -8,8 +8,7 @@ use borrow.Author.Tests.{le-leb, leb-true, leb-false}
 use Rattle.limits.specs.Limits.{table-limit}
 use Rattle.refusal.specs.{declared.Refusal.{Refusal}, declared.Counted.{Counted}, RefusalAnswers.{or-else, plain-unless, counted}}
 use Rattle.refusal.specs.LentBuffers.{put, put-unless}
-use Rattle.refusal.specs.Refusal.{Condition, plain, First, has-place, part-of, order, condition-numbers, right-places, Judged, JudgedCall}
-use Rattle.refusal.specs.Refusal.{counted-refusal, count-of}
+use Rattle.refusal.specs.Refusal.{Condition, plain, First, has-place, part-of, order, condition-numbers, right-places, JudgedCall, counted-refusal, count-of}
 use Rattle.refusal.proofs.{Refusals.{plain-first, judged, first-then, or-else-none}, Answers.{counted-judged, counted-put}}
 use Rattle.values.specs.{declared.ValueKind.the-variants.{Numbered}, Setup.{Setup, setup, setup-conditions, kind-conditions}}
 use Rattle.machines.specs.TableBytes.{table-bytes, entry-bytes, machine-of}
@@ -17,71 +16,31 @@ use Rattle.machines.proofs.TableRefusals.{accepted-table}
 use Rattle.synthesis.specs.TableOfRule.{pair-conditions, IsRuleTable}
 use Rattle.synthesis.proofs.CompileClaims.{printed-table}
 use Rattle.text_format.specs.Format.{Outcome, contents, refused}
-use Rattle.channel_file.specs.ChannelFile.{Token, Contents, text, Shows, encoded, node-numbers, rule-numbers}
-use Rattle.channel_file.specs.Reading.{AnswersFile, read-file}
-use Rattle.channel_file.proofs.{Claims.{answer-claim, shown}, TextDemands.{one-contents, shows-or-not}}
+use Rattle.channel_file.specs.{ChannelFile.{Token, Contents, text, encoded, node-numbers, rule-numbers}, Reading.{read-file}}
+use Rattle.channel_file.proofs.Claims.{shown}
 use Rattle.channel_writer.specs.Writing.{with-token, node-tokens}
 use Rattle.channel_writer.proofs.Claims.{node-claim}
-use Rattle.channel_io.specs.declared.{FileNumbers.{FileNumbers}, FileRead.{FileRead}, FileTable.{FileTable}}
-use Rattle.channel_io.specs.declared.FileTable.the-variants.{Made, Refused as Unmade}
-use Rattle.channel_io.specs.FileConditions.{file-setup, read-conditions, file-conditions}
-use Rattle.channel_io.specs.FileAnswers.{TextConditions, of-contents, no-contents, JudgedText, refusal-read, numbers-read, refusal-made, table-made}
-use Rattle.channel_io.specs.FileAnswers.{numbers, file-numbers, ReadsAs, MakesTableOf, IsFileOf, write-file-conditions, WritesAs}
+use Rattle.channel_io.specs.{declared.FileNumbers.{FileNumbers}, declared.FileRead.{FileRead}, declared.FileTable.{FileTable}}
+use Rattle.channel_io.specs.{declared.FileTable.the-variants.{Made, Refused as Unmade}, FileConditions.{file-setup, read-conditions, file-conditions}}
+use Rattle.channel_io.specs.FileAnswers.{JudgedText, refusal-read, numbers-read, refusal-made, table-made, numbers, file-numbers, ReadsAs, MakesTableOf}
+use Rattle.channel_io.specs.FileAnswers.{IsFileOf, write-file-conditions, WritesAs}
 use Rattle.channel_io.specs.FileJudgement.{file-text}
-use Rattle.channel_io.specs.FileRefusals.{pair-refusal, stored-refusal, contents-refusal, contents-read-refusal, file-states, file-table}
-use Rattle.channel_io.specs.FileRefusals.{file-refusal, text-refusal, write-refusal}
+use Rattle.channel_io.specs.FileRefusals.{pair-refusal, stored-refusal, contents-refusal, contents-read-refusal, file-states, file-table, file-refusal}
+use Rattle.channel_io.specs.FileRefusals.{text-refusal, write-refusal}
 use Rattle.channel_io.specs.FileReading.{accepted-or, read-answer, meet-after, rule-after, Reads}
-use Rattle.channel_io.specs.FileCompilation.{made-or, compile-answer, entries-after, table-after, CompilesFile}
-use Rattle.channel_io.specs.FileWriting.{WritesFile}
-use Rattle.channel_io.proofs.Claims.{pair-first, not-off-form, off-form-first, read-first, file-first, file-table-made, file-table-accepted}
-use Rattle.channel_io.proofs.{ShownBytes.{numbers-length}, Callers.{front-taken, made-of}}
-use Rattle.channel_io.proofs.{WriteAnswers.{textual}, WriteClaims.{written, write-claim}}
+use Rattle.channel_io.specs.{FileCompilation.{made-or, compile-answer, entries-after, table-after, CompilesFile}, FileWriting.{WritesFile}}
+use Rattle.channel_io.proofs.{TextCalls.{text-call}, Claims.{pair-first, read-first, file-first, file-table-made, file-table-accepted}}
+use Rattle.channel_io.proofs.{ShownBytes.{numbers-length}, Callers.{front-taken, made-of}, WriteAnswers.{textual}, WriteClaims.{written, write-claim}}
 
 -- ---- a call on a text is judged by what the text shows
 
-module _ (conditions : Contents → List Condition) (refusal : Contents → Option Refusal) (first : (c : Contents) → First (conditions c) (refusal c))
-    (ordered : (c : Contents) → part-of (4 ∷ condition-numbers (conditions c)) order ≡ true) (placed : (c : Contents) → right-places (conditions c) ≡ true)
-    (t : List ℕ) where
-  listed : (cs : List Condition) × TextConditions t conditions cs
-  listed = go (shows-or-not t)
-    where
-      go : ((c : Contents) × Shows c t) ⊎ ((c : Contents) → ¬ Shows c t) → (cs : List Condition) × TextConditions t conditions cs
-      go (inl (c, s)) = (_, of-contents c s)
-      go (inr n) = (_, no-contents n)
-
-  -- a text that 4 refuses is refused whatever it shows; any other shows what was read of it
-  listed-first : (x : Outcome Contents) → AnswersFile t x → (cs : List Condition) → TextConditions t conditions cs → First cs (text-refusal refusal x)
-  unfolding text-refusal First
-  listed-first (contents c) a cs (of-contents d s) =
-      inr (not-off-form t c a, subst (λ (z : Contents). First (conditions z) (refusal c)) (one-contents t c d (a .1) s) (first c))
-  listed-first (contents c) a cs (no-contents n) = absurd (n c (a .1))
-  listed-first (refused p) a cs (of-contents d s) = off-form-first t p a (conditions d)
-  listed-first (refused p) a cs (no-contents n) = off-form-first t p a []
-
-  listed-order : (cs : List Condition) → TextConditions t conditions cs → part-of (condition-numbers cs) order ≡ true
-  unfolding condition-numbers part-of order
-  listed-order cs (of-contents d s) = ordered d
-  listed-order cs (no-contents n) = refl
-
-  listed-places : (cs : List Condition) → TextConditions t conditions cs → right-places cs ≡ true
-  unfolding right-places has-place
-  listed-places cs (of-contents d s) = placed d
-  listed-places cs (no-contents n) = refl
-
-  judged-text :
-      {M : Type 0} {before after : M} {answer : Option Refusal} → answer ≡ text-refusal refusal (read-file t)
-      → ((q : Refusal) → text-refusal refusal (read-file t) ≡ some q → after ≡ before) → JudgedText t conditions answer before after
-  judged-text is kept =
-      record {
-        listed = listed;
-        judged = λ cs l.
-            record {
-              judged =
-                  subst (Judged cs) (sym is)
-                  (judged cs (text-refusal refusal (read-file t)) (listed-first (read-file t) (answer-claim t) cs l) (listed-order cs l) (listed-places cs l));
-              kept = λ q e. kept q (sym is ∙ e);
-            };
-      }
+judged-text :
+    (conditions : Contents → List Condition) (refusal : Contents → Option Refusal) → ((c : Contents) → First (conditions c) (refusal c)) →
+    ((c : Contents) → part-of (4 ∷ condition-numbers (conditions c)) order ≡ true) → ((c : Contents) → right-places (conditions c) ≡ true) →
+    (t : List ℕ) {M : Type 0} {before after : M} {answer : Option Refusal} → answer ≡ text-refusal refusal (read-file t) →
+    ((q : Refusal) → text-refusal refusal (read-file t) ≡ some q → after ≡ before) → JudgedText t conditions answer before after
+judged-text conditions refusal first ordered placed t {M} {before} {after} is kept =
+    subst⁻¹ (λ (a : Option Refusal). JudgedText t conditions a before after) is (text-call conditions t refusal first before after ordered placed kept)
 
 -- ---- a file is read
 

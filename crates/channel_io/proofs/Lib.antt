@@ -4,6 +4,7 @@ pub mod Clamping
 pub mod ShownBytes
 pub mod Pairs
 pub mod TablePairs
+pub mod TextCalls
 pub mod Claims
 pub mod Callers
 pub mod WriteAnswers

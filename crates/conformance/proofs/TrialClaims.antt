@@ -32,7 +32,7 @@ use Rattle.conformance.specs.Claims.{TrialRefusalClaim, RefusedClaim, Pa
 use Rattle.conformance.proofs.Trials.{Sound, sound, all-pairs}
 
 -- Tests that decide.
-true-iff : (b : Bool) → T b ↔ (b ≡ true)
+pub true-iff : (b : Bool) → T b ↔ (b ≡ true)
 true-iff true = ((λ h. refl), λ e. tt)
 true-iff false = ((λ h. absurd h), λ e. subst⁻¹ T e tt)
 
@@ -43,7 +43,7 @@ passed-none none none e = (refl, refl)
 passed-none none (some w) e = absurd e
 passed-none (some r) w e = absurd e
 
-failed-some :
+pub failed-some :
     (o : Option Refusal) (f : Option (List ℕ)) (n : ℕ) → word-length (answer-unless o f) ≡ some n →
     (o ≡ none) × ((w : List ℕ) × (f ≡ some w) × (length w ≡ n))
 unfolding answer-unless outcome
@@ -51,7 +51,7 @@ failed-some none none n e = let c : _≡_ {A = ℕ} 0 1 = cc in absurd (omega ar
 failed-some none (some w) n e = (refl, (w, refl, cc))
 failed-some (some r) f n e = let c : _≡_ {A = ℕ} 0 1 = cc in absurd (omega arith)
 
-refusal-same : (o : Option Refusal) (f : Option (List ℕ)) → refusal-of (answer-unless o f) ≡ o
+pub refusal-same : (o : Option Refusal) (f : Option (List ℕ)) → refusal-of (answer-unless o f) ≡ o
 unfolding answer-unless outcome
 refusal-same none none = refl
 refusal-same none (some w) = refl

@@ -1,6 +1,6 @@
 -- The claims on codes, on replay and on trial.
-use mathlib.Core.{Path.{_≡_, refl, sym, _∙_, ap, subst}, Option.{Option, none, some}, List.{List, [], _∷_}}
-use Prim.Native.Nat.{ℕ, zero, suc, _/_, _%_, _<_}
+use mathlib.Core.{Path.{_≡_, refl, sym, _∙_, ap, subst}, Bool.{Bool, cond}, Option.{Option, none, some, Option·some-ne-none}, List.{List, [], _∷_}}
+use Prim.Native.Nat.{ℕ, zero, suc, _+_, _*_, _/_, _%_, _≤_, _<_}
 use native.Mathlib.{Nat.{not-suc-le-zero, le-of-suc-le-suc}, Omega.{arith}}
 use borrow.Author.Tests.{ltb-true, ltb-false, leb-true, leb-false}
 use lib.{Dec.{leb, ltb}, ListN.{length, getD, take}}
@@ -10,10 +10,10 @@ use Rattle.theory.specs.MealyMachine.{Word}
 use Rattle.theory.specs.ValueSetTests.{every}
 use Rattle.theory.specs.ValueSets.{Below}
 use Rattle.theory.specs.Semantics.{Answers}
-use Rattle.refusal.specs.declared.Refusal.{Refusal}
-use Rattle.refusal.specs.declared.Refusal.the-variants.{Plain, At}
-use Rattle.refusal.specs.Refusal.{First, plain, number, has-place, part-of, order, condition-numbers, right-places}
-use Rattle.refusal.specs.RefusalAnswers.{or-else, plain-unless}
+use Rattle.refusal.specs.declared.{Refusal.{Refusal}, Counted.{Counted}}
+use Rattle.refusal.specs.declared.{Refusal.the-variants.{Plain, At}, Counted.the-variants.{Count, Refused as Uncounted}}
+use Rattle.refusal.specs.Refusal.{First, plain, number, place, has-place, part-of, order, condition-numbers, right-places, counted-refusal}
+use Rattle.refusal.specs.{RefusalAnswers.{or-else, plain-unless}, RefusalClaims.{ListedRefusal}}
 use Rattle.refusal.proofs.Refusals.{or-else-none, plain-none, plain-first, first-then, first-append, first-unique, judged}
 use Rattle.values.specs.{ValueKind.{meetOf}, Setup.{setup-meet, setup-conditions, kind-conditions}, SetupTests.{setup-refusal}}
 use Rattle.values.specs.declared.ValueKind.the-variants.{Numbered}
@@ -24,33 +24,121 @@ use Rattle.machines.proofs.TableRefusals.{table-refusal-first}
 use Rattle.channel_io.specs.FileConditions.{file-setup}
 use Rattle.channel_io.specs.FileRefusals.{pair-table-refusal, file-states, file-table, contents-table-refusal}
 use Rattle.channel_io.specs.FileConditions.{contents-table-conditions}
-use Rattle.conformance.specs.Trial.{input, Passed}
+use Rattle.conformance.specs.declared.Verdict.{Verdict}
+use Rattle.conformance.specs.declared.Verdict.the-variants.{Pass, Fail, Refused}
+use Rattle.conformance.specs.Trial.{input, refusal-of, Passed, word-length}
 use Rattle.conformance.specs.TrialAnswer.{tables-refusal, trial-refusal, trial-answer, first-failure, answer-unless}
 use Rattle.conformance.proofs.TrialClaims.{trial-satisfies}
 use Rattle.channel_io.proofs.Claims.{contents-table-claim, file-table-made, file-table-accepted}
-use Rattle.gurvazze_host.specs.Codes.{refusal-code, yield-code, code}
+use Rattle.gurvazze_host.specs.Codes.{refusal-code, yield-code, code, counted-code, verdict-code, table-numbers, SmallNumbers}
 use Rattle.gurvazze_host.specs.FileCalls.{file-machine, word-refusal, replay-refusal, file-trial, file-trial-refusal, file-trial-answer}
-use Rattle.gurvazze_host.specs.Claims.{CodeClaim, replay-conditions, file-trial-conditions, ReplayRefusalClaim, ReplayClaim, FileTrialRefusalClaim}
-use Rattle.gurvazze_host.specs.Claims.{FileTrialClaim}
+use Rattle.gurvazze_host.specs.Claims.{TellsRefusal, TellsCount, TellsVerdict, TellsNumbers, ListedAnswer, CodeClaim, replay-conditions, replay-order}
+use Rattle.gurvazze_host.specs.Claims.{file-trial-conditions, ReplayRefusalClaim, ReplayClaim, FileTrialRefusalClaim, FileTrialClaim}
 
-low-byte : (r : Refusal) → number r < 256 → refusal-code r % 256 ≡ number r
-unfolding refusal-code number
-low-byte (Plain n) h = omega arith
-low-byte (At n p) h = omega arith
+-- ---- codes
 
-above : (n p : ℕ) → n < 256 → refusal-code (At n p) / 256 ≡ p
-unfolding refusal-code
-above n p h = omega arith
+same-refusal : (r s : Refusal) → some r ≡ some s → r ≡ s
+same-refusal r s e = cc
+
+-- A refusal's code, by its number and place.
+refused-code : (n p x : ℕ) → n ≤ 25 → x ≡ p * 256 + n → (x % 256 ≡ n) × (x / 256 ≡ p)
+refused-code n p x h e = (omega arith, omega arith)
+
+refusal-told : (r : Refusal) → ListedRefusal r → TellsRefusal (some r) (refusal-code r)
+unfolding refusal-code number place
+refusal-told (Plain n) l =
+    let k : n % 256 ≡ n = omega (arith, l .last-number) in
+    record {
+      accepted = (λ e. absurd (Option·some-ne-none (Plain n) e), λ e. absurd (omega (arith, l .some-number, k, e)));
+      number-is = λ s e. ap number (sym (same-refusal (Plain n) s e)) ∙ sym k;
+      place-is = λ s e.
+          ap place (sym (same-refusal (Plain n) s e))
+          ∙ sym (ap (λ (b : Bool). cond b (some (n / 256)) none) (ap has-place k ∙ l .without-place refl));
+    }
+refusal-told (At n p) l =
+    let k = refused-code n p (p * 256 + n) (l .last-number) refl in
+    record {
+      accepted = (λ e. absurd (Option·some-ne-none (At n p) e), λ e. absurd (omega (arith, l .some-number, k .0, e)));
+      number-is = λ s e. ap number (sym (same-refusal (At n p) s e)) ∙ sym (k .0);
+      place-is = λ s e.
+          ap place (sym (same-refusal (At n p) s e))
+          ∙ sym (ap (λ (b : Bool). cond b (some ((p * 256 + n) / 256)) none) (ap has-place (k .0) ∙ l .with-place p refl) ∙ ap some (k .1));
+    }
+
+accepted-told : (x : ℕ) → x % 256 ≡ 0 → TellsRefusal none x
+accepted-told x h =
+    record {
+      accepted = (λ e. h, λ e. refl);
+      number-is = λ s e. absurd (Option·some-ne-none s (sym e));
+      place-is = λ s e. absurd (Option·some-ne-none s (sym e));
+    }
+
+-- A refusal's low byte is not 0, so that it is no count and no word.
+not-accepted : (r : Refusal) → ListedRefusal r → refusal-code r % 256 ≡ 0 → ⊥
+not-accepted r l e = Option·some-ne-none r (refusal-told r l .accepted .1 e)
+
+refusals-told : (answer : Option Refusal) (yield : ℕ) → ListedAnswer answer → TellsRefusal answer (code answer yield)
+unfolding code yield-code
+refusals-told none yield l = accepted-told (yield * 256) (omega arith)
+refusals-told (some r) yield l = refusal-told r (l r refl)
+
+yields-told : (answer : Option Refusal) (yield : ℕ) → answer ≡ none → code answer yield / 256 ≡ yield
+unfolding code yield-code
+yields-told none yield e = omega arith
+yields-told (some r) yield e = absurd (Option·some-ne-none r e)
+
+counts-told : (answer : Counted) → ListedAnswer (counted-refusal answer) → TellsCount answer (counted-code answer)
+unfolding counted-code yield-code
+counts-told (Count k) l =
+    record {
+      refusal = accepted-told (k * 256) (omega arith);
+      count-is = λ n. ((λ e. let z : k ≡ n = cc in (omega arith, omega arith)), λ h. let z : k ≡ n = omega (arith, h .1) in ap some z);
+    }
+counts-told (Uncounted r) l =
+    record {
+      refusal = refusal-told r (l r refl);
+      count-is = λ n. ((λ e. absurd (Option·some-ne-none n (sym e))), λ h. absurd (not-accepted r (l r refl) (h .0)));
+    }
+
+verdicts-told :
+    (answer : Verdict) → ListedAnswer (refusal-of answer) → ((n : ℕ) → word-length answer ≡ some n → 1 ≤ n) → TellsVerdict answer (verdict-code answer)
+unfolding verdict-code yield-code
+verdicts-told Pass l w =
+    record {
+      refusal = accepted-told 0 refl;
+      passed = (λ h. refl, λ e. tt);
+      word-length-is = λ n. ((λ e. absurd (Option·some-ne-none n (sym e))), λ h. absurd (omega (arith, h .1, h .2)));
+    }
+verdicts-told (Fail k) l w =
+    record {
+      refusal = accepted-told (k * 256) (omega arith);
+      passed = (λ h. absurd h, λ e. absurd (omega (arith, w k refl, e)));
+      word-length-is = λ n. (
+        (λ e. let z : k ≡ n = cc in (omega arith, omega arith, omega (arith, w k refl))),
+        λ h. let z : k ≡ n = omega (arith, h .1) in ap some z,
+      );
+    }
+verdicts-told (Refused r) l w =
+    record {
+      refusal = refusal-told r (l r refl);
+      passed = (λ h. absurd h, λ e. absurd (not-accepted r (l r refl) (ap (λ x. x % 256) e)));
+      word-length-is = λ n. ((λ e. absurd (Option·some-ne-none n (sym e))), λ h. absurd (not-accepted r (l r refl) (h .0)));
+    }
+
+numbers-told :
+    (states events values top : ℕ) → SmallNumbers states events values top → TellsNumbers states events values top (table-numbers states events values top)
+unfolding table-numbers
+numbers-told states events values top s =
+    record {
+      states-are = omega (arith, s .few-states, s .few-events, s .few-values, s .top-in);
+      events-are = omega (arith, s .few-states, s .few-events, s .few-values, s .top-in);
+      values-are = omega (arith, s .few-states, s .few-events, s .few-values, s .top-in);
+      top-is = omega (arith, s .few-states, s .few-events, s .few-values, s .top-in);
+    }
 
 pub code-claim : CodeClaim
-unfolding code yield-code
 code-claim =
-    record {
-      number-is = λ r yield h. low-byte r h;
-      place-is = λ n p yield h. above n p h;
-      accepted = λ yield. omega arith;
-      yield-is = λ yield. omega arith;
-    }
+    record { refusals = refusals-told; yields = yields-told; counts = counts-told; verdicts = verdicts-told; numbers = numbers-told }
 
 -- ---- replay
 
@@ -103,8 +191,14 @@ replay-first c word old =
     (λ e h. let l = leb-true (length word) (length old) e in omega arith)))
 
 pub replay-refusal-claim : ReplayRefusalClaim
-replay-refusal-claim =
-    record { first = replay-first; only = λ c word old answer x. first-unique _ answer (replay-refusal c word old) x (replay-first c word old) }
+unfolding setup-conditions kind-conditions condition-numbers right-places has-place part-of replay-order
+replay-refusal-claim c word old =
+    record {
+      first = replay-first c word old;
+      only = λ other x. first-unique _ other (replay-refusal c word old) x (replay-first c word old);
+      ordered = refl;
+      placed = refl;
+    }
 
 -- ---- trial
 

@@ -1,26 +1,72 @@
--- What is claimed of the codes, of replay and of trial; each claim is inhabited in proofs/.
-use mathlib.Core.{Path.{_≡_}, Logic.{_↔_}, List.{List, [], _∷_, _++_}, Option.{Option, none, some}}
-use Prim.Native.Nat.{ℕ, _/_, _%_, _<_}
+-- What is claimed of the codes and of each exported function; each claim is inhabited in proofs/Claims and proofs/HostClaims.
+use mathlib.Core.{Path.{_≡_}, Logic.{_↔_}, Bool.{true, cond}, List.{List, [], _∷_, _++_}, Option.{Option, none, some}}
+use Prim.Native.Nat.{ℕ, _/_, _%_, _^_, _≤_, _<_}
 use lib.ListN.{length, getD, take}
-use Rattle.theory.specs.{ValueSets.{Below}, Formula.{Formula}, Semantics.{Answers}, MealyMachine.{Word}, MachineRuns.{word-values}}
+use Rattle.theory.specs.{ValueSets.{Below}, Formula.{Formula, size}, Semantics.{Answers}, MealyMachine.{Machine, Word}, MachineRuns.{word-values}}
 use Rattle.theory.specs.TableSatisfaction.{TableSatisfies}
-use Rattle.refusal.specs.{declared.Refusal.{Refusal}, declared.Refusal.the-variants.{At}, Refusal.{Condition, number, plain, First, Judged}}
-use Rattle.formulas.specs.Claims.{AcceptedFormula}
+use Rattle.refusal.specs.{declared.Refusal.{Refusal}, declared.Counted.{Counted}, LentBuffers.{put}, RefusalClaims.{ListedRefusal}}
+use Rattle.refusal.specs.Refusal.{Condition, plain, number, place, has-place, First, part-of, condition-numbers, right-places, Judged, JudgedCall}
+use Rattle.refusal.specs.Refusal.{counted-refusal, count-of}
+use Rattle.formulas.specs.{NodeBytes.{encode-formula, node-bytes}, Claims.{AcceptedFormula}}
 use Rattle.text_format.specs.Format.{contents}
-use Rattle.channel_file.specs.ChannelFile.{Contents, rule-numbers}
-use Rattle.machines.specs.TableBytes.{machine-of, table-condition}
-use Rattle.values.specs.{declared.ValueKind.the-variants.{Numbered}, Setup.{setup-meet}}
-use Rattle.conformance.specs.Trial.{Passed}
-use Rattle.channel_io.specs.FileConditions.{contents-table-conditions, file-setup}
-use Rattle.gurvazze_host.specs.{Codes.{code}, FileCalls.{file-machine, replay-refusal, file-trial-refusal, file-trial-answer}}
-use Rattle.limits.specs.Limits.{device-limit, word-limit}
+use Rattle.channel_file.specs.{ChannelFile.{Contents, Shows, rule-numbers}, Reading.{read-file}}
+use Rattle.machines.specs.TableBytes.{table-bytes, entry-bytes, machine-of, table-condition}
+use Rattle.values.specs.{declared.ValueKind.the-variants.{Numbered}, Setup.{Setup, setup-meet}}
+use Rattle.synthesis.specs.TableOfRule.{compile-conditions, IsRuleTable}
+use Rattle.characteristic.specs.{RuleOfTable.{write-conditions}, RuleWriting.{write-answer, write-contents}, Claims.{RuleWritten}}
+use Rattle.conformance.specs.declared.Verdict.{Verdict}
+use Rattle.conformance.specs.Trial.{TrialInput, input, Passes, trial-conditions, FailsBy, refusal-of, Passed, word-length}
+use Rattle.conformance.specs.TrialAnswer.{trial-answer, trial-buffer}
+use Rattle.channel_io.specs.{FileConditions.{contents-table-conditions, file-setup}, FileAnswers.{TextConditions, JudgedText}}
+use Rattle.gurvazze_host.specs.Codes.{code, counted-code, verdict-code, table-numbers, SmallNumbers}
+use Rattle.gurvazze_host.specs.FileCalls.{file-machine, replay-refusal, file-trial-refusal, file-trial-answer, file-trial-buffer}
+use Rattle.gurvazze_host.specs.FileCalls.{table-code, table-after, replay-code, replay-after}
+use Rattle.limits.specs.Limits.{state-limit, device-limit, table-limit, word-limit, node-limit}
 
--- A code says all of an answer: the refusal's number, its place, and what the call yields.
+-- ---- what a caller reads from a code
+
+-- The low byte is 0 exactly if nothing is refused. Else it is the refusal's number, and the place, if that number has one, stands
+-- above it.
+pub record TellsRefusal (answer : Option Refusal) (r : ℕ) : Type 0 where
+  pub accepted : (answer ≡ none) ↔ (r % 256 ≡ 0)
+  pub number-is : (refusal : Refusal) → answer ≡ some refusal → number refusal ≡ r % 256
+  pub place-is : (refusal : Refusal) → answer ≡ some refusal → place refusal ≡ cond (has-place (r % 256)) (some (r / 256)) none
+
+-- Beside no refusal, the count stands above the low byte.
+pub record TellsCount (answer : Counted) (r : ℕ) : Type 0 where
+  pub refusal : TellsRefusal (counted-refusal answer) r
+  pub count-is : (n : ℕ) → (count-of answer ≡ some n) ↔ ((r % 256 ≡ 0) × (r / 256 ≡ n))
+
+-- So does the length of a failing word, which is not 0; 0 alone says that the device passed.
+pub record TellsVerdict (answer : Verdict) (r : ℕ) : Type 0 where
+  pub refusal : TellsRefusal (refusal-of answer) r
+  pub passed : Passed answer ↔ (r ≡ 0)
+  pub word-length-is : (n : ℕ) → (word-length answer ≡ some n) ↔ ((r % 256 ≡ 0) × (r / 256 ≡ n) × (1 ≤ n))
+
+-- The numbers of a table, from what stands above the low byte.
+pub record TellsNumbers (states events values top x : ℕ) : Type 0 where
+  pub states-are : x % 2 ^ 16 ≡ states
+  pub events-are : x / 2 ^ 16 % 2 ^ 8 ≡ events
+  pub values-are : x / 2 ^ 24 % 2 ^ 8 ≡ values
+  pub top-is : x / 2 ^ 32 ≡ top
+
+-- An answer whose refusal, if it has one, is of the list: its number is not 0 and fits a byte (refusal's ListedRefusalClaim).
+abbrev pub ListedAnswer : Option Refusal → Type 0
+ListedAnswer answer = (refusal : Refusal) → answer ≡ some refusal → ListedRefusal refusal
+
+-- A code says all of an answer.
 pub record CodeClaim : Type 0 where
-  pub number-is : (r : Refusal) (yield : ℕ) → number r < 256 → code (some r) yield % 256 ≡ number r
-  pub place-is : (n p yield : ℕ) → n < 256 → code (some (At n p)) yield / 256 ≡ p
-  pub accepted : (yield : ℕ) → code none yield % 256 ≡ 0
-  pub yield-is : (yield : ℕ) → code none yield / 256 ≡ yield
+  pub refusals : (answer : Option Refusal) (yield : ℕ) → ListedAnswer answer → TellsRefusal answer (code answer yield)
+  pub yields : (answer : Option Refusal) (yield : ℕ) → answer ≡ none → code answer yield / 256 ≡ yield
+  pub counts : (answer : Counted) → ListedAnswer (counted-refusal answer) → TellsCount answer (counted-code answer)
+  pub verdicts :
+      (answer : Verdict) → ListedAnswer (refusal-of answer) → ((n : ℕ) → word-length answer ≡ some n → 1 ≤ n) →
+      TellsVerdict answer (verdict-code answer)
+  pub numbers :
+      (states events values top : ℕ) → SmallNumbers states events values top →
+      TellsNumbers states events values top (table-numbers states events values top)
+
+-- ---- events replayed by a file's rule
 
 -- The conditions of a replay: those of the table of a file's rule, 1 to 3 and 5 to 10; then 16, which the file's event count decides;
 -- then 13.
@@ -28,12 +74,20 @@ abbrev pub replay-conditions : Contents → List ℕ → List ℕ → List Condi
 replay-conditions c word old =
     contents-table-conditions c ++ (plain 16 (¬ Word (c .events) word) ∷ plain 13 (length old < length word) ∷ [])
 
--- The first of them is the answer, and the only one. They stand in an order of their own: a tool has its set-up before its events,
--- but without the file's rule there are no events to be too large for.
-pub record ReplayRefusalClaim : Type 0 where
-  pub first : (c : Contents) (word old : List ℕ) → First (replay-conditions c word old) (replay-refusal c word old)
-  pub only :
-      (c : Contents) (word old : List ℕ) (answer : Option Refusal) → First (replay-conditions c word old) answer → answer ≡ replay-refusal c word old
+-- They stand in an order of their own: a tool has its set-up before its events, but without the file's rule there are no events to be
+-- too large for. So 16 stands behind 10, and not before 4 as in document 01's order.
+unfoldable pub replay-order : List ℕ
+replay-order = 4 ∷ 1 ∷ 2 ∷ 3 ∷ 5 ∷ 6 ∷ 7 ∷ 8 ∷ 9 ∷ 10 ∷ 16 ∷ 13 ∷ []
+
+-- What refusal's Judged says, in that order.
+pub record JudgedReplay (cs : List Condition) (answer : Option Refusal) : Type 0 where
+  pub first : First cs answer
+  pub only : (other : Option Refusal) → First cs other → other ≡ answer
+  pub ordered : part-of (condition-numbers cs) replay-order ≡ true
+  pub placed : right-places cs ≡ true
+
+abbrev pub ReplayRefusalClaim : Type 0
+ReplayRefusalClaim = (c : Contents) (word old : List ℕ) → JudgedReplay (replay-conditions c word old) (replay-refusal c word old)
 
 -- The values that a replay writes are the rule's: on each event its value after the events before it, by followers (`Answers`).
 pub record Replayed (c : Contents) (word : List ℕ) : Type 0 where
@@ -46,6 +100,8 @@ pub record Replayed (c : Contents) (word : List ℕ) : Type 0 where
 
 abbrev pub ReplayClaim : Type 0
 ReplayClaim = (c : Contents) (word old : List ℕ) → replay-refusal c word old ≡ none → Replayed c word
+
+-- ---- trial against a file's rule
 
 -- The conditions of a trial against a file's rule: those of the rule's table, 1 to 3 and 5 to 10; then 11 for the device; then 13.
 -- The rule's own table never meets 11.
@@ -73,3 +129,108 @@ abbrev pub FileTrialClaim : Type 0
 FileTrialClaim =
     (c : Contents) (states start : ℕ) (device old : List ℕ) → file-trial-refusal c states start device old ≡ none →
     Tried c states start device old
+
+-- ---- each exported function: the conditions that it is judged by, what its code tells, that beside a refusal the lent buffer is as
+-- before, and what an accepted call yields
+
+-- An accepted gurvazze_table: the table of the text's rule, and its numbers.
+pub record TableMade (t old new : List ℕ) (r : ℕ) : Type 0 where
+  pub inside : Contents
+  pub shown : Shows inside t
+  pub states : ℕ
+  pub table : Machine ℕ ℕ
+  pub is-table : IsRuleTable (file-setup inside) (rule-numbers inside) states table
+  pub table-put : new ≡ put (table-bytes (entry-bytes (Numbered (inside .values))) (inside .events) table states) old
+  pub numbers : TellsNumbers states (inside .events) (inside .values) (inside .top) (r / 256)
+
+-- 4, 1 to 3, 5 to 10, 13.
+pub record TableCall (t old new : List ℕ) (r : ℕ) : Type 1 where
+  pub answer : Option Refusal
+  pub judged : JudgedText t (λ c. compile-conditions state-limit (file-setup c) (rule-numbers c) old) answer old new
+  pub told : TellsRefusal answer r
+  pub made : answer ≡ none → TableMade t old new r
+
+-- An accepted gurvazze_replay: the values of the text's rule, one for each event.
+pub record ReplayMade (t word old new : List ℕ) : Type 0 where
+  pub inside : Contents
+  pub shown : Shows inside t
+  pub replayed : Replayed inside word
+  pub values-put : new ≡ put (word-values (file-machine inside) 0 word) old
+
+-- 4, 1 to 3, 5 to 10, 16, 13.
+pub record ReplayCall (t word old new : List ℕ) (r : ℕ) : Type 1 where
+  pub answer : Option Refusal
+  pub listed : (cs : List Condition) × TextConditions t (λ c. replay-conditions c word old) cs
+  pub judged : (cs : List Condition) → TextConditions t (λ c. replay-conditions c word old) cs → JudgedReplay cs answer
+  pub kept : (refusal : Refusal) → answer ≡ some refusal → new ≡ old
+  pub told : TellsRefusal answer r
+  pub yields-zero : answer ≡ none → r ≡ 0
+  pub made : answer ≡ none → ReplayMade t word old new
+
+-- An accepted trial: a device passes exactly if its start is simulated, and then the word buffer is as before; else it shows the word.
+pub record TrialMade (x : TrialInput) (old new : List ℕ) (v : Verdict) : Type 1 where
+  pub passes : Passed v ↔ Passes x
+  pub kept : Passed v → new ≡ old
+  pub fails : (n : ℕ) → word-length v ≡ some n → FailsBy x word-limit old new n
+
+-- An accepted gurvazze_trial: that of the device against the table of the text's rule; it passes exactly if the device satisfies it.
+pub record FileTrialMade (t : List ℕ) (states start : ℕ) (device old new : List ℕ) (v : Verdict) : Type 1 where
+  pub inside : Contents
+  pub shown : Shows inside t
+  pub rule-states : ℕ
+  pub table : List ℕ
+  pub is-table :
+      IsRuleTable (file-setup inside) (rule-numbers inside) rule-states (machine-of (Numbered (inside .values)) (inside .events) table)
+  pub made : TrialMade (input (file-setup inside) rule-states table states start device) old new v
+  pub satisfies :
+      Passed v
+      ↔ TableSatisfies (setup-meet (file-setup inside)) states (machine-of (Numbered (inside .values)) (inside .events) device)
+      (is-table .formula) start
+
+-- 4, 1 to 3, 5 to 10, 11, 13.
+pub record FileTrialCall (t : List ℕ) (states start : ℕ) (device old new : List ℕ) (r : ℕ) : Type 1 where
+  pub answer : Verdict
+  pub judged : JudgedText t (λ c. file-trial-conditions c states start device old) (refusal-of answer) old new
+  pub told : TellsVerdict answer r
+  pub made : refusal-of answer ≡ none → FileTrialMade t states start device old new answer
+
+-- gurvazze_trial_table: 1 to 3, 11, 13.
+pub record TrialCall (x : TrialInput) (old new : List ℕ) (r : ℕ) : Type 1 where
+  pub answer : Verdict
+  pub judged : JudgedCall (trial-conditions device-limit table-limit x old) (refusal-of answer) old new
+  pub told : TellsVerdict answer r
+  pub made : refusal-of answer ≡ none → TrialMade x old new answer
+
+-- An accepted gurvazze_rule: the rule of the table, and its node count.
+pub record RuleMade (s : Setup) (start : ℕ) (table old new : List ℕ) (answer : Counted) : Type 0 where
+  pub rule : Formula ℕ
+  pub rule-written : RuleWritten s start table rule
+  pub count-is : count-of answer ≡ some (size rule)
+  pub nodes-put : new ≡ put (encode-formula (node-bytes (s .kind)) rule) old
+
+-- 1 to 3, 11, 12, 13.
+pub record RuleCall (s : Setup) (states start : ℕ) (table old new : List ℕ) (r : ℕ) : Type 1 where
+  pub answer : Counted
+  pub judged : JudgedCall (write-conditions table-limit node-limit s states start table (length old)) (counted-refusal answer) old new
+  pub told : TellsCount answer r
+  pub made : counted-refusal answer ≡ none → RuleMade s start table old new answer
+
+-- For every input of each function, and the code and the later buffer that its contract gives.
+pub record HostClaim : Type 1 where
+  pub codes : CodeClaim
+  pub gurvazze-table :
+      (t old new : List ℕ) (r : ℕ) → r ≡ table-code (read-file t) old → new ≡ table-after (read-file t) old → TableCall t old new r
+  pub gurvazze-replay :
+      (t word old new : List ℕ) (r : ℕ) → r ≡ replay-code (read-file t) word old → new ≡ replay-after (read-file t) word old →
+      ReplayCall t word old new r
+  pub gurvazze-trial :
+      (t : List ℕ) (states start : ℕ) (device old new : List ℕ) (r : ℕ) →
+      r ≡ verdict-code (file-trial-answer (read-file t) states start device old) →
+      new ≡ file-trial-buffer (read-file t) states start device old → FileTrialCall t states start device old new r
+  pub gurvazze-trial-table :
+      (x : TrialInput) (old new : List ℕ) (r : ℕ) → r ≡ verdict-code (trial-answer device-limit table-limit x old) →
+      new ≡ trial-buffer device-limit table-limit x old → TrialCall x old new r
+  pub gurvazze-rule :
+      (s : Setup) (states start : ℕ) (table old new : List ℕ) (r : ℕ) →
+      r ≡ counted-code (write-answer table-limit node-limit s states start table old) →
+      new ≡ write-contents table-limit node-limit s states start table old → RuleCall s states start table old new r

@@ -1,15 +1,19 @@
 -- There is one first refusal and one lowest place; the computing twins yield them.
-use mathlib.Core.{Path.{_≡_, refl, sym, _∙_, ap}, Logic.{inl, inr}, Bool.{Bool, true, false}, Option.{Option, none, some, Option·some-ne-none}}
-use mathlib.Core.List.{List, [], _∷_, _++_}
-use Prim.Native.Nat.{ℕ, _<_}
+use mathlib.Core.{Path.{_≡_, refl, sym, _∙_, ap, subst}, Logic.{inl, inr}, Bool.{Bool, true, false, cond, not, _&&_}}
+use mathlib.Core.{Option.{Option, none, some, Option·some-ne-none}, List.{List, [], _∷_, _++_}}
+use Prim.Native.Nat.{ℕ, _≤_, _<_}
 use native.Mathlib.Omega.{arith}
+use borrow.Author.Tests.{eqb-true, leb-true, not-true}
+use lib.Dec.{eqb, leb}
 use Rattle.refusal.specs.declared.Refusal.{Refusal}
 use Rattle.refusal.specs.declared.Refusal.the-variants.{Plain, At}
 use Rattle.refusal.specs.declared.Judgement.the-variants.{Accepted, Refused}
 use Rattle.refusal.specs.declared.Counted.the-variants.{Count, Refused as Uncounted}
-use Rattle.refusal.specs.Refusal.{Condition, plain, at-lowest, Gives, Lowest, First}
+use Rattle.refusal.specs.Refusal.{Condition, plain, at-lowest, Gives, Lowest, First, number, place, has-place, order, part-of, condition-numbers}
+use Rattle.refusal.specs.Refusal.{right-places}
 use Rattle.refusal.specs.RefusalAnswers.{or-else, plain-unless, judgement, counted}
 use Rattle.refusal.specs.RefusalClaims.{LowestUniqueClaim, FirstUniqueClaim, JudgedClaim, FirstAppendClaim, NoneMet, AcceptedClaim}
+use Rattle.refusal.specs.RefusalClaims.{ListedRefusal, ListedRefusalClaim}
 
 -- The lowest place is one, so that a condition gives one refusal at most.
 pub lowest-unique : LowestUniqueClaim
@@ -121,3 +125,84 @@ pub first-rest : (C : Condition) (cs : List Condition) (a : Option Refusal) → 
 unfolding First
 first-rest C cs a unmet (inl (r, met, e)) = absurd (unmet r met)
 first-rest C cs a unmet (inr (u, rest)) = rest
+
+-- ---- numbers and places of the refusals that a list gives
+
+-- Whether all numbers of a list are 1 to 25.
+unfoldable pub all-numbered : List ℕ → Bool
+all-numbered [] = true
+all-numbered (n ∷ ns) = (leb 1 n && leb n 25) && all-numbered ns
+
+both : (a b : Bool) → (a && b) ≡ true → (a ≡ true) × (b ≡ true)
+both true b e = (refl, e)
+both false b e = let z : _≡_ {A = ℕ} 0 1 = cc in absurd (omega arith)
+
+-- The first number of a list is one of every list that it is part of, and the others are part of that too.
+numbered-head : (m : ℕ) (ms : List ℕ) → all-numbered (m ∷ ms) ≡ true → ((1 ≤ m) × (m ≤ 25)) × (all-numbered ms ≡ true)
+unfolding all-numbered
+numbered-head m ms h =
+    let a = both (leb 1 m && leb m 25) (all-numbered ms) h in
+    let b = both (leb 1 m) (leb m 25) (a .0) in
+    ((leb-true 1 m (b .0), leb-true m 25 (b .1)), a .1)
+
+part-head : (n : ℕ) (ks ns : List ℕ) → part-of (n ∷ ks) ns ≡ true → all-numbered ns ≡ true → (1 ≤ n) × (n ≤ 25)
+unfolding part-of
+part-head n ks [] e h = let z : _≡_ {A = ℕ} 0 1 = cc in absurd (omega arith)
+part-head n ks (m ∷ ms) e h = go (eqb n m) refl e (λ d. part-head n ks ms d (numbered-head m ms h .1))
+  where
+    go : (b : Bool) → eqb n m ≡ b → cond b (part-of ks ms) (part-of (n ∷ ks) ms) ≡ true → (part-of (n ∷ ks) ms ≡ true → (1 ≤ n) × (n ≤ 25))
+        → (1 ≤ n) × (n ≤ 25)
+    go true q d later = let w = numbered-head m ms h .0 in subst (λ x. (1 ≤ x) × (x ≤ 25)) (sym (eqb-true n m q)) w
+    go false q d later = later d
+
+part-rest : (n : ℕ) (ks ns : List ℕ) → part-of (n ∷ ks) ns ≡ true → part-of ks ns ≡ true
+unfolding part-of
+part-rest n ks [] e = let z : _≡_ {A = ℕ} 0 1 = cc in absurd (omega arith)
+part-rest n ks (m ∷ ms) e = go (eqb n m) e (λ k js d. part-rest k js ms d)
+  where
+    longer : (js : List ℕ) → part-of js ms ≡ true → ((k : ℕ) (is : List ℕ) → part-of (k ∷ is) ms ≡ true → part-of is ms ≡ true)
+        → part-of js (m ∷ ms) ≡ true
+    longer [] d rest = refl
+    longer (j ∷ js) d rest = pick (eqb j m)
+      where
+        pick : (b : Bool) → cond b (part-of js ms) (part-of (j ∷ js) ms) ≡ true
+        pick true = rest j js d
+        pick false = d
+
+    go : (b : Bool) → cond b (part-of ks ms) (part-of (n ∷ ks) ms) ≡ true → ((k : ℕ) (is : List ℕ) → part-of (k ∷ is) ms ≡ true → part-of is ms ≡ true)
+        → part-of ks (m ∷ ms) ≡ true
+    go true d rest = longer ks d rest
+    go false d rest = longer ks (rest n ks d) rest
+
+listed-plain : (n : ℕ) → (1 ≤ n) × (n ≤ 25) → has-place n ≡ false → ListedRefusal (Plain n)
+unfolding number place
+listed-plain n h e =
+    record { some-number = h .0; last-number = h .1; with-place = λ p d. absurd (Option·some-ne-none p (sym d)); without-place = λ d. e }
+
+listed-at : (n p : ℕ) → (1 ≤ n) × (n ≤ 25) → has-place n ≡ true → ListedRefusal (At n p)
+unfolding number place
+listed-at n p h e =
+    record { some-number = h .0; last-number = h .1; with-place = λ q d. e; without-place = λ d. absurd (Option·some-ne-none p d) }
+
+-- The refusal that conditions give whose numbers are part of such a list.
+pub listed-by :
+    (ns : List ℕ) → all-numbered ns ≡ true → (cs : List Condition) (r : Refusal) → First cs (some r) → part-of (condition-numbers cs) ns ≡ true
+    → right-places cs ≡ true → ListedRefusal r
+unfolding First condition-numbers right-places
+listed-by ns h [] r x o p = absurd (Option·some-ne-none r x)
+listed-by ns h (plain n Met ∷ cs) r (inl (s, (met, is), d)) o p =
+    let e : s ≡ r = cc in
+    let q = both (not (has-place n)) (right-places cs) p .0 in
+    subst ListedRefusal (sym is ∙ e) (listed-plain n (part-head n (condition-numbers cs) ns o h) (not-true (has-place n) q))
+listed-by ns h (plain n Met ∷ cs) r (inr (unmet, x)) o p =
+    listed-by ns h cs r x (part-rest n (condition-numbers cs) ns o) (both (not (has-place n)) (right-places cs) p .1)
+listed-by ns h (at-lowest n Met ∷ cs) r (inl (s, (i, l, is), d)) o p =
+    let e : s ≡ r = cc in
+    subst ListedRefusal (sym is ∙ e)
+    (listed-at n i (part-head n (condition-numbers cs) ns o h) (both (has-place n) (right-places cs) p .0))
+listed-by ns h (at-lowest n Met ∷ cs) r (inr (unmet, x)) o p =
+    listed-by ns h cs r x (part-rest n (condition-numbers cs) ns o) (both (has-place n) (right-places cs) p .1)
+
+pub listed-refusal : ListedRefusalClaim
+unfolding all-numbered order
+listed-refusal cs r j = listed-by order refl cs r (j .first) (j .ordered) (j .placed)

@@ -1,8 +1,9 @@
 -- What is claimed of the first refusal of a list of conditions: there is one answer, and lists may be judged one after the other.
-use mathlib.Core.{Path.{_≡_}, Logic.{_↔_}, Bool.{true}, Option.{Option, none}, List.{List, [], _∷_, _++_}}
-use Prim.Native.Nat.{ℕ}
+use mathlib.Core.{Path.{_≡_}, Logic.{_↔_}, Bool.{true, false}, Option.{Option, none, some}, List.{List, [], _∷_, _++_}}
+use Prim.Native.Nat.{ℕ, _≤_}
 use Rattle.refusal.specs.declared.Refusal.{Refusal}
 use Rattle.refusal.specs.{Refusal.{order, Condition, Gives, Lowest, First, part-of, condition-numbers, right-places, Judged}, RefusalAnswers.{or-else}}
+use Rattle.refusal.specs.Refusal.{number, place, has-place}
 
 -- There is at most one lowest place.
 abbrev pub LowestUniqueClaim : Type 1
@@ -30,3 +31,14 @@ NoneMet (C ∷ cs) = ((refusal : Refusal) → ¬ Gives C refusal) × NoneMet cs
 
 abbrev pub AcceptedClaim : Type 1
 AcceptedClaim = (cs : List Condition) (a : Option Refusal) → First cs a → (a ≡ none) ↔ NoneMet cs
+
+-- A refusal of the list: its number is 1 to 25, and it has a place exactly if that number has one.
+pub record ListedRefusal (refusal : Refusal) : Type 0 where
+  pub some-number : 1 ≤ number refusal
+  pub last-number : number refusal ≤ 25
+  pub with-place : (p : ℕ) → place refusal ≡ some p → has-place (number refusal) ≡ true
+  pub without-place : place refusal ≡ none → has-place (number refusal) ≡ false
+
+-- Every refusal that conditions in order give is one of the list; none has the number 0.
+abbrev pub ListedRefusalClaim : Type 1
+ListedRefusalClaim = (cs : List Condition) (refusal : Refusal) → Judged cs (some refusal) → ListedRefusal refusal
