@@ -4,7 +4,7 @@ use mathlib.Core.{Path.{_≡_, refl, sym, ap, _∙_}, List.{List, [], _∷_, _++
 use native.Mathlib.{Omega.{arith}, Nat.{suc-mul}}
 use borrow.Author.Tests.{ltb-true, ltb-false}
 use lib.{Dec.{ltb}, ListN.{length, set, drop, take, length-set, length-append, length-take}, Seq.{sets, sets-eq, set-out, take-nil, take-all}}
-use Rattle.refusal.specs.LentBuffers.{put}
+use Rattle.refusal.specs.Refusal.{put}
 use Rattle.text_format.specs.{Format.{Parsed, ok, bad, bind, Format, Laws}, Series.{Separator, space, newline, series}}
 use Rattle.text_format.proofs.Series.{series-bad, series-ends, series-goes}
 use Rattle.text_output.specs.Output.{Puts}

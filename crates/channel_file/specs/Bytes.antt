@@ -4,7 +4,7 @@
 use Prim.Native.Nat.{ℕ, min}
 use mathlib.Core.{Path.{_≡_}, List.{List, [], _∷_}}
 use lib.ListN.{length, take}
-use Rattle.refusal.specs.LentBuffers.{put}
+use Rattle.refusal.specs.Refusal.{put}
 use Rattle.text_format.specs.Format.{Outcome, contents, refused}
 use Rattle.channel_file.specs.{ChannelFile.{Token, Contents, encoded, kind, first, second}, Reading.{read-file, read-tokens}, declared.Stored.{Stored}}
 use Rattle.channel_file.specs.declared.TokenList.{TokenList}

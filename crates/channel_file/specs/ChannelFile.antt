@@ -4,7 +4,7 @@ use Prim.Native.Nat.{ℕ, _≤_, _<_}
 use mathlib.Core.{Path.{_≡_}, List.{List, [], _∷_, _++_, map}}
 use lib.ListN.{length}
 use Rattle.limits.specs.Limits.{file-limit}
-use Rattle.text_format.specs.{Texts.{ascii, decimal, separated, OneOrMore}, Place.{Refused, FormOf}}
+use Rattle.text_format.specs.Texts.{ascii, decimal, separated, OneOrMore, Refused, FormOf}
 
 -- An item of the rule line: T, A, V alone, X or G with one number, O with two.
 pub data Token : Type 0 where

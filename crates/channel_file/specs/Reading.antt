@@ -4,7 +4,7 @@
 use Prim.Native.Nat.{ℕ, _+_, _-_, _≤_}
 use mathlib.Core.{List.{List, [], _++_, map}, Bool.{cond}}
 use lib.{Dec.{ltb}, ListN.{length, take, drop}}
-use Rattle.text_format.specs.{Format.{Outcome, contents, refused, read}, Texts.{ascii, separated}, Place.{Refused}}
+use Rattle.text_format.specs.{Format.{Outcome, contents, refused, read}, Texts.{ascii, separated, Refused}}
 use Rattle.limits.specs.Limits.{file-limit}
 use Rattle.channel_file.specs.{ChannelFile.{Token, Contents, number, line, Shows, Form, Refused4}, FileFormat.{tokens, file}}
 use Rattle.channel_file.specs.declared.Checked.{Checked}

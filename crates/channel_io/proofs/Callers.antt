@@ -7,7 +7,7 @@ use borrow.Author.Tests.{le-leb}
 use Rattle.refusal.specs.declared.Refusal.{Refusal}
 use Rattle.refusal.specs.declared.Refusal.the-variants.{At}
 use Rattle.refusal.specs.RefusalAnswers.{or-else, plain-unless}
-use Rattle.refusal.specs.LentBuffers.{put, put-unless}
+use Rattle.refusal.specs.Refusal.{put, put-unless}
 use Rattle.refusal.proofs.Refusals.{or-else-none}
 use Rattle.limits.specs.Limits.{event-limit, value-limit, meet-limit, state-limit, table-bytes-limit}
 use Rattle.text_format.specs.Format.{Outcome, contents, refused}
@@ -15,7 +15,7 @@ use Rattle.channel_file.specs.{ChannelFile.{Contents}, Reading.{read-file}}
 use Rattle.channel_io.specs.declared.{FileNumbers.{FileNumbers}, FileTable.{FileTable}}
 use Rattle.channel_io.specs.FileConditions.{file-setup}
 use Rattle.channel_file.specs.ChannelFile.{rule-numbers}
-use Rattle.channel_io.specs.FileAnswers.{numbers, file-numbers}
+use Rattle.channel_io.specs.FileConditions.{numbers, file-numbers}
 use Rattle.channel_io.specs.FileRefusals.{has-table-room, pair-compile-refusal, file-states, file-table, contents-table-refusal, file-refusal}
 use Rattle.channel_io.specs.FileCompilation.{made-or, compile-answer, entries-after, table-after, CompilesFile}
 use Rattle.channel_io.specs.declared.FileTable.the-variants.{Made, Refused}

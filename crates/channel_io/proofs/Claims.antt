@@ -33,11 +33,12 @@ use Rattle.channel_io.specs.FileConditions.{file-setup, contents-table-c
 use Rattle.synthesis.specs.TableOfRule.{pair-conditions, pair-table-conditions}
 use Rattle.channel_file.specs.ChannelFile.{rule-numbers}
 use Rattle.channel_io.specs.FileConditions.{ReadShort, short-meet, short-rule, CompileShort, short-entries, short-table, read-conditions, file-conditions}
-use Rattle.channel_io.specs.FileJudgement.{shown-conditions, text-conditions, file-text, write-conditions}
+use Rattle.channel_io.specs.FileRefusals.{file-text}
+use Rattle.characteristic.specs.RuleOfTable.{write-conditions}
 use Rattle.channel_io.specs.FileRefusals.{pair-refusal, has-room, stored-refusal, contents-read-refusal, pair-table-refusal}
 use Rattle.channel_io.specs.FileRefusals.{has-table-room, pair-compile-refusal, file-states, file-table, contents-table-refusal, file-refusal}
 use Rattle.channel_io.specs.FileRefusals.{text-refusal, write-refusal}
-use Rattle.channel_io.specs.Claims.{ReadClaim, WriteRefusalClaim, FileTableClaim, ContentsTableClaim, FileTableMadeClaim}
+use Rattle.channel_io.specs.Claims.{ContentsTableClaim, FileTableMadeClaim}
 use Rattle.channel_io.proofs.TablePairs.{rows-length, compile-passed, few-states, table-made, setup-passed}
 
 -- ---- 1 to 3, then 5 to 9, and 10
@@ -61,52 +62,6 @@ module _ (s : Setup) (rule : List ℕ) where
           ≡ rule-table-refusal (s .kind) (s .events) (setup-top s) (s .meet) rule state-limit = rw (accepted-events s ok) in
           subst (First _) e (first-rest _ _ _ (λ r g. g .0 (w .some-events, w .few-events)) f)
 
--- ---- 4: a text that is read does not meet it, and any other meets it at one place
-module _ (t : List ℕ) where
-  pub not-off-form : (c : Contents) → AnswersFile t (contents c) → (r : Refusal) → ¬ Gives (at-lowest 4 (Refused4 t)) r
-  not-off-form c a r g =
-      let e = one-answer-claim t (contents c) (refused (g .0)) a (g .1 .holds) in
-      let z : _≡_ {A = ℕ} 0 1 = cc in
-      absurd (omega arith)
-
-  pub off-form-first : (p : ℕ) → Refused4 t p → (cs : List Condition) → First (at-lowest 4 (Refused4 t) ∷ cs) (some (At 4 p))
-  unfolding First
-  off-form-first p a cs =
-      inl (
-        At 4 p,
-        (
-          p,
-          only-place (Refused4 t) p a (λ q h.
-              let e = one-answer-claim t (refused q) (refused p) h a in cc),
-          refl,
-        ),
-        refl,
-      )
-
--- ---- 4, then what a text's contents meet
-module _ (conditions : Contents → List Condition) (refusal : Contents → Option Refusal) (first : (c : Contents) → First (conditions c) (refusal c))
-    (t : List ℕ) where
-  text-first : (x : Outcome Contents) → AnswersFile t x → First (at-lowest 4 (Refused4 t) ∷ shown-conditions conditions x) (text-refusal refusal x)
-  unfolding text-refusal First
-  text-first (contents c) a = inr (not-off-form t c a, first c)
-  text-first (refused p) a = off-form-first t p a []
-
-  pub text-judged :
-      ((c : Contents) → part-of (4 ∷ condition-numbers (conditions c)) order ≡ true) → ((c : Contents) → right-places (conditions c) ≡ true)
-      → Judged (text-conditions conditions t) (text-refusal refusal (read-file t))
-  unfolding condition-numbers right-places has-place part-of order
-  text-judged ordered placed =
-      judged (text-conditions conditions t) (text-refusal refusal (read-file t)) (text-first (read-file t) (answer-claim t)) (in-order (read-file t))
-      (in-place (read-file t))
-    where
-      in-order : (x : Outcome Contents) → part-of (condition-numbers (at-lowest 4 (Refused4 t) ∷ shown-conditions conditions x)) order ≡ true
-      in-order (contents c) = ordered c
-      in-order (refused p) = refl
-
-      in-place : (x : Outcome Contents) → right-places (at-lowest 4 (Refused4 t) ∷ shown-conditions conditions x) ≡ true
-      in-place (contents c) = placed c
-      in-place (refused p) = refl
-
 -- ---- a file is read into two buffers
 module _ (c : Contents) (meet rule : List ℕ) where
   read-short : has-room (file-setup c) (rule-numbers c) meet rule ≡ false → ReadShort c meet rule
@@ -128,21 +83,6 @@ module _ (c : Contents) (meet rule : List ℕ) where
       first-append (pair-conditions (file-setup c) (rule-numbers c)) (plain 13 (ReadShort c meet rule) ∷ []) _ _ (pair-first (file-setup c) (rule-numbers c))
       (plain-first 13 (ReadShort c meet rule) (has-room (file-setup c) (rule-numbers c) meet rule) read-short read-room)
 
-pub read-claim : ReadClaim
-unfolding setup-conditions kind-conditions condition-numbers right-places has-place part-of order
-read-claim t meet rule =
-    text-judged (λ c. read-conditions c meet rule) (λ c. contents-read-refusal c meet rule) (λ c. read-first c meet rule) t (λ c. refl) (λ c. refl)
-
--- ---- a file is written into one
-pub write-refusal-claim : WriteRefusalClaim
-unfolding write-refusal setup-conditions kind-conditions condition-numbers right-places has-place part-of order
-write-refusal-claim events values top meet rule old =
-    let size = length (file-text events values top meet rule) in
-    judged (write-conditions events values top meet rule old) (write-refusal events values top meet rule old)
-    (first-append (pair-conditions (setup events values top meet) rule) (plain 13 (length old < size) ∷ []) _ _ (pair-first (setup events values top meet) rule)
-    (plain-first 13 (length old < size) (leb size (length old)) (λ e. leb-false size (length old) e) (λ e h. let l = leb-true size (length old) e in omega
-    arith)))
-    refl refl
 
 -- ---- a file's table is made
 
@@ -218,11 +158,6 @@ module _ (c : Contents) (meet to : List ℕ) where
   file-first =
       first-then (contents-table-conditions c) (plain 13 (CompileShort c meet to) ∷ []) (contents-table-refusal c) _ (table-first s (rule-numbers c))
       (λ ok. plain-first 13 (CompileShort c meet to) (has-table-room s (rule-numbers c) meet to) (table-short ok) (table-room ok))
-
-pub file-table-claim : FileTableClaim
-unfolding setup-conditions kind-conditions condition-numbers right-places has-place part-of order
-file-table-claim t meet to =
-    text-judged (λ c. file-conditions c meet to) (λ c. file-refusal c meet to) (λ c. file-first c meet to) t (λ c. refl) (λ c. refl)
 
 -- It passes as a table handed in.
 pub file-table-accepted :

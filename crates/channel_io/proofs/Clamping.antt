@@ -8,7 +8,7 @@ use borrow.Author.Tests.{ltb-true, ltb-false, lt-ltb, le-ltb, eqb-true, eqb-fals
 use Rattle.limits.specs.Limits.{event-limit, value-limit, node-limit}
 use Rattle.theory.specs.Formula.{Formula, truth, variable, transition, output, conjunction, greatest, size}
 use Rattle.theory.specs.FormulaClasses.{FreeBelow, Fits}
-use Rattle.theory.specs.PrefixCode.{Node, truth-node, variable-node, transition-node, output-node, conjunction-node, greatest-node}
+use Rattle.theory.specs.Formula.{Node, truth-node, variable-node, transition-node, output-node, conjunction-node, greatest-node}
 use Rattle.theory.specs.ValueSets.{Below}
 use Rattle.theory.specs.ValueSetTests.{every, lawful}
 use Rattle.theory.proofs.ValueSets.{every-at, and-left, and-right, and-false-right}
@@ -21,7 +21,7 @@ use Rattle.values.specs.Setup.{setup}
 use Rattle.values.specs.SetupInOrder.{WellFormed}
 use Rattle.values.specs.SetupTests.{events-test, values-test, entries-test, meet-test, kind-refusal, setup-refusal}
 use Rattle.values.proofs.Setups.{values-small, setup-accepted}
-use Rattle.formulas.specs.{NodeBytes.{node-bytes, encode-formula}, RuleConditions.{Position, open-to-variable, closed-to-variable}}
+use Rattle.formulas.specs.RuleConditions.{node-bytes, encode-formula, Position, open-to-variable, closed-to-variable}
 use Rattle.formulas.specs.RuleReading.{Kind, kind-T, kind-X, kind-G, kind-O, kind-A, kind-V, unknown-kind, kind-of, fields-fit}
 use Rattle.formulas.specs.RuleReading.{end-fault, awaited, first-of, node-of, nodes-from, with-parts, formulas, first-formula, formula-read}
 use Rattle.formulas.specs.RuleReading.{lowest-variable, unbound-below, closed-there, lowest-unbound, lowest-closed}

@@ -7,7 +7,7 @@ use lib.{Dec.{leb}, ListN.{length, take}}
 use borrow.Author.Tests.{le-leb, leb-true, leb-false}
 use Rattle.limits.specs.Limits.{table-limit}
 use Rattle.refusal.specs.{declared.Refusal.{Refusal}, declared.Counted.{Counted}, RefusalAnswers.{or-else, plain-unless, counted}}
-use Rattle.refusal.specs.LentBuffers.{put, put-unless}
+use Rattle.refusal.specs.Refusal.{put, put-unless}
 use Rattle.refusal.specs.Refusal.{Condition, plain, First, has-place, part-of, order, condition-numbers, right-places, JudgedCall, counted-refusal, count-of}
 use Rattle.refusal.proofs.{Refusals.{plain-first, judged, first-then, or-else-none}, Answers.{counted-judged, counted-put}}
 use Rattle.values.specs.{declared.ValueKind.the-variants.{Numbered}, Setup.{Setup, setup, setup-conditions, kind-conditions}}
@@ -22,9 +22,10 @@ use Rattle.channel_writer.specs.Writing.{with-token, node-tokens}
 use Rattle.channel_writer.proofs.Claims.{node-claim}
 use Rattle.channel_io.specs.{declared.FileNumbers.{FileNumbers}, declared.FileRead.{FileRead}, declared.FileTable.{FileTable}}
 use Rattle.channel_io.specs.{declared.FileTable.the-variants.{Made, Refused as Unmade}, FileConditions.{file-setup, read-conditions, file-conditions}}
-use Rattle.channel_io.specs.FileAnswers.{JudgedText, refusal-read, numbers-read, refusal-made, table-made, numbers, file-numbers, ReadsAs, MakesTableOf}
-use Rattle.channel_io.specs.FileAnswers.{IsFileOf, write-file-conditions, WritesAs}
-use Rattle.channel_io.specs.FileJudgement.{file-text}
+use Rattle.channel_io.specs.FileConditions.{JudgedText, refusal-read, numbers-read, refusal-made, table-made, numbers, file-numbers, ReadsAs}
+use Rattle.channel_io.specs.FileConditions.{MakesTableOf}
+use Rattle.channel_io.specs.FileConditions.{IsFileOf, write-file-conditions, WritesAs}
+use Rattle.channel_io.specs.FileRefusals.{file-text}
 use Rattle.channel_io.specs.FileRefusals.{pair-refusal, stored-refusal, contents-refusal, contents-read-refusal, file-states, file-table, file-refusal}
 use Rattle.channel_io.specs.FileRefusals.{text-refusal, write-refusal}
 use Rattle.channel_io.specs.FileReading.{accepted-or, read-answer, meet-after, rule-after, Reads}

@@ -8,7 +8,7 @@ use Rattle.refusal.specs.declared.Refusal.{Refusal}
 use Rattle.refusal.specs.declared.Refusal.the-variants.{Plain}
 use Rattle.refusal.specs.declared.Judgement.the-variants.{Accepted, Refused}
 use Rattle.refusal.specs.RefusalAnswers.{or-else, plain-unless, judgement}
-use Rattle.refusal.specs.LentBuffers.{put, put-unless}
+use Rattle.refusal.specs.Refusal.{put, put-unless}
 use Rattle.refusal.proofs.Refusals.{judgement-accepted, judgement-refused}
 use Rattle.values.specs.{Setup.{Setup}, SetupTests.{setup-refusal}}
 use Rattle.formulas.specs.RuleRefusal.{rule-refusal}
@@ -18,7 +18,7 @@ use Rattle.channel_io.specs.declared.FileRead.the-variants.{Accepted as 
 use Rattle.channel_io.specs.FileConditions.{file-setup}
 use Rattle.channel_file.specs.ChannelFile.{rule-numbers}
 use Rattle.channel_io.specs.FileRefusals.{pair-refusal, contents-refusal, has-room, stored-refusal}
-use Rattle.channel_io.specs.FileAnswers.{numbers, file-numbers}
+use Rattle.channel_io.specs.FileConditions.{numbers, file-numbers}
 use Rattle.channel_io.specs.FileReading.{accepted-or, read-answer, meet-after, rule-after, Reads}
 use Rattle.channel_io.specs.Steps.{held-setup, shown-entries, shown-nodes, Holding, OffForm, Keeps}
 use Rattle.channel_io.proofs.ShownBytes.{file-shown, all-shown}

@@ -8,7 +8,7 @@ use Rattle.theory.proofs.ValueSets.{and-left}
 use Rattle.limits.specs.Limits.{meet-limit, node-limit}
 use Rattle.refusal.specs.declared.Refusal.{Refusal}
 use Rattle.refusal.specs.RefusalAnswers.{or-else, plain-unless}
-use Rattle.refusal.specs.LentBuffers.{put}
+use Rattle.refusal.specs.Refusal.{put}
 use Rattle.refusal.proofs.Refusals.{or-else-none, plain-none}
 use Rattle.values.specs.declared.ValueKind.the-variants.{Numbered}
 use Rattle.values.specs.Setup.{setup}
@@ -25,7 +25,7 @@ use Rattle.channel_file.proofs.Buffers.{encoded-length, front-whole}
 use Rattle.channel_io.specs.FileConditions.{file-setup}
 use Rattle.channel_file.specs.ChannelFile.{node-numbers, rule-numbers}
 use Rattle.channel_io.specs.FileRefusals.{pair-refusal, contents-refusal}
-use Rattle.channel_io.specs.FileAnswers.{numbers}
+use Rattle.channel_io.specs.FileConditions.{numbers}
 use Rattle.channel_io.specs.Steps.{shown-entries, shown-nodes, Holding}
 use Rattle.channel_io.proofs.Clamping.{meet-clamped, rule-clamped, setup-same, rule-same, limits, nothing-clamped}
 

@@ -10,7 +10,7 @@ use Rattle.theory.proofs.{ReachableStates.{table-nonempty}, ValueSets.{and-left
 use Rattle.refusal.specs.declared.Refusal.{Refusal}
 use Rattle.refusal.specs.declared.Counted.the-variants.{Count, Refused as Uncounted}
 use Rattle.refusal.specs.RefusalAnswers.{or-else, plain-unless, counted}
-use Rattle.refusal.specs.LentBuffers.{put, put-unless}
+use Rattle.refusal.specs.Refusal.{put, put-unless}
 use Rattle.refusal.proofs.Refusals.{counted-accepted, counted-refused, or-else-assoc, or-else-none, plain-none}
 use Rattle.values.specs.Setup.{Setup, setup-meet, setup-top}
 use Rattle.values.specs.SetupInOrder.{WellFormed}
@@ -28,7 +28,7 @@ use Rattle.channel_io.specs.FileConditions.{file-setup}
 use Rattle.channel_file.specs.ChannelFile.{rule-numbers}
 use Rattle.channel_io.specs.FileRefusals.{pair-refusal, contents-refusal, pair-states, pair-table, pair-table-refusal, has-table-room}
 use Rattle.channel_io.specs.FileRefusals.{pair-compile-refusal}
-use Rattle.channel_io.specs.FileAnswers.{numbers, file-numbers}
+use Rattle.channel_io.specs.FileConditions.{numbers, file-numbers}
 use Rattle.channel_io.specs.FileCompilation.{made-or, compile-answer, entries-after, table-after, CompilesFile}
 use Rattle.channel_io.specs.Steps.{held-setup, shown-entries, shown-nodes, Holding, OffForm, CompilesPair}
 use Rattle.channel_io.proofs.ShownBytes.{file-shown, all-shown}

@@ -10,7 +10,7 @@ use Rattle.text_format.specs.{Format.{Outcome, contents, refused, read}, Claims
 use Rattle.text_format.proofs.Place.{answers, one-answer}
 use Rattle.channel_file.specs.{ChannelFile.{Contents, Shows, Refused4}, FileFormat.{file}, Reading.{AnswersFile, read-file}}
 use Rattle.channel_file.proofs.{Claims.{answer-claim, one-answer-claim}, FileFormat.{file-laws, file-renders}}
-use Rattle.channel_io.specs.FileAnswers.{TextConditions, of-contents, no-contents, JudgedText}
+use Rattle.channel_io.specs.FileConditions.{TextConditions, of-contents, no-contents, JudgedText}
 use Rattle.channel_io.specs.FileRefusals.{text-refusal}
 
 module _ (conditions : Contents → List Condition) (t : List ℕ) where

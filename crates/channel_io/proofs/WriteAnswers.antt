@@ -5,13 +5,13 @@ use native.Mathlib.{Omega.{arith}, Nat.{mul-le-mul}}
 use lib.{Dec.{leb, ltb}, ListN.{length, length-map}}
 use borrow.Author.Tests.{le-leb, lt-leb, ltb-true, ltb-false}
 use Rattle.theory.specs.Formula.{Formula, truth, variable, transition, output, conjunction, greatest, size}
-use Rattle.theory.specs.PrefixCode.{Node, truth-node, variable-node, transition-node, output-node, conjunction-node, greatest-node, nodes}
+use Rattle.theory.specs.Formula.{Node, truth-node, variable-node, transition-node, output-node, conjunction-node, greatest-node, nodes}
 use Rattle.refusal.specs.declared.{Refusal.{Refusal}, Counted.{Counted}}
 use Rattle.refusal.specs.declared.Refusal.the-variants.{Plain}
 use Rattle.refusal.specs.declared.Judgement.the-variants.{Accepted as Passed, Refused as Judged}
 use Rattle.refusal.specs.declared.Counted.the-variants.{Count, Refused}
 use Rattle.refusal.specs.RefusalAnswers.{or-else, plain-unless, judgement, counted}
-use Rattle.refusal.specs.LentBuffers.{put, put-unless}
+use Rattle.refusal.specs.Refusal.{put, put-unless}
 use Rattle.refusal.proofs.Refusals.{judgement-accepted, judgement-refused, or-else-none}
 use Rattle.limits.specs.Limits.{event-limit, value-limit, node-limit, file-limit}
 use Rattle.values.specs.declared.ValueKind.the-variants.{Numbered}
@@ -20,7 +20,7 @@ use Rattle.values.specs.SetupInOrder.{WellFormed}
 use Rattle.values.specs.SetupTests.{setup-refusal}
 use Rattle.values.proofs.Setups.{setup-accepted, square-small}
 use Rattle.formulas.specs.NodeCode.{three-bytes}
-use Rattle.formulas.specs.NodeBytes.{encode-all}
+use Rattle.formulas.specs.RuleConditions.{encode-all}
 use Rattle.formulas.specs.RuleRefusal.{rule-refusal, formula-of}
 use Rattle.formulas.proofs.{Prefix.{length-nodes}, RuleClaims.{accepted-formula-of}}
 use Rattle.channel_file.specs.ChannelFile.{Token, token-T, token-A, token-V, token-X, token-G, token-O, Contents, text, SmallContents}
@@ -32,7 +32,7 @@ use Rattle.channel_writer.specs.declared.Written.{Written}
 use Rattle.channel_writer.specs.Claims.{All, none-left, one-more, Byte}
 use Rattle.channel_writer.proofs.Claims.{written-claim}
 use Rattle.channel_file.specs.ChannelFile.{node-numbers, rule-numbers}
-use Rattle.channel_io.specs.FileJudgement.{text-or-empty, file-text}
+use Rattle.channel_io.specs.FileRefusals.{text-or-empty, file-text}
 use Rattle.channel_io.specs.FileRefusals.{pair-refusal, write-refusal}
 use Rattle.channel_io.specs.FileWriting.{WritesFile}
 use Rattle.channel_io.proofs.Clamping.{limits, meet-kept, rule-kept}

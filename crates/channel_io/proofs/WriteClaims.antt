@@ -13,7 +13,7 @@ use Rattle.channel_file.proofs.Claims.{read-back-claim}
 use Rattle.channel_writer.specs.{Writing.{node-tokens, contents-of}, Claims.{All, none-left, one-more, Byte, ByteToken}}
 use Rattle.channel_writer.proofs.Claims.{again-claim}
 use Rattle.channel_file.specs.ChannelFile.{node-numbers, rule-numbers}
-use Rattle.channel_io.specs.FileJudgement.{text-or-empty, file-text}
+use Rattle.channel_io.specs.FileRefusals.{text-or-empty, file-text}
 use Rattle.channel_io.specs.{FileRefusals.{pair-refusal, contents-refusal}, Claims.{ReadsBack, WriteClaim}}
 use Rattle.channel_io.proofs.{Clamping.{nothing-clamped}, WriteAnswers.{textual}}
 

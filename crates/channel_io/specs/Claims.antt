@@ -10,10 +10,8 @@ use Rattle.machines.specs.TableBytes.{machine-of}
 use Rattle.synthesis.specs.Claims.{RuleTable}
 use Rattle.text_format.specs.Format.{contents}
 use Rattle.channel_file.specs.{ChannelFile.{Contents, Form, rule-numbers}, Reading.{read-file}, Bytes.{clamp, meet-bytes, rule-bytes}}
-use Rattle.channel_io.specs.FileConditions.{file-setup, contents-table-conditions, read-conditions, file-conditions}
-use Rattle.channel_io.specs.FileJudgement.{text-conditions, file-text, write-conditions}
-use Rattle.channel_io.specs.FileRefusals.{pair-refusal, contents-refusal, file-states, file-table, contents-table-refusal, read-refusal}
-use Rattle.channel_io.specs.FileRefusals.{compile-refusal, write-refusal}
+use Rattle.channel_io.specs.FileConditions.{file-setup, contents-table-conditions}
+use Rattle.channel_io.specs.FileRefusals.{file-text, pair-refusal, contents-refusal, file-states, file-table, contents-table-refusal}
 
 -- A byte holds a number above 255 as 255. No judgement is lost by that: of a meet table, of a rule, of a file.
 pub record ClampedClaim : Type 0 where
@@ -27,18 +25,6 @@ pub record ClampedClaim : Type 0 where
   -- and of an accepted file nothing is clamped
   pub nothing-clamped :
       (c : Contents) → contents-refusal c ≡ none → (meet-bytes c ≡ c .meet) × (rule-bytes c ≡ rule-numbers c)
-
--- Reading a text is judged as document 01 asks; so are writing a set-up and a rule, and making the table of a text.
-abbrev pub ReadClaim : Type 0
-ReadClaim = (t meet rule : List ℕ) → Judged (text-conditions (λ c. read-conditions c meet rule) t) (read-refusal (read-file t) meet rule)
-
-abbrev pub WriteRefusalClaim : Type 0
-WriteRefusalClaim =
-    (events values top : ℕ) (meet rule old : List ℕ)
-    → Judged (write-conditions events values top meet rule old) (write-refusal events values top meet rule old)
-
-abbrev pub FileTableClaim : Type 0
-FileTableClaim = (t meet to : List ℕ) → Judged (text-conditions (λ c. file-conditions c meet to) t) (compile-refusal (read-file t) meet to)
 
 -- Whether a file's contents have a table: 1 to 3, 5 to 10.
 abbrev pub ContentsTableClaim : Type 0

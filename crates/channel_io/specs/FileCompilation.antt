@@ -2,20 +2,12 @@
 -- The table of a channel file's rule (document 01, "Channel file" and "Table of a rule"; refusals 4, 1 to 3, 5 to 10 and 13): the
 -- answer, and what two lent buffers hold afterwards.
 use Prim.Native.Nat.{ℕ}
-use mathlib.Core.Path.{_≡_}
-use mathlib.Core.List.{List}
-use mathlib.Core.Option.{Option, none, some}
-use Rattle.refusal.specs.declared.Refusal.{Refusal}
-use Rattle.refusal.specs.declared.Refusal.the-variants.{At}
-use Rattle.refusal.specs.LentBuffers.{put-unless}
+use mathlib.Core.{Path.{_≡_}, List.{List}, Option.{Option, none, some}}
+use Rattle.refusal.specs.{declared.Refusal.{Refusal}, declared.Refusal.the-variants.{At}, Refusal.{put-unless}}
 use Rattle.text_format.specs.Format.{Outcome, contents, refused}
-use Rattle.channel_file.specs.ChannelFile.{Contents}
-use Rattle.channel_file.specs.Reading.{read-file}
-use Rattle.channel_io.specs.declared.FileNumbers.{FileNumbers}
-use Rattle.channel_io.specs.declared.FileTable.{FileTable}
-use Rattle.channel_io.specs.declared.FileTable.the-variants.{Made, Refused}
-use Rattle.channel_io.specs.FileAnswers.{file-numbers}
-use Rattle.channel_io.specs.FileRefusals.{file-states, file-table, file-refusal}
+use Rattle.channel_file.specs.{ChannelFile.{Contents}, Reading.{read-file}}
+use Rattle.channel_io.specs.{declared.FileNumbers.{FileNumbers}, declared.FileTable.{FileTable}, declared.FileTable.the-variants.{Made, Refused}}
+use Rattle.channel_io.specs.{FileConditions.{file-numbers}, FileRefusals.{file-states, file-table, file-refusal}}
 
 unfoldable pub made-or : Option Refusal → FileNumbers → ℕ → FileTable
 made-or none n states = Made n states

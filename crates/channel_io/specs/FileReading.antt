@@ -3,12 +3,11 @@
 -- hold afterwards.
 use Prim.Native.Nat.{ℕ}
 use mathlib.Core.{Path.{_≡_}, List.{List}, Option.{Option, none, some}}
-use Rattle.refusal.specs.{declared.Refusal.{Refusal}, declared.Refusal.the-variants.{At}, LentBuffers.{put-unless}}
+use Rattle.refusal.specs.{declared.Refusal.{Refusal}, declared.Refusal.the-variants.{At}, Refusal.{put-unless}}
 use Rattle.text_format.specs.Format.{Outcome, contents, refused}
 use Rattle.channel_file.specs.{ChannelFile.{Contents, rule-numbers}, Reading.{read-file}}
 use Rattle.channel_io.specs.{declared.FileNumbers.{FileNumbers}, declared.FileRead.{FileRead}, declared.FileRead.the-variants.{Accepted, Refused}}
-use Rattle.channel_io.specs.FileRefusals.{contents-read-refusal}
-use Rattle.channel_io.specs.FileAnswers.{file-numbers}
+use Rattle.channel_io.specs.{FileRefusals.{contents-read-refusal}, FileConditions.{file-numbers}}
 
 unfoldable pub accepted-or : Option Refusal → FileNumbers → FileRead
 accepted-or none n = Accepted n

@@ -1,4 +1,4 @@
--- Twin of FileConditions, pinned by channel_io ReadClaim.
+-- Twin of FileConditions, pinned by product_claims DemandOne.
 -- Which refusal a file meets, computed, and the table of its rule: the twins of FileJudgement's lists.
 use Prim.Native.Nat.{ℕ}
 use mathlib.Core.{List.{List}, Bool.{Bool, _&&_}, Option.{Option, some}}
@@ -11,7 +11,18 @@ use Rattle.machines.specs.TableBytes.{table-bytes, entry-bytes}
 use Rattle.synthesis.specs.Compilation.{rule-states, rule-table, rule-table-refusal}
 use Rattle.text_format.specs.Format.{Outcome, contents, refused}
 use Rattle.channel_file.specs.ChannelFile.{Contents, rule-numbers}
-use Rattle.channel_io.specs.{FileConditions.{file-setup}, FileJudgement.{file-text}}
+use Rattle.channel_io.specs.FileConditions.{file-setup}
+
+-- ---- the text of a file
+
+-- The text of contents; empty where there are none, which is never so where 1 to 3 and 5 to 9 are not met (Claims).
+abbrev pub text-or-empty : Option Contents → List ℕ
+text-or-empty none = []
+text-or-empty (some c) = text c
+
+-- The text of a set-up and the nodes of a rule.
+unfoldable pub file-text : ℕ → ℕ → ℕ → List ℕ → List ℕ → List ℕ
+file-text events values top meet rule = text-or-empty (contents-of events values top meet (node-tokens rule))
 
 -- ---- a set-up and a rule
 module _ (s : Setup) (rule : List ℕ) where

@@ -4,8 +4,8 @@
 use Prim.Native.Nat.{ℕ}
 use mathlib.Core.{Path.{_≡_}, List.{List}}
 use lib.ListN.{length}
-use Rattle.refusal.specs.{declared.Counted.{Counted}, RefusalAnswers.{counted}, LentBuffers.{put-unless}}
-use Rattle.channel_io.specs.{FileJudgement.{file-text}, FileRefusals.{write-refusal}}
+use Rattle.refusal.specs.{declared.Counted.{Counted}, RefusalAnswers.{counted}, Refusal.{put-unless}}
+use Rattle.channel_io.specs.FileRefusals.{file-text, write-refusal}
 
 -- Answer and later contents of a call that writes a file.
 pub record WritesFile (events values top : ℕ) (meet rule old new : List ℕ) (r : Counted) : Type 0 where

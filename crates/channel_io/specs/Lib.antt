@@ -2,9 +2,7 @@
 -- What a file says, judged on its own numbers: the conditions.
 pub mod FileConditions
 -- The conditions of a text, and what an accepted call yields.
-pub mod FileAnswers
 -- The same by the file reader's answer.
-pub mod FileJudgement
 -- The same computed, and the table of a file's rule.
 pub mod FileRefusals
 -- The answer to reading a file, to making its table, to writing one, and the buffers afterwards.

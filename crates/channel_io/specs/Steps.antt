@@ -1,28 +1,15 @@
 -- What the private functions of src/ say: what is held of a text, and what is answered of a set-up and a rule that are held.
 use Prim.Native.Nat.{ℕ, _≤_}
-use mathlib.Core.Path.{_≡_}
-use mathlib.Core.List.{List, []}
-use mathlib.Core.Bool.{cond}
-use lib.Dec.{leb}
-use lib.ListN.{length, take}
+use mathlib.Core.{Path.{_≡_}, List.{List, []}, Bool.{cond}}
+use lib.{Dec.{leb}, ListN.{length, take}}
 use Rattle.limits.specs.Limits.{meet-limit, node-limit}
-use Rattle.refusal.specs.declared.Refusal.{Refusal}
-use Rattle.refusal.specs.declared.Refusal.the-variants.{At}
-use Rattle.refusal.specs.LentBuffers.{put-unless}
+use Rattle.refusal.specs.{declared.Refusal.{Refusal}, declared.Refusal.the-variants.{At}, Refusal.{put-unless}}
 use Rattle.values.specs.Setup.{Setup, setup}
 use Rattle.text_format.specs.Format.{contents, refused}
-use Rattle.channel_file.specs.ChannelFile.{Contents}
-use Rattle.channel_file.specs.Reading.{read-file}
-use Rattle.channel_file.specs.Bytes.{meet-bytes, rule-bytes}
-use Rattle.channel_io.specs.declared.FileNumbers.{FileNumbers}
-use Rattle.channel_io.specs.declared.FileRead.{FileRead}
-use Rattle.channel_io.specs.declared.FileTable.{FileTable}
-use Rattle.channel_io.specs.declared.Held.{Held}
-use Rattle.channel_io.specs.declared.Held.the-variants.{File, Refused}
-use Rattle.channel_io.specs.FileRefusals.{stored-refusal, pair-states, pair-table, pair-compile-refusal}
-use Rattle.channel_io.specs.FileAnswers.{file-numbers}
-use Rattle.channel_io.specs.FileReading.{accepted-or}
-use Rattle.channel_io.specs.FileCompilation.{made-or}
+use Rattle.channel_file.specs.{ChannelFile.{Contents}, Reading.{read-file}, Bytes.{meet-bytes, rule-bytes}}
+use Rattle.channel_io.specs.{declared.FileNumbers.{FileNumbers}, declared.FileRead.{FileRead}, declared.FileTable.{FileTable}, declared.Held.{Held}}
+use Rattle.channel_io.specs.{declared.Held.the-variants.{File, Refused}, FileRefusals.{stored-refusal, pair-states, pair-table, pair-compile-refusal}}
+use Rattle.channel_io.specs.{FileConditions.{file-numbers}, FileReading.{accepted-or}, FileCompilation.{made-or}}
 
 -- The entries and the nodes that are judged: those of a file within the limits, and none above them.
 abbrev pub shown-entries : Contents → List ℕ

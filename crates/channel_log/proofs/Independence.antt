@@ -11,7 +11,7 @@ use Rattle.channel_log.specs.CallSteps.{channel-refusal, Content, empty-
 use Rattle.channel_log.specs.Calls.{map-option}
 use Rattle.channel_log.specs.CallSteps.{effect, settled, step}
 use Rattle.channel_log.specs.Calls.{replies, final}
-use Rattle.channel_log.specs.Independence.{concerns, struck, replies-on}
+use Rattle.channel_log.specs.Calls.{concerns, struck, replies-on}
 
 put-at : {X : Type 0} (c : ℕ) (x : Option X) (L : Channels X) → with-channel c x L c ≡ x
 put-at c x L = ap (λ t. cond t x (L c)) (eq-eqb c c refl)

@@ -5,7 +5,7 @@ use Prim.Native.Nat.{ℕ, zero, _<_}
 use native.Mathlib.Omega.{arith}
 use lib.Dec.{ltb, eqb}
 use borrow.Author.Tests.{ltb-true, eqb-false}
-use Rattle.theory.specs.Semilattice.{MeetSemilattice}
+use Rattle.theory.specs.ValueSets.{MeetSemilattice}
 use Rattle.theory.specs.Formula.{Formula}
 use Rattle.theory.specs.FormulaClasses.{WellFormed}
 use Rattle.theory.specs.MealyMachine.{Word, after}
@@ -14,7 +14,8 @@ use Rattle.theory.proofs.{SemanticsEquality.{only-answer}, WordOrder.{word-appe
 use Rattle.refusal.specs.declared.Refusal.{Refusal}
 use Rattle.refusal.specs.declared.Refusal.the-variants.{Plain}
 use Rattle.limits.specs.Limits.{channel-limit}
-use Rattle.refusal.specs.Refusal.{Condition, plain, at-lowest, Gives, First, part-of, condition-numbers, number}
+use Rattle.refusal.specs.Refusal.{Condition, plain, at-lowest, Gives, First, part-of, condition-numbers}
+use Rattle.refusal.specs.RefusalClaims.{number}
 use Rattle.refusal.specs.RefusalAnswers.{or-else}
 use Rattle.channel_log.specs.Calls.{Call, load, event, restart, restart-all, clear, Reply, accepted, returned, refused, Channels, all-empty}
 use Rattle.channel_log.specs.CallSteps.{channel-refusal, Content, empty-refusal, on-event, call-refusal, event-reply, accepted-reply}
@@ -23,9 +24,9 @@ use Rattle.channel_log.specs.Calls.{replies, final, History}
 use Rattle.channel_log.specs.Log.{large-event, value-after, log}
 use Rattle.channel_log.specs.Calls.{Loaded}
 use Rattle.channel_log.specs.Recorded.{recorded}
-use Rattle.channel_log.specs.Independence.{replies-on}
+use Rattle.channel_log.specs.Calls.{replies-on}
 use Rattle.channel_log.specs.Claims.{Never, RecordClaim, IndependenceClaim}
-use Rattle.channel_log.specs.Standing.{StandsAs}
+use Rattle.channel_log.specs.Calls.{StandsAs}
 use Rattle.channel_log.proofs.{Simulation.{run-related, Related, AllRelated, Matches, step-related}, Independence.{replies-struck}}
 
 pub not-large : (events e : ℕ) → large-event events e ≡ none → e < events

@@ -1,8 +1,9 @@
--- The calls on a tool, what they reply, and what channels hold (document 01, "Tool").
-use mathlib.Core.{Bool.{cond}, List.{List, [], _∷_, map}, Option.{Option, none, some}}
-use Prim.Native.Nat.{ℕ}
+-- The calls on a tool, what they reply, what channels hold and how they stand by the log, and which calls concern one channel (document 01,
+-- "Tool").
+use mathlib.Core.{Bool.{cond, Bool, true}, List.{List, [], _∷_, map}, Option.{Option, none, some}, Path.{_≡_}}
+use Prim.Native.Nat.{ℕ, zero}
 use lib.Dec.{eqb}
-use Rattle.theory.specs.{Formula.{Formula}, MealyMachine.{Machine}}
+use Rattle.theory.specs.{Formula.{Formula}, MealyMachine.{Machine, after}, ReachableStates.{IsTableOf}}
 use Rattle.refusal.specs.declared.Refusal.{Refusal}
 
 -- The five calls with their inputs beside the tool. `Input` is what an event carries.
@@ -63,3 +64,32 @@ module _ {C S A : Type 0} (f : C → S → A × S) where
 -- The event calls of a sequence of events on one channel.
 abbrev pub event-calls : {Input : Type 0} → ℕ → List Input → List (Call Input)
 event-calls c word = map (event c) word
+
+-- The channel is empty exactly where the log has nothing; elsewhere it has the table of the rule there and the state that the
+-- rule's events reach from state 0.
+module _ {B : Type 0} (meet : B → B → B) (top : B) (events : ℕ) where
+  abbrev pub StandsAs : Option (Loaded B) → Option (History B) → Type 0
+  StandsAs none none = Unit {0}
+  StandsAs none (some h) = ⊥
+  StandsAs (some x) none = ⊥
+  StandsAs (some x) (some h) =
+      IsTableOf meet top events (h .rule) (x .states) (x .table) × (x .current ≡ after (x .table) zero (h .events))
+
+-- The call names no other channel than c.
+abbrev pub concerns : {Input : Type 0} → ℕ → Call Input → Bool
+concerns c (load d r) = eqb d c
+concerns c (event d i) = eqb d c
+concerns c (restart d) = eqb d c
+concerns c restart-all = true
+concerns c (clear d) = eqb d c
+
+-- The calls that name another channel struck out.
+abbrev pub struck : {Input : Type 0} → ℕ → List (Call Input) → List (Call Input)
+struck c [] = []
+struck c (x ∷ xs) = cond (concerns c x) (x ∷ struck c xs) (struck c xs)
+
+-- The replies to the calls that stay.
+abbrev pub replies-on : {Input A : Type 0} → ℕ → List (Call Input) → List A → List A
+replies-on c [] rs = []
+replies-on c (x ∷ xs) [] = []
+replies-on c (x ∷ xs) (r ∷ rs) = cond (concerns c x) (r ∷ replies-on c xs rs) (replies-on c xs rs)

@@ -2,9 +2,9 @@
 use mathlib.Core.{Path.{_≡_}, List.{List, [], _∷_}, Option.{Option}}
 use Prim.Native.Nat.{ℕ, _<_}
 use Rattle.limits.specs.Limits.{channel-limit}
-use Rattle.refusal.specs.Refusal.{number}
-use Rattle.channel_log.specs.{Calls.{Call, Reply, accepted, returned, refused, Channels, all-empty, replies, final}, CallSteps.{Content, step}}
-use Rattle.channel_log.specs.Independence.{struck, replies-on}
+use Rattle.refusal.specs.RefusalClaims.{number}
+use Rattle.channel_log.specs.Calls.{Call, Reply, accepted, returned, refused, Channels, all-empty, replies, final, struck, replies-on}
+use Rattle.channel_log.specs.CallSteps.{Content, step}
 
 -- No reply is refusal n.
 abbrev pub Never : {Output : Type 0} → ℕ → List (Reply Output) → Type 0

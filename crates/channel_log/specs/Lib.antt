@@ -2,9 +2,7 @@
 -- The calls, what they reply, and what channels hold.
 pub mod Calls
 -- How a tool's channel stands by the log.
-pub mod Standing
 -- The calls that concern one channel.
-pub mod Independence
 -- What contracts compute with: how channels take calls; the log's channels, and a tool's.
 pub mod CallSteps
 pub mod Log

@@ -5,7 +5,7 @@ use native.Mathlib.Omega.{arith}
 use borrow.Author.Tests.{lt-ltb, le-ltb}
 use lib.ListN.{length}
 use Rattle.limits.specs.Limits.{file-limit}
-use Rattle.refusal.specs.LentBuffers.{put}
+use Rattle.refusal.specs.Refusal.{put}
 use Rattle.text_format.specs.Texts.{ascii, separated, OneOrMore}
 use Rattle.text_format.specs.Series.{number-item}
 use Rattle.text_format.proofs.Series.{series-text}

@@ -1,14 +1,10 @@
 -- Twin of ChannelFile, pinned by channel_writer NodeClaim.
 -- Writing a channel file from numbers, meet entries and node bytes.
 use Prim.Native.Nat.{ℕ, min}
-use mathlib.Core.Path.{_≡_}
-use mathlib.Core.List.{List, [], _∷_}
-use mathlib.Core.Bool.{cond}
-use mathlib.Core.Option.{Option, some, none}
-use lib.Dec.{ltb, eqb}
-use lib.ListN.{length}
+use mathlib.Core.{Path.{_≡_}, List.{List, [], _∷_}, Bool.{cond}, Option.{Option, some, none}}
+use lib.{Dec.{ltb, eqb}, ListN.{length}}
 use Rattle.limits.specs.Limits.{file-limit}
-use Rattle.refusal.specs.LentBuffers.{put}
+use Rattle.refusal.specs.Refusal.{put}
 use Rattle.channel_file.specs.ChannelFile.{Token, token-T, token-A, token-V, token-X, token-G, token-O, Contents, text}
 use Rattle.channel_writer.specs.declared.Written.{Written}
 

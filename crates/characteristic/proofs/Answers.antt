@@ -12,14 +12,14 @@ use Rattle.refusal.specs.declared.{Refusal.{Refusal}, Counted.{Counted}}
 use Rattle.refusal.specs.declared.Judgement.the-variants.{Accepted, Refused}
 use Rattle.refusal.specs.declared.Counted.the-variants.{Refused as Uncounted}
 use Rattle.refusal.specs.RefusalAnswers.{or-else, judgement, counted}
-use Rattle.refusal.specs.LentBuffers.{put-unless}
+use Rattle.refusal.specs.Refusal.{put-unless}
 use Rattle.refusal.proofs.Refusals.{judgement-accepted, judgement-refused}
 use Rattle.values.specs.declared.ValueKind.{ValueKind}
 use Rattle.values.specs.Setup.{Setup, setup-of-kind, SetupValue}
 use Rattle.values.specs.SetupInOrder.{WellFormed}
 use Rattle.values.specs.SetupTests.{setup-refusal}
 use Rattle.values.proofs.Setups.{setup-accepted}
-use Rattle.formulas.specs.NodeBytes.{encode-formula, node-bytes}
+use Rattle.formulas.specs.RuleConditions.{encode-formula, node-bytes}
 use Rattle.machines.specs.{TableBytes.{entry-width, machine-of, TableInOrder}, TableRefusal.{table-refusal}}
 use Rattle.machines.proofs.TableRefusals.{none-in-order, accepted-table}
 use Rattle.characteristic.specs.RuleOfTable.{IsRuleOf}

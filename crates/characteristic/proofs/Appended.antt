@@ -3,14 +3,15 @@ use mathlib.Core.{Path.{_≡_, refl, sym, _∙_, ap, subst}, List.{List, [], _�
 use Prim.Native.Nat.{ℕ, suc, _+_, _*_, _≤_, _<_}
 use native.Mathlib.{Nat.{mul-le-mul, mul-le-mul-right}, Omega.{arith}}
 use lib.{ListN.{length, getD, take, set, length-append, length-take}, Seq.{take-at, sets, length-sets, sets-eq}}
-use Rattle.theory.specs.PrefixCode.{Node}
+use Rattle.theory.specs.Formula.{Node}
 use Rattle.values.specs.declared.ValueKind.{ValueKind}
 use Rattle.values.specs.declared.ValueKind.the-variants.{Numbered, Register}
-use Rattle.values.specs.ValueBytes.{value-width, value-bytes}
-use Rattle.formulas.specs.NodeBytes.{encode-all, node-width, node-bytes}
-use Rattle.formulas.proofs.{Encoding.{encode-append}, NodeCodes.{node-code, next-node, width-is}}
+use Rattle.values.specs.Setup.{value-width, value-bytes}
+use Rattle.formulas.specs.RuleConditions.{encode-all, node-width, node-bytes}
+use Rattle.formulas.proofs.{Encoding.{encode-append}, NodeCodes.{fields-same, node-code, next-node, width-is}}
 use Rattle.machines.specs.{TableBytes.{entry-value}, Claims.{OfBytes}}
 use Rattle.characteristic.specs.NodeOutput.{Appends, AppendsOne, HasRoom}
+use Rattle.formulas.specs.NodeCode.{kind-number, first-field, value-field}
 
 -- What is stored fits: 0, and what is read from bytes.
 pub zero-fits : (kind : ValueKind) → OfBytes kind 0
@@ -54,7 +55,9 @@ module _ (kind : ValueKind) {limit at : ℕ} where
       whole =
           let one : place + 1 ≡ suc (at * node-width kind) = omega (arith, place-is) in
           let two : place + 2 ≡ suc (suc (at * node-width kind)) = omega (arith, place-is) in
-          stored ∙ cc (one, two, place-is, tag-is, first-is, value-is)
+          let fields : after ≡ sets l (at * node-width kind) (kind-number n ∷ first-field n ∷ value-bytes kind (value-field n))
+          = stored ∙ cc (one, two, place-is, tag-is, first-is, value-is) in
+          fields ∙ ap (sets l (at * node-width kind)) (sym (fields-same kind n))
 
       long : length (node-bytes kind n) ≡ node-width kind
       long = node-code kind .length-is n

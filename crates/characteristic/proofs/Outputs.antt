@@ -10,10 +10,10 @@ use Rattle.refusal.specs.declared.Refusal.{Refusal}
 use Rattle.refusal.specs.declared.Refusal.the-variants.{Plain}
 use Rattle.refusal.specs.declared.Counted.the-variants.{Count, Refused}
 use Rattle.refusal.specs.RefusalAnswers.{or-else, plain-unless, counted}
-use Rattle.refusal.specs.LentBuffers.{put, put-unless}
+use Rattle.refusal.specs.Refusal.{put, put-unless}
 use Rattle.values.specs.declared.ValueKind.{ValueKind}
 use Rattle.values.specs.declared.ValueKind.the-variants.{Numbered, Register}
-use Rattle.formulas.specs.NodeBytes.{encode-formula, node-width, node-bytes}
+use Rattle.formulas.specs.RuleConditions.{encode-formula, node-width, node-bytes}
 use Rattle.formulas.proofs.Prefix.{length-nodes}
 use Rattle.machines.specs.TableBytes.{machine-of}
 use Rattle.machines.proofs.Stores.{put-snoc}

@@ -4,7 +4,7 @@ use Prim.Native.Nat.{ℕ, zero, suc, _+_, _-_, _≤_, _<_}
 use native.Mathlib.Omega.{arith}
 use lib.ListN.{length, getD, set, length-set}
 use Rattle.theory.specs.{Formula.{Formula}, MealyMachine.{Machine}}
-use Rattle.theory.specs.PrefixCode.{Node, variable-node, transition-node, output-node, conjunction-node, greatest-node, nodes}
+use Rattle.theory.specs.Formula.{Node, variable-node, transition-node, output-node, conjunction-node, greatest-node, nodes}
 use Rattle.theory.specs.CharacteristicFormula.{OpenAt, Writes, already-open, opened, Rows, last-row, row}
 use Rattle.theory.proofs.{CharacteristicFormula.{open-one}, PrefixCode.{size-positive}}
 use Rattle.values.specs.declared.ValueKind.{ValueKind}

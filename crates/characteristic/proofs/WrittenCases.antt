@@ -11,7 +11,7 @@ use Rattle.refusal.specs.RefusalAnswers.{counted, plain-unless}
 use Rattle.values.specs.declared.ValueKind.the-variants.{Numbered}
 use Rattle.values.specs.{Setup.{Setup}, SetupTests.{setup-refusal}}
 use Rattle.values.proofs.Setups.{four-value-setup}
-use Rattle.formulas.specs.NodeBytes.{node-width}
+use Rattle.formulas.specs.RuleConditions.{node-width}
 use Rattle.machines.specs.TableRefusal.{table-test, entry-test, table-refusal}
 use Rattle.characteristic.specs.RuleWriting.{rule-of, write-answer}
 use Rattle.characteristic.specs.WrittenCases.{four-values, chain-rows, ChainClaim}

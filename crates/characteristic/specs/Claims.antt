@@ -2,11 +2,11 @@
 use mathlib.Core.{Path.{_≡_}, Option.{none, some}, List.{List}}
 use Prim.Native.Nat.{ℕ, suc, _+_, _*_, _≤_, _<_}
 use lib.ListN.{length}
-use Rattle.theory.specs.{Formula.{Formula, size}, FormulaClasses.{binders, Accepted}, Semantics.{Answers}, MealyMachine.{Machine, Word, after}}
+use Rattle.theory.specs.{Formula.{Formula, size, Answers}, FormulaClasses.{binders, Accepted}, MealyMachine.{Machine, Word, after}}
 use Rattle.theory.specs.ReachableStates.{IsTableOf, StatesAtMost}
-use Rattle.refusal.specs.{declared.Refusal.{Refusal}, declared.Counted.the-variants.{Count, Refused}, Refusal.{Judged}, LentBuffers.{put}}
+use Rattle.refusal.specs.{declared.Refusal.{Refusal}, declared.Counted.the-variants.{Count, Refused}, Refusal.{Judged, put}}
 use Rattle.values.specs.Setup.{Setup, SetupValue, setup-meet, setup-top}
-use Rattle.formulas.specs.{NodeBytes.{encode-formula, node-width, node-bytes}, RuleRefusal.{rule-refusal}}
+use Rattle.formulas.specs.{RuleConditions.{encode-formula, node-width, node-bytes}, RuleRefusal.{rule-refusal}}
 use Rattle.machines.specs.TableBytes.{machine-of}
 use Rattle.characteristic.specs.{RuleOfTable.{IsRuleOf, write-conditions}, RuleWriting.{write-refusal, write-answer, write-contents}}
 use Rattle.limits.specs.Limits.{node-limit, state-limit, table-limit}

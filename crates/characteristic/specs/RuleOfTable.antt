@@ -3,10 +3,10 @@
 use mathlib.Core.{Path.{_≡_}, List.{List, [], _∷_, _++_}, Option.{none}}
 use Prim.Native.Nat.{ℕ, _<_}
 use lib.ListN.{length}
-use Rattle.theory.specs.{Formula.{Formula, size}, Semantics.{Answers}, MealyMachine.{Word, after}, CharacteristicFormula.{Writes}}
+use Rattle.theory.specs.{Formula.{Formula, size, Answers}, MealyMachine.{Word, after}, CharacteristicFormula.{Writes}}
 use Rattle.refusal.specs.Refusal.{Condition, plain, First}
 use Rattle.values.specs.{declared.ValueKind.{ValueKind}, Setup.{Setup, SetupValue, setup-meet, setup-top, setup-conditions}}
-use Rattle.formulas.specs.{NodeBytes.{encode-formula, node-bytes}, RuleConditions.{byte-conditions}}
+use Rattle.formulas.specs.RuleConditions.{encode-formula, node-bytes, byte-conditions}
 use Rattle.machines.specs.TableBytes.{entry-width, machine-of, table-condition}
 
 -- φ is the rule of the table from the start: `Writes` of theory, with no state open yet.

@@ -4,7 +4,7 @@ use mathlib.Core.{Path.{_≡_, refl, sym, ap, _∙_}, List.{List, [], _∷_, _++
 use native.Mathlib.Omega.{arith}
 use lib.ListN.{length, getD, take, drop, set, length-append, length-drop, length-map}
 use borrow.Author.Tests.{lt-ltb, le-ltb}
-use Rattle.refusal.specs.LentBuffers.{put}
+use Rattle.refusal.specs.Refusal.{put}
 use Rattle.text_format.specs.Decimal.{is-digit}
 use Rattle.channel_file.specs.Bytes.{clamp}
 use Rattle.channel_file.proofs.Offsets.{here, over}

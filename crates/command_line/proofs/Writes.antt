@@ -3,7 +3,7 @@ use Prim.Native.Nat.{ℕ, suc, _+_, _≤_}
 use mathlib.Core.{Path.{_≡_, refl, sym, ap, _∙_}, List.{List, [], _∷_, _++_}}
 use native.Mathlib.{Omega.{arith}, Numerals.{add-one}}
 use lib.{ListN.{length, set, drop, length-set, length-append}, Seq.{sets, sets-eq}}
-use Rattle.refusal.specs.LentBuffers.{put}
+use Rattle.refusal.specs.Refusal.{put}
 
 -- l with the bytes of s from the offset i on.
 abbrev pub puts : List ℕ → ℕ → List ℕ → List ℕ

@@ -1,16 +1,10 @@
 -- A text whose words are all numbers, and its numbers stored in a lent buffer, one byte each; a number above 255 stands as 255.
 use Prim.Native.Nat.{ℕ}
-use mathlib.Core.Path.{_≡_}
-use mathlib.Core.List.{List, [], _∷_, _++_, map}
-use mathlib.Core.Bool.{cond}
-use mathlib.Core.Option.{Option, none, some}
-use lib.Dec.{ltb}
-use lib.ListN.{length}
-use Rattle.refusal.specs.LentBuffers.{put}
+use mathlib.Core.{Path.{_≡_}, List.{List, [], _∷_, _++_, map}, Bool.{cond}, Option.{Option, none, some}}
+use lib.{Dec.{ltb}, ListN.{length}}
+use Rattle.refusal.specs.Refusal.{put}
 use Rattle.channel_file.specs.Bytes.{clamp}
-use Rattle.command_line.specs.Words.{words}
-use Rattle.command_line.specs.Numbers.{IsNumber, number-of}
-use Rattle.command_line.specs.declared.Listed.{Listed}
+use Rattle.command_line.specs.{Words.{words}, Numbers.{IsNumber, number-of}, declared.Listed.{Listed}}
 
 -- ---- the sentence: each word is a number
 

@@ -1,17 +1,10 @@
 -- What the private functions of src/ say.
 use Prim.Native.Nat.{ℕ, suc, _+_, _≤_}
-use mathlib.Core.Path.{_≡_}
-use mathlib.Core.List.{List, [], _∷_, map}
-use mathlib.Core.Bool.{cond}
-use mathlib.Core.Option.{Option, none, some}
+use mathlib.Core.{Path.{_≡_}, List.{List, [], _∷_, map}, Bool.{cond}, Option.{Option, none, some}}
 use lib.ListN.{length, getD, drop}
-use Rattle.refusal.specs.LentBuffers.{put}
+use Rattle.refusal.specs.Refusal.{put}
 use Rattle.channel_file.specs.Bytes.{clamp}
-use Rattle.command_line.specs.declared.Number.{Number}
-use Rattle.command_line.specs.declared.Command.{Command}
-use Rattle.command_line.specs.Words.{is-space, rest}
-use Rattle.command_line.specs.Lists.{numbers-of}
-use Rattle.command_line.specs.Names.{names, equal}
+use Rattle.command_line.specs.{declared.Number.{Number}, declared.Command.{Command}, Words.{is-space, rest}, Lists.{numbers-of}, Names.{names, equal}}
 
 -- How many spaces lead a text, and how many other bytes.
 unfoldable pub gap : List ℕ → ℕ

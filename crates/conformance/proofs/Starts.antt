@@ -6,7 +6,7 @@ use lib.{ListN.{length, getD, set, replicate, length-set, length-reverse, length
 use Rattle.theory.specs.Exploration.{reached, has-state}
 use Rattle.theory.specs.ConformanceCheck.{same-pair, next-pair, counterexample}
 use Rattle.theory.proofs.Numbers.{digits-equal}
-use Rattle.refusal.specs.LentBuffers.{put}
+use Rattle.refusal.specs.Refusal.{put}
 use Rattle.values.specs.declared.ValueKind.{ValueKind}
 use Rattle.machines.specs.TableBytes.{machine-of}
 use Rattle.conformance.specs.declared.{Verdict.{Verdict}, Failure.{Failure}}

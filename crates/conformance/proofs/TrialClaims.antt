@@ -6,7 +6,7 @@ use Prim.Native.Nat.{ℕ, zero, _*_, _≤_, _<_}
 use native.Mathlib.Omega.{arith}
 use borrow.Author.Tests.{leb-true, leb-false}
 use lib.{Dec.{T, leb}, ListN.{length, take, drop}, Seq.{take-append-seam, drop-append-seam}}
-use Rattle.theory.specs.Semilattice.{AtOrBelow}
+use Rattle.theory.specs.ValueSets.{AtOrBelow}
 use Rattle.theory.specs.MachineRuns.{Runs}
 use Rattle.theory.specs.MealyMachine.{States}
 use Rattle.theory.specs.ConformanceCheck.{counterexample}
@@ -14,7 +14,7 @@ use Rattle.theory.proofs.{ConformanceClaims.{table-simulation-claim, conformanc
 use Rattle.refusal.specs.declared.Refusal.{Refusal}
 use Rattle.refusal.specs.Refusal.{plain, First, has-place, condition-numbers, right-places, part-of, order}
 use Rattle.refusal.specs.RefusalAnswers.{or-else}
-use Rattle.refusal.specs.LentBuffers.{put}
+use Rattle.refusal.specs.Refusal.{put}
 use Rattle.refusal.proofs.Refusals.{plain-first, first-append}
 use Rattle.values.specs.Setup.{SetupValue, setup-top}
 use Rattle.values.proofs.{Setups.{setup-first, judged-after-setup}, ValueKinds.{value-kinds}}
@@ -23,7 +23,8 @@ use Rattle.conformance.specs.Trial.{Passes, FailsBy}
 use Rattle.conformance.specs.declared.Verdict.{Verdict}
 use Rattle.conformance.specs.declared.Verdict.the-variants.{Pass, Fail, Refused}
 use Rattle.conformance.specs.Trial.{TrialInput, meet, device-machine, table-machine, FirstFailure, DeviceInOrder}
-use Rattle.conformance.specs.TrialAnswer.{below, PassesDecided, tables-refusal}
+use Rattle.conformance.specs.TrialAnswer.{below, tables-refusal}
+use Rattle.conformance.specs.Claims.{PassesDecided}
 use Rattle.conformance.specs.Trial.{RuleTableInOrder, trial-conditions}
 use Rattle.conformance.specs.TrialAnswer.{trial-refusal, first-failure, outcome, shown, answer-unless}
 use Rattle.conformance.specs.TrialAnswer.{buffer-unless, trial-answer, trial-buffer}

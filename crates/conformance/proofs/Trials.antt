@@ -11,7 +11,7 @@ use Rattle.refusal.specs.declared.Judgement.the-variants.{Accepted, Refused}
 use Rattle.refusal.specs.RefusalAnswers.{or-else, plain-unless, judgement}
 use Rattle.refusal.proofs.Refusals.{judgement-accepted, judgement-refused, or-else-none, or-else-assoc, plain-none}
 use Rattle.values.specs.declared.ValueKind.{ValueKind}
-use Rattle.values.specs.ValueKind.{ValueIn}
+use Rattle.values.specs.Setup.{ValueIn}
 use Rattle.values.specs.Setup.{setup-of-kind}
 use Rattle.values.specs.SetupInOrder.{WellFormed}
 use Rattle.values.specs.SetupTests.{setup-refusal}

@@ -3,7 +3,7 @@ use mathlib.Core.{Path.{_≡_, refl, sym, _∙_, ap, ap₂, subst, subst⁻¹}, 
 use Prim.Native.Nat.{ℕ, zero, suc, _+_, _-_, _≤_, _<_}
 use native.Mathlib.Omega.{arith}
 use lib.{ListN.{length, getD, set, drop, length-set, length-reverse}, Seq.{drop-cons, drop-set-lt, getD-set-same}}
-use Rattle.refusal.specs.LentBuffers.{put}
+use Rattle.refusal.specs.Refusal.{put}
 use Rattle.conformance.specs.PairQueue.{Linked}
 
 module _ (P : List (List ℕ)) (parents last-events : List ℕ) (v : Linked P parents last-events) where

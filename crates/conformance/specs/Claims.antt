@@ -1,14 +1,19 @@
 -- What is claimed of a trial (document 01, "Trial"), for every limit on the device's and the table's states; proofs/TrialClaims has a
 -- proof of each.
 use mathlib.Core.{Path.{_≡_}, Logic.{_↔_}, List.{List}, Option.{none, some}}
-use Prim.Native.Nat.{ℕ, _*_, _≤_, _<_}
+use Prim.Native.Nat.{ℕ, _*_, _≤_, _<_, zero}
 use lib.ListN.{take, drop}
-use Rattle.theory.specs.{Semilattice.{AtOrBelow}, Formula.{Formula}, FormulaClasses.{WellFormed}}
-use Rattle.theory.specs.{TableSatisfaction.{TableSatisfies}, ReachableStates.{IsTableOf}}
+use Rattle.theory.specs.{ValueSets.{AtOrBelow}, Formula.{Formula}, FormulaClasses.{WellFormed}, TableSatisfaction.{TableSatisfies}}
+use Rattle.theory.specs.{ReachableStates.{IsTableOf}, MachineRuns.{SimulatedTable}}
 use Rattle.refusal.specs.{declared.Refusal.{Refusal}, Refusal.{Judged}}
 use Rattle.values.specs.Setup.{SetupValue, setup-top}
 use Rattle.conformance.specs.Trial.{TrialInput, meet, device-machine, table-machine, FirstFailure, trial-conditions, refusal-of, Passed, word-length}
-use Rattle.conformance.specs.TrialAnswer.{PassesDecided, trial-refusal, trial-answer, trial-buffer}
+use Rattle.conformance.specs.TrialAnswer.{trial-refusal, trial-answer, trial-buffer}
+
+-- Definition 1 with decided relations: the same over tables (theory's `TableSimulationClaim`).
+abbrev pub PassesDecided : TrialInput → Type 0
+PassesDecided x =
+    SimulatedTable (x .set-up .events) (meet x) (x .device-states) (device-machine x) (x .states) (table-machine x) (x .device-start) zero
 
 -- A trial is judged as document 01 asks; its conditions stand in the order, 11 once for both tables.
 module _ (device-most table-most : ℕ) where

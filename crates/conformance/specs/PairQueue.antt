@@ -5,7 +5,7 @@ use Prim.Native.Nat.{ℕ, zero, _+_, _*_, _≤_, _<_}
 use lib.{Dec.{eqb}, ListN.{length, getD, set}}
 use Rattle.limits.specs.Limits.{event-limit, device-limit, table-limit}
 use Rattle.theory.specs.{MealyMachine.{Machine}, Exploration.{reached, has-state, add-events}, ConformanceCheck.{same-pair, next-pair, counterexample}}
-use Rattle.refusal.specs.LentBuffers.{put}
+use Rattle.refusal.specs.Refusal.{put}
 use Rattle.machines.specs.TableBytes.{machine-of}
 use Rattle.values.specs.{declared.ValueKind.{ValueKind}, Setup.{setup-of-kind}, SetupTests.{setup-refusal}, ValueTests.{at-or-below}}
 use Rattle.conformance.specs.{declared.Verdict.{Verdict}, declared.Failure.{Failure}, declared.Failure.the-variants.{Nowhere, At}, Trial.{input}}

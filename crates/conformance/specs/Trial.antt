@@ -3,7 +3,7 @@
 use mathlib.Core.{Path.{_≡_}, Logic.{_⊎_}, Option.{Option, none, some}, List.{List, [], _∷_, _++_}}
 use Prim.Native.Nat.{ℕ, zero, _*_, _≤_, _<_}
 use lib.ListN.{length, take, drop}
-use Rattle.theory.specs.{MealyMachine.{Machine, States, Simulated}, Conformance.{FirstCounterexample}}
+use Rattle.theory.specs.MealyMachine.{Machine, States, Simulated, FirstCounterexample}
 use Rattle.refusal.specs.{declared.Refusal.{Refusal}, Refusal.{Condition, plain}}
 use Rattle.values.specs.Setup.{Setup, SetupValue, setup-meet, setup-conditions}
 use Rattle.machines.specs.TableBytes.{entry-width, machine-of, TableInOrder}

@@ -3,8 +3,8 @@
 use mathlib.Core.{Bool.{Bool}, Option.{Option, none, some}, List.{List}}
 use Prim.Native.Nat.{ℕ, zero, _*_}
 use lib.{Dec.{leb}, ListN.{length}}
-use Rattle.theory.specs.{MachineRuns.{SimulatedTable}, ConformanceCheck.{counterexample}}
-use Rattle.refusal.specs.{declared.Refusal.{Refusal}, RefusalAnswers.{or-else, plain-unless}, LentBuffers.{put}}
+use Rattle.theory.specs.ConformanceCheck.{counterexample}
+use Rattle.refusal.specs.{declared.Refusal.{Refusal}, RefusalAnswers.{or-else, plain-unless}, Refusal.{put}}
 use Rattle.values.specs.{declared.ValueKind.{ValueKind}, SetupTests.{setup-refusal}, ValueTests.{at-or-below}}
 use Rattle.machines.specs.TableRefusal.{table-refusal}
 use Rattle.conformance.specs.{declared.Verdict.{Verdict}, declared.Verdict.the-variants.{Pass, Fail, Refused}}
@@ -12,11 +12,6 @@ use Rattle.conformance.specs.Trial.{TrialInput, meet, device-machine, ta
 
 abbrev pub below : TrialInput → ℕ → ℕ → Bool
 below x = at-or-below (x .set-up .kind) (x .set-up .meet)
-
--- Definition 1 with decided relations: the same over tables (theory's `TableSimulationClaim`).
-abbrev pub PassesDecided : TrialInput → Type 0
-PassesDecided x =
-    SimulatedTable (x .set-up .events) (meet x) (x .device-states) (device-machine x) (x .states) (table-machine x) (x .device-start) zero
 
 -- 11 computed, for the device and then for the table.
 unfoldable pub tables-refusal : (device-most table-most events : ℕ) → ValueKind → ℕ → List ℕ → ℕ → ℕ → List ℕ → Option Refusal

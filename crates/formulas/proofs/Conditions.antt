@@ -8,7 +8,7 @@ use lib.{Dec.{leb}, ListN.{length, take, drop}}
 use borrow.Author.Tests.{eq-eqb, lt-ltb, le-leb, not-true, not-false}
 use Rattle.theory.specs.Formula.{Formula, truth, variable, transition, output, conjunction, greatest, size}
 use Rattle.theory.specs.FormulaClasses.{Fits, Accepted}
-use Rattle.theory.specs.PrefixCode.{Node, nodes}
+use Rattle.theory.specs.Formula.{Node, nodes}
 use Rattle.refusal.specs.Refusal.{Condition, plain, at-lowest, Gives, First}
 use Rattle.refusal.specs.RefusalAnswers.{or-else, plain-unless, at-found}
 use Rattle.refusal.specs.RefusalClaims.{NoneMet}
@@ -16,7 +16,7 @@ use Rattle.refusal.specs.declared.Refusal.{Refusal}
 use Rattle.refusal.specs.declared.Refusal.the-variants.{Plain, At}
 use Rattle.refusal.proofs.Refusals.{only-place, first-one, first-cons, or-else-none, plain-none}
 use Rattle.formulas.specs.NodeCode.{NodeCode}
-use Rattle.formulas.specs.NodeBytes.{encode-all, encode-formula}
+use Rattle.formulas.specs.RuleConditions.{encode-all, encode-formula}
 use Rattle.formulas.specs.RuleConditions.{Unbound, InClosedPosition, closed-to-variable, NodeFits, node-count, node-at, CountAtFault, NodeAtFault, RunOut}
 use Rattle.formulas.specs.RuleConditions.{LeftOver, OfFormula, rule-conditions}
 use Rattle.formulas.specs.RuleReading.{lowest-from, kind-of, end-fault, node-of, nodes-from, formula-read, lowest-unbound, lowest-closed}

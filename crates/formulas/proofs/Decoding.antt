@@ -8,7 +8,7 @@ use Rattle.limits.specs.Limits.{node-limit}
 use Rattle.refusal.specs.RefusalAnswers.{or-else, plain-unless}
 use Rattle.refusal.specs.declared.Refusal.the-variants.{Plain}
 use Rattle.values.specs.declared.ValueKind.{ValueKind}
-use Rattle.formulas.specs.NodeBytes.{node-width}
+use Rattle.formulas.specs.RuleConditions.{node-width}
 use Rattle.formulas.specs.RuleRefusal.{count-fits, nodes-refusal, fields-refusal, kind-at, first-at, value-at, rule-refusal}
 use Rattle.formulas.specs.{NodeWalks.{field}, NodeArrays.{padded, decoded-count, decoded}}
 use Rattle.formulas.proofs.{Padding.{padded-field}, Answers.{refusal-same, count-within}}

@@ -5,8 +5,9 @@ use native.Mathlib.{Nat.{suc-mul, zero-mul, add-zero}, Omega.{arith}}
 use lib.ListN.{length, getD, take, drop, length-append, List·getD-append, take-append-drop}
 use lib.Seq.{take-at, drop-at, drop-drop, drop-length, getD-drop}
 use Rattle.theory.specs.Formula.{Formula, size}
-use Rattle.theory.specs.PrefixCode.{Node, truth-node, variable-node, transition-node, output-node, conjunction-node, greatest-node, nodes}
-use Rattle.formulas.specs.NodeBytes.{kind-number, first-field, encode-all, encode-formula}
+use Rattle.theory.specs.Formula.{Node, truth-node, variable-node, transition-node, output-node, conjunction-node, greatest-node, nodes}
+use Rattle.formulas.specs.NodeCode.{kind-number, first-field}
+use Rattle.formulas.specs.RuleConditions.{encode-all, encode-formula}
 use Rattle.formulas.specs.NodeCode.{NodeCode}
 use Rattle.formulas.specs.RuleReading.{kind-of, node-of, nodes-from}
 use Rattle.formulas.proofs.Prefix.{length-nodes, nodes-unique}

@@ -4,13 +4,15 @@ use Prim.Native.Nat.{ℕ, suc, _+_, _*_, _/_, _≤_, _<_, min}
 use native.Mathlib.{Nat.{div-add-mod'}, Omega.{arith}}
 use lib.{ListN.{length, getD, take, drop}, Seq.{drop-drop, drop-cons}}
 use Rattle.limits.specs.Limits.{node-limit}
-use Rattle.theory.specs.PrefixCode.{Node, output-node}
+use Rattle.theory.specs.Formula.{Node, truth-node, variable-node, transition-node, output-node, conjunction-node, greatest-node}
 use Rattle.values.specs.declared.ValueKind.{ValueKind}
 use Rattle.values.specs.declared.ValueKind.the-variants.{Numbered, Register}
-use Rattle.values.specs.ValueKind.{ValueIn}
-use Rattle.values.specs.ValueBytes.{value-width, value-bytes, value-from}
+use Rattle.values.specs.Setup.{ValueIn}
+use Rattle.values.specs.Setup.{value-width, value-bytes, value-from}
 use Rattle.values.proofs.ValueBytes.{value-bytes-correct}
-use Rattle.formulas.specs.{NodeBytes.{kind-number, first-field, value-field, node-width, node-bytes}, RuleReading.{kind-of, node-of}}
+use Rattle.formulas.specs.NodeCode.{kind-number, first-field, value-field}
+use Rattle.formulas.specs.RuleConditions.{node-width, node-bytes, node-fields}
+use Rattle.formulas.specs.RuleReading.{kind-of, node-of}
 use Rattle.formulas.specs.{RuleRefusal.{kind-at, first-at, value-at}, Claims.{NodeCodeClaim}}
 use Rattle.formulas.proofs.{NodeFields.{HasFields}, Encoding.{node-back}}
 
@@ -54,6 +56,36 @@ sized : (kind : ValueKind) (n : Node ℕ) → length (node-bytes kind n) ≡ nod
 sized (Numbered k) n = refl
 sized (Register lines) n = refl
 
+-- The fields of a node, one by one.
+kind-same : (n : Node ℕ) → node-fields n .0 ≡ kind-number n
+kind-same truth-node = refl
+kind-same (variable-node n) = refl
+kind-same (transition-node e) = refl
+kind-same (output-node e v) = refl
+kind-same conjunction-node = refl
+kind-same greatest-node = refl
+
+first-same : (n : Node ℕ) → node-fields n .1 ≡ first-field n
+first-same truth-node = refl
+first-same (variable-node n) = refl
+first-same (transition-node e) = refl
+first-same (output-node e v) = refl
+first-same conjunction-node = refl
+first-same greatest-node = refl
+
+value-same : (n : Node ℕ) → node-fields n .2 ≡ value-field n
+value-same truth-node = refl
+value-same (variable-node n) = refl
+value-same (transition-node e) = refl
+value-same (output-node e v) = refl
+value-same conjunction-node = refl
+value-same greatest-node = refl
+
+pub fields-same : (kind : ValueKind) (n : Node ℕ) → node-bytes kind n ≡ kind-number n ∷ first-field n ∷ value-bytes kind (value-field n)
+fields-same kind n =
+    ap₂ (λ k a. k ∷ a ∷ value-bytes kind (node-fields n .2)) (kind-same n) (first-same n)
+    ∙ ap (λ v. kind-number n ∷ first-field n ∷ value-bytes kind v) (value-same n)
+
 module _ (kind : ValueKind) where
   -- The node of so many bytes.
   abbrev read-node : List ℕ → Node ℕ
@@ -61,8 +93,9 @@ module _ (kind : ValueKind) where
 
   node-read : (n : Node ℕ) → read-node (node-bytes kind n) ≡ n
   node-read n =
-      node-back n (kind-number n) (first-field n) (value-from kind (node-bytes kind n) 2) refl refl
-      (λ e b d. value-bytes-correct .read kind (node-bytes kind n) 2 (value-field n) (whole-value kind (value-field n)) ∙ ap value-field d)
+      node-back n (node-fields n .0) (node-fields n .1) (value-from kind (node-bytes kind n) 2) (kind-same n) (first-same n)
+      (λ e b d.
+      value-bytes-correct .read kind (node-bytes kind n) 2 (node-fields n .2) (whole-value kind (node-fields n .2)) ∙ value-same n ∙ ap value-field d)
 
   -- The value's bytes within a node's.
   pub value-part :
@@ -70,6 +103,7 @@ module _ (kind : ValueKind) where
       → take (value-width kind) (drop (at + 2) bytes) ≡ value-bytes kind (value-field n)
   value-part bytes at n e =
       ap (take (value-width kind)) (sym (drop-drop 2 at bytes)) ∙ sym (after-two kind (drop at bytes)) ∙ ap (drop 2) e
+      ∙ ap (value-bytes kind) (value-same n)
 
   pub value-there :
       (bytes : List ℕ) (i : ℕ) (n : Node ℕ) → take (node-width kind) (drop (i * node-width kind) bytes) ≡ node-bytes kind n
@@ -99,8 +133,8 @@ node-code kind =
     record {
       length-is = sized kind;
       two = width-positive kind;
-      kind-byte = λ n. refl;
-      first-byte = λ n. refl;
+      kind-byte = kind-same;
+      first-byte = first-same;
       one-node = λ m n e. sym (node-read kind m) ∙ ap (read-node kind) e ∙ node-read kind n;
     }
 
@@ -117,6 +151,7 @@ module _ (kind : ValueKind) (bytes : List ℕ) (i : ℕ) (inside : i < length by
       (value-bytes-correct .written kind bytes (i * node-width kind + 2) (node-within kind (length bytes) i inside)
       (subst (λ v. ValueIn kind v ⊎ (v ≡ 0)) (h .value-is) w)
       ∙ ap (value-bytes kind) (sym (h .value-is)))
+      ∙ sym (fields-same kind n)
 
   pub bytes-fields :
       (n : Node ℕ) → take (node-width kind) (drop (i * node-width kind) bytes) ≡ node-bytes kind n
@@ -124,7 +159,7 @@ module _ (kind : ValueKind) (bytes : List ℕ) (i : ℕ) (inside : i < length by
   bytes-fields n e =
       let d = sym (split kind bytes (i * node-width kind) (node-within kind (length bytes) i inside)) ∙ e in
       record {
-        kind-is = sym (ap (λ l. getD l 0 0) d);
-        first-is = sym (ap (λ l. getD l 1 0) d);
+        kind-is = sym (ap (λ l. getD l 0 0) d ∙ kind-same n);
+        first-is = sym (ap (λ l. getD l 1 0) d ∙ first-same n);
         value-is = sym (value-there kind bytes i n e);
       }

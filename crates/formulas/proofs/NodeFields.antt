@@ -4,8 +4,9 @@ use Prim.Native.Nat.{ℕ, zero, suc}
 use native.Mathlib.Omega.{arith}
 use lib.Dec.{eqb, ltb}
 use borrow.Author.Tests.{eqb-true, ltb-true, lt-ltb}
-use Rattle.theory.specs.PrefixCode.{Node, truth-node, variable-node, transition-node, output-node, conjunction-node, greatest-node}
-use Rattle.formulas.specs.{NodeBytes.{kind-number, first-field, value-field}, RuleConditions.{NodeFits}}
+use Rattle.theory.specs.Formula.{Node, truth-node, variable-node, transition-node, output-node, conjunction-node, greatest-node}
+use Rattle.formulas.specs.NodeCode.{kind-number, first-field, value-field}
+use Rattle.formulas.specs.RuleConditions.{NodeFits}
 use Rattle.formulas.specs.RuleReading.{kind-of, fields-fit, node-of}
 
 -- A node with these three fields.

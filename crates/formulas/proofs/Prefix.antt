@@ -4,8 +4,8 @@ use Prim.Native.Nat.{ℕ, zero, suc, _+_}
 use native.Mathlib.Omega.{arith}
 use lib.{ListN.{length, drop, replicate, length-append, length-replicate}, Seq.{drop-at}}
 use Rattle.theory.specs.Formula.{Formula, truth, variable, transition, output, conjunction, greatest, size}
-use Rattle.theory.specs.PrefixCode.{Node, truth-node, variable-node, transition-node, output-node, conjunction-node, greatest-node, nodes}
-use Rattle.formulas.specs.NodeBytes.{kind-number}
+use Rattle.theory.specs.Formula.{Node, truth-node, variable-node, transition-node, output-node, conjunction-node, greatest-node, nodes}
+use Rattle.formulas.specs.NodeCode.{kind-number}
 use Rattle.formulas.specs.RuleReading.{Kind, kind-T, kind-X, kind-G, kind-O, kind-A, kind-V, unknown-kind, kind-of, awaited, end-fault, node-of}
 use Rattle.formulas.specs.RuleReading.{nodes-from, with-parts, formulas, first-formula, formula-read}
 

@@ -4,8 +4,10 @@ use Prim.Native.Nat.{ℕ, zero, suc, _+_, _≤_, _<_}
 use native.Mathlib.Omega.{arith}
 use lib.ListN.{length}
 use Rattle.theory.specs.Formula.{Formula, truth, variable, transition, output, conjunction, greatest, size}
-use Rattle.theory.specs.PrefixCode.{Node, truth-node, variable-node, transition-node, output-node, conjunction-node, greatest-node, nodes}
-use Rattle.formulas.specs.{NodeBytes.{kind-number}, NodeReading.{Reads}, RuleReading.{kind-of, node-of, nodes-from}}
+use Rattle.theory.specs.Formula.{Node, truth-node, variable-node, transition-node, output-node, conjunction-node, greatest-node, nodes}
+use Rattle.formulas.specs.NodeCode.{kind-number}
+use Rattle.formulas.specs.NodeReading.{Reads}
+use Rattle.formulas.specs.RuleReading.{kind-of, node-of, nodes-from}
 use Rattle.formulas.proofs.Prefix.{length-nodes, nodes-unique, length-from}
 
 module _ {B : Type 0} where

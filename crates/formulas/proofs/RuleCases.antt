@@ -7,7 +7,7 @@ use Rattle.formulas.specs.RuleReading.{first-formula, formula-read, lowe
 use Rattle.formulas.specs.RuleRefusal.{count-fits, variables-refusal, structure-refusal, misfit-place, nodes-refusal, rule-refusal}
 use Rattle.formulas.specs.RuleCases.{CasesHold, RuleCasesClaim}
 use Rattle.values.specs.ValueTests.{masks-fit}
-use Rattle.values.specs.ValueBytes.{masks-value}
+use Rattle.values.specs.Setup.{masks-value}
 
 pub rule-cases-hold : RuleCasesClaim
 unfolding CasesHold unpack masks-fit masks-value rule-refusal or-else plain-unless at-found count-fits nodes-refusal misfit-place structure-refusal

@@ -6,13 +6,14 @@ use lib.ListN.{length, drop}
 use Rattle.limits.specs.Limits.{node-limit}
 use Rattle.theory.specs.Formula.{Formula, size}
 use Rattle.theory.specs.FormulaClasses.{Accepted}
-use Rattle.theory.specs.PrefixCode.{Node, nodes}
+use Rattle.theory.specs.Formula.{Node, nodes}
 use Rattle.values.specs.declared.ValueKind.{ValueKind}
-use Rattle.values.specs.{ValueKind.{ValueIn}, ValueTests.{value-fits}}
+use Rattle.values.specs.Setup.{ValueIn}
+use Rattle.values.specs.ValueTests.{value-fits}
 use Rattle.values.proofs.ValueKinds.{fits-value, value-fitting}
 use Rattle.refusal.specs.Refusal.{First, has-place, part-of, order, condition-numbers, right-places}
 use Rattle.refusal.proofs.Refusals.{judged, accepted-exactly}
-use Rattle.formulas.specs.{NodeBytes.{encode-all, encode-formula, node-width, node-bytes}, RuleConditions.{NodeFits, node-at, NodeAtFault}}
+use Rattle.formulas.specs.RuleConditions.{encode-all, encode-formula, node-width, node-bytes, NodeFits, node-at, NodeAtFault}
 use Rattle.formulas.specs.{NodeReading.{Reads}, RuleReading.{kind-of, fields-fit, node-of, nodes-from, formulas, first-formula, formula-read}}
 use Rattle.formulas.specs.RuleRefusal.{structure-refusal, misfit-place, nodes-refusal, kind-at, first-at, value-at, rule-refusal, formula-of}
 use Rattle.formulas.specs.{NodeWalks.{field}, NodeArrays.{padded, decoded-count, decoded}}

@@ -7,9 +7,9 @@ use lib.{Dec.{ltb}, ListN.{length}}
 use borrow.Author.Tests.{le-ltb, ltb-true, ltb-false, not-true}
 use Rattle.theory.specs.Formula.{Formula, truth, variable, transition, output, conjunction, greatest, size}
 use Rattle.theory.specs.FormulaClasses.{FreeBelow, OpenPosition, ClosedPosition}
-use Rattle.theory.specs.PrefixCode.{Stands}
-use Rattle.theory.specs.PrefixCode.Stands.{root as stands-root, part-of-transition as stands-transition, left-part as stands-left, right-part as stands-right}
-use Rattle.theory.specs.PrefixCode.Stands.{part-of-greatest as stands-greatest}
+use Rattle.theory.specs.Formula.{Stands}
+use Rattle.theory.specs.Formula.Stands.{root as stands-root, part-of-transition as stands-transition, left-part as stands-left, right-part as stands-right}
+use Rattle.theory.specs.Formula.Stands.{part-of-greatest as stands-greatest}
 use Rattle.refusal.specs.Refusal.{Lowest}
 use Rattle.formulas.specs.RuleConditions.Placed.{root as placed-root, part-of-transition as placed-transition, left-part as placed-left}
 use Rattle.formulas.specs.RuleConditions.Placed.{right-part as placed-right, part-of-greatest as placed-greatest}

@@ -3,10 +3,10 @@ use mathlib.Core.{Path.{_≡_}, Logic.{_↔_}, Bool.{true}, Option.{none}, List.
 use Prim.Native.Nat.{ℕ, _*_, _≤_}
 use lib.ListN.{length}
 use Rattle.theory.specs.{Formula.{Formula, size}, FormulaClasses.{Accepted}}
-use Rattle.values.specs.{declared.ValueKind.{ValueKind}, ValueKind.{ValueIn}, ValueTests.{value-fits}}
+use Rattle.values.specs.{declared.ValueKind.{ValueKind}, Setup.{ValueIn}, ValueTests.{value-fits}}
 use Rattle.limits.specs.Limits.{node-limit}
 use Rattle.refusal.specs.Refusal.{Judged}
-use Rattle.formulas.specs.{NodeCode.{NodeCode}, NodeBytes.{encode-formula, node-width, node-bytes}, RuleConditions.{NodeAtFault, byte-conditions}}
+use Rattle.formulas.specs.{NodeCode.{NodeCode}, RuleConditions.{encode-formula, node-width, node-bytes, NodeAtFault, byte-conditions}}
 use Rattle.formulas.specs.{NodeReading.{Reads}, NodeWalks.{field}, NodeArrays.{decoded}}
 use Rattle.formulas.specs.RuleRefusal.{count-fits, fields-refusal, kind-at, first-at, value-at, rule-refusal, formula-of}
 

@@ -1,6 +1,5 @@
 -- In reading order.
 -- Nodes and formulas in bytes; the conditions of 5 to 9.
-pub mod NodeBytes
 pub mod RuleConditions
 -- What contracts compute with: the twin of RuleConditions.
 pub mod RuleReading

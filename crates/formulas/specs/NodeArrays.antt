@@ -1,14 +1,10 @@
 -- Twin of NodeBytes, pinned by formulas DecodedClaim.
 -- The fields of nodes as lists of fixed length, one for each field: what nodes decode to.
-use mathlib.Core.Bool.{cond}
-use mathlib.Core.List.{List, [], _∷_}
+use mathlib.Core.{Bool.{cond}, List.{List, [], _∷_}}
 use Prim.Native.Nat.{ℕ, zero, suc, _/_, min}
-use lib.Dec.{ltb}
-use lib.ListN.{length}
+use lib.{Dec.{ltb}, ListN.{length}}
 use Rattle.values.specs.declared.ValueKind.{ValueKind}
-use Rattle.formulas.specs.NodeBytes.{node-width}
-use Rattle.formulas.specs.declared.Nodes.{Nodes}
-use Rattle.formulas.specs.RuleRefusal.{kind-at, first-at, value-at}
+use Rattle.formulas.specs.{RuleConditions.{node-width}, declared.Nodes.{Nodes}, RuleRefusal.{kind-at, first-at, value-at}}
 use Rattle.limits.specs.Limits.{node-limit}
 
 -- The values of f from i on, `left` of them, with 0 from `count` on.

@@ -2,10 +2,27 @@
 use mathlib.Core.{Path.{_≡_}, List.{List, [], _∷_}}
 use Prim.Native.Nat.{ℕ, _<_}
 use lib.ListN.{length, getD}
-use Rattle.theory.specs.PrefixCode.{Node}
-use Rattle.formulas.specs.NodeBytes.{kind-number, first-field, value-field}
+use Rattle.theory.specs.Formula.{Node, truth-node, variable-node, transition-node, output-node, conjunction-node, greatest-node}
 
 module _ {B : Type 0} where
+  -- The kinds' numbers.
+  abbrev pub kind-number : Node B → ℕ
+  kind-number truth-node = 0
+  kind-number (variable-node n) = 1
+  kind-number (transition-node e) = 2
+  kind-number (output-node e b) = 3
+  kind-number conjunction-node = 4
+  kind-number greatest-node = 5
+
+  -- The first field: X's binder count, G's and O's event; 0 where it is unused.
+  abbrev pub first-field : Node B → ℕ
+  first-field truth-node = 0
+  first-field (variable-node n) = n
+  first-field (transition-node e) = e
+  first-field (output-node e b) = e
+  first-field conjunction-node = 0
+  first-field greatest-node = 0
+
   -- How nodes lie in bytes: each takes `width` bytes, the kind first and the first field second.
   pub record NodeCode (width : ℕ) (encode : Node B → List ℕ) : Type 0 where
     pub length-is : (n : Node B) → length (encode n) ≡ width
@@ -13,6 +30,15 @@ module _ {B : Type 0} where
     pub kind-byte : (n : Node B) → getD (encode n) 0 0 ≡ kind-number n
     pub first-byte : (n : Node B) → getD (encode n) 1 0 ≡ first-field n
     pub one-node : (m n : Node B) → encode m ≡ encode n → m ≡ n
+
+-- The value of an O; 0 where it is unused.
+abbrev pub value-field : Node ℕ → ℕ
+value-field truth-node = 0
+value-field (variable-node n) = 0
+value-field (transition-node e) = 0
+value-field (output-node e v) = v
+value-field conjunction-node = 0
+value-field greatest-node = 0
 
 -- The three bytes where values are numbers.
 abbrev pub three-bytes : Node ℕ → List ℕ

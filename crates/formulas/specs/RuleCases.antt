@@ -1,10 +1,10 @@
 -- Rules other than document 01's marked cases, and what 5 to 9 answer: 5 and 6, rules where the order of the refusals decides, and registers.
 use mathlib.Core.{Path.{_≡_}, Option.{Option, none, some}, List.{List, [], _∷_}}
 use Prim.Native.Nat.{ℕ}
-use Rattle.theory.specs.PrefixCode.{Node, truth-node, variable-node, transition-node, output-node, conjunction-node, greatest-node}
+use Rattle.theory.specs.Formula.{Node, truth-node, variable-node, transition-node, output-node, conjunction-node, greatest-node}
 use Rattle.refusal.specs.{declared.Refusal.{Refusal}, declared.Refusal.the-variants.{Plain, At}}
 use Rattle.values.specs.{declared.ValueKind.{ValueKind}, declared.ValueKind.the-variants.{Numbered, Register}}
-use Rattle.formulas.specs.{NodeBytes.{encode-all, node-bytes}, NodeCode.{three-bytes}, RuleRefusal.{rule-refusal}}
+use Rattle.formulas.specs.{RuleConditions.{encode-all, node-bytes}, NodeCode.{three-bytes}, RuleRefusal.{rule-refusal}}
 
 pub record RuleCase : Type 0 where
   pub rule : List ℕ

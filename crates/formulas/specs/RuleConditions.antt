@@ -1,13 +1,37 @@
--- Refusals 5 to 9 (document 01, "Who can cause a refusal", rule writer), for any way in which nodes lie in bytes.
-use mathlib.Core.{Path.{_≡_}, Logic.{_⊎_}, List.{List, [], _∷_, _++_}}
+-- Rules in bytes (document 01, "Rules"), and refusals 5 to 9 ("Who can cause a refusal", rule writer), for any way in which nodes lie in bytes.
+use mathlib.Core.{List.{List, [], _∷_, _++_}, Path.{_≡_}, Logic.{_⊎_}}
 use Prim.Native.Nat.{ℕ, zero, suc, _+_, _*_, _/_, _%_, _≤_, _<_}
+use Rattle.theory.specs.Formula.{Formula, Node, truth-node, variable-node, transition-node, output-node, conjunction-node, greatest-node, nodes, variable}
+use Rattle.theory.specs.Formula.{transition, conjunction, greatest, size, Stands}
+use Rattle.values.specs.{declared.ValueKind.{ValueKind}, declared.ValueKind.the-variants.{Numbered, Register}, Setup.{value-bytes, ValueIn}}
 use lib.ListN.{length, take, drop}
-use Rattle.theory.specs.Formula.{Formula, variable, transition, conjunction, greatest, size}
-use Rattle.theory.specs.PrefixCode.{Node, truth-node, variable-node, transition-node, output-node, conjunction-node, greatest-node, Stands}
 use Rattle.refusal.specs.Refusal.{Condition, plain, at-lowest}
 use Rattle.limits.specs.Limits.{node-limit}
-use Rattle.values.specs.{declared.ValueKind.{ValueKind}, ValueKind.{ValueIn}}
-use Rattle.formulas.specs.NodeBytes.{encode-all, encode-formula, node-width, node-bytes}
+
+-- Nodes one after the other, and a formula in prefix order: a node, then its parts.
+module _ {B : Type 0} (encode : Node B → List ℕ) where
+  abbrev pub encode-all : List (Node B) → List ℕ
+  encode-all [] = []
+  encode-all (n ∷ ns) = encode n ++ encode-all ns
+
+  abbrev pub encode-formula : Formula B → List ℕ
+  encode-formula φ = encode-all (nodes φ)
+
+-- A node is three bytes where values are numbers, six where they are registers' masks: kind, first, value; an unused field is 0.
+abbrev pub node-width : ValueKind → ℕ
+node-width (Numbered n) = 3
+node-width (Register lines) = 6
+
+abbrev pub node-fields : Node ℕ → ℕ × ℕ × ℕ
+node-fields truth-node = (0, 0, 0)
+node-fields (variable-node n) = (1, n, 0)
+node-fields (transition-node e) = (2, e, 0)
+node-fields (output-node e v) = (3, e, v)
+node-fields conjunction-node = (4, 0, 0)
+node-fields greatest-node = (5, 0, 0)
+
+abbrev pub node-bytes : ValueKind → Node ℕ → List ℕ
+node-bytes kind n = node-fields n .0 ∷ node-fields n .1 ∷ value-bytes kind (node-fields n .2)
 
 -- The grammar's two kinds of position (source 000, definition 3).
 pub data Position : Type 0 where

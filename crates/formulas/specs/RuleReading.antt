@@ -1,13 +1,11 @@
 -- Twin of RuleConditions, pinned by formulas RuleRefusalClaim.
 -- Computing twins of RuleConditions, in parts: what is read from a node's fields, where nodes run out or are left over, the
 -- formula whose nodes these are, and the lowest variable at fault. Nodes are reached through accessors, as in NodeReading.
-use mathlib.Core.Bool.{Bool, true, false, cond, not, _&&_}
-use mathlib.Core.Option.{Option, none, some}
-use mathlib.Core.List.{List, [], _∷_}
+use mathlib.Core.{Bool.{Bool, true, false, cond, not, _&&_}, Option.{Option, none, some}, List.{List, [], _∷_}}
 use Prim.Native.Nat.{ℕ, zero, suc, _+_}
 use lib.Dec.{eqb, ltb}
-use Rattle.theory.specs.Formula.{Formula, truth, variable, transition, output, conjunction, greatest, size}
-use Rattle.theory.specs.PrefixCode.{Node, truth-node, variable-node, transition-node, output-node, conjunction-node, greatest-node}
+use Rattle.theory.specs.Formula.{Formula, truth, variable, transition, output, conjunction, greatest, size, Node, truth-node, variable-node, transition-node}
+use Rattle.theory.specs.Formula.{output-node, conjunction-node, greatest-node}
 use Rattle.formulas.specs.RuleConditions.{Position, open-to-variable, closed-to-variable}
 
 -- The first of two answers that is a place.

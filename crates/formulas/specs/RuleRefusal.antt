@@ -6,9 +6,9 @@ use Prim.Native.Nat.{ℕ, _+_, _*_, _/_, _%_}
 use lib.{Dec.{eqb, ltb, leb}, ListN.{length, getD}}
 use Rattle.theory.specs.Formula.{Formula}
 use Rattle.refusal.specs.{RefusalAnswers.{or-else, plain-unless, at-found}, declared.Refusal.{Refusal}}
-use Rattle.values.specs.{declared.ValueKind.{ValueKind}, ValueTests.{value-fits}, ValueBytes.{value-from}}
+use Rattle.values.specs.{declared.ValueKind.{ValueKind}, ValueTests.{value-fits}, Setup.{value-from}}
 use Rattle.limits.specs.Limits.{node-limit}
-use Rattle.formulas.specs.{NodeBytes.{node-width}, RuleConditions.{closed-to-variable}}
+use Rattle.formulas.specs.RuleConditions.{node-width, closed-to-variable}
 use Rattle.formulas.specs.RuleReading.{lowest-from, kind-of, fields-fit, end-fault, formula-read, lowest-unbound, lowest-closed}
 
 -- Of 5: so many bytes are 1 to `limit` whole nodes.

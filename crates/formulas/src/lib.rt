@@ -3,7 +3,7 @@ ghost use mathlib.Core.Path.{_≡_};
 ghost use Prim.Native.Nat.{_+_, _/_, _≤_, _<_, min};
 ghost use mathlib.Core.Bool.{cond};
 ghost use mathlib.Core.Option.{none, some};
-ghost use Rattle.formulas.specs.NodeBytes.{node-width};
+ghost use Rattle.formulas.specs.RuleConditions.{node-width};
 ghost use lib.ListN.{length};
 ghost use Rattle.refusal.specs.RefusalAnswers.{judgement};
 ghost use Rattle.formulas.specs.RuleConditions.{open-to-variable, closed-to-variable};

@@ -12,7 +12,7 @@ use Rattle.theory.proofs.ValueSets.{every-at}
 use Rattle.refusal.specs.declared.Refusal.{Refusal}
 use Rattle.refusal.specs.declared.Refusal.the-variants.{Plain}
 use Rattle.refusal.specs.RefusalAnswers.{or-else, plain-unless}
-use Rattle.refusal.specs.LentBuffers.{put, put-unless}
+use Rattle.refusal.specs.Refusal.{put, put-unless}
 use Rattle.values.specs.Setup.{Setup, setup}
 use Rattle.text_format.specs.Format.{Outcome}
 use Rattle.channel_file.specs.{ChannelFile.{Contents}, Reading.{read-file}}
@@ -21,7 +21,7 @@ use Rattle.conformance.specs.Trial.{TrialInput, input}
 use Rattle.conformance.specs.TrialAnswer.{trial-refusal, trial-answer, trial-buffer, first-failure, answer-unless, buffer-unless}
 use Rattle.channel_io.specs.declared.FileNumbers.{FileNumbers}
 use Rattle.channel_io.specs.FileConditions.{file-setup}
-use Rattle.channel_io.specs.FileAnswers.{numbers}
+use Rattle.channel_io.specs.FileConditions.{numbers}
 use Rattle.channel_io.specs.FileRefusals.{file-states, file-table, contents-table-refusal}
 use Rattle.channel_io.specs.Claims.{FileTableMade}
 use Rattle.channel_io.proofs.{Claims.{file-table-made}, Callers.{meet-fits, table-fits, Unmade, off-form, turned-away, MadeOf, limits, events-are}}

@@ -9,13 +9,15 @@ use Rattle.limits.specs.Limits.{node-limit, device-limit, table-limit, word-lim
 use Rattle.theory.specs.MealyMachine.{Word}
 use Rattle.theory.specs.ValueSetTests.{every}
 use Rattle.theory.specs.ValueSets.{Below}
-use Rattle.theory.specs.Semantics.{Answers}
+use Rattle.theory.specs.Formula.{Answers}
 use Rattle.refusal.specs.declared.{Refusal.{Refusal}, Counted.{Counted}}
 use Rattle.refusal.specs.declared.{Refusal.the-variants.{Plain, At}, Counted.the-variants.{Count, Refused as Uncounted}}
-use Rattle.refusal.specs.Refusal.{First, plain, number, place, has-place, part-of, order, condition-numbers, right-places, counted-refusal}
+use Rattle.refusal.specs.Refusal.{First, plain, has-place, part-of, order, condition-numbers, right-places, counted-refusal}
+use Rattle.refusal.specs.RefusalClaims.{number, place}
 use Rattle.refusal.specs.{RefusalAnswers.{or-else, plain-unless}, RefusalClaims.{ListedRefusal}}
 use Rattle.refusal.proofs.Refusals.{or-else-none, plain-none, plain-first, first-then, first-append, first-unique, judged}
-use Rattle.values.specs.{ValueKind.{meetOf}, Setup.{setup-meet, setup-conditions, kind-conditions}, SetupTests.{setup-refusal}}
+use Rattle.values.specs.Setup.{meetOf, setup-meet, setup-conditions, kind-conditions}
+use Rattle.values.specs.SetupTests.{setup-refusal}
 use Rattle.values.specs.declared.ValueKind.the-variants.{Numbered}
 use Rattle.text_format.specs.Format.{contents}
 use Rattle.channel_file.specs.ChannelFile.{Contents}

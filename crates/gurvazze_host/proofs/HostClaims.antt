@@ -6,10 +6,11 @@ use Rattle.limits.specs.Limits.{state-limit, node-limit, device-limit, table-li
 use Rattle.theory.specs.{Formula.{Formula, size}, MachineRuns.{word-values}, TableSatisfaction.{TableSatisfies}}
 use Rattle.refusal.specs.declared.{Refusal.{Refusal}, Refusal.the-variants.{At}, Counted.{Counted}}
 use Rattle.refusal.specs.Refusal.{Condition, First, has-place, part-of, order, condition-numbers, right-places, Judged, counted-refusal, count-of}
-use Rattle.refusal.specs.{RefusalAnswers.{counted}, LentBuffers.{put, put-unless}}
+use Rattle.refusal.specs.RefusalAnswers.{counted}
+use Rattle.refusal.specs.Refusal.{put, put-unless}
 use Rattle.refusal.proofs.Refusals.{all-numbered, listed-by, listed-refusal, or-else-none, first-unique}
 use Rattle.values.specs.{declared.ValueKind.the-variants.{Numbered}, Setup.{Setup, setup-meet, setup-conditions, kind-conditions}}
-use Rattle.formulas.specs.NodeBytes.{encode-formula, node-bytes}
+use Rattle.formulas.specs.RuleConditions.{encode-formula, node-bytes}
 use Rattle.machines.specs.TableBytes.{machine-of}
 use Rattle.machines.proofs.TableRefusals.{accepted-table}
 use Rattle.text_format.specs.Format.{Outcome, contents, refused}
@@ -24,7 +25,7 @@ use Rattle.conformance.specs.Trial.{TrialInput, refusal-of, Passed, word-length
 use Rattle.conformance.specs.TrialAnswer.{trial-refusal, first-failure, answer-unless, buffer-unless, trial-answer, trial-buffer}
 use Rattle.conformance.proofs.TrialClaims.{failed-some, refusal-same, trial-refusals, trial-refused, trial-passes, trial-fails}
 use Rattle.conformance.proofs.TrialClaims.{trial-simulated, trial-fails-by}
-use Rattle.channel_io.specs.{FileConditions.{file-setup}, FileAnswers.{TextConditions, of-contents, no-contents, JudgedText}}
+use Rattle.channel_io.specs.FileConditions.{file-setup, TextConditions, of-contents, no-contents, JudgedText}
 use Rattle.channel_io.specs.FileRefusals.{file-states, file-table, contents-table-refusal, text-refusal}
 use Rattle.channel_io.proofs.{Claims.{file-table-made, file-table-accepted}, TablePairs.{compile-as, setup-passed}}
 use Rattle.channel_io.proofs.TextCalls.{text-listed, text-call-first, text-call}

@@ -10,11 +10,12 @@ use Rattle.values.specs.declared.ValueKind.{ValueKind}
 use Rattle.values.specs.declared.ValueKind.the-variants.{Numbered, Register}
 use Rattle.values.specs.{Setup.{Setup}, ValueTests.{value-fits}}
 use Rattle.values.specs.SetupTests.{events-test, values-test, meet-test, lines-test, kind-refusal, setup-refusal}
-use Rattle.formulas.specs.{NodeBytes.{node-width}, RuleConditions.{closed-to-variable}}
+use Rattle.formulas.specs.RuleConditions.{node-width, closed-to-variable}
 use Rattle.formulas.specs.RuleReading.{kind-of, awaited, end-fault, first-of, formula-read, lowest-variable, lowest-unbound, lowest-closed}
 use Rattle.formulas.specs.RuleRefusal.{count-fits, variables-refusal, structure-refusal, misfit-place, nodes-refusal, kind-at, first-at, value-at, rule-refusal}
 use Rattle.formulas.proofs.{Search.{lowest-found}, Decoding.{CountFits, count-facts}}
-use Rattle.text_format.specs.{Format.{refused}, Place.{Refused, at, early}}
+use Rattle.text_format.specs.Format.{refused}
+use Rattle.text_format.specs.Texts.{Refused, at, early}
 use Rattle.channel_file.specs.ChannelFile.{Contents, Form, Refused4, over-long, off-form}
 use Rattle.channel_file.specs.Reading.{AnswersFile, read-file}
 use Rattle.channel_file.proofs.Claims.{answer-claim}

@@ -8,7 +8,7 @@ use Rattle.theory.proofs.Words.{length-word-values, word-values-at, after-take}
 use Rattle.theory.specs.MealyMachine.{Machine, after}
 use Rattle.theory.specs.MachineRuns.{word-values}
 use Rattle.theory.specs.ValueSetTests.{every}
-use Rattle.refusal.specs.LentBuffers.{put}
+use Rattle.refusal.specs.Refusal.{put}
 use Rattle.machines.proofs.{EntryIndex.{index-below}, Stores.{put-snoc}}
 use Rattle.gurvazze_host.specs.FileCalls.{number-machine, Runnable}
 

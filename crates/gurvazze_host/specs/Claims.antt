@@ -2,25 +2,25 @@
 use mathlib.Core.{Path.{_≡_}, Logic.{_↔_}, Bool.{true, cond}, List.{List, [], _∷_, _++_}, Option.{Option, none, some}}
 use Prim.Native.Nat.{ℕ, _/_, _%_, _^_, _≤_, _<_}
 use lib.ListN.{length, getD, take}
-use Rattle.theory.specs.{ValueSets.{Below}, Formula.{Formula, size}, Semantics.{Answers}, MealyMachine.{Machine, Word}, MachineRuns.{word-values}}
+use Rattle.theory.specs.{ValueSets.{Below}, Formula.{Formula, size, Answers}, MealyMachine.{Machine, Word}, MachineRuns.{word-values}}
 use Rattle.theory.specs.TableSatisfaction.{TableSatisfies}
-use Rattle.refusal.specs.{declared.Refusal.{Refusal}, declared.Counted.{Counted}, LentBuffers.{put}, RefusalClaims.{ListedRefusal}}
-use Rattle.refusal.specs.Refusal.{Condition, plain, number, place, has-place, First, part-of, condition-numbers, right-places, Judged, JudgedCall}
-use Rattle.refusal.specs.Refusal.{counted-refusal, count-of}
-use Rattle.formulas.specs.{NodeBytes.{encode-formula, node-bytes}, Claims.{AcceptedFormula}}
+use Rattle.refusal.specs.{declared.Refusal.{Refusal}, declared.Counted.{Counted}}
+use Rattle.refusal.specs.Refusal.{put, Condition, plain, has-place, First, part-of, condition-numbers, right-places, Judged, JudgedCall, counted-refusal}
+use Rattle.refusal.specs.Refusal.{count-of}
+use Rattle.refusal.specs.RefusalClaims.{ListedRefusal, number, place}
+use Rattle.formulas.specs.{RuleConditions.{encode-formula, node-bytes}, Claims.{AcceptedFormula}}
 use Rattle.text_format.specs.Format.{contents}
 use Rattle.channel_file.specs.{ChannelFile.{Contents, Shows, rule-numbers}, Reading.{read-file}}
 use Rattle.machines.specs.TableBytes.{table-bytes, entry-bytes, machine-of, table-condition}
 use Rattle.values.specs.{declared.ValueKind.the-variants.{Numbered}, Setup.{Setup, setup-meet}}
 use Rattle.synthesis.specs.TableOfRule.{compile-conditions, IsRuleTable}
 use Rattle.characteristic.specs.{RuleOfTable.{write-conditions}, RuleWriting.{write-answer, write-contents}, Claims.{RuleWritten}}
-use Rattle.conformance.specs.declared.Verdict.{Verdict}
-use Rattle.conformance.specs.Trial.{TrialInput, input, Passes, trial-conditions, FailsBy, refusal-of, Passed, word-length}
+use Rattle.conformance.specs.{declared.Verdict.{Verdict}, Trial.{TrialInput, input, Passes, trial-conditions, FailsBy, refusal-of, Passed, word-length}}
 use Rattle.conformance.specs.TrialAnswer.{trial-answer, trial-buffer}
-use Rattle.channel_io.specs.{FileConditions.{contents-table-conditions, file-setup}, FileAnswers.{TextConditions, JudgedText}}
+use Rattle.channel_io.specs.FileConditions.{contents-table-conditions, file-setup, TextConditions, JudgedText}
 use Rattle.gurvazze_host.specs.Codes.{code, counted-code, verdict-code, table-numbers, SmallNumbers}
-use Rattle.gurvazze_host.specs.FileCalls.{file-machine, replay-refusal, file-trial-refusal, file-trial-answer, file-trial-buffer}
-use Rattle.gurvazze_host.specs.FileCalls.{table-code, table-after, replay-code, replay-after}
+use Rattle.gurvazze_host.specs.FileCalls.{file-machine, replay-refusal, file-trial-refusal, file-trial-answer, file-trial-buffer, table-code}
+use Rattle.gurvazze_host.specs.FileCalls.{table-after, replay-code, replay-after}
 use Rattle.limits.specs.Limits.{state-limit, device-limit, table-limit, word-limit, node-limit}
 
 -- ---- what a caller reads from a code

@@ -4,7 +4,7 @@ use mathlib.Core.{Path.{_≡_}, List.{List}, Option.{Option}}
 use Prim.Native.Nat.{ℕ, _*_, _≤_, _<_}
 use lib.{Dec.{ltb, leb}, ListN.{length, getD}}
 use Rattle.theory.specs.{MealyMachine.{Machine}, MachineRuns.{word-values}, ValueSetTests.{every}}
-use Rattle.refusal.specs.{declared.Refusal.{Refusal}, declared.Refusal.the-variants.{At}, RefusalAnswers.{or-else, plain-unless}, LentBuffers.{put-unless}}
+use Rattle.refusal.specs.{declared.Refusal.{Refusal}, declared.Refusal.the-variants.{At}, RefusalAnswers.{or-else, plain-unless}, Refusal.{put-unless}}
 use Rattle.text_format.specs.Format.{Outcome, contents, refused}
 use Rattle.channel_file.specs.ChannelFile.{Contents}
 use Rattle.values.specs.declared.ValueKind.the-variants.{Numbered}

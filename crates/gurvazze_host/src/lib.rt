@@ -14,7 +14,7 @@ ghost use lib.Dec.{ltb};
 ghost use lib.ListN.{length, getD};
 ghost use Rattle.theory.specs.MachineRuns.{word-values};
 ghost use Rattle.theory.specs.ValueSetTests.{every};
-ghost use Rattle.refusal.specs.LentBuffers.{put};
+ghost use Rattle.refusal.specs.Refusal.{put};
 ghost use Rattle.values.specs.Setup.{setup};
 ghost use Rattle.characteristic.specs.RuleWriting.{write-answer, write-contents};
 ghost use Rattle.conformance.specs.Trial.{input};

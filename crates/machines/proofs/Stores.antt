@@ -4,7 +4,7 @@ use Prim.Native.Nat.{ℕ, suc, _+_, _*_, _/_, _%_, _≤_, _<_}
 use native.Mathlib.{Nat.{mod-eq-of-lt}, Numerals.{add-one}, Omega.{arith}}
 use borrow.Author.Tests.{le-leb, lt-leb}
 use lib.{ListN.{length, getD, drop, set, length-append}, Dec.{leb}, Seq.{drop-cons, set-append-seam, sets}}
-use Rattle.refusal.specs.LentBuffers.{put}
+use Rattle.refusal.specs.Refusal.{put}
 use Rattle.theory.specs.ValueSets.{unpack}
 use Rattle.values.specs.declared.ValueKind.{ValueKind}
 use Rattle.values.specs.declared.ValueKind.the-variants.{Numbered, Register}

@@ -5,7 +5,8 @@ use native.Mathlib.Omega.{arith}
 use borrow.Author.Tests.{ltb-true, leb-true, eqb-true, lt-ltb, le-leb, eq-eqb}
 use lib.{ListN.{length}, Dec.{leb, ltb, eqb}}
 use Rattle.values.specs.declared.ValueKind.{ValueKind}
-use Rattle.values.specs.{ValueKind.{ValueIn}, ValueTests.{value-fits}}
+use Rattle.values.specs.Setup.{ValueIn}
+use Rattle.values.specs.ValueTests.{value-fits}
 use Rattle.values.proofs.ValueKinds.{fits-value, value-fitting}
 use Rattle.refusal.specs.Refusal.{First, has-place, order, part-of, condition-numbers, right-places}
 use Rattle.refusal.specs.RefusalAnswers.{plain-unless}

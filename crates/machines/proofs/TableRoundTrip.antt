@@ -6,7 +6,7 @@ use lib.{ListN.{length, getD, take, drop}, Seq.{drop-cons}}
 use Rattle.theory.specs.{MealyMachine.{Machine}, ValueSets.{unpack}}
 use Rattle.values.specs.declared.ValueKind.{ValueKind}
 use Rattle.values.specs.declared.ValueKind.the-variants.{Numbered, Register}
-use Rattle.values.specs.ValueBytes.{value-width, masks-value}
+use Rattle.values.specs.Setup.{value-width, masks-value}
 use Rattle.values.proofs.ValueBytes.{masks-read, value-bytes-correct}
 use Rattle.machines.specs.TableBytes.{table-bytes, entry-width, entry-bytes, entry-value, entry-next}
 use Rattle.machines.specs.StoredEntries.{two-bytes}

@@ -7,7 +7,7 @@ use Rattle.refusal.specs.declared.Refusal.the-variants.{Plain}
 use Rattle.refusal.specs.declared.Judgement.the-variants.{Accepted, Refused}
 use Rattle.refusal.specs.RefusalAnswers.{plain-unless, judgement}
 use Rattle.values.specs.declared.ValueKind.{ValueKind}
-use Rattle.values.specs.ValueBytes.{value-width, value-from}
+use Rattle.values.specs.Setup.{value-width, value-from}
 use Rattle.values.specs.ValueTests.{value-fits}
 use Rattle.machines.specs.{TableBytes.{entry-width}, TableRefusal.{table-test, entry-test, table-refusal}}
 use Rattle.theory.specs.ValueSetTests.{every}

@@ -4,9 +4,9 @@
 use mathlib.Core.{Bool.{Bool, _&&_, cond}, List.{List, [], _∷_, _++_}}
 use Prim.Native.Nat.{ℕ, zero, suc, _*_, _%_}
 use lib.{ListN.{length, getD}, Dec.{leb}}
-use Rattle.refusal.specs.LentBuffers.{put}
+use Rattle.refusal.specs.Refusal.{put}
 use Rattle.theory.specs.ValueSets.{unpack}
-use Rattle.values.specs.{declared.ValueKind.{ValueKind}, declared.ValueKind.the-variants.{Numbered, Register}, ValueBytes.{mask-bytes}}
+use Rattle.values.specs.{declared.ValueKind.{ValueKind}, declared.ValueKind.the-variants.{Numbered, Register}, Setup.{mask-bytes}}
 
 -- The bytes of c entries from entry i on, where entries are numbered by state, then event.
 module _ {B : Type 0} (encode : B → ℕ → List ℕ) (value-at : ℕ → B) (next-at : ℕ → ℕ) where

@@ -3,8 +3,7 @@ use mathlib.Core.{Path.{_≡_}, List.{List, [], _∷_, _++_}}
 use Prim.Native.Nat.{ℕ, zero, suc, _+_, _*_, _≤_, _<_}
 use lib.ListN.{length, getD}
 use Rattle.theory.specs.MealyMachine.{Machine}
-use Rattle.values.specs.{declared.ValueKind.{ValueKind}, declared.ValueKind.the-variants.{Numbered, Register}}
-use Rattle.values.specs.ValueBytes.{value-width, value-bytes, value-from}
+use Rattle.values.specs.{declared.ValueKind.{ValueKind}, declared.ValueKind.the-variants.{Numbered, Register}, Setup.{value-width, value-bytes, value-from}}
 use Rattle.refusal.specs.Refusal.{Condition, plain}
 
 -- The entries of one state from event e on, c events in all; then the states from l on, n states in all. `encode b t` is how an

@@ -6,15 +6,26 @@ use native.Mathlib.Omega.{arith}
 use borrow.Author.Tests.{leb-true, ltb-true}
 use lib.Dec.{T, leb, ltb}
 use Rattle.limits.specs.Limits.{node-limit, state-limit, device-limit}
-use Rattle.theory.specs.{Semilattice.{AtOrBelow}, ValueSetTests.{every}, Formula.{Formula, size}, FormulaClasses.{WellFormed}, Semantics.{Answers}}
-use Rattle.theory.specs.{PrefixCode.{Node, nodes}, MealyMachine.{Machine, Word, after, States}, MachineRuns.{Runs}, Exploration.{state-count, table-of}}
-use Rattle.theory.specs.{FormulaWriting.{written as rule-written}, Conformance.{Counterexample, FirstCounterexample}, ConformanceCheck.{counterexample}}
+use Rattle.theory.specs.ValueSets.{AtOrBelow}
+use Rattle.theory.specs.ValueSetTests.{every}
+use Rattle.theory.specs.Formula.{Formula, size, Answers}
+use Rattle.theory.specs.FormulaClasses.{WellFormed}
+use Rattle.theory.specs.Formula.{Node, nodes}
+use Rattle.theory.specs.MealyMachine.{Machine, Word, after, States}
+use Rattle.theory.specs.MachineRuns.{Runs}
+use Rattle.theory.specs.Exploration.{state-count, table-of}
+use Rattle.theory.specs.FormulaWriting.{written as rule-written}
+use Rattle.theory.specs.MealyMachine.{Counterexample, FirstCounterexample}
+use Rattle.theory.specs.ConformanceCheck.{counterexample}
 use Rattle.theory.proofs.Claims.{grammar, answers, table, table-values, characteristic, conformance}
 use Rattle.theory.proofs.{ValueSets.{every-at}, WordOrder.{word-left, word-right}}
 use Rattle.refusal.specs.Refusal.{First}
-use Rattle.values.specs.{Setup.{setup-meet, setup-top, SetupValue, Laws}, ValueTests.{at-or-below}}
+use Rattle.values.specs.Setup.{setup-meet, setup-top, SetupValue}
+use Rattle.values.specs.SetupInOrder.{Laws}
+use Rattle.values.specs.ValueTests.{at-or-below}
 use Rattle.values.proofs.{Setups.{laws-hold, four-value-setup}, ValueKinds.{value-kinds}}
-use Rattle.formulas.specs.{NodeBytes.{encode-all, node-width, node-bytes}, RuleConditions.{byte-conditions}, RuleRefusal.{rule-refusal, formula-of}}
+use Rattle.formulas.specs.RuleConditions.{encode-all, node-width, node-bytes, byte-conditions}
+use Rattle.formulas.specs.RuleRefusal.{rule-refusal, formula-of}
 use Rattle.formulas.specs.Claims.{AcceptedFormula}
 use Rattle.formulas.proofs.{Encoding.{encode-unique}, NodeCodes.{node-code}, RuleClaims.{rule-judged, accepted-formula-of, formula-of-only}}
 use Rattle.machines.specs.{TableBytes.{machine-of}, TableRefusal.{table-refusal}}

@@ -3,7 +3,8 @@ use mathlib.Core.Path.{refl}
 use Rattle.theory.specs.{ValueSets.{meetAt, four-value-meet}, DemandSets.{empty, only, union}}
 use Rattle.theory.specs.ValueSetTests.{every, closed-test, idempotent-test, commutative-test, associative-test, neutral-test, lawful}
 use Rattle.refusal.specs.RefusalAnswers.{or-else, plain-unless, at-found}
-use Rattle.values.specs.{ValueKind.{meetOf}, SetupTests.{events-test, values-test, entries-test, meet-test, kind-refusal, setup-refusal}}
+use Rattle.values.specs.Setup.{meetOf}
+use Rattle.values.specs.SetupTests.{events-test, values-test, entries-test, meet-test, kind-refusal, setup-refusal}
 use Rattle.formulas.specs.RuleReading.{lowest-from, kind-of, fields-fit, awaited, end-fault, first-of, node-of, nodes-from, with-parts, formulas}
 use Rattle.formulas.specs.RuleReading.{first-formula, formula-read, lowest-variable, unbound-below, closed-there}
 use Rattle.formulas.specs.RuleRefusal.{count-fits, variables-refusal, structure-refusal, misfit-place, nodes-refusal, rule-refusal, formula-of}

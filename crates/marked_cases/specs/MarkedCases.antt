@@ -2,12 +2,13 @@
 -- Four-value set, two events.
 use mathlib.Core.{Path.{_≡_}, Logic.{Lift}, List.{List, [], _∷_}, Option.{none, some}}
 use Prim.Native.Nat.{ℕ, zero, suc}
-use Rattle.theory.specs.{ValueSets.{four-value-meet}, Formula.{Formula, size}, Semantics.{Answers}, ReachableStates.{IsTableOf}}
-use Rattle.theory.specs.PrefixCode.{Node, truth-node, variable-node, transition-node, output-node, conjunction-node, greatest-node, nodes}
-use Rattle.theory.specs.{MealyMachine.{Machine, States, Simulated}, CharacteristicFormula.{Writes}, Conformance.{FirstCounterexample}}
+use Rattle.theory.specs.ValueSets.{four-value-meet}
+use Rattle.theory.specs.Formula.{Formula, size, Answers, Node, truth-node, variable-node, transition-node, output-node, conjunction-node, greatest-node}
+use Rattle.theory.specs.Formula.{nodes}
+use Rattle.theory.specs.{ReachableStates.{IsTableOf}, MealyMachine.{Machine, States, Simulated, FirstCounterexample}, CharacteristicFormula.{Writes}}
 use Rattle.refusal.specs.{declared.Refusal.{Refusal}, declared.Refusal.the-variants.{At}, Refusal.{First}}
-use Rattle.values.specs.{Setup.{Setup, setup, setup-meet, setup-top}}
-use Rattle.formulas.specs.{NodeBytes.{encode-all, node-bytes}, RuleConditions.{byte-conditions}}
+use Rattle.values.specs.Setup.{Setup, setup, setup-meet, setup-top}
+use Rattle.formulas.specs.RuleConditions.{encode-all, node-bytes, byte-conditions}
 use Rattle.machines.specs.TableBytes.{table-bytes, entry-bytes, machine-of}
 use Rattle.text_format.specs.Texts.{ascii}
 use Rattle.table_report.specs.PrintedTable.{Prints}

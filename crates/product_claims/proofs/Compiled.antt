@@ -4,10 +4,10 @@ use Prim.Native.Nat.{ℕ, zero, _*_, _≤_, _<_}
 use native.Mathlib.{Nat.{mul-le-mul-right}, Omega.{arith}}
 use borrow.Author.Tests.{le-leb}
 use lib.{Dec.{T, leb}, ListN.{length, take, drop}, Seq.{take-append-seam}}
-use Rattle.theory.specs.Semilattice.{MeetSemilattice, AtOrBelow}
+use Rattle.theory.specs.ValueSets.{MeetSemilattice, AtOrBelow}
 use Rattle.theory.specs.Formula.{Formula, size}
 use Rattle.theory.specs.FormulaClasses.{WellFormed}
-use Rattle.theory.specs.Semantics.{Answers}
+use Rattle.theory.specs.Formula.{Answers}
 use Rattle.theory.specs.MealyMachine.{Machine, Word, after, States}
 use Rattle.theory.specs.MachineRuns.{Runs}
 use Rattle.theory.specs.Satisfaction.{Satisfies}
@@ -16,7 +16,7 @@ use Rattle.theory.specs.ReachableStates.{IsTableOf}
 use Rattle.theory.proofs.Claims.{grammar, answers, table-satisfaction}
 use Rattle.refusal.specs.declared.Refusal.{Refusal}
 use Rattle.refusal.specs.RefusalAnswers.{or-else, plain-unless}
-use Rattle.refusal.specs.LentBuffers.{put, put-unless}
+use Rattle.refusal.specs.Refusal.{put, put-unless}
 use Rattle.refusal.specs.declared.Refusal.the-variants.{Plain}
 use Rattle.refusal.specs.Refusal.{First, JudgedCall, counted-refusal, count-of}
 use Rattle.refusal.proofs.{Refusals.{or-else-none}, Answers.{counted-refusal-is, count-of-counted, counted-judged, counted-put}}
@@ -25,7 +25,9 @@ use Rattle.values.specs.{Setup.{Setup, SetupValue, setup-meet, setup-top}, Valu
 use Rattle.values.proofs.ValueKinds.{value-kinds}
 use Rattle.machines.specs.{TableBytes.{table-bytes, entry-width, entry-bytes, machine-of}, TableRefusal.{table-refusal}}
 use Rattle.machines.proofs.{EntryBytes.{table-length}, TableRoundTrip.{read-back, entry-length}, TableRefusals.{table-accepted, accepted-table, in-order-none}}
-use Rattle.formulas.specs.{NodeBytes.{encode-formula, node-bytes}, RuleRefusal.{rule-refusal, formula-of}, Claims.{AcceptedFormula}}
+use Rattle.formulas.specs.RuleConditions.{encode-formula, node-bytes}
+use Rattle.formulas.specs.RuleRefusal.{rule-refusal, formula-of}
+use Rattle.formulas.specs.Claims.{AcceptedFormula}
 use Rattle.formulas.proofs.RuleClaims.{accepted-formula-of, formula-of-only, rule-judged as bytes-judged}
 use Rattle.synthesis.specs.{Compilation.{rule-table-refusal, setup-states, setup-table, compile-refusal, compile-answer, compile-contents}, Claims.{CompiledBytes}}
 use Rattle.synthesis.specs.TableOfRule.{compile-conditions, IsRuleTable}

@@ -6,23 +6,23 @@ use lib.ListN.{length, take, replicate}
 use Rattle.limits.specs.Limits.{channel-limit, entry-limit, node-limit, state-limit, device-limit, table-limit, word-limit}
 use Rattle.theory.specs.{Formula.{Formula, size}, MealyMachine.{Machine, Word, after, States}, Satisfaction.{Satisfies}}
 use Rattle.refusal.specs.{declared.Refusal.the-variants.{Plain}, declared.Refusal.{Refusal}, declared.Counted.{Counted}}
-use Rattle.refusal.specs.{Refusal.{Judged, JudgedCall, judgement-refusal, counted-refusal, count-of}, RefusalAnswers.{judgement}, LentBuffers.{put}}
+use Rattle.refusal.specs.{Refusal.{Judged, JudgedCall, judgement-refusal, counted-refusal, count-of, put}, RefusalAnswers.{judgement}}
 use Rattle.values.specs.{Setup.{Setup, setup, setup-meet, setup-conditions}, SetupTests.{setup-refusal}}
 use Rattle.machines.specs.TableBytes.{table-bytes, entry-width, entry-bytes, machine-of}
-use Rattle.formulas.specs.NodeBytes.{encode-formula, node-bytes}
+use Rattle.formulas.specs.RuleConditions.{encode-formula, node-bytes}
 use Rattle.synthesis.specs.TableOfRule.{compile-conditions, pair-table-conditions, IsRuleTable, ArraysHold}
 use Rattle.synthesis.specs.Compilation.{compile-answer, compile-contents, compiled-setup}
 use Rattle.characteristic.specs.{RuleOfTable.{write-conditions, IsWritten}, RuleWriting.{write-answer, write-contents}}
-use Rattle.conformance.specs.{Trial.{TrialInput, input, DeviceInOrder, trial-conditions, Passes, FailsBy, refusal-of, Passed, word-length}}
+use Rattle.conformance.specs.Trial.{TrialInput, input, DeviceInOrder, trial-conditions, Passes, FailsBy, refusal-of, Passed, word-length}
 use Rattle.conformance.specs.TrialAnswer.{trial-answer, trial-buffer}
-use Rattle.channel_log.specs.Calls.{Call, load, accepted, returned, refused, reply-refusal, replies, final, event-calls}
-use Rattle.channel_log.specs.Independence.{struck, replies-on}
-use Rattle.recorder.specs.{Store.{Store, AllCells, setup-of, channels}, Tool.{StoreClaim}, Called.{called, set-up-called}, Replay.{replayed}}
-use Rattle.recorder_claims.specs.{CallConditions.{call-conditions, replay-conditions}, ChannelLog.{AsLogged, LoadedAs}}
+use Rattle.channel_log.specs.Calls.{Call, load, accepted, returned, refused, reply-refusal, replies, final, event-calls, struck, replies-on}
+use Rattle.recorder.specs.{Store.{Store, AllCells, setup-of, channels, StoreClaim}, Called.{called, set-up-called}, Replay.{replayed}}
+use Rattle.recorder.specs.CallConditions.{call-conditions, replay-conditions}
+use Rattle.recorder_claims.specs.ChannelLog.{AsLogged, LoadedAs}
 use Rattle.channel_file.specs.{ChannelFile.{TokensOf}, Reading.{read-file, tokens-stretch}}
-use Rattle.channel_io.specs.declared.{FileRead.{FileRead}, FileTable.{FileTable}, FileNumbers.{FileNumbers}}
-use Rattle.channel_io.specs.{FileConditions.{read-conditions, file-conditions}, FileAnswers.{JudgedText, refusal-read, numbers-read, ReadsAs}}
-use Rattle.channel_io.specs.FileAnswers.{refusal-made, table-made, MakesTableOf, write-file-conditions, WritesAs}
+use Rattle.channel_io.specs.{declared.FileRead.{FileRead}, declared.FileTable.{FileTable}, declared.FileNumbers.{FileNumbers}}
+use Rattle.channel_io.specs.FileConditions.{read-conditions, file-conditions, JudgedText, refusal-read, numbers-read, ReadsAs, refusal-made, table-made}
+use Rattle.channel_io.specs.FileConditions.{MakesTableOf, write-file-conditions, WritesAs}
 use Rattle.channel_io.specs.{FileReading.{Reads}, FileCompilation.{CompilesFile}, FileWriting.{WritesFile}}
 use Rattle.table_report.specs.{PrintedTable.{Prints, report-conditions}, Report.{Reports}}
 

@@ -23,7 +23,7 @@ use Rattle.channel_log.specs.Calls.{Loaded}
 use Rattle.channel_log.proofs.Record.{not-large}
 use Rattle.recorder.specs.declared.Decision.{Decision}
 use Rattle.recorder.specs.Store.{Store, setup-of, table-at, loaded-at, rows-start, held, channels}
-use Rattle.recorder.specs.ToolFault.{ChannelInOrder}
+use Rattle.recorder.specs.CallConditions.{ChannelInOrder}
 use Rattle.recorder.specs.ToolTests.{setup-test, channel-test, test-of, tool-test}
 use Rattle.recorder.specs.Called.{with-current, next-state, content, tool-refusal, effect-on, settled-store, called}
 use Rattle.recorder.specs.Called.{empty-store, filled, new-store, blank, set-up-answer, set-up-called}

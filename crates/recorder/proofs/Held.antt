@@ -24,7 +24,7 @@ use Rattle.channel_log.specs.Calls.{Loaded}
 use Rattle.machines.specs.TableBytes.{entry-width, entry-bytes}
 use Rattle.machines.proofs.{EntryIndex.{index-below, every-entry}, EntryBytes.{table-length}, TableRoundTrip.{entry-length}}
 use Rattle.recorder.specs.Store.{part, table-at, loaded-at, rows-start, held}
-use Rattle.recorder.specs.ToolFault.{ChannelInOrder}
+use Rattle.recorder.specs.CallConditions.{ChannelInOrder}
 use Rattle.recorder.specs.ToolTests.{passed, setup-test, entries-test, loaded-test, channel-test}
 use Rattle.recorder.proofs.Rows.{getD-part}
 

@@ -9,7 +9,7 @@ use Rattle.limits.specs.Limits.{channel-limit, store-limit}
 use Rattle.theory.specs.MealyMachine.{Word, after}
 use Rattle.theory.specs.MachineRuns.{word-values}
 use Rattle.refusal.specs.RefusalAnswers.{or-else, plain-unless}
-use Rattle.refusal.specs.LentBuffers.{put, put-unless}
+use Rattle.refusal.specs.Refusal.{put, put-unless}
 use Rattle.refusal.proofs.Refusals.{or-else-none, plain-none}
 use Rattle.channel_log.specs.Calls.{event, Reply, accepted, returned, replies, final}
 use Rattle.channel_log.specs.CallSteps.{channel-refusal, empty-refusal}

@@ -4,7 +4,7 @@ use Prim.Native.Nat.{ℕ}
 use Rattle.values.specs.declared.ValueKind.{ValueKind}
 use Rattle.values.specs.declared.ValueKind.the-variants.{Numbered, Register}
 use Rattle.recorder.specs.declared.Tool.{Tool}
-use Rattle.recorder.specs.{Store.{Store}, Tool.{StoreClaim}}
+use Rattle.recorder.specs.Store.{Store, StoreClaim}
 
 abbrev count : ValueKind → ℕ
 count (Numbered n) = n

@@ -4,10 +4,9 @@ use mathlib.Core.{Bool.{Bool}, List.{List, [], _∷_}, Option.{Option}}
 use Prim.Native.Nat.{ℕ}
 use lib.{Dec.{ltb, leb}, ListN.{getD, length}}
 use Rattle.theory.specs.ValueSetTests.{every}
-use Rattle.refusal.specs.{declared.Refusal.{Refusal}, RefusalAnswers.{or-else, plain-unless}, LentBuffers.{put-unless}}
-use Rattle.channel_log.specs.{Calls.{event, Reply, accepted, returned, refused, replies, final}, CallSteps.{channel-refusal, empty-refusal}}
+use Rattle.refusal.specs.{declared.Refusal.{Refusal}, RefusalAnswers.{or-else, plain-unless}, Refusal.{put-unless}}
+use Rattle.channel_log.specs.{Calls.{event, Reply, accepted, returned, refused, replies, final, event-calls}, CallSteps.{channel-refusal, empty-refusal}}
 use Rattle.recorder.specs.{Store.{Store, channels}, ToolTests.{tool-test}, Called.{settled-store, called}}
-use Rattle.channel_log.specs.Calls.{event-calls}
 
 -- The values that replies return.
 abbrev pub returned-values : List (Reply ℕ) → List ℕ

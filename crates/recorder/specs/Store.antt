@@ -1,12 +1,15 @@
 -- What a tool holds, however it is represented (document 01, "Tool": "one set-up and eight channels"; "a channel is empty or has a table
--- and a current state").
+-- and a current state"), and the tool of numbered values as one representation.
 use mathlib.Core.{Path.{_≡_}, Bool.{_&&_, cond}, List.{List}, Option.{Option, none, some}}
 use Prim.Native.Nat.{ℕ, _+_, _*_}
 use lib.{Dec.{ltb}, ListN.{length, getD, take, drop}}
 use Rattle.limits.specs.Limits.{channel-limit, entry-limit, store-limit}
 use Rattle.theory.specs.MealyMachine.{Machine}
-use Rattle.values.specs.{declared.ValueKind.{ValueKind}, declared.ValueKind.the-variants.{Numbered, Register}, Setup.{Setup, setup-of-kind}}
-use Rattle.channel_log.specs.Calls.{Channels, Loaded}
+use Rattle.values.specs.{declared.ValueKind.{ValueKind}, declared.ValueKind.the-variants.{Numbered, Register}, Setup.{Setup, setup-of-kind, setup}}
+use Rattle.channel_log.specs.Calls.{Channels, Loaded, Reply, accepted, returned, refused}
+use Rattle.recorder.specs.{declared.Tool.{Tool}, declared.Answer.{Answer}}
+use Rattle.recorder.specs.declared.Reply as declared
+use Rattle.recorder.specs.declared.Reply.the-variants as variant
 
 -- Every cell of a tool. The set-up has all cells that the meet table is kept in. Each channel has a count of states, 0 where it is
 -- empty, and a current state; the entries of all tables lie in two lists, values and next states.
@@ -60,3 +63,29 @@ pub record AllCells (t : Store) : Type 0 where
   pub current-are : length (t .current) ≡ channel-limit
   pub values-are : length (t .value) ≡ store-limit
   pub nexts-are : length (t .next) ≡ store-limit
+
+abbrev pub store-of : Tool → Store
+store-of t =
+    record {
+      setup = setup (t .setup .events) (t .setup .values) (t .setup .top) (t .setup .meet);
+      states = t .states;
+      current = t .current;
+      value = t .value;
+      next = t .next;
+    }
+
+-- Document 01's answer for each case of the enum.
+abbrev pub reply-of : declared.Reply → Reply ℕ
+reply-of variant.Accepted = accepted
+reply-of (variant.Value v) = returned v
+reply-of (variant.Refused r) = refused r
+
+abbrev pub answer : Answer → Reply ℕ × Store
+answer r = (reply-of (r .reply), store-of (r .tool))
+
+abbrev pub replay-answer : Answer → List ℕ → (Reply ℕ × Store) × List ℕ
+replay-answer r buffer = (answer r, buffer)
+
+-- A store is that of one tool: what a contract says of it, it says of the tool.
+abbrev pub StoreClaim : Type 0
+StoreClaim = (t u : Tool) → store-of t ≡ store-of u → t ≡ u

@@ -30,7 +30,7 @@ ghost use Rattle.recorder.specs.ToolTests.{setup-test, channel-test};
 ghost use Rattle.recorder.specs.CompiledRule.{compiled-rule};
 ghost use Rattle.recorder.specs.Called.{filled, with-rows, stored-rows, empty-store, called, set-up-called};
 ghost use Rattle.recorder.specs.Replay.{word-test, replayed};
-ghost use Rattle.recorder.specs.Tool.{store-of, reply-of, answer, replay-answer};
+ghost use Rattle.recorder.specs.Store.{store-of, reply-of, answer, replay-answer};
 ghost use Rattle.recorder.specs.Decisions.{number-unless, channel-number, loaded-number, event-number, replay-number, decided, entry-place, Bounds};
 ghost use Rattle.recorder.specs.Decisions.{plain-reply, value-reply, kept-number, states-after, judged-reply, counted-reply, low-byte, Runnable};
 

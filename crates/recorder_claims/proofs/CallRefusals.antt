@@ -15,14 +15,17 @@ use Rattle.refusal.proofs.Refusals.{plain-none, plain-first, first-append, firs
 use Rattle.channel_log.specs.Calls.{Call, load, event, restart, restart-all, clear}
 use Rattle.channel_log.specs.{CallSteps.{Content, channel-refusal, empty-refusal, on-event}, Log.{large-event}}
 use Rattle.recorder.specs.Store.{Store, setup-of, channels}
-use Rattle.recorder.specs.ToolFault.{ToolFault}
+use Rattle.recorder.specs.CallConditions.{ToolFault}
 use Rattle.recorder.specs.ToolTests.{setup-test, named-test, tool-test}
 use Rattle.recorder.specs.CompiledRule.{rule-judged}
 use Rattle.recorder.specs.{Called.{content, tool-refusal}, Replay.{word-test, replay-refusal}}
 use Rattle.recorder.proofs.Held.{accepted-of-test}
-use Rattle.recorder_claims.specs.CallConditions.{rule-conditions-of, fault-condition, channel-condition, empty-condition, event-condition}
-use Rattle.recorder_claims.specs.CallConditions.{call-conditions}
-use Rattle.recorder_claims.specs.CallConditions.{LargeEvent, large-at, replay-conditions, CallRefusalClaim, ReplayRefusalClaim}
+use Rattle.synthesis.specs.TableOfRule.{rule-conditions-of}
+use Rattle.recorder_claims.specs.Claims.{fault-condition, empty-condition, event-condition}
+use Rattle.recorder.specs.CallConditions.{channel-condition}
+use Rattle.recorder.specs.CallConditions.{call-conditions}
+use Rattle.recorder.specs.CallConditions.{replay-conditions}
+use Rattle.recorder_claims.specs.Claims.{CallRefusalClaim, ReplayRefusalClaim}
 use Rattle.recorder_claims.proofs.{Claims.{fault-of, tool-tested}, LoadedRules.{rule-first}}
 
 -- A number that is not below another.
@@ -92,16 +95,25 @@ call-refusals t restart-all = judged _ _ (call-first t restart-all) refl refl
 call-refusals t (clear c) = judged _ _ (call-first t (clear c)) refl refl
 
 -- 16 of a sequence, and 13.
-word-first : (n : ℕ) (word : List ℕ) → First (plain 16 (LargeEvent n word) ∷ []) (plain-unless (word-test n word) 16)
-word-first n word = plain-first 16 (LargeEvent n word) (word-test n word) large fits
-  where
-    large : word-test n word ≡ false → LargeEvent n word
-    large f =
-        let x = every-some (length word) (λ i. ltb (getD word i 0) n) f in
-        large-at (x .0) (x .1) (λ l. omega (arith, ltb-false (getD word (x .0) 0) n (x .2)))
+word-at : (n : ℕ) (word : List ℕ) → Word n word → (i : ℕ) → i < length word → getD word i 0 < n
+word-at n [] w i l = absurd (omega arith)
+word-at n (e ∷ word) w zero l = w .0
+word-at n (e ∷ word) w (suc i) l = word-at n word (w .1) i (omega arith)
 
-    fits : word-test n word ≡ true → ¬ LargeEvent n word
-    fits p (large-at i l f) = f (ltb-true (getD word i 0) n (every-at (length word) (λ i. ltb (getD word i 0) n) p i l))
+word-of : (n : ℕ) (word : List ℕ) → ((i : ℕ) → i < length word → getD word i 0 < n) → Word n word
+word-of n [] h = tt
+word-of n (e ∷ word) h = (h zero (omega arith), word-of n word (λ i l. h (suc i) (omega (arith, l))))
+
+word-first : (n : ℕ) (word : List ℕ) → First (plain 16 (¬ Word n word) ∷ []) (plain-unless (word-test n word) 16)
+word-first n word = plain-first 16 (¬ Word n word) (word-test n word) large fits
+  where
+    large : word-test n word ≡ false → ¬ Word n word
+    large f w =
+        let x = every-some (length word) (λ i. ltb (getD word i 0) n) f in
+        omega (arith, word-at n word w (x .0) (x .1), ltb-false (getD word (x .0) 0) n (x .2))
+
+    fits : word-test n word ≡ true → ¬ ¬ Word n word
+    fits p f = f (word-of n word (λ i l. ltb-true (getD word i 0) n (every-at (length word) (λ i. ltb (getD word i 0) n) p i l)))
 
 room-first : (a b : ℕ) → First (plain 13 (b < a) ∷ []) (plain-unless (leb a b) 13)
 room-first a b = plain-first 13 (b < a) (leb a b) (λ f. leb-false a b f) (λ p l. omega (arith, leb-true a b p))
@@ -112,7 +124,7 @@ replay-first t c word buffer =
     let n = t .setup .events in
     let O = plain-unless (word-test n word) 16 in
     let F = plain-unless (leb (length word) (length buffer)) 13 in
-    let large = plain 16 (LargeEvent n word) in
+    let large = plain 16 (¬ Word n word) in
     let short = plain 13 (length buffer < length word) in
     after-17 t (event c 0) (channel-condition c ∷ empty-condition t c ∷ large ∷ short ∷ [])
     (or-else (channel-refusal c) (or-else (empty-refusal (channels t c)) (or-else O F)))

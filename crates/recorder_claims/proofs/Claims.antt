@@ -25,7 +25,7 @@ use Rattle.channel_log.specs.Calls.{Call, load, event, restart, restart-all, cl
 use Rattle.channel_log.specs.CallSteps.{call-refusal}
 use Rattle.channel_log.proofs.Record.{record-claim, independence-claim}
 use Rattle.recorder.specs.Store.{Store, meet-part, setup-of, channels}
-use Rattle.recorder.specs.ToolFault.{LooksAt, ToolFault, setup-fails, channel-fails}
+use Rattle.recorder.specs.CallConditions.{LooksAt, ToolFault, setup-fails, channel-fails}
 use Rattle.recorder.specs.ToolTests.{passed, setup-test, channel-test, test-of, named-test, tool-test}
 use Rattle.recorder.specs.{CompiledRule.{rule-judged, loaded-rule}, Called.{content, called, filled, empty-store, meet-cells, new-store, blank}}
 use Rattle.recorder.proofs.Rows.{getD-zeros, take-filled}

@@ -7,9 +7,13 @@ use Rattle.theory.proofs.ValueSets.{and-left}
 use Rattle.refusal.specs.RefusalAnswers.{plain-unless}
 use Rattle.refusal.proofs.Refusals.{or-else-none, plain-none}
 use Rattle.values.specs.{Setup.{Setup, setup-meet, setup-top}, SetupTests.{setup-refusal}}
-use Rattle.formulas.specs.{NodeBytes.{encode-formula, node-bytes}, RuleRefusal.{formula-of}}
-use Rattle.channel_log.specs.{Calls.{load, accepted, reply-refusal, Loaded}, CallSteps.{channel-refusal, call-refusal}, Standing.{StandsAs}}
-use Rattle.recorder.specs.{Store.{Store, AllCells, setup-of, channels}, ToolFault.{ChannelInOrder}, ToolTests.{setup-test, named-test, tool-test}}
+use Rattle.formulas.specs.RuleConditions.{encode-formula, node-bytes}
+use Rattle.formulas.specs.RuleRefusal.{formula-of}
+use Rattle.channel_log.specs.Calls.{load, accepted, reply-refusal, Loaded, StandsAs}
+use Rattle.channel_log.specs.CallSteps.{channel-refusal, call-refusal}
+use Rattle.recorder.specs.Store.{Store, AllCells, setup-of, channels}
+use Rattle.recorder.specs.CallConditions.{ChannelInOrder}
+use Rattle.recorder.specs.ToolTests.{setup-test, named-test, tool-test}
 use Rattle.recorder.specs.CompiledRule.{rule-judged, states-of-rule, values-of-rule, nexts-of-rule, loaded-rule}
 use Rattle.recorder.specs.Called.{content, tool-refusal, effect-on, called}
 use Rattle.recorder.proofs.{Held.{channel-below, accepted-of-test, few-events}, Decided.{accepted-call}}

@@ -10,7 +10,8 @@ use Rattle.refusal.specs.declared.Refusal.{Refusal}
 use Rattle.refusal.specs.Refusal.{First}
 use Rattle.refusal.proofs.Refusals.{first-unique, or-else-none}
 use Rattle.values.specs.{Setup.{Setup, SetupValue, setup-meet, setup-top}, SetupTests.{setup-refusal}}
-use Rattle.formulas.specs.{NodeBytes.{encode-formula, node-bytes}, RuleRefusal.{formula-of}}
+use Rattle.formulas.specs.RuleConditions.{encode-formula, node-bytes}
+use Rattle.formulas.specs.RuleRefusal.{formula-of}
 use Rattle.formulas.proofs.RuleClaims.{accepted-formula-of, formula-of-only}
 use Rattle.synthesis.specs.Compilation.{rule-table-refusal}
 use Rattle.channel_log.specs.Calls.{Call, load, event, restart, restart-all, clear, Reply, accepted, returned, refused, Channels, all-empty, with-channel}
@@ -18,7 +19,7 @@ use Rattle.channel_log.specs.Calls.{map-option, History, replies, final}
 use Rattle.channel_log.specs.CallSteps.{Content, channel-refusal, empty-refusal, on-event, call-refusal, event-reply, accepted-reply, effect, settled, step}
 use Rattle.channel_log.proofs.Simulation.{second-none}
 use Rattle.recorder.specs.{Store.{Store}, CompiledRule.{rule-judged}, Called.{called, new-store}}
-use Rattle.recorder_claims.specs.CallConditions.{rule-conditions-of}
+use Rattle.synthesis.specs.TableOfRule.{rule-conditions-of}
 use Rattle.recorder_claims.specs.ChannelLog.{history, log-conditions, Takes, refuses, loads, returns, restarts, restarts-all, clears}
 use Rattle.recorder_claims.specs.{ChannelLog.{Logs, no-calls, one-more}, Claims.{setup-log, PrintedRecordClaim}}
 use Rattle.recorder_claims.proofs.{LoadedRules.{rule-first, rule-well-formed}, Keeps.{Sound, keeps}, Claims.{sound, tool-record}}

@@ -3,15 +3,12 @@
 use mathlib.Core.{Path.{_≡_}, List.{List, [], _∷_, _++_}, Option.{none, some}}
 use Prim.Native.Nat.{ℕ, _≤_, _<_}
 use Rattle.limits.specs.Limits.{channel-limit, table-limit}
-use Rattle.theory.specs.{Formula.{Formula}, Semantics.{Answers}}
-use Rattle.refusal.specs.{declared.Refusal.{Refusal}, Refusal.{Condition, plain, First}}
+use Rattle.theory.specs.Formula.{Formula, Answers}
+use Rattle.refusal.specs.{declared.Refusal.{Refusal}, Refusal.{Condition, First}}
 use Rattle.values.specs.Setup.{Setup, setup-meet, setup-top}
-use Rattle.formulas.specs.NodeBytes.{encode-formula, node-bytes}
+use Rattle.formulas.specs.RuleConditions.{encode-formula, node-bytes}
 use Rattle.channel_log.specs.Calls.{Call, load, event, restart, restart-all, clear, Reply, accepted, returned, refused, Channels, with-channel, map-option}
-use Rattle.channel_log.specs.Calls.{History}
-use Rattle.channel_log.specs.{Calls.{map-option, History, Loaded}, Standing.{StandsAs}}
-use Rattle.recorder_claims.specs.CallConditions.{rule-conditions-of, channel-condition}
-use Rattle.channel_log.specs.Calls.{all-empty}
+use Rattle.channel_log.specs.Calls.{History, Loaded, StandsAs, all-empty}
 
 abbrev pub history : Formula ℕ → List ℕ → History ℕ
 history φ w = record { rule = φ; events = w }
@@ -20,11 +17,7 @@ module _ (s : Setup) (L : Channels (History ℕ)) where
   -- "The list of refusals below says whether a call is refused, and with what number and place: there a channel with nothing is empty,
   -- and any other is loaded": 14, 15, 16, then 5 to 10. "17 never arises."
   abbrev pub log-conditions : Call ℕ → List Condition
-  log-conditions (load c bytes) = channel-condition c ∷ rule-conditions-of s bytes
-  log-conditions (event c e) = channel-condition c ∷ plain 15 (L c ≡ none) ∷ plain 16 (¬ (e < s .events)) ∷ []
-  log-conditions (restart c) = channel-condition c ∷ plain 15 (L c ≡ none) ∷ []
-  log-conditions restart-all = []
-  log-conditions (clear c) = channel-condition c ∷ []
+  log-conditions call = channel-conditions s (λ c. L c ≡ none) call
 
   -- `Takes call reply L′`: the log's reply to a call, and the log afterwards.
   pub data Takes : Call ℕ → Reply ℕ → Channels (History ℕ) → Type 0 where

@@ -8,12 +8,10 @@ use Rattle.recorder_claims.specs.ChannelLog.{AsLogged, LoadedAs}
 use Rattle.refusal.specs.declared.Refusal.the-variants.{Plain}
 use Rattle.values.specs.{declared.ValueKind.{ValueKind}, Setup.{Setup, setup-meet, setup-top}, SetupTests.{setup-refusal}}
 use Rattle.formulas.specs.RuleRefusal.{formula-of}
-use Rattle.channel_log.specs.{Calls.{Call, returned, refused, replies, History, event-calls}, CallSteps.{Content}, Log.{log}, Standing.{StandsAs}}
+use Rattle.channel_log.specs.{Calls.{Call, returned, refused, replies, History, event-calls, StandsAs, final, load, accepted}, CallSteps.{Content}, Log.{log}}
 use Rattle.channel_log.specs.Claims.{RecordClaim, IndependenceClaim}
-use Rattle.recorder.specs.{Store.{Store, channels}, ToolFault.{ToolFault}, ToolTests.{tool-test}, CompiledRule.{rule-judged}}
+use Rattle.recorder.specs.{Store.{Store, channels, setup-of, AllCells}, CallConditions.{ToolFault}, ToolTests.{tool-test}, CompiledRule.{rule-judged}}
 use Rattle.recorder.specs.{Called.{called, new-store, blank}, Replay.{replay-refusal}}
-use Rattle.recorder.specs.Store.{setup-of, AllCells}
-use Rattle.channel_log.specs.Calls.{final, load, accepted}
 
 -- The log of a set-up: 5 to 10 by their list, the rule that accepted bytes are, and its values by the formula semantics.
 abbrev pub setup-log : Setup → Content (History ℕ) ℕ ℕ
@@ -56,3 +54,21 @@ abbrev pub LoadClaim : Type 0
 LoadClaim =
     (t : Store) → AllCells t → (c : ℕ) (rule : List ℕ) → called (load c rule) t .0 ≡ accepted →
     LoadedAs (setup-of t) c rule (channels t) (channels (called (load c rule) t .1))
+
+-- 17, 15 and 16 of a call.
+abbrev pub fault-condition : Store → Call ℕ → Condition
+fault-condition t call = plain 17 (ToolFault t call)
+
+abbrev pub empty-condition : Store → ℕ → Condition
+empty-condition t c = plain 15 (channels t c ≡ none)
+
+abbrev pub event-condition : Store → ℕ → Condition
+event-condition t e = plain 16 (¬ (e < t .setup .events))
+
+-- A call is judged as document 01 asks, and so is a sequence of events.
+abbrev pub CallRefusalClaim : Type 0
+CallRefusalClaim = (t : Store) (call : Call ℕ) → Judged (call-conditions t call) (tool-refusal t call)
+
+abbrev pub ReplayRefusalClaim : Type 0
+ReplayRefusalClaim =
+    (t : Store) (c : ℕ) (word buffer : List ℕ) → Judged (replay-conditions t c word buffer) (replay-refusal t c word buffer)

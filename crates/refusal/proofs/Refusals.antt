@@ -9,7 +9,8 @@ use Rattle.refusal.specs.declared.Refusal.{Refusal}
 use Rattle.refusal.specs.declared.Refusal.the-variants.{Plain, At}
 use Rattle.refusal.specs.declared.Judgement.the-variants.{Accepted, Refused}
 use Rattle.refusal.specs.declared.Counted.the-variants.{Count, Refused as Uncounted}
-use Rattle.refusal.specs.Refusal.{Condition, plain, at-lowest, Gives, Lowest, First, number, place, has-place, order, part-of, condition-numbers}
+use Rattle.refusal.specs.Refusal.{Condition, plain, at-lowest, Gives, Lowest, First, has-place, order, part-of, condition-numbers}
+use Rattle.refusal.specs.RefusalClaims.{number, place}
 use Rattle.refusal.specs.Refusal.{right-places}
 use Rattle.refusal.specs.RefusalAnswers.{or-else, plain-unless, judgement, counted}
 use Rattle.refusal.specs.RefusalClaims.{LowestUniqueClaim, FirstUniqueClaim, JudgedClaim, FirstAppendClaim, NoneMet, AcceptedClaim}

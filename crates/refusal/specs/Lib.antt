@@ -2,7 +2,6 @@
 -- Numbers and places, the order of refusals, which refusal a call gives, and what is claimed of every call.
 pub mod Refusal
 -- Lent buffers after a call.
-pub mod LentBuffers
 -- What contracts compute refusals with.
 pub mod RefusalAnswers
 -- What is claimed of the first refusal.

@@ -1,20 +1,11 @@
--- Refusals (document 01, "Who can cause a refusal"): number and place, their order, and which one a call gives.
-use mathlib.Core.{Path.{_≡_}, Logic.{_⊎_}, Bool.{Bool, true, false, cond, not, _&&_, _||_}, Option.{Option, none, some}, List.{List, [], _∷_}}
+-- Refusals (document 01, "Who can cause a refusal"): their order, which one a call gives, what is claimed of every call, and a lent buffer
+-- after it.
+use mathlib.Core.{Path.{_≡_}, Logic.{_⊎_}, Bool.{Bool, true, false, cond, not, _&&_, _||_}, Option.{Option, none, some}, List.{List, [], _∷_, _++_}}
 use Prim.Native.Nat.{ℕ, _<_}
-use lib.Dec.{eqb, leb}
+use lib.{Dec.{eqb, leb}, ListN.{length, drop}}
 use Rattle.refusal.specs.{declared.Refusal.{Refusal}, declared.Refusal.the-variants.{Plain, At}, declared.Judgement.{Judgement}}
 use Rattle.refusal.specs.{declared.Judgement.the-variants.{Accepted, Refused}, declared.Counted.{Counted}}
 use Rattle.refusal.specs.declared.Counted.the-variants.{Count, Refused as Uncounted}
-
--- A refusal's number in the list of document 01.
-unfoldable pub number : Refusal → ℕ
-number (Plain n) = n
-number (At n p) = n
-
--- A refusal's place, where it has one.
-unfoldable pub place : Refusal → Option ℕ
-place (Plain n) = none
-place (At n p) = some p
 
 -- "4 and 6 to 9 also a place".
 unfoldable pub has-place : ℕ → Bool
@@ -91,3 +82,12 @@ counted-refusal (Uncounted refusal) = some refusal
 abbrev pub count-of : Counted → Option ℕ
 count-of (Count n) = some n
 count-of (Uncounted refusal) = none
+
+-- An output over the front of what a buffer held.
+unfoldable pub put : List ℕ → List ℕ → List ℕ
+put output old = output ++ drop (length output) old
+
+-- The same where nothing is refused; beside a refusal the buffer is as before.
+unfoldable pub put-unless : Option Refusal → List ℕ → List ℕ → List ℕ
+put-unless none output old = put output old
+put-unless (some refusal) output old = old

@@ -2,8 +2,19 @@
 use mathlib.Core.{Path.{_≡_}, Logic.{_↔_}, Bool.{true, false}, Option.{Option, none, some}, List.{List, [], _∷_, _++_}}
 use Prim.Native.Nat.{ℕ, _≤_}
 use Rattle.refusal.specs.declared.Refusal.{Refusal}
-use Rattle.refusal.specs.{Refusal.{order, Condition, Gives, Lowest, First, part-of, condition-numbers, right-places, Judged}, RefusalAnswers.{or-else}}
-use Rattle.refusal.specs.Refusal.{number, place, has-place}
+use Rattle.refusal.specs.declared.Refusal.the-variants.{Plain, At}
+use Rattle.refusal.specs.Refusal.{order, Condition, Gives, Lowest, First, part-of, condition-numbers, right-places, Judged, has-place}
+use Rattle.refusal.specs.RefusalAnswers.{or-else}
+
+-- A refusal's number in the list of document 01.
+unfoldable pub number : Refusal → ℕ
+number (Plain n) = n
+number (At n p) = n
+
+-- A refusal's place, where it has one.
+unfoldable pub place : Refusal → Option ℕ
+place (Plain n) = none
+place (At n p) = some p
 
 -- There is at most one lowest place.
 abbrev pub LowestUniqueClaim : Type 1

@@ -14,8 +14,12 @@ use Rattle.refusal.specs.declared.Judgement.the-variants.{Accepted, Refused as 
 use Rattle.refusal.specs.RefusalAnswers.{or-else, plain-unless, judgement, counted}
 use Rattle.refusal.proofs.Refusals.{or-else-none, or-else-assoc, plain-none, counted-refused, judgement-refused, judgement-accepted}
 use Rattle.values.specs.declared.ValueKind.{ValueKind}
-use Rattle.values.specs.{ValueKind.{ValueIn, meetOf}, ValueTests.{value-fits}, Setup.{Setup, setup-top}, SetupTests.{events-test, setup-refusal}}
-use Rattle.formulas.specs.{NodeBytes.{node-width}, NodeArrays.{padded, decoded}, RuleRefusal.{count-fits, fields-refusal, rule-refusal, formula-of}}
+use Rattle.values.specs.Setup.{ValueIn, meetOf, Setup, setup-top}
+use Rattle.values.specs.ValueTests.{value-fits}
+use Rattle.values.specs.SetupTests.{events-test, setup-refusal}
+use Rattle.formulas.specs.RuleConditions.{node-width}
+use Rattle.formulas.specs.NodeArrays.{padded, decoded}
+use Rattle.formulas.specs.RuleRefusal.{count-fits, fields-refusal, rule-refusal, formula-of}
 use Rattle.formulas.specs.NodeWalks.{field}
 use Rattle.formulas.specs.declared.Nodes.{Nodes}
 use Rattle.formulas.proofs.{Padding.{padded-length, padded-none}, Decoding.{decoded-limit, decoded-refusal, rule-misfit}}

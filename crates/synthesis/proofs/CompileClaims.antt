@@ -5,7 +5,7 @@ use Prim.Native.Nat.{ℕ, _+_, _*_, _≤_, _<_}
 use native.Mathlib.{Nat.{mul-le-mul-left}, Omega.{arith}}
 use borrow.Author.Tests.{leb-true, leb-false}
 use lib.{Dec.{leb}, ListN.{length, getD, drop, length-append, length-drop, List·getD-append}, Seq.{drop-append-seam}}
-use Rattle.theory.specs.Semilattice.{MeetSemilattice}
+use Rattle.theory.specs.ValueSets.{MeetSemilattice}
 use Rattle.theory.specs.Formula.{Formula, size}
 use Rattle.theory.specs.FormulaClasses.{WellFormed}
 use Rattle.theory.specs.MealyMachine.{Machine}
@@ -16,11 +16,11 @@ use Rattle.refusal.specs.declared.Refusal.the-variants.{Plain}
 use Rattle.refusal.specs.Refusal.{Condition, plain, First, has-place, part-of, order, condition-numbers, right-places}
 use Rattle.refusal.specs.RefusalAnswers.{or-else, plain-unless}
 use Rattle.refusal.proofs.Refusals.{first-then, judged, or-else-none, or-else-assoc, plain-none}
-use Rattle.refusal.specs.LentBuffers.{put, put-unless}
+use Rattle.refusal.specs.Refusal.{put, put-unless}
 use Rattle.values.specs.declared.ValueKind.{ValueKind}
 use Rattle.values.specs.declared.ValueKind.the-variants.{Numbered, Register}
-use Rattle.values.specs.{ValueKind.{ValueIn, meetOf}, ValueBytes.{value-width}, Setup.{Setup, setup-meet, setup-top, EventsFault, setup-conditions}}
-use Rattle.values.specs.ValueBytes.{masks-value, value-from}
+use Rattle.values.specs.Setup.{ValueIn, meetOf, value-width, Setup, setup-meet, setup-top, EventsFault, setup-conditions}
+use Rattle.values.specs.Setup.{masks-value, value-from}
 use Rattle.values.specs.SetupTests.{events-test, setup-refusal}
 use Rattle.values.proofs.Setups.{setup-first, judged-after-setup, events-first}
 use Rattle.formulas.specs.RuleRefusal.{rule-refusal, formula-of}

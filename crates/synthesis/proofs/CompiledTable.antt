@@ -2,10 +2,10 @@
 use mathlib.Core.{Logic.{_↔_}, List.{List}}
 use Prim.Native.Nat.{ℕ, zero, _≤_, _<_}
 use Rattle.limits.specs.Limits.{node-limit}
-use Rattle.theory.specs.Semilattice.{MeetSemilattice}
+use Rattle.theory.specs.ValueSets.{MeetSemilattice}
 use Rattle.theory.specs.Formula.{Formula, size}
 use Rattle.theory.specs.FormulaClasses.{WellFormed}
-use Rattle.theory.specs.Semantics.{Answers}
+use Rattle.theory.specs.Formula.{Answers}
 use Rattle.theory.specs.MealyMachine.{Word, after, States}
 use Rattle.theory.specs.MachineRuns.{Runs}
 use Rattle.theory.specs.ReachableStates.{IsTableOf, StatesAtMost}

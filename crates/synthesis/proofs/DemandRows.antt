@@ -6,7 +6,7 @@ use lib.{Bits.{bitOr}, ListN.{length, getD, set, length-set}, Seq.{getD-set-othe
 use Rattle.limits.specs.Limits.{node-limit}
 use Rattle.theory.specs.Formula.{Formula, truth, variable, transition, output, conjunction, greatest, size}
 use Rattle.theory.specs.FormulaClasses.{GuardedIn}
-use Rattle.theory.specs.Demands.{NodeSet}
+use Rattle.theory.specs.ReachableStates.{NodeSet}
 use Rattle.theory.specs.DemandSets.{empty, union, only, demands}
 use Rattle.theory.proofs.NodeSets.{empty-union, swap-at, demands-swap}
 use Rattle.formulas.specs.{NodeReading.{Reads}, NodeWalks.{field}}

@@ -7,7 +7,7 @@ use Rattle.limits.specs.Limits.{node-limit}
 use Rattle.theory.specs.Formula.{Formula, size}
 use Rattle.theory.specs.FormulaClasses.{Closed, Guarded}
 use Rattle.theory.specs.MealyMachine.{Machine}
-use Rattle.theory.specs.Demands.{value-of-set}
+use Rattle.theory.specs.ReachableStates.{value-of-set}
 use Rattle.theory.specs.Exploration.{explored, numbered, member, bits, same-bits, bit-machine, first-bits}
 use Rattle.formulas.specs.{NodeReading.{Reads}, NodeWalks.{field}}
 use Rattle.synthesis.specs.{NodeWords.{set-at, bits-at}, NodeWalks.{Binds}, Binding.{AllBound}, DemandRows.{RowsTo}}

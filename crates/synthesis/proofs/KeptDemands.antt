@@ -4,10 +4,11 @@ use Prim.Native.Nat.{ℕ, suc, _+_, _≤_}
 use native.Mathlib.Omega.{arith}
 use lib.Dec.{T}
 use Rattle.limits.specs.Limits.{node-limit}
-use Rattle.values.specs.ValueKind.{ValueIn}
+use Rattle.values.specs.Setup.{ValueIn}
 use Rattle.theory.specs.Formula.{Formula, transition, greatest, size}
 use Rattle.theory.specs.FormulaClasses.{Guarded}
-use Rattle.theory.specs.{PrefixCode.{Stands, root, part-of-transition, left-part, right-part, part-of-greatest}, Demands.{NodeSet, Demands}}
+use Rattle.theory.specs.Formula.{Stands, root, part-of-transition, left-part, right-part, part-of-greatest}
+use Rattle.theory.specs.ReachableStates.{NodeSet, Demands}
 use Rattle.theory.specs.DemandSets.{demands, moved}
 use Rattle.theory.proofs.{Binders.{binder-demands}, Demands.{demands-iff, is-next-set}, Claims.{grammar}}
 use Rattle.values.specs.declared.ValueKind.{ValueKind}

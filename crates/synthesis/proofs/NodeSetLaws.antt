@@ -3,7 +3,8 @@ use mathlib.Core.{Path.{_≡_, refl, fun-ext}, Bool.{or-assoc}, List.{List, [], 
 use Prim.Native.Nat.{ℕ, zero, suc, _<_}
 use native.Mathlib.Omega.{arith}
 use lib.ListN.{length, getD}
-use Rattle.theory.specs.{Demands.{NodeSet}, DemandSets.{union, binder-set}}
+use Rattle.theory.specs.ReachableStates.{NodeSet}
+use Rattle.theory.specs.DemandSets.{union, binder-set}
 
 pub union-assoc : (C D E : NodeSet) → union (union C D) E ≡ union C (union D E)
 unfolding union

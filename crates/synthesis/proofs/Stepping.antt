@@ -7,7 +7,7 @@ use borrow.Author.Tests.{eq-eqb, ne-eqb}
 use lib.Dec.{eqb}
 use Rattle.theory.specs.Formula.{Formula, truth, variable, transition, output, conjunction, greatest, size}
 use Rattle.theory.specs.FormulaClasses.{Guarded}
-use Rattle.theory.specs.Demands.{NodeSet}
+use Rattle.theory.specs.ReachableStates.{NodeSet}
 use Rattle.theory.specs.DemandSets.{empty, union, demands, moved}
 use Rattle.formulas.specs.{NodeReading.{Reads}, NodeWalks.{field}}
 use Rattle.synthesis.specs.{NodeWords.{row, United}, NodeWalks.{Binds}, DemandRows.{AllBelow, UnguardedRows, RowsTo}}

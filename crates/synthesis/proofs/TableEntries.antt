@@ -4,8 +4,8 @@ use Prim.Native.Nat.{ℕ, zero, suc, _+_, _*_, _-_, _/_, _%_, _≤_, _<_}
 use native.Mathlib.{Decide.{ℕ-discrete}, Nat.{not-suc-le-zero}, Numerals.{add-one}, Omega.{arith}}
 use lib.{Arith.{digits-div, digits-mod}, Dec.{eqb, ltb}, ListN.{length, getD, set, length-set}, Seq.{getD-set-same, getD-set-other}}
 use borrow.Author.Tests.{eq-eqb, ne-eqb, ltb-true, ltb-false}
-use Rattle.theory.specs.{Formula.{Formula, truth, variable, transition, output, conjunction, greatest, size}, PrefixCode.{Node, nodes}}
-use Rattle.theory.specs.Demands.{NodeSet, outputs, meet-all, value-of-set}
+use Rattle.theory.specs.Formula.{Formula, truth, variable, transition, output, conjunction, greatest, size, Node, nodes}
+use Rattle.theory.specs.ReachableStates.{NodeSet, outputs, meet-all, value-of-set}
 use Rattle.formulas.specs.{NodeReading.{Reads}, NodeWalks.{field}}
 use Rattle.synthesis.specs.{Exploring.{for-event}, TableEntries.{meet-from, EntriesTo, RowTo, OpenRow, Met}}
 use Rattle.synthesis.proofs.Stepping.{other-kind, same-kind}

@@ -3,11 +3,10 @@
 use mathlib.Core.{Path.{_≡_}, List.{List, [], _∷_, _++_}, Option.{none, some}}
 use Prim.Native.Nat.{ℕ, zero, _*_, _≤_, _<_}
 use lib.ListN.{length, getD, drop}
-use Rattle.theory.specs.{Semilattice.{MeetSemilattice}, Formula.{Formula}, Semantics.{Answers}, MealyMachine.{Machine, Word, after}}
-use Rattle.theory.specs.ReachableStates.{IsTableOf}
+use Rattle.theory.specs.{ValueSets.{MeetSemilattice}, Formula.{Formula, Answers}, MealyMachine.{Machine, Word, after}, ReachableStates.{IsTableOf}}
 use Rattle.refusal.specs.{declared.Refusal.{Refusal}, Refusal.{Condition, plain, Judged}}
-use Rattle.values.specs.{declared.ValueKind.{ValueKind}, ValueKind.{ValueIn, meetOf}, Setup.{Setup, setup-meet, setup-top, EventsFault}}
-use Rattle.formulas.specs.{NodeBytes.{node-bytes, encode-formula}, RuleConditions.{byte-conditions}, Claims.{AcceptedFormula}}
+use Rattle.values.specs.{declared.ValueKind.{ValueKind}, Setup.{ValueIn, meetOf, Setup, setup-meet, setup-top, EventsFault}}
+use Rattle.formulas.specs.{RuleConditions.{node-bytes, encode-formula, byte-conditions}, Claims.{AcceptedFormula}}
 use Rattle.machines.specs.TableBytes.{entry-width, entries, machine-of}
 use Rattle.synthesis.specs.Compilation.{rule-states, compile-rule-refusal, compiled-within, setup-states, compile-refusal, compile-contents}
 use Rattle.synthesis.specs.TableOfRule.{compile-conditions, states-condition}

@@ -2,8 +2,8 @@
 use mathlib.Core.{Path.{_≡_}, List.{List, [], _∷_, map}}
 use Prim.Native.Nat.{ℕ, suc, _+_, _≤_, _<_}
 use lib.ListN.{length}
-use Rattle.theory.specs.{Formula.{Formula, truth, variable, transition, output, conjunction, greatest, size}, FormulaClasses.{Guarded}, Demands.{NodeSet}}
-use Rattle.theory.specs.DemandSets.{demands}
+use Rattle.theory.specs.{Formula.{Formula, truth, variable, transition, output, conjunction, greatest, size}, FormulaClasses.{Guarded}}
+use Rattle.theory.specs.{ReachableStates.{NodeSet}, DemandSets.{demands}}
 use Rattle.formulas.specs.{NodeReading.{Reads}, NodeWalks.{field}}
 use Rattle.synthesis.specs.{NodeWords.{row-words, row}, NodeWalks.{Ends, Binds}}
 

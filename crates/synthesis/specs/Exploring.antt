@@ -1,15 +1,10 @@
 -- The machine of the rows, node by node, its sets as bits; and what the loops over states keep (document 01, "Table of a rule": the
 -- states reached, and the next state of each).
-use mathlib.Core.Path.{_≡_}
-use mathlib.Core.Bool.{Bool, false, _&&_, _||_, cond}
-use mathlib.Core.List.{List, [], _∷_}
+use mathlib.Core.{Path.{_≡_}, Bool.{Bool, false, _&&_, _||_, cond}, List.{List, [], _∷_}}
 use Prim.Native.Nat.{ℕ, zero, suc, _+_, _*_, _/_, _%_, _≤_, _<_}
-use lib.Dec.{eqb}
-use lib.ListN.{length, getD}
+use lib.{Dec.{eqb}, ListN.{length, getD}}
 use Rattle.limits.specs.Limits.{node-limit, set-words}
-use Rattle.theory.specs.Demands.{NodeSet}
-use Rattle.theory.specs.DemandSets.{union}
-use Rattle.theory.specs.Exploration.{reached, add, explored, index, member, bits, same-bits}
+use Rattle.theory.specs.{ReachableStates.{NodeSet}, DemandSets.{union}, Exploration.{reached, add, explored, index, member, bits, same-bits}}
 use Rattle.synthesis.specs.NodeWords.{row, bits-at}
 use Rattle.formulas.specs.NodeWalks.{field}
 

@@ -1,21 +1,12 @@
 -- Demands gathered before the walk over states (document 02, F-3): what the rows are that the compiler keeps, and what it makes of
 -- them. Each claim is a proposition, inhabited in proofs/.
-use mathlib.Core.Path.{_≡_}
-use mathlib.Core.Logic.{_↔_}
-use mathlib.Core.Option.{none}
-use mathlib.Core.List.{List}
+use mathlib.Core.{Path.{_≡_}, Logic.{_↔_}, Option.{none}, List.{List}}
 use Prim.Native.Nat.{ℕ, suc}
 use lib.Dec.{T}
-use Rattle.theory.specs.Formula.{Formula, transition}
-use Rattle.theory.specs.PrefixCode.{Stands}
-use Rattle.theory.specs.Demands.{NodeSet, Demands}
+use Rattle.theory.specs.{Formula.{Formula, transition, Stands}, ReachableStates.{NodeSet, Demands}}
 use Rattle.values.specs.declared.ValueKind.{ValueKind}
-use Rattle.formulas.specs.NodeArrays.{decoded}
-use Rattle.formulas.specs.RuleRefusal.{rule-refusal, formula-of}
-use Rattle.synthesis.specs.NodeWords.{row}
-use Rattle.synthesis.specs.Binding.{AllBound}
-use Rattle.synthesis.specs.DemandRows.{RowsTo}
-use Rattle.synthesis.specs.Exploring.{stepped}
+use Rattle.formulas.specs.{NodeArrays.{decoded}, RuleRefusal.{rule-refusal, formula-of}}
+use Rattle.synthesis.specs.{NodeWords.{row}, Binding.{AllBound}, DemandRows.{RowsTo}, Exploring.{stepped}}
 
 -- The rows kept for the nodes of a rule: what `bind` and `fill_rows` promise of them.
 pub record KeptRows (kind : ValueKind) (rule stack binders rows : List ℕ) : Type 0 where

@@ -1,14 +1,9 @@
 -- Sets of node numbers in words of 64 bits, four words a set.
-use mathlib.Core.Path.{_≡_}
-use mathlib.Core.Bool.{Bool, true, false, _&&_}
-use mathlib.Core.List.{List}
+use mathlib.Core.{Path.{_≡_}, Bool.{Bool, true, false, _&&_}, List.{List}}
 use Prim.Native.Nat.{ℕ, _+_, _-_, _*_, _/_, _%_, _^_, _≤_, _<_}
-use lib.Dec.{ltb, eqb}
-use lib.ListN.{length, getD}
+use lib.{Dec.{ltb, eqb}, ListN.{length, getD}}
 use Rattle.limits.specs.Limits.{event-limit, node-limit, set-words}
-use Rattle.theory.specs.Demands.{NodeSet}
-use Rattle.theory.specs.DemandSets.{union}
-use Rattle.theory.specs.Exploration.{bits}
+use Rattle.theory.specs.{ReachableStates.{NodeSet}, DemandSets.{union}, Exploration.{bits}}
 
 -- The words of a row for each node and of an empty one, and of a next set for each event.
 abbrev pub row-words : ℕ

@@ -1,14 +1,11 @@
 -- The value of a set on an event, node by node, and entries by state and then event (document 01, "Table of a rule": "the meet of the
 -- O values for that event (top if none)").
-use mathlib.Core.Path.{_≡_}
-use mathlib.Core.Bool.{_&&_, cond}
-use mathlib.Core.List.{List}
+use mathlib.Core.{Path.{_≡_}, Bool.{_&&_, cond}, List.{List}}
 use Prim.Native.Nat.{ℕ, zero, suc, _+_, _*_, _/_, _%_, _≤_, _<_}
 use lib.ListN.{length, getD}
-use Rattle.theory.specs.Demands.{NodeSet}
-use Rattle.synthesis.specs.NodeWords.{row}
+use Rattle.theory.specs.ReachableStates.{NodeSet}
+use Rattle.synthesis.specs.{NodeWords.{row}, Exploring.{for-event}}
 use Rattle.formulas.specs.NodeWalks.{field}
-use Rattle.synthesis.specs.Exploring.{for-event}
 
 module _ (meet : ℕ → ℕ → ℕ) (top : ℕ) (kinds firsts values : List ℕ) where
   -- The meet of the values of the O nodes of D for e, of the c nodes from i on.

@@ -2,11 +2,11 @@
 use mathlib.Core.{Path.{_≡_}, List.{List, [], _∷_, _++_}}
 use Prim.Native.Nat.{ℕ, zero, _*_, _≤_, _<_}
 use lib.ListN.{length, getD}
-use Rattle.theory.specs.{Formula.{Formula}, Semantics.{Answers}, MealyMachine.{Machine, Word, after}, ReachableStates.{IsTableOf, StatesAtMost}}
+use Rattle.theory.specs.{Formula.{Formula, Answers}, MealyMachine.{Machine, Word, after}, ReachableStates.{IsTableOf, StatesAtMost}}
 use Rattle.limits.specs.Limits.{state-limit}
 use Rattle.refusal.specs.Refusal.{Condition, plain}
 use Rattle.values.specs.{declared.ValueKind.{ValueKind}, Setup.{Setup, setup-meet, setup-top, setup-conditions}}
-use Rattle.formulas.specs.{NodeBytes.{node-bytes, encode-formula}, RuleConditions.{OfFormula, byte-conditions}}
+use Rattle.formulas.specs.RuleConditions.{node-bytes, encode-formula, OfFormula, byte-conditions}
 use Rattle.machines.specs.TableBytes.{entry-width, entries}
 
 module _ (meet : ℕ → ℕ → ℕ) (top events : ℕ) (kind : ValueKind) where
@@ -34,15 +34,16 @@ compile-conditions limit s rule old =
     ∷ buffer-condition (setup-meet s) (setup-top s) (s .events) (s .kind) rule old
     ∷ []))
 
--- Of a set-up and a rule: 1 to 3, then 5 to 9; and 10 where the rule's table is made.
+-- Of a rule whose table is made: 5 to 9, then 10; of a set-up and a rule: 1 to 3, then 5 to 9, and 10 where the table is made.
+abbrev pub rule-conditions-of : Setup → List ℕ → List Condition
+rule-conditions-of s rule =
+    byte-conditions (s .events) (s .kind) rule ++ (states-condition (setup-meet s) (setup-top s) (s .events) (s .kind) rule state-limit ∷ [])
+
 abbrev pub pair-conditions : Setup → List ℕ → List Condition
 pair-conditions s rule = setup-conditions s ++ byte-conditions (s .events) (s .kind) rule
 
 abbrev pub pair-table-conditions : Setup → List ℕ → List Condition
-pair-table-conditions s rule =
-    setup-conditions s
-    ++ (byte-conditions (s .events) (s .kind) rule
-    ++ (states-condition (setup-meet s) (setup-top s) (s .events) (s .kind) rule state-limit ∷ []))
+pair-table-conditions s rule = setup-conditions s ++ rule-conditions-of s rule
 
 -- What is made of a rule: the table of the one formula whose code the bytes are, which has that formula's values on every event sequence.
 pub record IsRuleTable (s : Setup) (rule : List ℕ) (n : ℕ) (t : Machine ℕ ℕ) : Type 0 where

@@ -10,7 +10,7 @@ use values::meet_of;
 ghost use mathlib.Core.Path.{_≡_};
 ghost use Prim.Native.Nat.{_+_, _*_, _<_, _≤_};
 ghost use lib.ListN.{length};
-ghost use Rattle.values.specs.ValueKind.{meetOf};
+ghost use Rattle.values.specs.Setup.{meetOf};
 ghost use Rattle.limits.specs.Limits.{event-limit, node-limit, set-words};
 ghost use Rattle.synthesis.specs.Exploring.{Unchanged};
 ghost use Rattle.synthesis.specs.TableEntries.{state-value, EntriesTo, RowTo, OpenRow, Met};

@@ -11,7 +11,7 @@ ghost use mathlib.Core.Path.{_≡_};
 ghost use Prim.Native.Nat.{_*_, _<_, _≤_};
 ghost use Rattle.limits.specs.Limits.{event-limit, node-limit, set-words};
 ghost use lib.ListN.{length};
-ghost use Rattle.values.specs.ValueKind.{meetOf};
+ghost use Rattle.values.specs.Setup.{meetOf};
 ghost use Rattle.synthesis.specs.MadeTable.{Tables};
 
 // The number of states, or the limit and one where there are more; the entries by state and then event. `states` is room for the

@@ -8,7 +8,7 @@ use Rattle.text_format.specs.Texts.{ascii}
 use Rattle.text_format.specs.Texts.{numeral, each}
 use Rattle.text_output.proofs.Outputs.{numeral-length, numeral-short, each-length}
 use Rattle.table_graph.specs.{GraphText.{value-text, arrow-line, entry-arrow, graph-text}, Graph.{graph-limit}}
-use Rattle.table_rows.specs.Rows.{FewEntries}
+use Rattle.table_rows.specs.Claims.{FewEntries}
 
 -- ---- texts
 

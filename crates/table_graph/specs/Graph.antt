@@ -1,14 +1,10 @@
 -- The call that renders a table as a digraph.
 use Prim.Native.Nat.{ℕ, _+_, _*_, _≤_}
-use mathlib.Core.Path.{_≡_}
-use mathlib.Core.List.{List}
-use mathlib.Core.Option.{Option, none}
+use mathlib.Core.{Path.{_≡_}, List.{List}, Option.{Option, none}}
 use lib.ListN.{length}
 use Rattle.limits.specs.Limits.{entry-limit}
-use Rattle.refusal.specs.declared.Refusal.{Refusal}
-use Rattle.refusal.specs.declared.Counted.{Counted}
-use Rattle.refusal.specs.Refusal.{Condition, Judged}
-use Rattle.table_rows.specs.Rendering.{rendering-conditions, handed-refusal, rendering-refusal, Renders}
+use Rattle.refusal.specs.{declared.Refusal.{Refusal}, declared.Counted.{Counted}, Refusal.{Condition, Judged}}
+use Rattle.table_rows.specs.{TableConditions.{rendering-conditions}, Rendering.{handed-refusal, rendering-refusal, Renders}}
 use Rattle.table_graph.specs.GraphText.{graph-text}
 
 -- The conditions of a call, in order: 1 and 2 for the numbers of the set-up, 11 for the table, and 13.

@@ -1,7 +1,7 @@
 // A table rendered as a Graphviz digraph in a lent buffer.
 ghost use Rattle.text_output.specs.Output.{Puts};
 ghost use Rattle.table_graph.specs.GraphText.{value-text, arrow-line, graph-text};
-ghost use Rattle.table_rows.specs.Rows.{FewEntries};
+ghost use Rattle.table_rows.specs.Claims.{FewEntries};
 ghost use Rattle.table_graph.specs.Graph.{Draws};
 use limits::ENTRY_LIMIT;
 use machines::next_at;

@@ -8,7 +8,7 @@ use Rattle.refusal.specs.declared.{Refusal.{Refusal}, Counted.{Counted}}
 use Rattle.refusal.specs.declared.Counted.the-variants.{Count}
 use Rattle.refusal.proofs.Refusals.{counted-accepted}
 use Rattle.channel_io.specs.declared.FileNumbers.{FileNumbers}
-use Rattle.channel_io.specs.FileAnswers.{numbers}
+use Rattle.channel_io.specs.FileConditions.{numbers}
 use Rattle.channel_io.specs.FileRefusals.{file-states, file-table}
 use Rattle.channel_io.proofs.Callers.{table-fits, Unmade, off-form, turned-away, MadeOf, events-are}
 use Rattle.table_rows.specs.{Rendering.{handed-refusal, Renders}, Rows.{rows-text}}

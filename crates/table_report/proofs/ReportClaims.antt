@@ -8,7 +8,7 @@ use Rattle.refusal.specs.declared.Refusal.{Refusal}
 use Rattle.refusal.specs.Refusal.{First}
 use Rattle.limits.specs.Limits.{node-limit}
 use Rattle.values.specs.declared.ValueKind.{ValueKind}
-use Rattle.values.specs.{ValueKind.{ValueIn}, Setup.{Setup, setup-meet, setup-top}}
+use Rattle.values.specs.Setup.{ValueIn, Setup, setup-meet, setup-top}
 use Rattle.text_format.specs.Format.{Outcome, contents, refused}
 use Rattle.text_format.specs.Texts.{ascii}
 use Rattle.text_format.specs.Texts.{numeral}

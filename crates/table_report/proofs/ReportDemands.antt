@@ -4,7 +4,10 @@ use mathlib.Core.{Path.{_≡_, refl, ap}, List.{List}, Bool.{Bool, true, false},
 use native.Mathlib.Omega.{arith}
 use lib.{Dec.{leb}, ListN.{length}}
 use borrow.Author.Tests.{leb-true, leb-false}
-use Rattle.refusal.specs.{declared.Refusal.{Refusal}, declared.Counted.{Counted}, RefusalAnswers.{or-else}, LentBuffers.{put}}
+use Rattle.refusal.specs.declared.Refusal.{Refusal}
+use Rattle.refusal.specs.declared.Counted.{Counted}
+use Rattle.refusal.specs.RefusalAnswers.{or-else}
+use Rattle.refusal.specs.Refusal.{put}
 use Rattle.refusal.specs.Refusal.{First, has-place, part-of, order, condition-numbers, right-places, JudgedCall, counted-refusal, count-of}
 use Rattle.refusal.proofs.{Refusals.{plain-first, judged}, Answers.{counted-judged, counted-put}}
 use Rattle.table_rows.specs.Rendering.{rendering-refusal}

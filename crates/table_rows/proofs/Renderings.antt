@@ -12,7 +12,7 @@ use Rattle.refusal.specs.declared.Judgement.the-variants.{Refused as Unaccepted
 use Rattle.refusal.specs.declared.Counted.the-variants.{Count, Refused}
 use Rattle.refusal.specs.Refusal.{First, condition-numbers, right-places, part-of, order, has-place}
 use Rattle.refusal.specs.RefusalAnswers.{or-else, plain-unless, judgement, counted}
-use Rattle.refusal.specs.LentBuffers.{put, put-unless}
+use Rattle.refusal.specs.Refusal.{put, put-unless}
 use Rattle.refusal.proofs.Refusals.{plain-first, first-append, judged, or-else-assoc, or-else-none, plain-none}
 use Rattle.values.specs.declared.ValueKind.the-variants.{Numbered}
 use Rattle.values.specs.SetupTests.{events-test, values-test}
@@ -21,8 +21,10 @@ use Rattle.machines.specs.TableRefusal.{table-refusal}
 use Rattle.machines.proofs.TableRefusals.{table-refusal-first, none-in-order, accepted-table}
 use Rattle.text_output.specs.Output.{Puts}
 use Rattle.text_output.proofs.Outputs.{puts-long, puts-again}
-use Rattle.table_rows.specs.Rendering.{rendering-conditions, handed-refusal, rendering-refusal, Renders, RenderingClaim}
-use Rattle.table_rows.specs.Rows.{FewEntries, RowsLengthClaim}
+use Rattle.table_rows.specs.TableConditions.{rendering-conditions}
+use Rattle.table_rows.specs.Rendering.{handed-refusal, rendering-refusal, Renders}
+use Rattle.table_rows.specs.Claims.{RenderingClaim}
+use Rattle.table_rows.specs.Claims.{FewEntries, RowsLengthClaim}
 use Rattle.table_rows.proofs.Texts.{table-length}
 
 -- ---- the judgement

@@ -13,7 +13,9 @@ use Rattle.text_format.specs.Texts.{numeral, each}
 use Rattle.text_output.proofs.Outputs.{numeral-short, each-length}
 use Rattle.channel_file.specs.ChannelFile.{line}
 use Rattle.machines.specs.TableBytes.{machine-of}
-use Rattle.table_rows.specs.{TableText.{row-line, entry-line, table-text}, Rows.{rows-limit, FewEntries}}
+use Rattle.table_rows.specs.TableText.{row-line, entry-line, table-text}
+use Rattle.table_rows.specs.Rows.{rows-limit}
+use Rattle.table_rows.specs.Claims.{FewEntries}
 
 pub row-parts : (l e v n : ℕ)
     → (ascii "row=" ++ numeral l) ++ ((ascii " " ++ numeral e) ++ ((ascii " " ++ numeral v) ++ line (ascii " ") (numeral n))) ≡ row-line l e v n

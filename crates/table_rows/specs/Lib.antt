@@ -5,3 +5,5 @@ pub mod TableText
 pub mod Rendering
 -- The call that prints its rows.
 pub mod Rows
+pub mod TableConditions
+pub mod Claims

@@ -4,7 +4,7 @@ use mathlib.Core.{Path.{_≡_, refl, sym, ap, _∙_, subst}, List.{List, [], _�
 use native.Mathlib.Omega.{arith}
 use lib.{ListN.{length, take, drop, length-append, take-append-drop}, Seq.{take-at, take-append-le}}
 use Rattle.text_format.specs.Format.{Parsed, ok, bad, bind, Format, Stuck, Laws, Outcome, contents, refused, at-end, whole, outcome, read}
-use Rattle.text_format.specs.Place.{Begins, Refused, at, early, FormOf}
+use Rattle.text_format.specs.Texts.{Begins, Refused, at, early, FormOf}
 use Rattle.text_format.specs.Claims.{AnswersText}
 use Rattle.text_format.specs.Claims.{Renders, AnswerClaim, OneAnswerClaim, PlaceClaim, ReadBackClaim}
 use Rattle.text_format.proofs.Combinators.{not-both}

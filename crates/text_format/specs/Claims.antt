@@ -1,8 +1,7 @@
 -- What is claimed of numbers (inhabited in proofs/Decimal) and of every format that keeps the laws (in proofs/Place).
 use Prim.Native.Nat.{ℕ, _<_}
 use mathlib.Core.{Path.{_≡_}, List.{List}}
-use Rattle.text_format.specs.{Format.{Format, Laws, Outcome, contents, refused, read}, Decimal.{limit, Numeral}, Texts.{decimal}}
-use Rattle.text_format.specs.Place.{Refused, FormOf}
+use Rattle.text_format.specs.{Format.{Format, Laws, Outcome, contents, refused, read}, Decimal.{limit, Numeral}, Texts.{decimal, Refused, FormOf}}
 
 -- What an answer says of the text t: t shows these contents, or t is refused at this offset.
 abbrev pub AnswersText : {A : Type 0} → (A → List ℕ → Type 0) → List ℕ → Outcome A → Type 0

@@ -1,7 +1,6 @@
 -- In reading order.
 -- Texts as a reader writes them down, and where a text is refused.
 pub mod Texts
-pub mod Place
 -- What contracts compute with: what a format is, how formats are put together, numbers, series.
 pub mod Format
 pub mod Combinators

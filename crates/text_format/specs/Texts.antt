@@ -1,7 +1,8 @@
--- Texts as lists of byte values: words, numbers in decimal, items with one space between (document 01, "Channel file").
-use Prim.Native.{Nat.{ℕ, zero, suc, _+_, _/_, _%_}, Char.{code}, String.{String}}
+-- Texts as lists of byte values: words, numbers in decimal, items with one space between; and where a text is refused (document 01,
+-- "Channel file" and refusal 4). Form t says that t is a text of the form.
+use Prim.Native.{Nat.{ℕ, zero, suc, _+_, _/_, _%_, _<_}, Char.{code}, String.{String}}
 use mathlib.Core.{List.{List, [], _∷_, _++_}, Bool.{cond}}
-use lib.Dec.{ltb}
+use lib.{Dec.{ltb}, ListN.{length, take}}
 use Prim.Native.String as Str
 
 -- The bytes of a text written in a definition.
@@ -33,3 +34,19 @@ OneOrMore P (a ∷ a′ ∷ xs) = P a × OneOrMore P (a′ ∷ xs)
 abbrev pub each : (ℕ → List ℕ) → ℕ → ℕ → List ℕ
 each text zero i = []
 each text (suc c) i = text i ++ each text c (suc i)
+
+module _ (Form : List ℕ → Type 0) where
+  -- s begins a text of the form.
+  abbrev pub Begins : List ℕ → Type 0
+  Begins s = (u : List ℕ) × Form (s ++ u)
+
+  -- The text t is refused at an offset.
+  pub data Refused (t : List ℕ) : ℕ → Type 0 where
+    -- the least p where the first p + 1 bytes begin no text of the form
+    at : (p : ℕ) → p < length t → ((q : ℕ) → q < p → Begins (take (q + 1) t)) → (Begins (take (p + 1) t) → ⊥) → Refused t p
+    -- there is none, and t is no text of the form: it ends early
+    early : ((q : ℕ) → q < length t → Begins (take (q + 1) t)) → (Form t → ⊥) → Refused t (length t)
+
+-- The form of the texts that show some contents.
+abbrev pub FormOf : {A : Type 0} → (A → List ℕ → Type 0) → List ℕ → Type 0
+FormOf Shows t = (a : _) × Shows a t

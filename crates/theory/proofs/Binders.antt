@@ -5,7 +5,8 @@ use native.Mathlib.Nat.{not-suc-le-zero, le-of-suc-le-suc}
 use lib.ListN.{length, getD}
 use Rattle.theory.specs.Formula.{Formula, greatest}
 use Rattle.theory.specs.FormulaClasses.{FreeBelow, Closed, Guarded, Fits, WellFormed}
-use Rattle.theory.specs.{PrefixCode.{Stands, root, part-of-transition, left-part, right-part, part-of-greatest}, Demands.{NodeSet}}
+use Rattle.theory.specs.Formula.{Stands, root, part-of-transition, left-part, right-part, part-of-greatest}
+use Rattle.theory.specs.ReachableStates.{NodeSet}
 use Rattle.theory.specs.DemandSets.{binder-set, demands}
 use Rattle.theory.proofs.Instantiation.{instantiate, nth, instantiate-greatest, AllWellFormed, well-formed-instantiate}
 

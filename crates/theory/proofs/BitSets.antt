@@ -7,7 +7,8 @@ use native.Mathlib.{Nat.{le-of-suc-le-suc, not-suc-le-zero}, Decide.{decLt}, Ome
 use lib.Dec.{T, eqb}
 use mir.Facts.{and-yes}
 use borrow.Author.Tests.{ne-eqb}
-use Rattle.theory.specs.{Formula.{Formula, truth, variable, transition, output, conjunction, greatest, size}, Demands.{NodeSet, value-of-set}}
+use Rattle.theory.specs.Formula.{Formula, truth, variable, transition, output, conjunction, greatest, size}
+use Rattle.theory.specs.ReachableStates.{NodeSet, value-of-set}
 use Rattle.theory.specs.DemandSets.{empty, only, union, binder-set, demands, moved, set-machine, first-set}
 use Rattle.theory.specs.Exploration.{member, bits, same-bits, bit-machine, first-bits}
 use Rattle.theory.proofs.Transport.{SameStates, map-same-states}

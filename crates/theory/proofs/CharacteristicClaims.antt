@@ -3,7 +3,7 @@ use mathlib.Core.{Path.{_≡_, sym}, Bool.{Bool}, List.{List, [], reverse}}
 use Prim.Native.Nat.{ℕ, _≤_, _<_}
 use native.Mathlib.Omega.{arith}
 use lib.ListN.{length, getD, length-map}
-use Rattle.theory.specs.Semilattice.{MeetSemilattice}
+use Rattle.theory.specs.ValueSets.{MeetSemilattice}
 use Rattle.theory.specs.Formula.{Formula, size}
 use Rattle.theory.specs.FormulaClasses.{binders, WellFormed, Accepted}
 use Rattle.theory.specs.MealyMachine.{Machine, after}

@@ -8,7 +8,9 @@ use lib.{Dec.{eqb}, ListN.{length, length-append}}
 use borrow.Author.Tests.{eq-eqb, ne-eqb}
 use Rattle.theory.specs.Formula.{Formula, truth, variable, transition, output, conjunction, greatest, size}
 use Rattle.theory.specs.FormulaClasses.{binders, OpenPosition, ClosedPosition}
-use Rattle.theory.specs.{MealyMachine.{Machine}, Demands.{NodeSet}, DemandSets.{empty, union, demands, moved}}
+use Rattle.theory.specs.MealyMachine.{Machine}
+use Rattle.theory.specs.ReachableStates.{NodeSet}
+use Rattle.theory.specs.DemandSets.{empty, union, demands, moved}
 use Rattle.theory.proofs.{NodeSets.{union-empty, empty-union, only-self, only-other}, DistinctLists.{Distinct, distinct-append}}
 use Rattle.theory.proofs.CharacteristicFormula.{Tree, bound, binding, Branches, last-branch, branch, tree-position, branches-position}
 

@@ -8,7 +8,8 @@ use native.Mathlib.{Nat.{le-of-suc-le-suc, not-suc-le-zero, eq-or-lt-of-le}, Ome
 use lib.{Dec.{eqb}, ListN.{length, getD, length-map, List·getD-map}}
 use Rattle.theory.specs.Formula.{Formula, transition, output, conjunction, greatest, size}
 use Rattle.theory.specs.FormulaClasses.{binders, ClosedPosition}
-use Rattle.theory.specs.{MealyMachine.{Machine, Word, after}, Demands.{NodeSet}, ReachableStates.{Numbering, IsTable}}
+use Rattle.theory.specs.MealyMachine.{Machine, Word, after}
+use Rattle.theory.specs.ReachableStates.{NodeSet, Numbering, IsTable}
 use Rattle.theory.specs.{CharacteristicFormula.{Writes}, DemandSets.{empty, union, binder-set, demands, moved, set-machine, first-set}}
 use Rattle.theory.proofs.{NodeSets.{union-empty, empty-union}, WordOrder.{word-append}, ReachableStates.{after-append}}
 use Rattle.theory.proofs.DistinctLists.{distinct-length, member-at, number-of, distinct-by-number}

@@ -4,7 +4,7 @@ use Prim.Native.Nat.{ℕ, zero, suc, _≤_, _<_, zero-le}
 use native.Mathlib.{Nat.{eq-or-lt-of-le}, Omega.{arith}}
 use lib.{Dec.{eqb}, ListN.{length}}
 use borrow.Author.Tests.{eq-eqb, ne-eqb}
-use Rattle.theory.specs.Semilattice.{MeetSemilattice}
+use Rattle.theory.specs.ValueSets.{MeetSemilattice}
 use Rattle.theory.specs.Formula.{Formula, truth, transition, output, conjunction, greatest, unfolded}
 use Rattle.theory.specs.FormulaClasses.{WellFormed}
 use Rattle.theory.specs.MealyMachine.{Machine, Word, after, States}

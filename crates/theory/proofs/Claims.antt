@@ -1,6 +1,6 @@
 -- A proof of each proposition of specs/Claims.
 use Prim.Native.Nat.{ℕ}
-use Rattle.theory.specs.Semilattice.{MeetSemilattice}
+use Rattle.theory.specs.ValueSets.{MeetSemilattice}
 use Rattle.theory.specs.Claims.{GrammarClaim, SemanticsClaim, AnswersClaim, ConjunctionClaim, SimulationClaim, NumberingClaim, TableSimulationClaim}
 use Rattle.theory.specs.Claims.{SatisfactionClaim, TableSatisfactionClaim, DemandClaim, DemandValuesClaim, TableClaim, TableValuesClaim}
 use Rattle.theory.specs.Claims.{CharacteristicClaim, ConformanceClaim, TrialClaim}

@@ -6,12 +6,12 @@ use Prim.Native.Nat.{ℕ, _+_, _*_, _≤_, _<_}
 use native.Mathlib.{Nat.{mul-le-mul-right, suc-mul}, Omega.{arith}}
 use lib.{Dec.{T, eqb, eqb→eq, eqb-refl, T-not, not-T}, ListN.{length, length-reverse}}
 use mir.Facts.{and-yes, yes-and}
-use Rattle.theory.specs.Semilattice.{AtOrBelow}
+use Rattle.theory.specs.ValueSets.{AtOrBelow}
 use Rattle.theory.specs.MealyMachine.{Machine, Word, after, States}
 use Rattle.theory.specs.MachineRuns.{Runs, BelowOnWords}
-use Rattle.theory.specs.WordOrder.{NoLater}
+use Rattle.theory.specs.MealyMachine.{NoLater}
 use Rattle.theory.specs.Exploration.{reached, explored}
-use Rattle.theory.specs.Conformance.{Counterexample, FirstCounterexample}
+use Rattle.theory.specs.MealyMachine.{Counterexample, FirstCounterexample}
 use Rattle.theory.specs.ConformanceCheck.{first-bad, next-pair, bad-pair, same-pair, in-play-order, counterexample}
 use Rattle.theory.proofs.{Numbers.{digits-equal, pigeonhole}, WordOrder.{word-reverse, word-left, word-right, no-later-iff-number}}
 use Rattle.theory.proofs.{Exploration.{at, Kept, invariant}, ReachableStates.{reached-reverse}, FirstBad.{Answer, answer}}

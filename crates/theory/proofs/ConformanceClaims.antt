@@ -3,7 +3,7 @@ use mathlib.Core.{Path.{_≡_, refl}, Bool.{Bool, true, false}, Logic.{_↔_}, L
 use Prim.Native.Nat.{ℕ, _<_}
 use native.Mathlib.Omega.{arith}
 use lib.Dec.{T}
-use Rattle.theory.specs.Semilattice.{MeetSemilattice, AtOrBelow}
+use Rattle.theory.specs.ValueSets.{MeetSemilattice, AtOrBelow}
 use Rattle.theory.specs.MealyMachine.{Machine, States}
 use Rattle.theory.specs.MachineRuns.{Runs, SimulatedTable, BelowOnWords}
 use Rattle.theory.specs.ConformanceCheck.{counterexample}

@@ -1,10 +1,10 @@
 -- The claims about demands (specs/Claims).
 use mathlib.Core.{Path.{_∙_, subst, subst⁻¹}, List.{List}}
 use Prim.Native.Nat.{ℕ}
-use Rattle.theory.specs.Semilattice.{MeetSemilattice}
+use Rattle.theory.specs.ValueSets.{MeetSemilattice}
 use Rattle.theory.specs.Formula.{Formula}
 use Rattle.theory.specs.FormulaClasses.{WellFormed}
-use Rattle.theory.specs.Semantics.{Answers}
+use Rattle.theory.specs.Formula.{Answers}
 use Rattle.theory.specs.MealyMachine.{after}
 use Rattle.theory.specs.{DemandSets.{set-machine, first-set}, Claims.{DemandClaim, DemandValuesClaim}}
 use Rattle.theory.proofs.{SemanticsEquality.{answers}, Demands.{shown-is-value}, ReachedSets.{reached-nodes}, DemandValues.{demand-values}}

@@ -3,11 +3,13 @@ use mathlib.Core.{Path.{_≡_, refl, sym, _∙_, ap, ap₂, subst, subst⁻¹}, 
 use Prim.Native.Nat.{ℕ, zero, suc, _+_, _<_}
 use native.Mathlib.{Nat.{not-suc-le-zero}, Omega.{arith}}
 use lib.{Dec.{eqb}, ListN.{length, getD}}
-use Rattle.theory.specs.Semilattice.{MeetSemilattice}
+use Rattle.theory.specs.ValueSets.{MeetSemilattice}
 use Rattle.theory.specs.Formula.{Formula, truth, variable, transition, output, conjunction, greatest, size, unfolded}
 use Rattle.theory.specs.FormulaClasses.{WellFormed}
-use Rattle.theory.specs.{MealyMachine.{after}, PrefixCode.{Stands, root, part-of-transition, left-part, right-part, part-of-greatest}}
-use Rattle.theory.specs.{Demands.{NodeSet}, Evaluation.{unguarded-depth, step, value, follower, formulas}}
+use Rattle.theory.specs.MealyMachine.{after}
+use Rattle.theory.specs.Formula.{Stands, root, part-of-transition, left-part, right-part, part-of-greatest}
+use Rattle.theory.specs.ReachableStates.{NodeSet}
+use Rattle.theory.specs.Evaluation.{unguarded-depth, step, value, follower, formulas}
 use Rattle.theory.specs.DemandSets.{empty, only, union, binder-set, demands, moved, set-machine, first-set}
 use Rattle.theory.proofs.Order.{top-meet}
 use Rattle.theory.proofs.Instantiation.{instantiate, nth, instantiate-truth, instantiate-transition, instantiate-output, instantiate-conjunction}

@@ -4,12 +4,16 @@ use mathlib.Core.{Bool.{Bool, true, false, _&&_, cond}, List.{List, [], _∷_, _
 use Prim.Native.Nat.{ℕ, zero, suc, _+_, _<_, zero-le, suc-le-suc}
 use native.Mathlib.Omega.{arith}
 use lib.{Dec.{T, eqb, eqb→eq, eqb-refl}, ListN.{length, getD}}
-use Rattle.theory.specs.Semilattice.{MeetSemilattice}
+use Rattle.theory.specs.ValueSets.{MeetSemilattice}
 use Rattle.theory.specs.Formula.{Formula, truth, variable, transition, output, conjunction, greatest, size}
 use Rattle.theory.specs.FormulaClasses.{Guarded, Fits}
-use Rattle.theory.specs.PrefixCode.{Node, nodes, Stands, root, part-of-transition, left-part, right-part, part-of-greatest}
-use Rattle.theory.specs.Demands.{NodeSet, Demands, of-transition, of-output, of-left, of-right, of-greatest, of-variable, IsFirstSet, InNextSet}
-use Rattle.theory.specs.{Demands.{IsNextSet, outputs, meet-all, value-of-set}, DemandSets.{empty, binder-set, demands, moved, first-set}}
+use Rattle.theory.specs.Formula.{Node, nodes, Stands, root, part-of-transition, left-part, right-part, part-of-greatest}
+use Rattle.theory.specs.ReachableStates.{NodeSet, Demands, of-left, of-right, of-variable, InNextSet}
+use Rattle.theory.specs.DemandSets.{IsFirstSet}
+use Rattle.theory.specs.ReachableStates.{of-transition, of-output, of-greatest}
+use Rattle.theory.specs.DemandSets.{IsNextSet}
+use Rattle.theory.specs.ReachableStates.{outputs, meet-all, value-of-set}
+use Rattle.theory.specs.DemandSets.{empty, binder-set, demands, moved, first-set}
 use Rattle.theory.proofs.{Order.{top-meet}, PrefixCode.{stands-once}}
 use Rattle.theory.proofs.NodeSets.{shown, not-in-empty, in-only, in-union, same-members, demands-swap, shown-in}
 use Rattle.theory.proofs.Binders.{binder-demands, binder-of, part-guarded}

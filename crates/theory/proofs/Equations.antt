@@ -3,7 +3,7 @@ use mathlib.Core.{Path.{_≡_, refl, _∙_, ap, ap₂}, Bool.{Bool, true, false,
 use Prim.Native.Nat.{ℕ, zero, suc, max, _<_}
 use native.Mathlib.{Nat.{not-suc-le-zero}, Omega.{arith}}
 use lib.Dec.{eqb}
-use Rattle.theory.specs.Semilattice.{MeetSemilattice}
+use Rattle.theory.specs.ValueSets.{MeetSemilattice}
 use Rattle.theory.specs.Formula.{Formula, truth, variable, transition, output, conjunction, greatest, unfolded}
 use Rattle.theory.specs.FormulaClasses.{WellFormed}
 use Rattle.theory.specs.{MealyMachine.{after}, Evaluation.{unguarded-depth, step-in, step, value, follower, formulas}}

@@ -4,7 +4,7 @@ use mathlib.Core.{Path.{_≡_, sym, _∙_, ap}, Bool.{Bool, true, false, cond}, 
 use Prim.Native.Nat.{ℕ, zero, suc, _≤_, _<_, zero-le, suc-le-suc}
 use native.Mathlib.{Nat.{le-of-suc-le-suc, not-suc-le-zero}, Decide.{decLt}, Omega.{arith}}
 use lib.{Dec.{T}, ListN.{length, getD, length-map, List·getD-map, List·getD-eq-default}}
-use Rattle.theory.specs.{MealyMachine.{Machine, Word, after}, WordOrder.{Before, NoLater}}
+use Rattle.theory.specs.MealyMachine.{Machine, Word, after, Before, NoLater}
 use Rattle.theory.specs.{ReachableStates.{state-at, Numbering, ReachesAtMost, IsTable}, Exploration.{reached, explored, index, numbered}}
 use Rattle.theory.proofs.{Numbers.{pigeonhole}, WordOrder.{code, word-reverse, number-before, no-later-iff-number}}
 use Rattle.theory.proofs.{Exploration.{at, Kept, Hits, invariant, all-reached}, ReachableStates.{after-reverse, reached-reverse}}

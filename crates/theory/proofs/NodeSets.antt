@@ -5,10 +5,11 @@ use Prim.Native.Nat.{ℕ, zero, suc, _+_, _≤_, _<_}
 use native.Mathlib.Omega.{arith}
 use lib.Dec.{T, eqb, eqb→eq, eqb-refl}
 use borrow.Author.Tests.{eq-eqb, ne-eqb}
-use Rattle.theory.specs.Semilattice.{MeetSemilattice}
+use Rattle.theory.specs.ValueSets.{MeetSemilattice}
 use Rattle.theory.specs.Formula.{Formula, truth, variable, transition, output, conjunction, greatest, size}
 use Rattle.theory.specs.FormulaClasses.{GuardedIn, Fits}
-use Rattle.theory.specs.{Demands.{NodeSet}, DemandSets.{empty, only, union, binder-set, demands, moved}}
+use Rattle.theory.specs.ReachableStates.{NodeSet}
+use Rattle.theory.specs.DemandSets.{empty, only, union, binder-set, demands, moved}
 use Rattle.theory.proofs.Order.{top-meet, top-top, meet-swap}
 
 -- Union is idempotent, has the empty set as neutral element, and two unions of two may be regrouped.

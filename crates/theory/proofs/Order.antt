@@ -1,6 +1,6 @@
 -- The order of a meet-semilattice: at or below is reflexive, transitive and antisymmetric, and meet is the greatest lower bound.
 use mathlib.Core.{Path.{_≡_, sym, _∙_, ap}, Logic.{_↔_}}
-use Rattle.theory.specs.Semilattice.{MeetSemilattice, AtOrBelow}
+use Rattle.theory.specs.ValueSets.{MeetSemilattice, AtOrBelow}
 
 module _ {B : Type 0} (In : B → Type 0) (meet : B → B → B) (top : B) (L : MeetSemilattice In meet top) where
   pub below-top : (a : B) → In a → AtOrBelow meet a top

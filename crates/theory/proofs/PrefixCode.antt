@@ -5,8 +5,8 @@ use native.Mathlib.Omega.{arith}
 use lib.{Dec.{eqb, ltb}, ListN.{length, drop, length-append}, Seq.{drop-at, drop-drop}}
 use borrow.Author.Tests.{eq-eqb, ne-eqb, lt-ltb, le-ltb}
 use Rattle.theory.specs.Formula.{Formula, truth, variable, transition, output, conjunction, greatest, size}
-use Rattle.theory.specs.PrefixCode.{Node, truth-node, variable-node, transition-node, output-node, conjunction-node, greatest-node, nodes, Stands, root}
-use Rattle.theory.specs.PrefixCode.{part-of-transition, left-part, right-part, part-of-greatest}
+use Rattle.theory.specs.Formula.{Node, truth-node, variable-node, transition-node, output-node, conjunction-node, greatest-node, nodes, Stands, root}
+use Rattle.theory.specs.Formula.{part-of-transition, left-part, right-part, part-of-greatest}
 
 module _ {B : Type 0} where
   pub size-positive : (φ : Formula B) → 0 < size φ

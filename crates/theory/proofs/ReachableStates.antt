@@ -7,7 +7,7 @@ use native.Mathlib.Omega.{arith}
 use lib.{ListN.{length, getD}, Seq.{ext-getD}}
 use Rattle.theory.specs.MealyMachine.{Machine, Word, after, States}
 use Rattle.theory.specs.MachineRuns.{Runs}
-use Rattle.theory.specs.WordOrder.{Before, NoLater}
+use Rattle.theory.specs.MealyMachine.{Before, NoLater}
 use Rattle.theory.specs.{ReachableStates.{state-at, Numbering, IsTable}, Exploration.{reached}}
 use Rattle.theory.proofs.Numbers.{Comparison, less, equal, greater, comparison}
 use Rattle.theory.proofs.WordOrder.{not-before-empty, before-irreflexive, before-asymmetric, no-later-antisymmetric}

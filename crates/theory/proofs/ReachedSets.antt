@@ -2,8 +2,10 @@
 use mathlib.Core.{Logic.{inl, inr}, List.{List, [], _∷_}}
 use Prim.Native.Nat.{ℕ, zero}
 use lib.Dec.{T}
-use Rattle.theory.specs.{Formula.{Formula}, MealyMachine.{after}, PrefixCode.{root}}
-use Rattle.theory.specs.Demands.{NodeSet, Demands, of-transition, of-output, of-left, of-right, of-greatest, of-variable}
+use Rattle.theory.specs.Formula.{Formula, root}
+use Rattle.theory.specs.MealyMachine.{after}
+use Rattle.theory.specs.ReachableStates.{NodeSet, Demands, of-left, of-right, of-variable}
+use Rattle.theory.specs.ReachableStates.{of-transition, of-output, of-greatest}
 use Rattle.theory.specs.Claims.{IsTransitionOrOutput}
 use Rattle.theory.specs.DemandSets.{moved, set-machine, first-set}
 use Rattle.theory.proofs.Demands.{demands-sound, next-set-sound}

@@ -3,7 +3,7 @@ use mathlib.Core.{Path.{_≡_, refl, subst, subst⁻¹}, Logic.{_↔_, _⊎_, in
 use Prim.Native.Nat.{ℕ, zero, suc, _<_}
 use native.Mathlib.Nat.{le-of-suc-le-suc, not-suc-le-zero}
 use lib.ListN.{length}
-use Rattle.theory.specs.Semilattice.{MeetSemilattice}
+use Rattle.theory.specs.ValueSets.{MeetSemilattice}
 use Rattle.theory.specs.Formula.{Formula, truth, variable, transition, output, conjunction, greatest}
 use Rattle.theory.specs.FormulaClasses.{FreeBelow, GuardedIn, Guarded, Fits, WellFormed}
 use Rattle.theory.specs.MealyMachine.{Machine}

@@ -6,8 +6,11 @@ use lib.Dec.{eqb}
 use borrow.Author.Tests.{eqb-true, eqb-false, eq-eqb, ne-eqb}
 use Rattle.theory.specs.Formula.{Formula, truth, variable, transition, output, conjunction, greatest, unfolded}
 use Rattle.theory.specs.FormulaClasses.{WellFormed}
-use Rattle.theory.specs.Semantics.{Steps, of-truth, of-transition, of-other-transition, of-output, of-other-output, of-conjunction, of-greatest, Answers}
-use Rattle.theory.specs.{Semantics.{now, later}, MealyMachine.{after}, Evaluation.{unguarded-depth, step-in, step, value, follower, formulas}}
+use Rattle.theory.specs.Formula.{Steps, of-truth, of-other-transition, of-other-output, of-conjunction, Answers}
+use Rattle.theory.specs.Formula.{of-transition, of-output, of-greatest}
+use Rattle.theory.specs.Formula.{now, later}
+use Rattle.theory.specs.MealyMachine.{after}
+use Rattle.theory.specs.Evaluation.{unguarded-depth, step-in, step, value, follower, formulas}
 use Rattle.theory.specs.Claims.{SemanticsClaim, AnswersClaim, ConjunctionClaim}
 use Rattle.theory.proofs.Equations.{well-formed-unfolded, well-formed-left, well-formed-right, well-formed-conjunction, depth-unfolded, step-truth}
 use Rattle.theory.proofs.Equations.{step-transition, step-output, step-conjunction, step-greatest, follower-well-formed, conjunction-values}

@@ -5,7 +5,7 @@ use Prim.Native.Nat.{ℕ}
 use Rattle.theory.specs.Formula.{Formula}
 use Rattle.theory.specs.FormulaClasses.{Guarded}
 use Rattle.theory.specs.MealyMachine.{Machine}
-use Rattle.theory.specs.Demands.{NodeSet, IsSetMachine}
+use Rattle.theory.specs.ReachableStates.{NodeSet, IsSetMachine}
 use Rattle.theory.specs.{ReachableStates.{ReachesAtMost, IsTable, IsTableOf, StatesAtMost}, DemandSets.{set-machine, first-set}}
 use Rattle.theory.proofs.Demands.{is-first-set, is-next-set, only-first-set, only-next-set}
 

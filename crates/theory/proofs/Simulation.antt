@@ -2,7 +2,7 @@
 use mathlib.Core.{Logic.{_↔_}, List.{List, [], _∷_}}
 use Prim.Native.Nat.{ℕ, zero, suc, _<_}
 use lib.ListN.{length}
-use Rattle.theory.specs.Semilattice.{AtOrBelow}
+use Rattle.theory.specs.ValueSets.{AtOrBelow}
 use Rattle.theory.specs.MealyMachine.{Machine, Word, after, IsSimulation}
 use Rattle.theory.specs.MachineRuns.{Runs, BelowOnWords}
 use Rattle.theory.specs.Claims.{SimulationClaim}

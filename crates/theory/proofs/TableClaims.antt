@@ -1,10 +1,10 @@
 -- Each machine has one numbering and one table; the computed table of a formula is the formula's, and has its values.
 use mathlib.Core.{Path.{subst, subst⁻¹}, Logic.{_↔_, Iff·trans, Iff·symm}}
 use Prim.Native.Nat.{ℕ, zero, _≤_}
-use Rattle.theory.specs.Semilattice.{MeetSemilattice}
+use Rattle.theory.specs.ValueSets.{MeetSemilattice}
 use Rattle.theory.specs.Formula.{Formula, size}
 use Rattle.theory.specs.FormulaClasses.{WellFormed}
-use Rattle.theory.specs.Semantics.{Answers}
+use Rattle.theory.specs.Formula.{Answers}
 use Rattle.theory.specs.MachineRuns.{Runs}
 use Rattle.theory.specs.{DemandSets.{set-machine, first-set}, ReachableStates.{ReachesAtMost, IsTable}}
 use Rattle.theory.specs.Exploration.{same-bits, bit-machine, first-bits, state-count, table-of}

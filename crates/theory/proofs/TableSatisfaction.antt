@@ -5,7 +5,7 @@ use Prim.Native.Nat.{ℕ, zero, suc, _+_, _≤_, _<_}
 use native.Mathlib.{Omega.{arith}, Decide.{decLt}}
 use lib.Dec.{T, ltb, lt→ltb, ltb→lt}
 use mir.Facts.{and-yes, yes-and}
-use Rattle.theory.specs.Semilattice.{MeetSemilattice, AtOrBelow}
+use Rattle.theory.specs.ValueSets.{MeetSemilattice, AtOrBelow}
 use Rattle.theory.specs.Formula.{Formula, truth, variable, transition, output, conjunction, greatest}
 use Rattle.theory.specs.FormulaClasses.{Fits}
 use Rattle.theory.specs.MealyMachine.{Machine, States}

@@ -1,7 +1,7 @@
 -- A device passes against the table of a formula exactly if its start satisfies the formula by the set definition.
 use mathlib.Core.{Path.{_≡_, subst, subst⁻¹}, Logic.{_↔_, Iff·trans, Iff·symm}, List.{List}}
 use Prim.Native.Nat.{ℕ, zero, _<_}
-use Rattle.theory.specs.Semilattice.{MeetSemilattice, AtOrBelow}
+use Rattle.theory.specs.ValueSets.{MeetSemilattice, AtOrBelow}
 use Rattle.theory.specs.Formula.{Formula}
 use Rattle.theory.specs.FormulaClasses.{WellFormed}
 use Rattle.theory.specs.MealyMachine.{Machine, Word, after, States}

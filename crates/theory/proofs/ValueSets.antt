@@ -4,7 +4,7 @@ use Prim.Native.Nat.{ℕ, zero, suc, _+_, _*_, _-_, _/_, _%_, _^_, min, _≤_, _
 use native.Mathlib.{Nat.{le-of-suc-le-suc, not-suc-le-zero, mod-eq-of-lt, eq-or-lt-of-le, lt-of-lt-of-le}, Numerals.{add-one}, Omega.{arith}}
 use borrow.Author.Tests.{ltb-true, eqb-true, lt-ltb, eq-eqb}
 use lib.{Dec.{ltb}, Pow.{pow-pos, pow-mono}, Bits.{bitAnd, and-comm, and-self, and-lt, and-mask, and-step, and-zero-l, and-mod, and-shr}}
-use Rattle.theory.specs.Semilattice.{MeetSemilattice}
+use Rattle.theory.specs.ValueSets.{MeetSemilattice}
 use Rattle.theory.specs.ValueSets.{Below, meetAt, four-value-meet, Masks, OfLines, top-masks, pack, unpack}
 use Rattle.theory.specs.ValueSetClaims.{meet-masks}
 use Rattle.theory.specs.ValueSetTests.{every, closed-test, idempotent-test, commutative-test, associative-test, neutral-test, lawful}

@@ -5,7 +5,7 @@ use mathlib.Core.List.{List, [], _∷_, _++_, append-assoc, reverse, reverse-con
 use Prim.Native.Nat.{ℕ, zero, suc, _+_, _*_, _≤_, _<_, zero-le, suc-le-suc}
 use native.Mathlib.{Nat.{suc-inj, not-suc-le-zero, eq-or-lt-of-le}, Omega.{arith}}
 use lib.ListN.{length, length-reverse}
-use Rattle.theory.specs.{MealyMachine.{Word}, WordOrder.{Before, shorter, smaller, NoLater}}
+use Rattle.theory.specs.MealyMachine.{Word, Before, shorter, smaller, NoLater}
 use Rattle.theory.proofs.Numbers.{Comparison, less, equal, greater, comparison, digits-less}
 
 -- Words of the events of a count.

@@ -2,12 +2,12 @@
 use mathlib.Core.{Path.{_≡_}, Bool.{Bool}, Logic.{_↔_, _⊎_}, List.{List, []}, Option.{none, some}}
 use Prim.Native.Nat.{ℕ, zero, suc, _+_, _*_, _≤_, _<_}
 use lib.{Dec.{T}, ListN.{length}}
-use Rattle.theory.specs.{Semilattice.{MeetSemilattice, AtOrBelow}, Formula.{Formula, transition, output, conjunction, size}}
-use Rattle.theory.specs.{FormulaClasses.{binders, Closed, ClosedPosition, Fits, WellFormed, Accepted}, Semantics.{Steps, Answers}}
-use Rattle.theory.specs.{MealyMachine.{Machine, Word, after, States, Simulated}, MachineRuns.{Runs, SimulatedTable, BelowOnWords}}
-use Rattle.theory.specs.{Satisfaction.{Satisfies}, TableSatisfaction.{TableSatisfies}, PrefixCode.{Stands}, Demands.{NodeSet, IsSetMachine}}
-use Rattle.theory.specs.{ReachableStates.{Numbering, IsTable, IsTableOf, StatesAtMost}, CharacteristicFormula.{Writes}, FormulaWriting.{written}}
-use Rattle.theory.specs.{Conformance.{FirstCounterexample}, ConformanceCheck.{counterexample}, Evaluation.{value, follower, formulas}}
+use Rattle.theory.specs.{ValueSets.{MeetSemilattice, AtOrBelow}, Formula.{Formula, transition, output, conjunction, size, Steps, Answers, Stands}}
+use Rattle.theory.specs.FormulaClasses.{binders, Closed, ClosedPosition, Fits, WellFormed, Accepted}
+use Rattle.theory.specs.{MealyMachine.{Machine, Word, after, States, Simulated, FirstCounterexample}, MachineRuns.{Runs, SimulatedTable, BelowOnWords}}
+use Rattle.theory.specs.{Satisfaction.{Satisfies}, TableSatisfaction.{TableSatisfies}}
+use Rattle.theory.specs.{ReachableStates.{NodeSet, IsSetMachine, Numbering, IsTable, IsTableOf, StatesAtMost}, CharacteristicFormula.{Writes}}
+use Rattle.theory.specs.{FormulaWriting.{written}, ConformanceCheck.{counterexample}, Evaluation.{value, follower, formulas}}
 use Rattle.theory.specs.{DemandSets.{set-machine, first-set}, Exploration.{state-count, table-of}}
 
 -- Node d is a G or an O node: document 01's states are sets of such.

@@ -1,12 +1,10 @@
 -- Twin of Demands, pinned by theory DemandClaim.
 -- First set and next set computed: the computing twin of `Demands`.
-use mathlib.Core.Bool.{false, _||_, _&&_, cond}
-use mathlib.Core.List.{List, [], _∷_}
+use mathlib.Core.{Bool.{false, _||_, _&&_, cond}, List.{List, [], _∷_}, Logic.{_↔_}}
 use Prim.Native.Nat.{ℕ, zero, suc, _+_}
-use lib.Dec.{eqb}
-use Rattle.theory.specs.Formula.{Formula, truth, variable, transition, output, conjunction, greatest, size}
-use Rattle.theory.specs.MealyMachine.{Machine}
-use Rattle.theory.specs.Demands.{NodeSet, value-of-set}
+use lib.Dec.{T, eqb}
+use Rattle.theory.specs.ReachableStates.{Demands, InNextSet, NodeSet, value-of-set}
+use Rattle.theory.specs.{Formula.{Formula, truth, variable, transition, output, conjunction, greatest, size}, MealyMachine.{Machine}}
 
 unfoldable pub empty : NodeSet
 empty i = false
@@ -50,3 +48,11 @@ module _ {B : Type 0} where
 
   abbrev pub first-set : Formula B → NodeSet
   first-set φ = demands [] zero φ
+
+-- What a first and a next set are, one at a time.
+module _ {B : Type 0} (φ : Formula B) where
+  abbrev pub IsFirstSet : NodeSet → Type 0
+  IsFirstSet D = (d : ℕ) → T (D d) ↔ Demands φ zero d
+
+  abbrev pub IsNextSet : NodeSet → ℕ → NodeSet → Type 0
+  IsNextSet D e D′ = (d : ℕ) → T (D′ d) ↔ InNextSet φ D e d

@@ -1,15 +1,10 @@
 -- Twin of ReachableStates, pinned by theory TableClaim.
 -- Reachable states found breadth first, and the table computed from them: the computing twin of `ReachableStates`.
 -- Here a sequence is kept with its LAST event first.
-use mathlib.Core.Bool.{Bool, true, false, _&&_, _||_, cond, Bool·beq}
-use mathlib.Core.List.{List, [], _∷_, _++_}
+use mathlib.Core.{Bool.{Bool, true, false, _&&_, _||_, cond, Bool·beq}, List.{List, [], _∷_, _++_}}
 use Prim.Native.Nat.{ℕ, zero, suc}
-use lib.Dec.{ltb}
-use lib.ListN.{length, getD}
-use Rattle.theory.specs.Formula.{Formula}
-use Rattle.theory.specs.MealyMachine.{Machine}
-use Rattle.theory.specs.Demands.{NodeSet, value-of-set}
-use Rattle.theory.specs.DemandSets.{moved, first-set}
+use lib.{Dec.{ltb}, ListN.{length, getD}}
+use Rattle.theory.specs.{Formula.{Formula}, MealyMachine.{Machine}, ReachableStates.{NodeSet, value-of-set}, DemandSets.{moved, first-set}}
 
 -- The state after a sequence, its last event first.
 abbrev pub reached : {S : Type 0} → (S → ℕ → S) → S → List ℕ → S

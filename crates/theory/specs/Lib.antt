@@ -1,21 +1,15 @@
 -- In reading order.
 -- Value sets and their order.
-pub mod Semilattice
 pub mod ValueSets
 -- Formulas and their meaning.
 pub mod Formula
-pub mod Semantics
 -- Machines, simulation, and satisfaction by the set definition.
 pub mod MealyMachine
 pub mod Satisfaction
 -- The table of a formula.
-pub mod PrefixCode
-pub mod Demands
-pub mod WordOrder
 pub mod ReachableStates
 -- The formula of a table; the words on which one table fails against another.
 pub mod CharacteristicFormula
-pub mod Conformance
 -- What contracts compute with: the twins of Semilattice, Semantics, Demands, ReachableStates, CharacteristicFormula and Conformance.
 pub mod ValueSetTests
 pub mod Evaluation

@@ -2,7 +2,7 @@
 use mathlib.Core.{Bool.{Bool}, List.{List, [], _∷_}}
 use Prim.Native.Nat.{ℕ, _<_}
 use lib.Dec.{T}
-use Rattle.theory.specs.{Semilattice.{AtOrBelow}, MealyMachine.{Machine, Word, after, States, IsSimulation}}
+use Rattle.theory.specs.{ValueSets.{AtOrBelow}, MealyMachine.{Machine, Word, after, States, IsSimulation}}
 
 -- The values of a sequence from a state: "An event returns the value and moves to the next state".
 abbrev pub word-values : {S B : Type 0} → Machine S B → S → List ℕ → List B

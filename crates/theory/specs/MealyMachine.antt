@@ -1,8 +1,9 @@
--- Mealy machines, values on event sequences, and simulation (source 000, section 2, definition 1).
--- Document 01 calls a machine whose states are numbers a table, or a device where it is judged.
-use mathlib.Core.List.{List, [], _∷_}
+-- Mealy machines, values on event sequences, and simulation (source 000, section 2, definition 1); the words on which one machine fails
+-- against another (document 01, "Trial"). Document 01 calls a machine whose states are numbers a table, or a device where it is judged.
+use mathlib.Core.{List.{List, [], _∷_, _++_}, Path.{_≡_}, Logic.{_⊎_}}
 use Prim.Native.Nat.{ℕ, _<_}
-use Rattle.theory.specs.Semilattice.{AtOrBelow}
+use Rattle.theory.specs.ValueSets.{AtOrBelow}
+use lib.ListN.{length}
 
 -- In each state, on each event, a value and a next state.
 pub record Machine (S B : Type 0) : Type 0 where
@@ -34,3 +35,24 @@ module _ {B S Q : Type 0} (events : ℕ) (meet : B → B → B)
   -- s is simulated by t: some simulation holds between them.
   abbrev pub Simulated : S → Q → Type 1
   Simulated s t = (R : S → Q → Type 0) × IsSimulation R × R s t
+
+pub data Before : List ℕ → List ℕ → Type 0 where
+  shorter : (v w : List ℕ) → length v < length w → Before v w
+  smaller : (u v w : List ℕ) {a b : ℕ} → length v ≡ length w → a < b → Before (u ++ (a ∷ v)) (u ++ (b ∷ w))
+
+abbrev pub NoLater : List ℕ → List ℕ → Type 0
+NoLater v w = (v ≡ w) ⊎ Before v w
+
+-- A word after whose last event the value of s is not at or below that of t.
+module _ {B : Type 0} (events : ℕ) (meet : B → B → B) (m q : Machine ℕ B) (s t : ℕ) where
+  pub record Counterexample (word : List ℕ) : Type 0 where
+    pub events-of : Word events word
+    pub before : List ℕ
+    pub last : ℕ
+    pub ends : word ≡ before ++ (last ∷ [])
+    pub not-below : ¬ AtOrBelow meet (m .value (after m s before) last) (q .value (after q t before) last)
+
+  -- The shortest, and among those the one with the smaller event at the first difference.
+  pub record FirstCounterexample (word : List ℕ) : Type 0 where
+    pub fails : Counterexample word
+    pub first : (other : List ℕ) → Counterexample other → NoLater word other

@@ -1,7 +1,7 @@
 -- The set definition of satisfaction (document 01, "Trial"; source 000, section 3, second definition). No table is built.
 use mathlib.Core.Logic.{Lift}
 use Prim.Native.Nat.{ℕ, zero, suc}
-use Rattle.theory.specs.{Semilattice.{AtOrBelow}, Formula.{Formula, truth, variable, transition, output, conjunction, greatest}, MealyMachine.{Machine}}
+use Rattle.theory.specs.{ValueSets.{AtOrBelow}, Formula.{Formula, truth, variable, transition, output, conjunction, greatest}, MealyMachine.{Machine}}
 
 -- A valuation with A for the innermost variable.
 abbrev pub extend {κ} : {Set : Type κ} → Set → (ℕ → Set) → ℕ → Set

@@ -2,7 +2,7 @@
 use mathlib.Core.Bool.{Bool, false}
 use Prim.Native.Nat.{ℕ, _<_}
 use lib.Dec.{T}
-use Rattle.theory.specs.{Semilattice.{AtOrBelow}, Formula.{Formula, truth, variable, transition, output, conjunction, greatest}, MealyMachine.{Machine}}
+use Rattle.theory.specs.{ValueSets.{AtOrBelow}, Formula.{Formula, truth, variable, transition, output, conjunction, greatest}, MealyMachine.{Machine}}
 use Rattle.theory.specs.Satisfaction.{extend}
 
 -- The same over a table of n states with decided sets, so that it can stand in a contract.

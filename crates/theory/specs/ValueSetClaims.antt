@@ -2,8 +2,7 @@
 use mathlib.Core.{Path.{_≡_}, Logic.{_↔_}, Bool.{true}, List.{List}}
 use Prim.Native.Nat.{ℕ, _^_, _≤_, _<_}
 use lib.Bits.{bitAnd}
-use Rattle.theory.specs.{Semilattice.{MeetSemilattice}, ValueSets.{Below, meetAt, four-value-meet, Masks, OfLines, top-masks, pack, unpack}}
-use Rattle.theory.specs.ValueSetTests.{lawful}
+use Rattle.theory.specs.{ValueSets.{MeetSemilattice, Below, meetAt, four-value-meet, Masks, OfLines, top-masks, pack, unpack}, ValueSetTests.{lawful}}
 
 -- Meet is the bitwise and of each mask.
 unfoldable pub meet-masks : Masks → Masks → Masks

@@ -11,14 +11,14 @@ use Rattle.refusal.specs.declared.Judgement.the-variants.{Accepted, Refused}
 use Rattle.refusal.specs.Refusal.{Condition, plain, First, has-place, order, part-of, condition-numbers, right-places, Judged}
 use Rattle.refusal.specs.RefusalAnswers.{plain-unless, or-else, judgement}
 use Rattle.refusal.proofs.Refusals.{plain-first, first-append, judged, or-else-none, plain-none}
-use Rattle.theory.specs.{Semilattice.{MeetSemilattice}, ValueSets.{meetAt, four-value-meet}}
+use Rattle.theory.specs.ValueSets.{MeetSemilattice, meetAt, four-value-meet}
 use Rattle.theory.specs.ValueSetTests.{closed-test, idempotent-test, commutative-test, associative-test, neutral-test, lawful}
 use Rattle.theory.proofs.ValueSets.{and-left, and-right, and-both, and-cases, every-at, every-of, every-some, laws-of-test, test-of-laws}
 use Rattle.theory.proofs.ValueSets.{four-value-semilattice}
 use Rattle.limits.specs.Limits.{event-limit, value-limit, meet-limit, line-limit}
 use Rattle.values.specs.declared.ValueKind.{ValueKind}
 use Rattle.values.specs.declared.ValueKind.the-variants.{Numbered, Register}
-use Rattle.values.specs.ValueKind.{ValueIn, meetOf, topOf}
+use Rattle.values.specs.Setup.{ValueIn, meetOf, topOf}
 use Rattle.values.specs.Setup.{Setup, setup, EventsFault, ValuesFault, values-out-of-limits, top-not-below, MeetFault, length-wrong, entry-not-below}
 use Rattle.values.specs.Setup.{law-broken, LinesFault, kind-conditions, setup-conditions}
 use Rattle.values.specs.SetupInOrder.{KindInLimits, WellFormed}

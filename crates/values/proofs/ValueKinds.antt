@@ -4,13 +4,15 @@ use Prim.Native.Nat.{ℕ, _*_, _/_, _%_, _^_, _≤_, _<_}
 use native.Mathlib.{Omega.{arith}, Nat.{lt-of-lt-of-le, mod-eq-of-lt, one-mul}}
 use borrow.Author.Tests.{eqb-true, eq-eqb, ltb-true, lt-ltb, le-ltb}
 use lib.{Dec.{ltb}, Bits.{bitAnd}, Pow.{pow-lt, pow-pos, pow-mono}}
-use Rattle.theory.specs.Semilattice.{MeetSemilattice}
+use Rattle.theory.specs.ValueSets.{MeetSemilattice}
 use Rattle.theory.specs.ValueSetClaims.{Packed}
 use Rattle.theory.specs.ValueSets.{pack, unpack, top-masks}
 use Rattle.theory.proofs.ValueSets.{and-left, and-right, and-both, packed-semilattice}
 use Rattle.values.specs.declared.ValueKind.{ValueKind}
 use Rattle.values.specs.declared.ValueKind.the-variants.{Numbered, Register}
-use Rattle.values.specs.{ValueKind.{RegisterValue, ValueIn, meetOf}, ValueTests.{masks-fit, value-fits}, Claims.{ValueKindClaim}}
+use Rattle.values.specs.Setup.{RegisterValue, ValueIn, meetOf}
+use Rattle.values.specs.ValueTests.{masks-fit, value-fits}
+use Rattle.values.specs.Claims.{ValueKindClaim}
 
 fitting-masks : (lines v : ℕ) → masks-fit lines v ≡ true → RegisterValue lines v
 unfolding masks-fit unpack

@@ -4,10 +4,11 @@ use Prim.Native.Nat.{ℕ, _+_, _≤_}
 use lib.ListN.{length, take, drop}
 use Rattle.limits.specs.Limits.{event-limit}
 use Rattle.refusal.specs.Refusal.{Judged}
-use Rattle.theory.specs.{Semilattice.{AtOrBelow}, ValueSets.{four-value-meet}}
-use Rattle.values.specs.{declared.ValueKind.{ValueKind}, ValueKind.{ValueIn, meetOf}, ValueTests.{value-fits, at-or-below}}
-use Rattle.values.specs.{ValueBytes.{value-width, value-bytes, value-from}, Setup.{Setup, setup, setup-conditions, Laws}, SetupInOrder.{WellFormed}}
-use Rattle.values.specs.SetupTests.{setup-refusal}
+use Rattle.theory.specs.ValueSets.{AtOrBelow, four-value-meet}
+use Rattle.values.specs.declared.ValueKind.{ValueKind}
+use Rattle.values.specs.Setup.{ValueIn, meetOf, value-width, value-bytes, value-from, Setup, setup, setup-conditions}
+use Rattle.values.specs.SetupInOrder.{Laws}
+use Rattle.values.specs.{ValueTests.{value-fits, at-or-below}, SetupInOrder.{WellFormed}, SetupTests.{setup-refusal}}
 
 -- The test decides which numbers are values, and the comparison is the order.
 pub record ValueKindClaim : Type 0 where

@@ -1,8 +1,6 @@
 -- In reading order.
 -- The two kinds of values: which numbers are values, their meet and top.
-pub mod ValueKind
 -- Values in bytes.
-pub mod ValueBytes
 -- A set-up and its refusals.
 pub mod Setup
 -- What contracts compute with: tests of values and of a set-up.

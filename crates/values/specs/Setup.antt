@@ -1,11 +1,54 @@
--- A set-up and its refusals: 1, 2 and 3, or 1 and 20 (document 01, "Value sets" and "Who can cause a refusal"; document 02, F-7).
-use mathlib.Core.{Path.{_≡_}, List.{List, [], _∷_}}
-use Prim.Native.Nat.{ℕ, _*_, _≤_, _<_}
-use lib.ListN.{length, getD}
+-- Values in numbers and bytes, and a set-up with its refusals: 1, 2 and 3, or 1 and 20 (document 01, "Value sets" and "Who can cause a
+-- refusal"; document 02, F-7).
+use mathlib.Core.{List.{List, [], _∷_, _++_}, Bool.{cond, _&&_}, Path.{_≡_}}
+use Prim.Native.Nat.{ℕ, _^_, _<_, _+_, _*_, _/_, _%_, _≤_}
+use lib.{Bits.{bitAnd}, Dec.{ltb}, ListN.{getD, length}}
+use Rattle.theory.specs.ValueSets.{Below, meetAt, OfLines, pack, unpack, top-masks, MeetSemilattice}
+use Rattle.values.specs.{declared.ValueKind.{ValueKind}, declared.ValueKind.the-variants.{Numbered, Register}}
 use Rattle.limits.specs.Limits.{event-limit, value-limit, line-limit}
 use Rattle.refusal.specs.Refusal.{Condition, plain}
-use Rattle.theory.specs.{Semilattice.{MeetSemilattice}, ValueSets.{Below, meetAt, pack, top-masks}}
-use Rattle.values.specs.{declared.ValueKind.{ValueKind}, declared.ValueKind.the-variants.{Numbered, Register}, ValueKind.{ValueIn, meetOf, topOf}}
+
+-- A value of a register is two 16-bit masks; no bit at or above the line count is set.
+pub record RegisterValue (lines v : ℕ) : Type 0 where
+  pub two-masks : v < 2 ^ 32
+  pub of-lines : OfLines lines (unpack v)
+
+-- Which numbers are values of a kind: those below the count, or the packed masks of so many lines.
+abbrev pub ValueIn : ValueKind → ℕ → Type 0
+ValueIn (Numbered n) v = Below n v
+ValueIn (Register lines) v = RegisterValue lines v
+
+-- The meet of two values: by the table for a numbered set, by bitwise and for packed register values.
+unfoldable pub meetOf : ValueKind → List ℕ → ℕ → ℕ → ℕ
+meetOf (Numbered n) table a b = meetAt n table a b
+meetOf (Register lines) table a b = bitAnd a b
+
+-- The top value: the one that is handed in, or all lines' bits in both masks.
+abbrev pub topOf : ValueKind → ℕ → ℕ
+topOf (Numbered n) top = top
+topOf (Register lines) top = pack (top-masks lines)
+
+abbrev pub value-width : ValueKind → ℕ
+value-width (Numbered n) = 1
+value-width (Register lines) = 4
+
+abbrev pub mask-bytes : ℕ → List ℕ
+mask-bytes m = m % 256 ∷ m / 256 ∷ []
+
+abbrev pub value-bytes : ValueKind → ℕ → List ℕ
+value-bytes (Numbered n) v = v ∷ []
+value-bytes (Register lines) v = mask-bytes (unpack v .low) ++ mask-bytes (unpack v .high)
+
+-- The value in bytes from a place on. Numbers that are no bytes are those of no value: they are read as 2 ^ 32, which no register has.
+unfoldable pub masks-value : ℕ → ℕ → ℕ → ℕ → ℕ
+masks-value a b c d = cond (ltb a 256 && (ltb b 256 && ltb c 256)) (a + 256 * b + 65536 * (c + 256 * d)) (2 ^ 32)
+
+abbrev pub masks-from : List ℕ → ℕ → ℕ
+masks-from bytes at = masks-value (getD bytes at 0) (getD bytes (at + 1) 0) (getD bytes (at + 2) 0) (getD bytes (at + 3) 0)
+
+abbrev pub value-from : ValueKind → List ℕ → ℕ → ℕ
+value-from (Numbered n) bytes at = getD bytes at 0
+value-from (Register lines) bytes at = masks-from bytes at
 
 -- A set-up as it is handed in: any numbers, and the meet table's entries, row by row. A register's top and meet are fixed: what
 -- stands there is not looked at.
@@ -34,10 +77,6 @@ setup-meet s = meetOf (s .kind) (s .meet)
 
 abbrev pub setup-top : Setup → ℕ
 setup-top s = topOf (s .kind) (s .top)
-
--- What its values obey.
-abbrev pub Laws : Setup → Type 0
-Laws s = MeetSemilattice (SetupValue s) (setup-meet s) (setup-top s)
 
 -- 1: events not 1 to 16.
 abbrev pub EventsFault : ℕ → Type 0

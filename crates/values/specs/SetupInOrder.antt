@@ -2,8 +2,14 @@
 use mathlib.Core.{Path.{_≡_}, List.{List}}
 use Prim.Native.Nat.{ℕ, _*_, _≤_}
 use lib.ListN.{length}
+use Rattle.theory.specs.ValueSets.{MeetSemilattice}
 use Rattle.limits.specs.Limits.{event-limit, value-limit, line-limit}
-use Rattle.values.specs.{declared.ValueKind.{ValueKind}, declared.ValueKind.the-variants.{Numbered, Register}, Setup.{Setup, Laws}}
+use Rattle.values.specs.{declared.ValueKind.{ValueKind}, declared.ValueKind.the-variants.{Numbered, Register}}
+use Rattle.values.specs.Setup.{Setup, SetupValue, setup-meet, setup-top}
+
+-- What its values obey.
+abbrev pub Laws : Setup → Type 0
+Laws s = MeetSemilattice (SetupValue s) (setup-meet s) (setup-top s)
 
 -- Its kind of values is within the limits, and the meet table of numbers is whole.
 pub record NumbersInLimits (values : ℕ) (meet : List ℕ) : Type 0 where

@@ -1,12 +1,9 @@
 -- Twin of ValueKind, pinned by values ValueKindClaim.
 -- Which numbers are values of a kind, and the order of values, computed: the twins of `ValueIn` and `AtOrBelow`.
-use mathlib.Core.Bool.{Bool, _&&_}
-use mathlib.Core.List.{List}
+use mathlib.Core.{Bool.{Bool, _&&_}, List.{List}}
 use Prim.Native.Nat.{ℕ, _/_, _%_, _^_}
 use lib.Dec.{eqb, ltb}
-use Rattle.values.specs.declared.ValueKind.{ValueKind}
-use Rattle.values.specs.declared.ValueKind.the-variants.{Numbered, Register}
-use Rattle.values.specs.ValueKind.{meetOf}
+use Rattle.values.specs.{declared.ValueKind.{ValueKind}, declared.ValueKind.the-variants.{Numbered, Register}, Setup.{meetOf}}
 
 unfoldable pub masks-fit : ℕ → ℕ → Bool
 masks-fit lines v = ltb v (2 ^ 32) && (ltb (v % 65536) (2 ^ lines) && ltb (v / 65536) (2 ^ lines))

@@ -12,9 +12,9 @@ ghost use Rattle.theory.specs.ValueSets.{meetAt, four-value-meet};
 ghost use Rattle.theory.specs.ValueSetTests.{idempotent-test, commutative-test, associative-test, neutral-test};
 ghost use Rattle.values.specs.Setup.{setup};
 ghost use Rattle.values.specs.SetupTests.{events-test, values-test, entries-test, meet-test, setup-refusal, Square};
-ghost use Rattle.values.specs.ValueBytes.{value-width};
-ghost use Rattle.values.specs.ValueBytes.{masks-value, masks-from, value-from};
-ghost use Rattle.values.specs.ValueKind.{meetOf};
+ghost use Rattle.values.specs.Setup.{value-width};
+ghost use Rattle.values.specs.Setup.{masks-value, masks-from, value-from};
+ghost use Rattle.values.specs.Setup.{meetOf};
 ghost use Rattle.values.specs.ValueTests.{masks-fit, value-fits, at-or-below};
 
 // What the values are: so many numbers with a meet table, or registers of so many lines, whose value is low + 65536 * high.

@@ -1,7 +1,7 @@
 -- `compile_pair` meets its contract: the compiler answers for the room that there is beside the entries.
 use mathlib.Core.Path.{sym, _∙_}
 use lib.Seq.{length-take-le}
-use Rattle.refusal.specs.LentBuffers.{put}
+use Rattle.refusal.specs.Refusal.{put}
 use Rattle.text_output.proofs.Outputs.{puts-front}
 use Rattle.channel_io.proofs.TablePairs.{room-within, pair-refused, pair-fits, pair-made}
 use borrow.Author.Needs.{needs}

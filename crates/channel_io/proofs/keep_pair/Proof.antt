@@ -1,6 +1,6 @@
 -- `keep_pair` meets its contract: the judgement first, then the room in both buffers.
 use mathlib.Core.{Path.{sym, _∙_}, Logic.{inl, inr}}
-use Rattle.refusal.specs.LentBuffers.{put}
+use Rattle.refusal.specs.Refusal.{put}
 use Rattle.text_output.proofs.Outputs.{puts-front}
 use Rattle.channel_io.proofs.Pairs.{keeps-refused, keeps-short, keeps-all}
 use borrow.Author.Needs.{needs}

@@ -6,7 +6,7 @@ use native.Mathlib.Omega.{arith}
 use lib.{Dec.{lit<}, ListN.{length, length-set}}
 use borrow.Fn.Kinds.{In}
 use borrow.Fn.PlainCycle.{Measures, is, falls, and}
-use Rattle.theory.specs.PrefixCode.{variable-node, output-node, greatest-node}
+use Rattle.theory.specs.Formula.{variable-node, output-node, greatest-node}
 use Rattle.machines.specs.TableBytes.{machine-of}
 use Rattle.characteristic.proofs.Appended.{zero-fits}
 use Rattle.characteristic.proofs.Walks.{walk-full, walk-open, walk-new, walk-last, walk-more, room-after, ready-rows, ready-part, room-walked}

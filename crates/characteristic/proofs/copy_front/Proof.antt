@@ -3,7 +3,7 @@ use mathlib.Core.Path.{_≡_, refl, _∙_, ap}
 use Prim.Native.Nat.{_≤_, _-_}
 use native.Mathlib.Omega.{arith}
 use lib.ListN.{length, getD, take, set, length-set}
-use Rattle.refusal.specs.LentBuffers.{put}
+use Rattle.refusal.specs.Refusal.{put}
 use Rattle.characteristic.proofs.Outputs.{copy-none, copy-more}
 use Rattle.characteristic.proofs.copy_front.Statement.{statement}
 use Rattle.characteristic.proofs.copy_front.Tie as tie

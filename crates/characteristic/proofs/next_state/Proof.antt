@@ -2,7 +2,7 @@
 use Prim.Native.Nat.{_+_, _*_}
 use native.Mathlib.Omega.{arith}
 use borrow.Author.Needs.{needs}
-use Rattle.values.specs.ValueBytes.{value-width}
+use Rattle.values.specs.Setup.{value-width}
 use Rattle.machines.specs.TableBytes.{entry-width}
 use Rattle.machines.proofs.EntryIndex.{index-below}
 use Rattle.characteristic.proofs.next_state.Statement.{statement}

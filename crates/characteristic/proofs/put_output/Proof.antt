@@ -2,7 +2,7 @@
 use mathlib.Core.Path.{refl}
 use native.Mathlib.Omega.{arith}
 use borrow.Author.Needs.{needs}
-use Rattle.theory.specs.PrefixCode.{output-node, conjunction-node}
+use Rattle.theory.specs.Formula.{output-node, conjunction-node}
 use Rattle.characteristic.proofs.{Appended.{zero-fits, both}, Walks.{room-after}}
 use Rattle.characteristic.proofs.put_output.Statement.{statement}
 use Rattle.characteristic.proofs.put_output.Tie as tie

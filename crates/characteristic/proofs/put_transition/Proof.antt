@@ -2,7 +2,7 @@
 use mathlib.Core.Path.{refl}
 use native.Mathlib.Omega.{arith}
 use borrow.Author.Needs.{needs}
-use Rattle.theory.specs.PrefixCode.{transition-node, conjunction-node}
+use Rattle.theory.specs.Formula.{transition-node, conjunction-node}
 use Rattle.characteristic.proofs.{Appended.{zero-fits, both}, Walks.{room-after}}
 use Rattle.characteristic.proofs.put_transition.Statement.{statement}
 use Rattle.characteristic.proofs.put_transition.Tie as tie

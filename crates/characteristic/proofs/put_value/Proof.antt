@@ -4,7 +4,7 @@ use native.Mathlib.Omega.{arith}
 use Prim.Native.Nat.{_+_, _≤_}
 use lib.ListN.{length, length-set}
 use borrow.Author.Needs.{needs}
-use Rattle.values.specs.ValueBytes.{value-width}
+use Rattle.values.specs.Setup.{value-width}
 use Rattle.machines.specs.Claims.{OfBytes}
 use Rattle.characteristic.proofs.put_value.Statement.{statement}
 use Rattle.characteristic.proofs.put_value.Tie as tie

@@ -4,7 +4,7 @@ use mathlib.Core.{Path.{_≡_, refl}, List.{[], reverse}}
 use Prim.Native.Nat.{_≤_}
 use native.Mathlib.Omega.{arith}
 use lib.ListN.{length, getD, length-set}
-use Rattle.refusal.specs.LentBuffers.{put}
+use Rattle.refusal.specs.Refusal.{put}
 use Rattle.conformance.specs.PairQueue.{Writable}
 use Rattle.conformance.proofs.Words.{Rest, write-start, write-step, write-end}
 use borrow.Author.Needs.{needs}

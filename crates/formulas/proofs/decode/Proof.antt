@@ -5,12 +5,14 @@ use Prim.Native.Nat.{ℕ, _+_, _*_, _-_, _/_, _≤_, min}
 use mathlib.Core.{Path.{_≡_, sym, _∙_, ap, ap₂}, List.{List}}
 use native.Mathlib.{Nat.{zero-mul}, Omega.{arith}}
 use lib.ListN.{length, set, getD}
-use Rattle.formulas.specs.{NodeBytes.{node-width}, RuleRefusal.{kind-at, first-at, value-at}, NodeArrays.{padded, decoded-count, decoded}}
+use Rattle.formulas.specs.RuleConditions.{node-width}
+use Rattle.formulas.specs.RuleRefusal.{kind-at, first-at, value-at}
+use Rattle.formulas.specs.NodeArrays.{padded, decoded-count, decoded}
 use Rattle.formulas.proofs.{Padding.{padded-none, padded-more}, NodeCodes.{decoded-within, next-node}}
 use borrow.Author.Needs.{needs}
 use Rattle.formulas.proofs.decode.Statement.{statement}
 use Rattle.formulas.proofs.decode.Tie as tie
-use Rattle.values.specs.ValueBytes.{value-from}
+use Rattle.values.specs.Setup.{value-from}
 
 abbrev Inv-loop : tie.InvT-loop
 Inv-loop kind bytes width count kinds₀ firsts₀ values₀ i₀ at₀ kinds firsts values i at =

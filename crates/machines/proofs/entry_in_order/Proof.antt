@@ -4,7 +4,8 @@ use Prim.Native.Nat.{_+_, _-_}
 use native.Mathlib.Omega.{arith}
 use borrow.Author.{Tests.{not-true, not-false}, Needs.{needs}}
 use lib.{Dec.{ltb}, ListN.{getD}}
-use Rattle.values.specs.{ValueBytes.{value-width}, ValueTests.{value-fits}}
+use Rattle.values.specs.Setup.{value-width}
+use Rattle.values.specs.ValueTests.{value-fits}
 use Rattle.machines.proofs.entry_in_order.Statement.{statement}
 use Rattle.machines.proofs.entry_in_order.Tie as tie
 

@@ -4,7 +4,7 @@ use Prim.Native.Nat.{_≤_, _-_}
 use native.Mathlib.Omega.{arith}
 use borrow.Author.Needs.{needs}
 use lib.ListN.{length, length-set}
-use Rattle.refusal.specs.LentBuffers.{put}
+use Rattle.refusal.specs.Refusal.{put}
 use Rattle.machines.specs.StoredEntries.{five-bytes, stored}
 use Rattle.machines.proofs.Stores.{store-none, store-five, not-stored, all-stored, few-values, few-nexts, short-buffer, enough}
 use Rattle.machines.proofs.store_masks.Statement.{statement}

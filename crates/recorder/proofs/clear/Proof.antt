@@ -1,6 +1,6 @@
 -- `recorder::clear` meets its contract: what is decided is what the definition says.
 use borrow.Author.Needs.{needs}
-use Rattle.recorder.specs.Tool.{store-of}
+use Rattle.recorder.specs.Store.{store-of}
 use Rattle.recorder.proofs.Decided.{clear-done}
 use Rattle.recorder.proofs.clear.Statement.{statement}
 use Rattle.recorder.proofs.clear.Tie as tie

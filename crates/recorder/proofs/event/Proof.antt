@@ -1,7 +1,7 @@
 -- `recorder::event` meets its contract: what is decided is what the definition says.
 use mathlib.Core.Path.{sym, _∙_}
 use borrow.Author.Needs.{needs}
-use Rattle.recorder.specs.Tool.{store-of}
+use Rattle.recorder.specs.Store.{store-of}
 use Rattle.recorder.proofs.Decided.{event-bounds, event-done}
 use Rattle.recorder.proofs.event.Statement.{statement}
 use Rattle.recorder.proofs.event.Tie as tie

@@ -2,7 +2,7 @@
 use mathlib.Core.Path.{_≡_}
 use native.Mathlib.Omega.{arith}
 use borrow.Author.Needs.{needs}
-use Rattle.recorder.specs.Tool.{store-of}
+use Rattle.recorder.specs.Store.{store-of}
 use Rattle.recorder.proofs.{Held.{few-values}, Loads.{load-refused, setup-passes, load-judged, load-stored}}
 use Rattle.recorder.proofs.load.Statement.{statement}
 use Rattle.recorder.proofs.load.Tie as tie

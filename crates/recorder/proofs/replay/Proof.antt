@@ -4,7 +4,7 @@ use native.Mathlib.Omega.{arith}
 use borrow.Author.Needs.{needs}
 use lib.ListN.{length, length-map}
 use Rattle.limits.specs.Limits.{channel-limit, store-limit}
-use Rattle.recorder.specs.Tool.{store-of}
+use Rattle.recorder.specs.Store.{store-of}
 use Rattle.recorder.proofs.Replays.{replay-refused, runnable, replay-done}
 use Rattle.recorder.proofs.replay.Statement.{statement}
 use Rattle.recorder.proofs.replay.Tie as tie

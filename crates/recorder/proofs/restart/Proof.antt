@@ -1,6 +1,6 @@
 -- `recorder::restart` meets its contract: what is decided is what the definition says.
 use borrow.Author.Needs.{needs}
-use Rattle.recorder.specs.Tool.{store-of}
+use Rattle.recorder.specs.Store.{store-of}
 use Rattle.recorder.proofs.Decided.{restart-done}
 use Rattle.recorder.proofs.restart.Statement.{statement}
 use Rattle.recorder.proofs.restart.Tie as tie

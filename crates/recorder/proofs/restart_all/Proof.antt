@@ -1,6 +1,6 @@
 -- `recorder::restart_all` meets its contract: what is decided is what the definition says.
 use borrow.Author.Needs.{needs}
-use Rattle.recorder.specs.Tool.{store-of}
+use Rattle.recorder.specs.Store.{store-of}
 use Rattle.recorder.proofs.Decided.{restart-all-done}
 use Rattle.recorder.proofs.restart_all.Statement.{statement}
 use Rattle.recorder.proofs.restart_all.Tie as tie

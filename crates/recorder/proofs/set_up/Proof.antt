@@ -1,6 +1,6 @@
 -- `recorder::set_up` meets its contract: refused with the blank tool, or the new tool.
 use borrow.Author.Needs.{needs}
-use Rattle.recorder.specs.Tool.{store-of}
+use Rattle.recorder.specs.Store.{store-of}
 use Rattle.recorder.proofs.Decided.{set-up-refused, set-up-accepted}
 use Rattle.recorder.proofs.set_up.Statement.{statement}
 use Rattle.recorder.proofs.set_up.Tie as tie

@@ -1,7 +1,8 @@
 -- `recorder::stored` meets its contract: both arrays are stored, then the count and the state.
 use mathlib.Core.Path.{ap₂}
 use borrow.Author.Needs.{needs}
-use Rattle.recorder.specs.{Called.{with-rows}, Tool.{store-of}}
+use Rattle.recorder.specs.Called.{with-rows}
+use Rattle.recorder.specs.Store.{store-of}
 use Rattle.recorder.proofs.stored.Statement.{statement}
 use Rattle.recorder.proofs.stored.Tie as tie
 

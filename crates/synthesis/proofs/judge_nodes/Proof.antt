@@ -2,7 +2,9 @@ use mathlib.Core.Path.{sym, _∙_}
 use native.Mathlib.Omega.{arith}
 use borrow.Author.{Tests.{not-true, not-false}, Needs.{needs}}
 use Rattle.limits.specs.Limits.{node-limit}
-use Rattle.formulas.specs.{NodeBytes.{node-width}, NodeWalks.{field}, RuleRefusal.{count-fits, fields-refusal}}
+use Rattle.formulas.specs.RuleConditions.{node-width}
+use Rattle.formulas.specs.NodeWalks.{field}
+use Rattle.formulas.specs.RuleRefusal.{count-fits, fields-refusal}
 use Rattle.refusal.specs.RefusalAnswers.{or-else, plain-unless}
 use Rattle.synthesis.proofs.Compilation.{judged-few, judged-many, judged-later, bytes-misfit, bytes-fit}
 use Rattle.synthesis.proofs.judge_nodes.Statement.{statement}

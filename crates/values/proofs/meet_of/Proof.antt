@@ -2,7 +2,7 @@
 use native.Mathlib.Omega.{arith}
 use borrow.Author.Needs.{needs}
 use Rattle.theory.specs.ValueSets.{meetAt}
-use Rattle.values.specs.ValueKind.{meetOf}
+use Rattle.values.specs.Setup.{meetOf}
 use Rattle.values.proofs.Setups.{place-fits}
 use Rattle.values.proofs.meet_of.Statement.{statement}
 use Rattle.values.proofs.meet_of.Tie as tie

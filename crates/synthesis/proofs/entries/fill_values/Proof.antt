@@ -4,7 +4,7 @@ use Prim.Native.Nat.{_≤_, _-_, _+_, _*_}
 use mathlib.Core.Path.{_≡_, refl, _∙_, subst}
 use native.Mathlib.{Nat.{zero-mul, add-mul, mul-le-mul-right}, Omega.{arith}}
 use lib.ListN.{length}
-use Rattle.values.specs.ValueKind.{meetOf}
+use Rattle.values.specs.Setup.{meetOf}
 use Rattle.synthesis.specs.{Exploring.{Unchanged}, TableEntries.{state-value, EntriesTo}}
 use Rattle.synthesis.proofs.TableEntries.{row-filled}
 use Rattle.synthesis.proofs.entries.fill_values.Statement.{statement}

@@ -1,5 +1,5 @@
 use native.Mathlib.Omega.{arith}
-use Rattle.values.specs.ValueKind.{meetOf}
+use Rattle.values.specs.Setup.{meetOf}
 use Rattle.synthesis.proofs.TableEntries.{met-other, met-far, met-here}
 use borrow.Author.Needs.{needs}
 use Rattle.synthesis.proofs.entries.meet_node.Statement.{statement}

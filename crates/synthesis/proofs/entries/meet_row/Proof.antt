@@ -4,7 +4,7 @@ use mathlib.Core.{Path.{_≡_, ap, _∙_}, Bool.{true}}
 use Prim.Native.Nat.{ℕ, _-_, _≤_, _<_}
 use native.Mathlib.Omega.{arith}
 use lib.ListN.{length}
-use Rattle.values.specs.ValueKind.{meetOf}
+use Rattle.values.specs.Setup.{meetOf}
 use Rattle.synthesis.specs.{NodeWords.{row}, TableEntries.{meet-from}}
 use Rattle.synthesis.proofs.TableEntries.{RowFrom, row-open, row-skip, row-member, row-same}
 use borrow.Author.Needs.{needs}

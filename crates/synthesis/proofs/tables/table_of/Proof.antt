@@ -2,7 +2,7 @@
 use mathlib.Core.Path.{refl}
 use Prim.Native.Nat.{_≤_}
 use native.Mathlib.{Nat.{mul-le-mul-right}, Omega.{arith}}
-use Rattle.values.specs.ValueKind.{meetOf}
+use Rattle.values.specs.Setup.{meetOf}
 use Rattle.synthesis.proofs.FormulaTable.{tables}
 use borrow.Author.Needs.{needs}
 use Rattle.synthesis.proofs.tables.table_of.Statement.{statement}
