@@ -1,18 +1,18 @@
 -- The answers to reading and writing a file and to making its table are those that document 01 asks for, and the only ones.
 use Prim.Native.Nat.{ℕ, _<_}
-use mathlib.Core.{Path.{_≡_, refl, subst}, Logic.{inl, inr, ⊎-elim}, List.{List, [], _∷_, _++_}, Bool.{true, false}, Option.{Option, none}}
+use mathlib.Core.{Path.{_≡_, refl, subst}, Logic.{⊎-elim}, List.{List, [], _∷_, _++_}, Bool.{true, false}, Option.{Option, none}}
 use native.Mathlib.{Omega.{arith}, Nat.{mul-le-mul}}
 use lib.{Dec.{leb}, ListN.{length}}
 use borrow.Author.Tests.{leb-true, leb-false}
 use Rattle.limits.specs.Limits.{node-limit, state-limit, table-limit}
 use Rattle.theory.proofs.{Claims.{grammar, table-values}, ValueSets.{and-left, and-right, and-cases}}
 use Rattle.refusal.specs.declared.Refusal.{Refusal}
-use Rattle.refusal.specs.declared.Refusal.the-variants.{Plain, At}
+use Rattle.refusal.specs.declared.Refusal.the-variants.{Plain}
 use Rattle.refusal.specs.Refusal.{Condition, plain, at-lowest, First, has-place, part-of, order, condition-numbers, right-places, Judged}
 use Rattle.refusal.specs.RefusalAnswers.{or-else}
 use Rattle.refusal.specs.RefusalAnswers.{plain-unless}
 use Rattle.refusal.specs.RefusalClaims.{NoneMet}
-use Rattle.refusal.proofs.{Refusals.{only-place, plain-first, judged, accepted-exactly, first-then, first-append}, Refusals.{first-rest}}
+use Rattle.refusal.proofs.{Refusals.{plain-first, judged, accepted-exactly, first-then, first-append}, Refusals.{first-rest}}
 use Rattle.values.specs.declared.ValueKind.the-variants.{Numbered}
 use Rattle.values.specs.Setup.{Setup, SetupValue, setup, setup-meet, setup-top, setup-conditions, kind-conditions}
 use Rattle.values.specs.SetupInOrder.{WellFormed}
@@ -28,7 +28,7 @@ use Rattle.synthesis.proofs.CompileClaims.{compile-rule-claim, compile-refusal-
 use Rattle.text_format.specs.Format.{Outcome, contents, refused}
 use Rattle.channel_file.specs.ChannelFile.{Contents, Refused4}
 use Rattle.channel_file.specs.Reading.{AnswersFile, read-file}
-use Rattle.channel_file.proofs.Claims.{answer-claim, one-answer-claim}
+use Rattle.channel_file.proofs.Claims.{answer-claim, form-met, form-unmet}
 use Rattle.channel_io.specs.FileConditions.{file-setup, contents-table-conditions}
 use Rattle.synthesis.specs.TableOfRule.{pair-conditions, pair-table-conditions}
 use Rattle.channel_file.specs.ChannelFile.{rule-numbers}
@@ -66,25 +66,8 @@ module _ (conditions : Contents → List Condition) (refusal : Contents → Opti
     (t : List ℕ) where
   text-first : (x : Outcome Contents) → AnswersFile t x → First (at-lowest 4 (Refused4 t) ∷ shown-conditions conditions x) (text-refusal refusal x)
   unfolding text-refusal First
-  text-first (contents c) a =
-      inr (
-        (λ r g.
-            let e = one-answer-claim t (contents c) (refused (g .0)) a (g .1 .holds) in
-            let z : _≡_ {A = ℕ} 0 1 = cc in
-            absurd (omega arith)),
-        first c,
-      )
-  text-first (refused p) a =
-      inl (
-        At 4 p,
-        (
-          p,
-          only-place (Refused4 t) p a (λ q h.
-              let e = one-answer-claim t (refused q) (refused p) h a in cc),
-          refl,
-        ),
-        refl,
-      )
+  text-first (contents c) a = form-unmet t c a (conditions c) (refusal c) (first c)
+  text-first (refused p) a = form-met t p a []
 
   pub text-judged :
       ((c : Contents) → part-of (4 ∷ condition-numbers (conditions c)) order ≡ true) → ((c : Contents) → right-places (conditions c) ≡ true)
