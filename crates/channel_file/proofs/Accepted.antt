@@ -3,6 +3,7 @@ use Prim.Native.Nat.{ℕ, _+_, _-_, _≤_}
 use mathlib.Core.{Path.{_≡_, refl, sym, ap, ap₂, _∙_}, List.{List, map}}
 use native.Mathlib.Omega.{arith}
 use lib.ListN.{length, drop}
+use Rattle.refusal.specs.declared.{Refusal.{Refusal}, Refusal.the-variants.{At}}
 use Rattle.text_format.specs.Format.{ok, Outcome, contents, refused}
 use Rattle.text_format.specs.Texts.{ascii, separated}
 use Rattle.channel_file.specs.{ChannelFile.{Contents, token-text, line, text, Shows}, FileFormat.{entries}}
@@ -43,17 +44,23 @@ accepted₁ t (refused q) f e v p m a n b h = let z : _≡_ {A = ℕ} 0 1 = cc i
 pub accepted : (t : List ℕ) {e v p m a n b : ℕ} → Checked.Form e v p m a n b ≡ checked (read-file t) → Accepted t e v p m a n b
 accepted t {e} {v} {p} {m} {a} {n} {b} h = accepted₁ t (read-file t) refl e v p m a n b h
 
-not-accepted₁ : (x : Outcome Contents) (p : ℕ) → Checked.Refused p ≡ checked x → x ≡ refused p
-not-accepted₁ (contents c) p h = let z : _≡_ {A = ℕ} 0 1 = cc in absurd (omega arith)
-not-accepted₁ (refused q) p h = cc
+-- A text is refused, with 4 at a place.
+pub record NotAccepted (t : List ℕ) (r : Refusal) : Type 0 where
+  pub place : ℕ
+  pub answer : read-file t ≡ refused place
+  pub is : r ≡ At 4 place
 
-pub not-accepted : (t : List ℕ) (p : ℕ) → Checked.Refused p ≡ checked (read-file t) → read-file t ≡ refused p
-not-accepted t p h = not-accepted₁ (read-file t) p h
+not-accepted₁ : (t : List ℕ) (x : Outcome Contents) (r : Refusal) → read-file t ≡ x → Checked.Refused r ≡ checked x → NotAccepted t r
+not-accepted₁ t (contents c) r e h = let z : _≡_ {A = ℕ} 0 1 = cc in absurd (omega arith)
+not-accepted₁ t (refused q) r e h = record { place = q; answer = e; is = cc }
+
+pub not-accepted : (t : List ℕ) (r : Refusal) → Checked.Refused r ≡ checked (read-file t) → NotAccepted t r
+not-accepted t r h = not-accepted₁ t (read-file t) r refl h
 
 -- ---- the stretch of tokens
 
-pub spans-refused : (t : List ℕ) (p : ℕ) → read-file t ≡ refused p → SpansTokens t (record { from = 0; to = 0 })
-spans-refused t p e = record { ordered = omega arith; within = omega arith; same = sym (ap (tokens-stretch t) e) }
+pub spans-refused : (t : List ℕ) (r : Refusal) → NotAccepted t r → SpansTokens t (record { from = 0; to = 0 })
+spans-refused t r n = record { ordered = omega arith; within = omega arith; same = sym (ap (tokens-stretch t) (n .answer)) }
 
 pub some-text : (t : List ℕ) {e v p m a n b : ℕ} → Accepted t e v p m a n b → b + 1 ≤ length t
 some-text t {b = b} g =
@@ -82,8 +89,9 @@ stored-as t meet rule meet′ rule′ x r e a m n =
       rule-is = n ∙ ap (λ (y : Outcome Contents). stored-rule y rule) (sym e);
     }
 
-pub stores-refused : (t meet rule : List ℕ) (p : ℕ) → read-file t ≡ refused p → Stores t meet rule meet rule (Stored.Refused p)
-stores-refused t meet rule p e = stored-as t meet rule meet rule (refused p) (Stored.Refused p) e refl refl refl
+pub stores-refused : (t meet rule : List ℕ) (r : Refusal) → NotAccepted t r → Stores t meet rule meet rule (Stored.Refused r)
+stores-refused t meet rule r n =
+    stored-as t meet rule meet rule (refused (n .place)) (Stored.Refused r) (n .answer) (ap (λ (q : Refusal). Stored.Refused q) (n .is)) refl refl
 
 module _ (t : List ℕ) {e v p m a n b : ℕ} (g : Accepted t e v p m a n b) where
   abbrev c : Contents

@@ -1,10 +1,14 @@
 -- The claims of specs/Claims.
 use Prim.Native.Nat.{ℕ, _+_, _*_, _≤_, _<_}
 use mathlib.Core.{Path.{_≡_, refl, sym, ap, ap₂, _∙_, subst}, List.{List, [], _∷_, _++_, map, append-nil}, Bool.{Bool, true, false, cond}}
+use mathlib.Core.{Logic.{inl, inr}, Option.{Option, none, some, Option·some-ne-none}}
 use native.Mathlib.{Omega.{arith}, Nat.{suc-mul}}
 use lib.{Dec.{ltb}, ListN.{length, take, drop, length-append, length-drop}, Seq.{take-at}}
 use borrow.Author.Tests.{ltb-true, ltb-false}
 use Rattle.limits.specs.Limits.{file-limit}
+use Rattle.refusal.specs.declared.{Refusal.{Refusal}, Refusal.the-variants.{At}}
+use Rattle.refusal.specs.Refusal.{Condition, at-lowest, First, has-place, part-of, order, condition-numbers, right-places, Judged}
+use Rattle.refusal.proofs.Refusals.{only-place, judged}
 use Rattle.text_format.specs.Format.{Parsed, ok, bad, bind, Outcome, contents, refused, at-end, outcome, read}
 use Rattle.text_format.specs.Texts.{ascii, separated, OneOrMore}
 use Rattle.text_format.specs.Decimal.{Numeral}
@@ -15,9 +19,10 @@ use Rattle.channel_file.specs.ChannelFile.{Token, token-T, token-A, toke
 use Rattle.channel_file.specs.ChannelFile.{text, Shows}
 use Rattle.channel_file.specs.Claims.{ShowsTokens}
 use Rattle.channel_file.specs.FileFormat.{token-item, tokens, file}
-use Rattle.channel_file.specs.ChannelFile.{over-long, off-form}
-use Rattle.channel_file.specs.Reading.{AnswersFile, read-file, read-tokens, tokens-stretch}
-use Rattle.channel_file.specs.Claims.{AnswerClaim, OneAnswerClaim, RewriteClaim, ReadBackClaim, LengthClaim}
+use Rattle.channel_file.specs.ChannelFile.{Refused4, over-long, off-form}
+use Rattle.channel_file.specs.Reading.{AnswersFile, read-file, read-tokens, tokens-stretch, checked, refusal-checked}
+use Rattle.channel_file.specs.Bytes.{stored-reply, refusal-stored, stored-meet, stored-rule}
+use Rattle.channel_file.specs.Claims.{AnswerClaim, OneAnswerClaim, form-conditions, FormRefusalClaim, RewriteClaim, ReadBackClaim, LengthClaim}
 use Rattle.channel_file.specs.Claims.{TokensClaim, SomeTokensClaim, TokenListClaim, OneLineClaim, ClampClaim}
 use Rattle.channel_file.specs.declared.Number.{Number}
 use Rattle.channel_file.proofs.FileFormat.{token-fits, token-of-fits, tokens-laws, tokens-text, file-laws, file-renders}
@@ -55,6 +60,61 @@ one₁ false t e x y hx hy =
 
 pub one-answer-claim : OneAnswerClaim
 one-answer-claim t x y hx hy = one₁ (ltb file-limit (length t)) t refl x y hx hy
+
+-- ---- 4
+
+-- It is met, or it is not; further conditions may follow.
+pub form-met : (t : List ℕ) (p : ℕ) → Refused4 t p → (ds : List Condition) → First (at-lowest 4 (Refused4 t) ∷ ds) (some (At 4 p))
+unfolding First
+form-met t p a ds =
+    inl (
+      At 4 p,
+      (p, only-place (Refused4 t) p a (λ q h. let e = one-answer-claim t (refused q) (refused p) h a in cc), refl),
+      refl,
+    )
+
+pub form-unmet :
+    (t : List ℕ) (c : Contents) → AnswersFile t (contents c) → (ds : List Condition) (answer : Option Refusal) → First ds answer →
+    First (at-lowest 4 (Refused4 t) ∷ ds) answer
+unfolding First
+form-unmet t c a ds answer later =
+    inr (
+      (λ r g.
+          let e = one-answer-claim t (contents c) (refused (g .0)) a (g .1 .holds) in
+          let z : _≡_ {A = ℕ} 0 1 = cc in
+          omega arith),
+      later,
+    )
+
+form-first : (t : List ℕ) (x : Outcome Contents) → AnswersFile t x → First (form-conditions t) (refusal-checked (checked x))
+unfolding First
+form-first t (contents c) a = form-unmet t c a [] none refl
+form-first t (refused p) a = form-met t p a []
+
+form-judged : (t : List ℕ) → Judged (form-conditions t) (refusal-checked (checked (read-file t)))
+unfolding condition-numbers right-places has-place part-of order
+form-judged t = judged (form-conditions t) _ (form-first t (read-file t) (answer-claim t)) refl refl
+
+stored-same : (x : Outcome Contents) → refusal-checked (checked x) ≡ refusal-stored (stored-reply x)
+stored-same (contents c) = refl
+stored-same (refused p) = refl
+
+both-kept :
+    (meet rule : List ℕ) (x : Outcome Contents) (r : Refusal) → refusal-stored (stored-reply x) ≡ some r →
+    _≡_ {A = List ℕ × List ℕ} (stored-meet x meet, stored-rule x rule) (meet, rule)
+both-kept meet rule (contents c) r e = absurd (Option·some-ne-none r (sym e))
+both-kept meet rule (refused p) r e = refl
+
+pub form-refusals : FormRefusalClaim
+form-refusals =
+    record {
+      of-checking = form-judged;
+      of-storing = λ t meet rule.
+          record {
+            judged = subst (Judged (form-conditions t)) (stored-same (read-file t)) (form-judged t);
+            kept = both-kept meet rule (read-file t);
+          };
+    }
 
 -- ---- read and written
 

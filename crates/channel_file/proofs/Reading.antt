@@ -3,6 +3,7 @@ use Prim.Native.Nat.{ℕ, _+_, _-_, _≤_}
 use mathlib.Core.{Path.{_≡_, refl, sym, ap, _∙_}, List.{List, [], _∷_, _++_, map}}
 use native.Mathlib.Omega.{arith}
 use lib.ListN.{length, drop, length-drop}
+use Rattle.refusal.specs.declared.Refusal.the-variants.{At}
 use Rattle.text_format.specs.Format.{Parsed, ok, bad, contents, whole, outcome, read}
 use Rattle.text_format.specs.Texts.{ascii, separated}
 use Rattle.text_format.specs.Series.{number-item}
@@ -12,10 +13,10 @@ use Rattle.channel_file.specs.{Reading.{head-text, meet-text, meet-start
 use Rattle.channel_file.specs.declared.Checked.{Checked}
 use Rattle.channel_file.proofs.{FileFormat.{head-laws, meet-line-laws, entries-text}, Offsets.{forward-by}}
 
-pub refuse : (t : List ℕ) (p : ℕ) → p ≤ length t → whole file t ≡ bad (drop p t) → Checked.Refused p ≡ checked (read file t)
+pub refuse : (t : List ℕ) (p : ℕ) → p ≤ length t → whole file t ≡ bad (drop p t) → Checked.Refused (At 4 p) ≡ checked (read file t)
 refuse t p h e =
     let q : p ≡ length t - length (drop p t) = omega (arith, length-drop p t) in
-    ap (λ (z : ℕ). Checked.Refused z) q ∙ sym (ap (λ (x : Parsed Contents). checked (outcome t x)) e)
+    ap (λ (z : ℕ). Checked.Refused (At 4 z)) q ∙ sym (ap (λ (x : Parsed Contents). checked (outcome t x)) e)
 
 count-bad : {A : Type 0} (x : Parsed (List A)) (r : List ℕ) → counted 0 x ≡ bad r → x ≡ bad r
 count-bad (ok xs q) r h = not-both refl h

@@ -2,8 +2,10 @@
 -- The bytes stored from a file: one byte an entry of meet, three bytes a node of the rule (document 01, "Rules"). A number
 -- above 255 stands as 255, which every judgement on it takes as it takes the number (Claims, ClampClaim).
 use Prim.Native.Nat.{ℕ, min}
-use mathlib.Core.{Path.{_≡_}, List.{List, [], _∷_}}
+use mathlib.Core.{Path.{_≡_}, List.{List, [], _∷_}, Option.{Option, none, some}}
 use lib.ListN.{length, take}
+use Rattle.refusal.specs.declared.Refusal.{Refusal}
+use Rattle.refusal.specs.declared.Refusal.the-variants.{At}
 use Rattle.refusal.specs.Refusal.{put}
 use Rattle.text_format.specs.Format.{Outcome, contents, refused}
 use Rattle.channel_file.specs.{ChannelFile.{Token, Contents, encoded, kind, first, second}, Reading.{read-file, read-tokens}, declared.Stored.{Stored}}
@@ -31,10 +33,15 @@ rule-bytes c = encoded node (c .rule)
 abbrev pub put-front : List ℕ → List ℕ → List ℕ
 put-front output old = put (take (length old) output) old
 
--- The reply to a text: the file's numbers and how many entries and items it has, or 4's place.
+-- The reply to a text: the file's numbers and how many entries and items it has, or 4.
 abbrev pub stored-reply : Outcome Contents → Stored
 stored-reply (contents c) = Stored.Form (c .events) (c .values) (c .top) (length (c .meet)) (length (c .rule))
-stored-reply (refused p) = Stored.Refused p
+stored-reply (refused p) = Stored.Refused (At 4 p)
+
+-- Document 01's answer for each of its cases: the refusal, where there is one.
+abbrev pub refusal-stored : Stored → Option Refusal
+refusal-stored (Stored.Form events values top entries items) = none
+refusal-stored (Stored.Refused refusal) = some refusal
 
 -- The buffers afterwards.
 abbrev pub stored-meet : Outcome Contents → List ℕ → List ℕ

@@ -1,11 +1,13 @@
 -- What is claimed of the channel file; each claim is inhabited in proofs/Claims.
 use Prim.Native.Nat.{ℕ, _≤_, _<_}
-use mathlib.Core.{Path.{_≡_}, List.{List, [], map}, Logic.{_↔_}}
+use mathlib.Core.{Path.{_≡_}, List.{List, [], _∷_, map}, Logic.{_↔_}}
 use lib.ListN.{length}
 use Rattle.limits.specs.Limits.{meet-limit, node-limit, file-limit}
+use Rattle.refusal.specs.Refusal.{Condition, at-lowest, Judged, JudgedCall}
 use Rattle.text_format.specs.{Format.{Outcome, contents}, Texts.{separated}}
-use Rattle.channel_file.specs.ChannelFile.{Token, token-text, Contents, text, SmallContents, SmallToken}
-use Rattle.channel_file.specs.{Reading.{AnswersFile, read-file, read-tokens, tokens-stretch}, Bytes.{clamp}, Steps.{SawNumber, line-parse}}
+use Rattle.channel_file.specs.ChannelFile.{Token, token-text, Contents, text, SmallContents, SmallToken, Refused4}
+use Rattle.channel_file.specs.{Reading.{AnswersFile, read-file, read-tokens, tokens-stretch, checked, refusal-checked}, Steps.{SawNumber, line-parse}}
+use Rattle.channel_file.specs.Bytes.{clamp, stored-reply, refusal-stored, stored-meet, stored-rule}
 use Rattle.channel_file.specs.{declared.Line.{Line}, declared.Number.{Number}}
 use Rattle.text_format.specs.Texts.{OneOrMore}
 
@@ -21,6 +23,17 @@ AnswerClaim = (t : List ℕ) → AnswersFile t (read-file t)
 -- There is no other: the contents are unique and so is the place.
 abbrev pub OneAnswerClaim : Type 0
 OneAnswerClaim = (t : List ℕ) (x y : Outcome Contents) → AnswersFile t x → AnswersFile t y → x ≡ y
+
+-- A text is judged by 4 alone, where its form is checked and where it is stored; beside the refusal both buffers are as before.
+abbrev pub form-conditions : List ℕ → List Condition
+form-conditions t = at-lowest 4 (Refused4 t) ∷ []
+
+pub record FormRefusalClaim : Type 0 where
+  pub of-checking : (t : List ℕ) → Judged (form-conditions t) (refusal-checked (checked (read-file t)))
+  pub of-storing :
+      (t meet rule : List ℕ) →
+      JudgedCall {M = List ℕ × List ℕ} (form-conditions t) (refusal-stored (stored-reply (read-file t))) (meet, rule)
+      (stored-meet (read-file t) meet, stored-rule (read-file t) rule)
 
 -- The text of the contents read is the text itself.
 abbrev pub RewriteClaim : Type 0

@@ -2,10 +2,11 @@
 -- The answer to a text (document 01, refusal 4), with the limit of 4,096 bytes tested first; where its items stand; and the
 -- stretch of the text that holds the rule's tokens.
 use Prim.Native.Nat.{ℕ, _+_, _-_, _≤_}
-use mathlib.Core.{List.{List, [], _++_, map}, Bool.{cond}}
+use mathlib.Core.{List.{List, [], _++_, map}, Bool.{cond}, Option.{Option, none, some}}
 use lib.{Dec.{ltb}, ListN.{length, take, drop}}
 use Rattle.text_format.specs.{Format.{Outcome, contents, refused, read}, Texts.{ascii, separated, Refused}}
 use Rattle.limits.specs.Limits.{file-limit}
+use Rattle.refusal.specs.declared.{Refusal.{Refusal}, Refusal.the-variants.{At}}
 use Rattle.channel_file.specs.{ChannelFile.{Token, Contents, number, line, Shows, Form, Refused4}, FileFormat.{tokens, file}}
 use Rattle.channel_file.specs.declared.Checked.{Checked}
 
@@ -53,4 +54,9 @@ tokens-stretch t (refused p) = []
 abbrev pub checked : Outcome Contents → Checked
 checked (contents c) =
     Checked.Form (c .events) (c .values) (c .top) (length (c .meet)) (meet-start c) (length (c .rule)) (rule-start c)
-checked (refused p) = Checked.Refused p
+checked (refused p) = Checked.Refused (At 4 p)
+
+-- Document 01's answer for each of its cases: the refusal, where there is one.
+abbrev pub refusal-checked : Checked → Option Refusal
+refusal-checked (Checked.Form events values top entries meet-at items rule-at) = none
+refusal-checked (Checked.Refused refusal) = some refusal

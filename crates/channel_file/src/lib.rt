@@ -13,9 +13,11 @@ ghost use Rattle.channel_file.specs.ChannelFile.{kind};
 ghost use Rattle.channel_file.specs.Steps.{token-of, SawNumber, SawEnded, SawEnd, SawEntry, SawToken, SawItem, SawWord, SawHead};
 ghost use Rattle.channel_file.specs.Steps.{count-of, line-parse, SpansTokens, StoresEntries, StoresTokens};
 use limits::FILE_LIMIT;
+use refusal::Refusal;
+use refusal::TEXT_FORM;
 use text_output::put;
 
-// The answer to a text: its numbers, how many meet entries and rule items there are and where they start; or 4's place.
+// The answer to a text: its numbers, how many meet entries and rule items there are and where they start; or 4.
 pub enum Checked {
     Form {
         events: usize,
@@ -26,10 +28,10 @@ pub enum Checked {
         items: usize,
         rule_at: usize,
     },
-    Refused(usize),
+    Refused(Refusal),
 }
 
-// Reply of a call that reads a text into two buffers: its numbers, and how many meet entries and rule items it has; or 4's place.
+// Reply of a call that reads a text into two buffers: its numbers, and how many meet entries and rule items it has; or 4.
 pub enum Stored {
     Form {
         events: usize,
@@ -38,7 +40,7 @@ pub enum Stored {
         entries: usize,
         items: usize,
     },
-    Refused(usize),
+    Refused(Refusal),
 }
 
 // The answer to a text of tokens alone: how many nodes it has, or that it is no list of tokens.
@@ -486,14 +488,14 @@ fn check_text(text: &[u8]) -> Checked
     ensures { λ r. ⌜ r ≡ checked (read file (now (text .entry))) ⌝ }
 {
     match head_at(text) {
-        Head::Bad(p) => Checked::Refused(p),
+        Head::Bad(p) => Checked::Refused(Refusal::At(TEXT_FORM, p)),
         Head::Numbers(events, values, top, a) => match read_line(text, a, Line::Meet) {
-            Number::Bad(p) => Checked::Refused(p),
+            Number::Bad(p) => Checked::Refused(Refusal::At(TEXT_FORM, p)),
             Number::Value(entries, b) => match read_line(text, b, Line::Rule) {
-                Number::Bad(p) => Checked::Refused(p),
+                Number::Bad(p) => Checked::Refused(Refusal::At(TEXT_FORM, p)),
                 Number::Value(items, d) => {
                     if d < text.len() {
-                        Checked::Refused(d)
+                        Checked::Refused(Refusal::At(TEXT_FORM, d))
                     } else {
                         Checked::Form {
                             events,
@@ -511,12 +513,12 @@ fn check_text(text: &[u8]) -> Checked
     }
 }
 
-// Refusal 4: the numbers of a text and where its items are, or the place where it is refused.
+// Refusal 4: the numbers of a text and where its items are, or 4 with the place where it is refused.
 pub fn check_form(text: &[u8]) -> Checked
     ensures { λ r. ⌜ r ≡ checked (read-file (now (text .entry))) ⌝ }
 {
     if FILE_LIMIT < text.len() {
-        return Checked::Refused(FILE_LIMIT);
+        return Checked::Refused(Refusal::At(TEXT_FORM, FILE_LIMIT));
     }
     check_text(text)
 }
@@ -589,7 +591,7 @@ pub fn read_text(text: &[u8], meet: &mut [u8], rule: &mut [u8]) -> Stored
     ensures { λ r. ⌜ Stores (now (text .entry)) (now (meet .entry)) (now (rule .entry)) (now (meet .exit)) (now (rule .exit)) r ⌝ }
 {
     match check_form(text) {
-        Checked::Refused(p) => Stored::Refused(p),
+        Checked::Refused(refusal) => Stored::Refused(refusal),
         Checked::Form {
             events,
             values,

@@ -1,18 +1,18 @@
 -- The answers to reading and writing a file and to making its table are those that document 01 asks for, and the only ones.
 use Prim.Native.Nat.{ℕ, _<_}
-use mathlib.Core.{Path.{_≡_, refl, subst}, Logic.{inl, inr, ⊎-elim}, List.{List, [], _∷_, _++_}, Bool.{true, false}, Option.{Option, none, some}}
+use mathlib.Core.{Path.{_≡_, refl, subst}, Logic.{⊎-elim}, List.{List, [], _∷_, _++_}, Bool.{true, false}, Option.{Option, none}}
 use native.Mathlib.{Omega.{arith}, Nat.{mul-le-mul}}
 use lib.{Dec.{leb}, ListN.{length}}
 use borrow.Author.Tests.{leb-true, leb-false}
 use Rattle.limits.specs.Limits.{node-limit, state-limit, table-limit}
 use Rattle.theory.proofs.{Claims.{grammar, table-values}, ValueSets.{and-left, and-right, and-cases}}
 use Rattle.refusal.specs.declared.Refusal.{Refusal}
-use Rattle.refusal.specs.declared.Refusal.the-variants.{Plain, At}
-use Rattle.refusal.specs.Refusal.{Condition, plain, at-lowest, Gives, First, has-place, part-of, order, condition-numbers, right-places, Judged}
+use Rattle.refusal.specs.declared.Refusal.the-variants.{Plain}
+use Rattle.refusal.specs.Refusal.{Condition, plain, at-lowest, First, has-place, part-of, order, condition-numbers, right-places, Judged}
 use Rattle.refusal.specs.RefusalAnswers.{or-else}
 use Rattle.refusal.specs.RefusalAnswers.{plain-unless}
 use Rattle.refusal.specs.RefusalClaims.{NoneMet}
-use Rattle.refusal.proofs.{Refusals.{only-place, plain-first, judged, accepted-exactly, first-then, first-append}, Refusals.{first-rest}}
+use Rattle.refusal.proofs.{Refusals.{plain-first, judged, accepted-exactly, first-then, first-append}, Refusals.{first-rest}}
 use Rattle.values.specs.declared.ValueKind.the-variants.{Numbered}
 use Rattle.values.specs.Setup.{Setup, SetupValue, setup, setup-meet, setup-top, setup-conditions, kind-conditions}
 use Rattle.values.specs.SetupInOrder.{WellFormed}
@@ -28,7 +28,7 @@ use Rattle.synthesis.proofs.CompileClaims.{compile-rule-claim, compile-refusal-
 use Rattle.text_format.specs.Format.{Outcome, contents, refused}
 use Rattle.channel_file.specs.ChannelFile.{Contents, Refused4}
 use Rattle.channel_file.specs.Reading.{AnswersFile, read-file}
-use Rattle.channel_file.proofs.Claims.{answer-claim, one-answer-claim}
+use Rattle.channel_file.proofs.Claims.{answer-claim, form-met, form-unmet}
 use Rattle.channel_io.specs.FileConditions.{file-setup, contents-table-conditions}
 use Rattle.synthesis.specs.TableOfRule.{pair-conditions, pair-table-conditions}
 use Rattle.channel_file.specs.ChannelFile.{rule-numbers}

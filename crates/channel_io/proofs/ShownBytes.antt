@@ -26,7 +26,7 @@ use Rattle.channel_io.specs.FileConditions.{file-setup}
 use Rattle.channel_file.specs.ChannelFile.{node-numbers, rule-numbers}
 use Rattle.channel_io.specs.FileRefusals.{pair-refusal, contents-refusal}
 use Rattle.channel_io.specs.FileConditions.{numbers}
-use Rattle.channel_io.specs.Steps.{shown-entries, shown-nodes, Holding}
+use Rattle.channel_io.specs.Steps.{shown-entries, shown-nodes, Holding, OffForm}
 use Rattle.channel_io.proofs.Clamping.{meet-clamped, rule-clamped, setup-same, rule-same, limits, nothing-clamped}
 
 -- ---- lengths
@@ -175,12 +175,12 @@ shown-few count limit r e = go (leb count limit) refl e
 
 module _ {t entries nodes entries′ nodes′ : List ℕ} {r : Stored} (s : Stores t entries nodes entries′ nodes′ r) where
   -- 4
-  pub off-form : {p : ℕ} → r ≡ Stored.Refused p → read-file t ≡ refused p
-  off-form {p} d = go (read-file t) (sym d ∙ s .reply)
+  pub off-form : {q : Refusal} → r ≡ Stored.Refused q → OffForm t q
+  off-form {q} d = go (read-file t) refl (sym d ∙ s .reply)
     where
-      go : (x : Outcome Contents) → Stored.Refused p ≡ stored-reply x → x ≡ refused p
-      go (contents c) e = let z : _≡_ {A = ℕ} 0 1 = cc in absurd (omega arith)
-      go (refused q) e = cc
+      go : (x : Outcome Contents) → read-file t ≡ x → Stored.Refused q ≡ stored-reply x → OffForm t q
+      go (contents c) f e = let z : _≡_ {A = ℕ} 0 1 = cc in absurd (omega arith)
+      go (refused p) f e = record { place = p; answer = f; is = cc }
 
   pub holds : {e v p m n : ℕ} (j i : ℕ) → length entries ≡ meet-limit → length nodes ≡ node-limit * 3 → length entries′ ≡ meet-limit
       → length nodes′ ≡ node-limit * 3 → r ≡ Stored.Form e v p m n → j ≡ cond (leb m meet-limit) m 0 → i ≡ cond (leb n node-limit) n 0

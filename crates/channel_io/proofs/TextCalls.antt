@@ -1,15 +1,14 @@
 -- A call on a text is judged by 4, then by what the text's contents meet, whatever the text shows.
 use Prim.Native.Nat.{ℕ}
-use mathlib.Core.{Path.{_≡_, refl, subst}, Logic.{inl, inr}, List.{List, [], _∷_}, Bool.{true}, Option.{Option, some}}
+use mathlib.Core.{Path.{_≡_, refl, subst}, List.{List, [], _∷_}, Bool.{true}, Option.{Option, some}}
 use native.Mathlib.Omega.{arith}
 use Rattle.refusal.specs.declared.Refusal.{Refusal}
-use Rattle.refusal.specs.declared.Refusal.the-variants.{At}
 use Rattle.refusal.specs.Refusal.{Condition, at-lowest, First, has-place, part-of, order, condition-numbers, right-places}
-use Rattle.refusal.proofs.Refusals.{only-place, judged}
+use Rattle.refusal.proofs.Refusals.{judged}
 use Rattle.text_format.specs.{Format.{Outcome, contents, refused, read}, Claims.{AnswersText}}
 use Rattle.text_format.proofs.Place.{answers, one-answer}
 use Rattle.channel_file.specs.{ChannelFile.{Contents, Shows, Refused4}, FileFormat.{file}, Reading.{AnswersFile, read-file}}
-use Rattle.channel_file.proofs.{Claims.{answer-claim, one-answer-claim}, FileFormat.{file-laws, file-renders}}
+use Rattle.channel_file.proofs.{Claims.{answer-claim, one-answer-claim, form-met, form-unmet}, FileFormat.{file-laws, file-renders}}
 use Rattle.channel_io.specs.FileConditions.{TextConditions, of-contents, no-contents, JudgedText}
 use Rattle.channel_io.specs.FileRefusals.{text-refusal}
 
@@ -28,29 +27,6 @@ module _ (conditions : Contents → List Condition) (t : List ℕ) where
             omega arith),
       )
 
-  -- 4 is met, or it is not.
-  met-first : (p : ℕ) → Refused4 t p → (ds : List Condition) → First (at-lowest 4 (Refused4 t) ∷ ds) (some (At 4 p))
-  unfolding First
-  met-first p a ds =
-      inl (
-        At 4 p,
-        (p, only-place (Refused4 t) p a (λ q h. let e = one-answer-claim t (refused q) (refused p) h a in cc), refl),
-        refl,
-      )
-
-  unmet-first :
-      (c : Contents) → AnswersFile t (contents c) → (ds : List Condition) (answer : Option Refusal) → First ds answer →
-      First (at-lowest 4 (Refused4 t) ∷ ds) answer
-  unfolding First
-  unmet-first c a ds answer later =
-      inr (
-        (λ r g.
-            let e = one-answer-claim t (contents c) (refused (g .0)) a (g .1 .holds) in
-            let z : _≡_ {A = ℕ} 0 1 = cc in
-            omega arith),
-        later,
-      )
-
   module _ (refusal : Contents → Option Refusal) (first : (c : Contents) → First (conditions c) (refusal c)) where
     -- Every such list gives the answer that the reader's answer yields.
     pub text-call-first : (cs : List Condition) → TextConditions t conditions cs → First cs (text-refusal refusal (read-file t))
@@ -61,13 +37,13 @@ module _ (conditions : Contents → List Condition) (t : List ℕ) where
         go (contents d) a =
             let e = one-answer-claim t (contents c) (contents d) (a .0, s) a in
             let same : c ≡ d = cc in
-            unmet-first d a (conditions c) (refusal d) (subst (λ (x : Contents). First (conditions c) (refusal x)) same (first c))
-        go (refused p) a = met-first p a (conditions c)
+            form-unmet t d a (conditions c) (refusal d) (subst (λ (x : Contents). First (conditions c) (refusal x)) same (first c))
+        go (refused p) a = form-met t p a (conditions c)
     text-call-first cs (no-contents none-shown) = go (read-file t) (answer-claim t)
       where
         go : (x : Outcome Contents) → AnswersFile t x → First (at-lowest 4 (Refused4 t) ∷ []) (text-refusal refusal x)
         go (contents d) a = absurd (none-shown d (a .1))
-        go (refused p) a = met-first p a []
+        go (refused p) a = form-met t p a []
 
     pub text-call :
         {M : Type 0} (before after : M) → ((c : Contents) → part-of (4 ∷ condition-numbers (conditions c)) order ≡ true)

@@ -28,7 +28,6 @@ use Rattle.channel_file.specs.Bytes.{clamp}
 use Rattle.channel_file.specs.ChannelFile.{encoded}
 use Rattle.channel_file.proofs.Claims.{length-claim}
 use Rattle.channel_writer.specs.Writing.{with-token, node-tokens, contents-of, written-reply, written-buffer, Writes}
-use Rattle.channel_writer.specs.declared.Written.{Written}
 use Rattle.channel_writer.specs.Claims.{All, none-left, one-more, Byte}
 use Rattle.channel_writer.proofs.Claims.{written-claim}
 use Rattle.channel_file.specs.ChannelFile.{node-numbers, rule-numbers}
@@ -153,11 +152,6 @@ textual events values top meet rule e =
 
 -- ---- the answer to a call
 
-abbrev pub reply-of : Written → Counted
-reply-of (Written.Text n) = Count n
-reply-of Written.Long = Refused (Plain 13)
-reply-of Written.Malformed = Refused (Plain 5)
-
 module _ (events values top : ℕ) (meet rule old : List ℕ) where
   abbrev T : List ℕ
   T = file-text events values top meet rule
@@ -188,31 +182,31 @@ module _ (events values top : ℕ) (meet rule old : List ℕ) where
       (w .few-events, w .of-kind .few-values, w .laws .top-in)
 
   pub writes-judged :
-      (new : List ℕ) (x : Written) (r : Counted) → judgement (pair-refusal (setup events values top meet) rule) ≡ Passed
-      → Writes (contents-of events values top meet (node-tokens rule)) old new x → r ≡ reply-of x → WritesFile events values top meet rule old new r
+      (new : List ℕ) (r : Counted) → judgement (pair-refusal (setup events values top meet) rule) ≡ Passed
+      → Writes (contents-of events values top meet (node-tokens rule)) old new r → WritesFile events values top meet rule old new r
   unfolding write-refusal or-else counted put-unless plain-unless file-text
-  writes-judged new x r e w d =
+  writes-judged new r e w =
       let p = judgement-accepted (pair-refusal (setup events values top meet) rule) e in
       let c = textual events values top meet rule p in
       let t : T ≡ text (c .inside) = ap text-or-empty (c .is) in
-      let a : r ≡ reply-of (written-reply old (some (c .inside))) = d ∙ ap reply-of (w .reply ∙ ap (written-reply old) (c .is)) in
+      let a : r ≡ written-reply old (some (c .inside)) = w .reply ∙ ap (written-reply old) (c .is) in
       let b : new ≡ written-buffer old (some (c .inside)) = w .buffer ∙ ap (written-buffer old) (c .is) in
       let s : length (text (c .inside)) ≤ file-limit = c .short in
       go (c .inside) p t s (ltb (min file-limit (length old)) (length (text (c .inside)))) refl a b
     where
       go : (c : Contents) → pair-refusal (setup events values top meet) rule ≡ none → T ≡ text c → length (text c) ≤ file-limit → (q : Bool)
           → ltb (min file-limit (length old)) (length (text c)) ≡ q
-          → r ≡ reply-of (cond (ltb (min file-limit (length old)) (length (text c))) Written.Long (Written.Text (length (text c))))
+          → r ≡ cond (ltb (min file-limit (length old)) (length (text c))) (Refused (Plain 13)) (Count (length (text c)))
           → new ≡ cond (ltb (min file-limit (length old)) (length (text c))) old (put (text c) old) → WritesFile events values top meet rule old new r
       go c p t s true f a b =
           let h = ltb-true (min file-limit (length old)) (length (text c)) f in
           writes (some (Plain 13)) new r
           (ap₂ (λ (o : Option Refusal) (z : Bool). or-else o (plain-unless z 13)) p (lt-leb (length T) (length old) (omega (arith, ap length t))))
-          (a ∙ ap (λ (z : Bool). reply-of (cond z Written.Long (Written.Text (length (text c))))) f)
+          (a ∙ ap (λ (z : Bool). cond z (Refused (Plain 13)) (Count (length (text c)))) f)
           (b ∙ ap (λ (z : Bool). cond z old (put (text c) old)) f)
       go c p t s false f a b =
           let h = ltb-false (min file-limit (length old)) (length (text c)) f in
           writes none new r
           (ap₂ (λ (o : Option Refusal) (z : Bool). or-else o (plain-unless z 13)) p (le-leb (length T) (length old) (omega (arith, ap length t))))
-          (a ∙ ap (λ (z : Bool). reply-of (cond z Written.Long (Written.Text (length (text c))))) f ∙ ap (λ (l : List ℕ). Count (length l)) (sym t))
+          (a ∙ ap (λ (z : Bool). cond z (Refused (Plain 13)) (Count (length (text c)))) f ∙ ap (λ (l : List ℕ). Count (length l)) (sym t))
           (b ∙ ap (λ (z : Bool). cond z old (put (text c) old)) f ∙ ap (λ (l : List ℕ). put l old) (sym t))

@@ -1,7 +1,6 @@
 // Channel files read, written and compiled, with all their refusals: 4, 1 to 3, 5 to 10 and 13.
 use channel_file::Stored;
 use channel_file::read_text;
-use channel_writer::Written;
 use channel_writer::write_text;
 use formulas::check_rule;
 use limits::MEET_LIMIT;
@@ -9,9 +8,7 @@ use limits::NODE_LIMIT;
 use refusal::BUFFER_LENGTH;
 use refusal::Counted;
 use refusal::Judgement;
-use refusal::NODE_COUNT;
 use refusal::Refusal;
-use refusal::TEXT_FORM;
 use synthesis::compile;
 use text_output::put_word;
 use values::ValueKind;
@@ -84,7 +81,7 @@ fn store_text(text: &[u8], entries: &mut [u8], nodes: &mut [u8]) -> Held
     ensures { λ r. ⌜ Holds (now (text .entry)) (now (entries .exit)) (now (nodes .exit)) r ⌝ }
 {
     match read_text(text, entries, nodes) {
-        Stored::Refused(p) => Held::Refused(Refusal::At(TEXT_FORM, p)),
+        Stored::Refused(refusal) => Held::Refused(refusal),
         Stored::Form {
             events,
             values,
@@ -207,11 +204,6 @@ pub fn write_file(
     if let Judgement::Refused(refusal) = judged {
         return Counted::Refused(refusal);
     }
-    let written = write_text(events as u8, values as u8, top as u8, meet, rule, to);
-    match written {
-        Written::Text(n) => Counted::Count(n),
-        Written::Long => Counted::Refused(Refusal::Plain(BUFFER_LENGTH)),
-        // an accepted rule has a token for each node
-        Written::Malformed => Counted::Refused(Refusal::Plain(NODE_COUNT)),
-    }
+    // an accepted set-up has meet entries, and an accepted rule has a token for each node: 13 alone is left
+    write_text(events as u8, values as u8, top as u8, meet, rule, to)
 }

@@ -1,18 +1,60 @@
 -- The claims of specs/Claims.
 use Prim.Native.Nat.{ℕ, _≤_, _<_, min}
-use mathlib.Core.{Path.{_≡_, refl, sym, ap₂, _∙_, subst}, List.{List, [], _∷_}, Bool.{Bool, true, false, cond}, Option.{Option, some, none}}
+use mathlib.Core.{Path.{_≡_, refl, sym, ap, ap₂, _∙_, subst}, List.{List, [], _∷_}, Bool.{Bool, true, false, cond}}
+use mathlib.Core.{Logic.{inl, inr}, Option.{Option, some, none, Option·some-ne-none}}
 use native.Mathlib.Omega.{arith}
-use lib.Dec.{eqb}
-use borrow.Author.Tests.{eqb-true}
+use lib.{Dec.{eqb, ltb}, ListN.{length}}
+use borrow.Author.Tests.{eqb-true, ltb-true, ltb-false}
+use Rattle.limits.specs.Limits.{file-limit}
+use Rattle.refusal.specs.declared.{Refusal.{Refusal}, Refusal.the-variants.{Plain}, Counted.the-variants.{Count, Refused}}
+use Rattle.refusal.specs.Refusal.{plain, First, has-place, part-of, order, condition-numbers, right-places, counted-refusal}
+use Rattle.refusal.specs.Refusal.{put}
+use Rattle.refusal.proofs.Refusals.{judged}
 use Rattle.text_format.specs.Format.{contents}
 use Rattle.text_format.specs.Texts.{OneOrMore}
 use Rattle.channel_file.specs.ChannelFile.{Token, token-T, token-A, token-V, token-X, token-G, token-O, Contents, Small, SmallToken, SmallContents}
-use Rattle.channel_file.specs.ChannelFile.{first, second, kind, encoded}
+use Rattle.channel_file.specs.ChannelFile.{first, second, kind, encoded, text}
 use Rattle.channel_file.specs.Reading.{read-file}
 use Rattle.channel_file.specs.Bytes.{clamp, node, entry, meet-bytes, rule-bytes}
 use Rattle.channel_file.proofs.Claims as read
-use Rattle.channel_writer.specs.Writing.{bare-token, token-of-one, node-token, with-token, node-tokens, contents-of}
+use Rattle.channel_writer.specs.Writing.{bare-token, token-of-one, node-token, with-token, node-tokens, contents-of, written-reply, written-buffer}
 use Rattle.channel_writer.specs.Claims.{All, none-left, one-more, Byte, ByteToken, ByteContents, NodeClaim, WrittenClaim, AgainClaim}
+use Rattle.channel_writer.specs.Claims.{text-written-conditions, WrittenRefusalClaim}
+
+-- ---- refusals
+
+module _ (old : List ℕ) where
+  written-first : (o : Option Contents) → First (text-written-conditions o old) (counted-refusal (written-reply old o))
+  unfolding First
+  written-first none = inl (Plain 5, (refl, refl), refl)
+  written-first (some c) = inr ((λ r g. Option·some-ne-none c (g .0)), go (ltb (min file-limit (length old)) (length (text c))) refl)
+    where
+      go : (b : Bool) → ltb (min file-limit (length old)) (length (text c)) ≡ b
+          → First (plain 13 ((d : Contents) × (some c ≡ some d) × (min file-limit (length old) < length (text d))) ∷ [])
+          (counted-refusal (cond b (Refused (Plain 13)) (Count (length (text c)))))
+      go true e = inl (Plain 13, ((c, refl, ltb-true (min file-limit (length old)) (length (text c)) e), refl), refl)
+      go false e =
+          inr (
+            (λ r g.
+                let q = g .0 .1 in
+                let same : c ≡ g .0 .0 = cc in
+                let l = ltb-false (min file-limit (length old)) (length (text c)) e in
+                omega (arith, g .0 .2, ap (λ (d : Contents). length (text d)) same)),
+            refl,
+          )
+
+  written-kept : (o : Option Contents) (r : Refusal) → counted-refusal (written-reply old o) ≡ some r → written-buffer old o ≡ old
+  written-kept none r e = refl
+  written-kept (some c) r e = go (ltb (min file-limit (length old)) (length (text c))) e
+    where
+      go : (b : Bool) → counted-refusal (cond b (Refused (Plain 13)) (Count (length (text c)))) ≡ some r → cond b old (put (text c) old) ≡ old
+      go true e = refl
+      go false e = absurd (Option·some-ne-none r (sym e))
+
+pub written-refusals : WrittenRefusalClaim
+unfolding condition-numbers right-places has-place part-of order
+written-refusals o old =
+    record { judged = judged (text-written-conditions o old) _ (written-first old o) refl refl; kept = written-kept old o }
 
 -- ---- nodes
 

@@ -5,6 +5,8 @@ use native.Mathlib.Omega.{arith}
 use borrow.Author.Tests.{lt-ltb, le-ltb}
 use lib.ListN.{length}
 use Rattle.limits.specs.Limits.{file-limit}
+use Rattle.refusal.specs.declared.Refusal.the-variants.{Plain}
+use Rattle.refusal.specs.declared.Counted.the-variants.{Count, Refused}
 use Rattle.refusal.specs.Refusal.{put}
 use Rattle.text_format.specs.Texts.{ascii, separated, OneOrMore}
 use Rattle.text_format.specs.Series.{number-item}
@@ -15,7 +17,6 @@ use Rattle.channel_file.specs.{ChannelFile.{Token, Contents, number, token-text
 use Rattle.channel_file.proofs.FileFormat.{token-print}
 use Rattle.channel_writer.specs.Writing.{node-tokens, contents-of, written-reply, written-buffer, Writes}
 use Rattle.channel_writer.specs.Steps.{is-some, IsSome, items-of, nodes-text, lines-text}
-use Rattle.channel_writer.specs.declared.Written.{Written}
 use Rattle.channel_writer.proofs.Texts.{none-left}
 
 -- ---- the contents
@@ -69,25 +70,25 @@ no-tokens e v p (m ∷ ms) (some xs) h = let z : _≡_ {A = ℕ} 0 1 = ap (λ (b
 
 -- ---- the reply
 
-pub writes-none : (o : Option Contents) (old : List ℕ) → o ≡ none → Writes o old old Written.Malformed
+pub writes-none : (o : Option Contents) (old : List ℕ) → o ≡ none → Writes o old old (Refused (Plain 5))
 writes-none o old e = record { reply = sym (ap (written-reply old) e); buffer = sym (ap (written-buffer old) e) }
 
 pub writes-long : (o : Option Contents) (old : List ℕ) (c : Contents) → o ≡ some c → min file-limit (length old) < length (text c)
-    → Writes o old old Written.Long
+    → Writes o old old (Refused (Plain 13))
 writes-long o old c e h =
     record {
-      reply = sym (ap (written-reply old) e ∙ ap (λ (b : Bool). cond b Written.Long (Written.Text (length (text c))))
+      reply = sym (ap (written-reply old) e ∙ ap (λ (b : Bool). cond b (Refused (Plain 13)) (Count (length (text c))))
           (lt-ltb (min file-limit (length old)) (length (text c)) h));
       buffer = sym (ap (written-buffer old) e ∙ ap (λ (b : Bool). cond b old (put (text c) old)) (lt-ltb (min file-limit (length old)) (length (text c)) h));
     }
 
 pub writes-all : (o : Option Contents) (old new : List ℕ) (c : Contents) (n : ℕ) → o ≡ some c → length (text c) ≤ min file-limit (length old) → n
     ≡ length (text c)
-    → new ≡ put (text c) old → Writes o old new (Written.Text n)
+    → new ≡ put (text c) old → Writes o old new (Count n)
 writes-all o old new c n e h l w =
     record {
-      reply = ap (λ (z : ℕ). Written.Text z) l
-          ∙ sym (ap (written-reply old) e ∙ ap (λ (b : Bool). cond b Written.Long (Written.Text (length (text c))))
+      reply = ap Count l
+          ∙ sym (ap (written-reply old) e ∙ ap (λ (b : Bool). cond b (Refused (Plain 13)) (Count (length (text c))))
           (le-ltb (min file-limit (length old)) (length (text c)) h));
       buffer = w
           ∙ sym (ap (written-buffer old) e ∙ ap (λ (b : Bool). cond b old (put (text c) old)) (le-ltb (min file-limit (length old)) (length (text c)) h));
@@ -104,16 +105,16 @@ module _ (e v p : ℕ) (meet nodes l l′ : List ℕ) (n : ℕ) (f : Fine e v p 
   put-all : Puts l t l′ 0 n
   put-all = puts-as (sym (f .same-text)) w
 
-  pub over-limit : (old : List ℕ) → file-limit < n → Writes o old old Written.Long
+  pub over-limit : (old : List ℕ) → file-limit < n → Writes o old old (Refused (Plain 13))
   over-limit old h =
       let q : n ≡ min (0 + length t) offset-limit = put-all .next in
       writes-long o old (f .inside) (f .is) (omega arith)
 
-  pub over-buffer : (old : List ℕ) → length old < n → Writes o old old Written.Long
+  pub over-buffer : (old : List ℕ) → length old < n → Writes o old old (Refused (Plain 13))
   over-buffer old h = writes-long o old (f .inside) (f .is) (omega (arith, puts-long put-all old h))
 
   pub written : (old new : List ℕ) (r : ℕ) → n ≤ file-limit → n ≤ length old → Puts old (lines-text e v p meet nodes) new 0 r
-      → Writes o old new (Written.Text n)
+      → Writes o old new (Count n)
   unfolding put
   written old new r h g k =
       let a = puts-again put-all g (puts-as (sym (f .same-text)) k) in

@@ -1,11 +1,24 @@
 -- What is claimed of writing; each claim is inhabited in proofs/Claims.
-use Prim.Native.Nat.{ℕ, _≤_}
-use mathlib.Core.{Path.{_≡_}, List.{List, [], _∷_}, Option.{some}}
+use Prim.Native.Nat.{ℕ, _≤_, _<_, min}
+use mathlib.Core.{Path.{_≡_}, List.{List, [], _∷_}, Option.{Option, none, some}}
 use lib.ListN.{length}
 use Rattle.limits.specs.Limits.{file-limit}
+use Rattle.refusal.specs.Refusal.{Condition, plain, JudgedCall, counted-refusal}
 use Rattle.text_format.specs.Format.{contents}
 use Rattle.channel_file.specs.{ChannelFile.{Token, Contents, text, SmallContents, first, second, kind}, Reading.{read-file}, Bytes.{meet-bytes, rule-bytes}}
-use Rattle.channel_writer.specs.Writing.{node-token, node-tokens, contents-of}
+use Rattle.channel_writer.specs.Writing.{node-token, node-tokens, contents-of, written-reply, written-buffer}
+
+-- The conditions of writing contents into a buffer: 5 where there are none, which no text can show; 13 for a text over 4,096 bytes or
+-- longer than the buffer.
+abbrev pub text-written-conditions : Option Contents → List ℕ → List Condition
+text-written-conditions o old =
+    plain 5 (o ≡ none) ∷ plain 13 ((c : Contents) × (o ≡ some c) × (min file-limit (length old) < length (text c))) ∷ []
+
+-- The reply gives the first of them, and beside it the buffer is as before.
+abbrev pub WrittenRefusalClaim : Type 0
+WrittenRefusalClaim =
+    (o : Option Contents) (old : List ℕ) →
+    JudgedCall (text-written-conditions o old) (counted-refusal (written-reply old o)) old (written-buffer old o)
 
 -- All of a list as P says.
 pub data All {A : Type 0} (P : A → Type 0) : List A → Type 0 where

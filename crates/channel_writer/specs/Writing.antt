@@ -4,9 +4,9 @@ use Prim.Native.Nat.{ℕ, min}
 use mathlib.Core.{Path.{_≡_}, List.{List, [], _∷_}, Bool.{cond}, Option.{Option, some, none}}
 use lib.{Dec.{ltb, eqb}, ListN.{length}}
 use Rattle.limits.specs.Limits.{file-limit}
+use Rattle.refusal.specs.{declared.Refusal.the-variants.{Plain}, declared.Counted.{Counted}, declared.Counted.the-variants.{Count, Refused}}
 use Rattle.refusal.specs.Refusal.{put}
 use Rattle.channel_file.specs.ChannelFile.{Token, token-T, token-A, token-V, token-X, token-G, token-O, Contents, text}
-use Rattle.channel_writer.specs.declared.Written.{Written}
 
 -- The token of a node, for bytes: none for an unknown kind, or where an unused field is not 0 (Claims, NodeClaim).
 abbrev pub bare-token : ℕ → Option Token
@@ -37,10 +37,10 @@ contents-of e v p (m ∷ ms) none = none
 contents-of e v p (m ∷ ms) (some []) = none
 contents-of e v p (m ∷ ms) (some (x ∷ xs)) = some (record { events = e; values = v; top = p; meet = m ∷ ms; rule = x ∷ xs })
 
--- The reply: the text's length, that it is longer than 4,096 bytes or than the buffer, or that there is nothing to write.
-abbrev pub written-reply : List ℕ → Option Contents → Written
-written-reply old none = Written.Malformed
-written-reply old (some c) = cond (ltb (min file-limit (length old)) (length (text c))) Written.Long (Written.Text (length (text c)))
+-- The reply: 5 where there is nothing to write, 13 for a text longer than 4,096 bytes or than the buffer, or the text's length.
+abbrev pub written-reply : List ℕ → Option Contents → Counted
+written-reply old none = Refused (Plain 5)
+written-reply old (some c) = cond (ltb (min file-limit (length old)) (length (text c))) (Refused (Plain 13)) (Count (length (text c)))
 
 -- The buffer afterwards; it is as before unless the text was written.
 abbrev pub written-buffer : List ℕ → Option Contents → List ℕ
@@ -48,6 +48,6 @@ written-buffer old none = old
 written-buffer old (some c) = cond (ltb (min file-limit (length old)) (length (text c))) old (put (text c) old)
 
 -- Reply and buffer of a call that writes a file.
-pub record Writes (c : Option Contents) (old new : List ℕ) (r : Written) : Type 0 where
+pub record Writes (c : Option Contents) (old new : List ℕ) (r : Counted) : Type 0 where
   pub reply : r ≡ written-reply old c
   pub buffer : new ≡ written-buffer old c

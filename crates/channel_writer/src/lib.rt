@@ -11,16 +11,13 @@ ghost use Rattle.channel_file.specs.FileFormat.{entries};
 ghost use Rattle.channel_writer.specs.Writing.{bare-token, token-of-one, node-token, node-tokens, contents-of, Writes};
 ghost use Rattle.channel_writer.specs.Steps.{is-some, IsSome, node-text, nodes-text, lines-text};
 use limits::FILE_LIMIT;
+use refusal::BUFFER_LENGTH;
+use refusal::Counted;
+use refusal::NODE_COUNT;
+use refusal::Refusal;
 use text_output::put;
 use text_output::put_field;
 use text_output::put_word;
-
-// Reply of a call that writes a text: its length, a text longer than the limit or the buffer, or no text.
-pub enum Written {
-    Text(usize),
-    Long,
-    Malformed,
-}
 
 fn wide(x: u8) -> usize
     ensures { λ r. ⌜ (r ≡ x) × (r < 256) ⌝ }
@@ -164,7 +161,8 @@ fn put_lines(out: &mut [u8], events: u8, values: u8, top: u8, meet: &[u8], nodes
     put_rule(out, f, nodes)
 }
 
-// Writes the text of a set-up's numbers, its meet entries and a rule's nodes.
+// Writes the text of a set-up's numbers, its meet entries and a rule's nodes: 5 without entries, without nodes, or where a node has no
+// token; 13 for a text over 4,096 bytes or longer than the buffer; else its length.
 pub fn write_text(
     events: u8,
     values: u8,
@@ -172,27 +170,27 @@ pub fn write_text(
     meet: &[u8],
     nodes: &[u8],
     out: &mut [u8],
-) -> Written
+) -> Counted
     ensures { λ r. ⌜ Writes (contents-of events values top (now (meet .entry)) (node-tokens (now (nodes .entry)))) (now (out .entry)) (now (out .exit)) r ⌝ }
 {
     if meet.len() == 0 {
-        return Written::Malformed;
+        return Counted::Refused(Refusal::Plain(NODE_COUNT));
     }
     if nodes.len() == 0 {
-        return Written::Malformed;
+        return Counted::Refused(Refusal::Plain(NODE_COUNT));
     }
     if !has_tokens(nodes) {
-        return Written::Malformed;
+        return Counted::Refused(Refusal::Plain(NODE_COUNT));
     }
     // into no buffer first, for its length
     let mut none = [0u8; 0];
     let size = put_lines(&mut none, events, values, top, meet, nodes);
     if FILE_LIMIT < size {
-        return Written::Long;
+        return Counted::Refused(Refusal::Plain(BUFFER_LENGTH));
     }
     if out.len() < size {
-        return Written::Long;
+        return Counted::Refused(Refusal::Plain(BUFFER_LENGTH));
     }
     put_lines(out, events, values, top, meet, nodes);
-    Written::Text(size)
+    Counted::Count(size)
 }

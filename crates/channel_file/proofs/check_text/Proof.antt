@@ -20,15 +20,15 @@ read-line-requires-2 c κs = subst (SawNumber (count-of meet-line)
     (c .before .before .before .before .before .events .given .0 .1 .1 .1 .0)) (c .before .entries .given .1)
     (c .before .before .before .read-line .ensures) .within
 
-add-t24 : tie.Need-add-t24
-add-t24 c =
+add-t28 : tie.Need-add-t28
+add-t28 c =
     let w = subst (SawHead (c .before .before .before .before .before .before .before .before .before .before .before .before .before .before .args .text
     .now) 0) (c .before .before .before .before .before .before .before .before .before .before .events .given .1)
     (c .before .before .before .before .before .before .before .before .before .before .before .before .head-at .ensures) .within in
     omega arith
 
-add-t25 : tie.Need-add-t25
-add-t25 c =
+add-t29 : tie.Need-add-t29
+add-t29 c =
     let w = subst (SawNumber (count-of meet-line)
     (c .before .before .before .before .before .before .before .before .before .before .before .before .before .before .args .text .now)
     (c .before .before .before .before .before .before .before .before .before .before .events .given .0 .1 .1 .1 .0))
@@ -98,4 +98,4 @@ returns-5 c =
 
 pub check-text-spec : {M : Type 1} → statement M
 check-text-spec = tie.close (tie.spec (λ c κs. search needs) (λ c. search needs) (λ c. search needs) read-line-requires (λ c. search needs)
-    (λ c. search needs) read-line-requires-2 (λ c. search needs) (λ c. search needs) add-t24 add-t25 returns returns-2 returns-3 returns-4 returns-5)
+    (λ c. search needs) read-line-requires-2 (λ c. search needs) (λ c. search needs) add-t28 add-t29 returns returns-2 returns-3 returns-4 returns-5)

@@ -35,7 +35,7 @@ returns : tie.Need-returns
 returns c =
     let a = c .before .before .before .before .before .before .before .args in
     let t = a .text .now in
-    stores-refused t (a .meet .now) (a .rule .now) _ (not-accepted t _ (sym (c .before .p .given .1) ∙ c .before .before .before .check-form .ensures))
+    stores-refused t (a .meet .now) (a .rule .now) _ (not-accepted t _ (sym (c .before .refusal .given .1) ∙ c .before .before .before .check-form .ensures))
 
 returns-2 : tie.Need-returns-2
 returns-2 c =

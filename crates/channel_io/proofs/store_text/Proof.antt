@@ -1,5 +1,5 @@
 -- `store_text` meets its contract: 4, or the bytes that are judged at the fronts of both buffers.
-use mathlib.Core.Path.{refl, _∙_}
+use mathlib.Core.Path.{_∙_}
 use native.Mathlib.Omega.{arith}
 use Rattle.limits.specs.Limits.{node-limit}
 use Rattle.channel_io.specs.FileConditions.{numbers}
@@ -8,8 +8,8 @@ use borrow.Author.Needs.{needs}
 use Rattle.channel_io.proofs.store_text.Statement.{statement}
 use Rattle.channel_io.proofs.store_text.Tie as tie
 
-mul-t20 : tie.Need-mul-t20
-mul-t20 c = record {
+mul-t19 : tie.Need-mul-t19
+mul-t19 c = record {
   fits = omega (
     arith,
     shown-few (c .before .before .before .events .given .0 .1 .1 .1 .1 .0) node-limit (c .shown2 .result)
@@ -18,11 +18,7 @@ mul-t20 c = record {
 }
 
 returns : tie.Need-returns
-returns c = record {
-  place = _;
-  answer = off-form (c .before .before .before .before .before .before .before .read-text .ensures) (c .before .p .given .1);
-  is = refl;
-}
+returns c = off-form (c .before .before .before .before .before .before .before .read-text .ensures) (c .before .refusal .given .1)
 
 returns-2 : tie.Need-returns-2
 unfolding numbers
@@ -35,4 +31,4 @@ returns-2 c =
 
 pub store-text-spec : {M : Type 1} → statement M
 store-text-spec = tie.close (tie.spec (λ c κs. search needs) (λ c. search needs) (λ c. search needs) (λ c κs. search needs) (λ c κs. search needs)
-    mul-t20 (λ c. search needs) (λ c. search needs) returns (λ c. search needs) (λ c. search needs) returns-2)
+    mul-t19 (λ c. search needs) (λ c. search needs) returns (λ c. search needs) (λ c. search needs) returns-2)

@@ -1,7 +1,7 @@
 -- `write_file` meets its contract: what 1 to 3 and 5 to 9 let through has a text within the limit, so only 13 is left.
-use mathlib.Core.Path.{sym, ap, _∙_}
+use mathlib.Core.Path.{sym, _∙_}
 use native.Mathlib.Omega.{arith}
-use Rattle.channel_io.proofs.WriteAnswers.{reply-of, writes-refused, small-numbers, writes-judged}
+use Rattle.channel_io.proofs.WriteAnswers.{writes-refused, small-numbers, writes-judged}
 use borrow.Author.Needs.{needs}
 use Rattle.channel_io.proofs.write_file.Statement.{statement}
 use Rattle.channel_io.proofs.write_file.Tie as tie
@@ -35,29 +35,11 @@ cast-write-text-3 c =
 
 returns-2 : tie.Need-returns-2
 returns-2 c =
-    let a = c .before .before .before .before .before .before .before .before .before .before .before .before .before .args in
-    writes-judged (a .events) (a .values) (a .top) (a .meet .now) (a .rule .now) (a .to .now) _ _ _
-    (sym (c .before .before .before .before .before .before .before .before .before .check-pair .ensures)
-    ∙ c .before .before .before .before .before .before .before .enum-told .given .1)
-    (c .before .before .before .before .before .write-text .ensures) (sym (ap reply-of (c .before .written .given .1)))
-
-returns-3 : tie.Need-returns-3
-returns-3 c =
-    let a = c .before .before .before .before .before .before .before .before .before .before .before .before .args in
-    writes-judged (a .events) (a .values) (a .top) (a .meet .now) (a .rule .now) (a .to .now) _ _ _
-    (sym (c .before .before .before .before .before .before .before .before .check-pair .ensures)
-    ∙ c .before .before .before .before .before .before .enum-told .given .1)
-    (c .before .before .before .before .write-text .ensures) (sym (ap reply-of (c .enum-told2 .given .1)))
-
-returns-4 : tie.Need-returns-4
-returns-4 c =
-    let a = c .before .before .before .before .before .before .before .before .before .before .before .before .args in
-    writes-judged (a .events) (a .values) (a .top) (a .meet .now) (a .rule .now) (a .to .now) _ _ _
-    (sym (c .before .before .before .before .before .before .before .before .check-pair .ensures)
-    ∙ c .before .before .before .before .before .before .enum-told .given .1)
-    (c .before .before .before .before .write-text .ensures) (sym (ap reply-of (c .enum-told3 .given .1)))
+    let a = c .before .before .before .before .before .before .before .before .before .before .args in
+    writes-judged (a .events) (a .values) (a .top) (a .meet .now) (a .rule .now) (a .to .now) _ _
+    (sym (c .before .before .before .before .before .before .check-pair .ensures) ∙ c .before .before .before .before .enum-told .given .1)
+    (c .before .before .write-text .ensures)
 
 pub write-file-spec : {M : Type 1} → statement M
 write-file-spec = tie.close (tie.spec (λ c κs. search needs) (λ c. search needs) returns (λ c. search needs) cast-write-text cast-write-text-2
-    cast-write-text-3 (λ c κs. search needs) (λ c. search needs) (λ c. search needs) (λ c. search needs) (λ c. search needs) returns-2
-    (λ c. search needs) returns-3 (λ c. search needs) returns-4)
+    cast-write-text-3 (λ c κs. search needs) (λ c. search needs) returns-2)
