@@ -16,8 +16,8 @@ use Rattle.text_format.proofs.Series.{separator-laws, number-item-laws, number-
 use Rattle.channel_file.specs.ChannelFile.{Token, token-T, token-A, token-V, token-X, token-G, token-O, Contents, number, Small, token-text, SmallToken}
 use Rattle.channel_file.specs.ChannelFile.{line, text, SmallContents, Shows}
 use Rattle.channel_file.specs.FileFormat.{Letter, letter-T, letter-A, letter-V, letter-X, letter-G, letter-O, letter-byte, letters, letter-of}
-use Rattle.channel_file.specs.ChannelFile.{first}
-use Rattle.channel_file.specs.ChannelFile.{second}
+use Rattle.channel_file.specs.FileFormat.{first}
+use Rattle.channel_file.specs.FileFormat.{second}
 use Rattle.channel_file.specs.FileFormat.{number-dot, number-line, plain, body, token-item, tokens, entries, field, head, meet-line, rule-line}
 use Rattle.channel_file.specs.FileFormat.{file}
 

@@ -4,12 +4,10 @@
 use Prim.Native.Nat.{ℕ, min}
 use mathlib.Core.{Path.{_≡_}, List.{List, [], _∷_}, Option.{Option, none, some}}
 use lib.ListN.{length, take}
-use Rattle.refusal.specs.declared.Refusal.{Refusal}
-use Rattle.refusal.specs.declared.Refusal.the-variants.{At}
-use Rattle.refusal.specs.Refusal.{put}
+use Rattle.refusal.specs.{declared.Refusal.{Refusal}, declared.Refusal.the-variants.{At}, Refusal.{put}}
 use Rattle.text_format.specs.Format.{Outcome, contents, refused}
-use Rattle.channel_file.specs.{ChannelFile.{Token, Contents, encoded, kind, first, second}, Reading.{read-file, read-tokens}, declared.Stored.{Stored}}
-use Rattle.channel_file.specs.declared.TokenList.{TokenList}
+use Rattle.channel_file.specs.{ChannelFile.{Token, Contents, encoded}, FileFormat.{kind, first, second}, Reading.{read-file, read-tokens}}
+use Rattle.channel_file.specs.{declared.Stored.{Stored}, declared.TokenList.{TokenList}}
 
 abbrev pub clamp : ℕ → ℕ
 clamp v = min v 255

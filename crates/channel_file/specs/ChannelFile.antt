@@ -86,41 +86,24 @@ pub data TokensOf (t : List ℕ) : List ℕ → Type 0 where
       tokens ≡ separated (map token-text (c .rule)) → TokensOf t tokens
   of-refused : (p : ℕ) → Refused4 t p → TokensOf t []
 
--- Kinds: "0 T, 1 X, 2 G, 3 O, 4 A, 5 V".
-abbrev pub kind : Token → ℕ
-kind token-T = 0
-kind (token-X n) = 1
-kind (token-G e) = 2
-kind (token-O e v) = 3
-kind token-A = 4
-kind token-V = 5
-
--- A token's numbers; 0 where it has none.
-abbrev pub first : Token → ℕ
-first token-T = 0
-first token-A = 0
-first token-V = 0
-first (token-X n) = n
-first (token-G e) = e
-first (token-O e v) = e
-
-abbrev pub second : Token → ℕ
-second token-T = 0
-second token-A = 0
-second token-V = 0
-second (token-X n) = 0
-second (token-G e) = 0
-second (token-O e v) = v
+-- Kind, first and second of a token's node, "0 T, 1 X, 2 G, 3 O, 4 A, 5 V"; "an unused field is 0".
+abbrev pub token-fields : Token → ℕ × ℕ × ℕ
+token-fields token-T = (0, 0, 0)
+token-fields (token-X n) = (1, n, 0)
+token-fields (token-G e) = (2, e, 0)
+token-fields (token-O e v) = (3, e, v)
+token-fields token-A = (4, 0, 0)
+token-fields token-V = (5, 0, 0)
 
 -- The codes of all items, one after another.
 abbrev pub encoded : {A : Type 0} → (A → List ℕ) → List A → List ℕ
 encoded code [] = []
 encoded code (a ∷ xs) = code a ++ encoded code xs
 
--- The rule of a file, three numbers a node: kind, first, second. "In a rule item a number above 255 is 6 for an event or value,
+-- The rule of a file, three numbers a node. "In a rule item a number above 255 is 6 for an event or value,
 -- 8 for X": the numbers are those of the text.
 abbrev pub node-numbers : Token → List ℕ
-node-numbers x = kind x ∷ first x ∷ second x ∷ []
+node-numbers x = token-fields x .0 ∷ token-fields x .1 ∷ token-fields x .2 ∷ []
 
 abbrev pub rule-numbers : Contents → List ℕ
 rule-numbers c = encoded node-numbers (c .rule)

@@ -4,12 +4,10 @@ use mathlib.Core.{Path.{_≡_}, List.{List, [], _∷_, map}, Logic.{_↔_}}
 use lib.ListN.{length}
 use Rattle.limits.specs.Limits.{meet-limit, node-limit, file-limit}
 use Rattle.refusal.specs.Refusal.{Condition, at-lowest, Judged, JudgedCall}
-use Rattle.text_format.specs.{Format.{Outcome, contents}, Texts.{separated}}
+use Rattle.text_format.specs.{Format.{Outcome, contents}, Texts.{separated, OneOrMore}}
 use Rattle.channel_file.specs.ChannelFile.{Token, token-text, Contents, text, SmallContents, SmallToken, Refused4}
 use Rattle.channel_file.specs.{Reading.{AnswersFile, read-file, read-tokens, tokens-stretch, checked, refusal-checked}, Steps.{SawNumber, line-parse}}
-use Rattle.channel_file.specs.Bytes.{clamp, stored-reply, refusal-stored, stored-meet, stored-rule}
-use Rattle.channel_file.specs.{declared.Line.{Line}, declared.Number.{Number}}
-use Rattle.text_format.specs.Texts.{OneOrMore}
+use Rattle.channel_file.specs.{Bytes.{clamp, stored-reply, refusal-stored, stored-meet, stored-rule}, declared.Line.{Line}, declared.Number.{Number}}
 
 -- t is the text of the tokens xs alone, as they stand in the rule line.
 pub record ShowsTokens (xs : List Token) (t : List ℕ) : Type 0 where

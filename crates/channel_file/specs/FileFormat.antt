@@ -5,7 +5,7 @@ use Prim.Native.Nat.{ℕ}
 use mathlib.Core.List.{List, [], _∷_}
 use Rattle.text_format.specs.{Format.{Format}, Texts.{ascii}, Combinators.{sequence, mapped, choice, the, keyed}, Decimal.{numbered}}
 use Rattle.text_format.specs.Series.{Separator, separator, number-item, series}
-use Rattle.channel_file.specs.ChannelFile.{Token, token-T, token-A, token-V, token-X, token-G, token-O, Contents, first, second}
+use Rattle.channel_file.specs.ChannelFile.{Token, token-T, token-A, token-V, token-X, token-G, token-O, Contents, token-fields}
 
 -- ---- tokens, by their first letter
 
@@ -30,6 +30,16 @@ letter-of token-V = letter-V
 letter-of (token-X n) = letter-X
 letter-of (token-G e) = letter-G
 letter-of (token-O e v) = letter-O
+
+-- A token's kind and numbers; 0 where it has none.
+abbrev pub kind : Token → ℕ
+kind x = token-fields x .0
+
+abbrev pub first : Token → ℕ
+first x = token-fields x .1
+
+abbrev pub second : Token → ℕ
+second x = token-fields x .2
 
 abbrev pub number-dot : Format (ℕ × Unit {0})
 number-dot = numbered 2 (the 46) tt []

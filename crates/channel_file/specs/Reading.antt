@@ -6,7 +6,7 @@ use mathlib.Core.{List.{List, [], _++_, map}, Bool.{cond}, Option.{Option, none,
 use lib.{Dec.{ltb}, ListN.{length, take, drop}}
 use Rattle.text_format.specs.{Format.{Outcome, contents, refused, read}, Texts.{ascii, separated, Refused}}
 use Rattle.limits.specs.Limits.{file-limit}
-use Rattle.refusal.specs.declared.{Refusal.{Refusal}, Refusal.the-variants.{At}}
+use Rattle.refusal.specs.{declared.Refusal.{Refusal}, declared.Refusal.the-variants.{At}}
 use Rattle.channel_file.specs.{ChannelFile.{Token, Contents, number, line, Shows, Form, Refused4}, FileFormat.{tokens, file}}
 use Rattle.channel_file.specs.declared.Checked.{Checked}
 

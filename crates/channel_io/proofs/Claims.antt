@@ -32,9 +32,9 @@ use Rattle.channel_file.proofs.Claims.{answer-claim, form-met, form-unmet}
 use Rattle.channel_io.specs.FileConditions.{file-setup, contents-table-conditions}
 use Rattle.synthesis.specs.TableOfRule.{pair-conditions, pair-table-conditions}
 use Rattle.channel_file.specs.ChannelFile.{rule-numbers}
-use Rattle.channel_io.specs.FileConditions.{ReadShort, short-meet, short-rule, CompileShort, short-entries, short-table, read-conditions, file-conditions}
+use Rattle.channel_io.specs.FileConditions.{ReadShort, short-meet, short-rule, read-conditions}
+use Rattle.channel_io.specs.FileTables.{CompileShort, short-entries, short-table, file-conditions}
 use Rattle.channel_io.specs.FileRefusals.{file-text}
-use Rattle.characteristic.specs.RuleOfTable.{write-conditions}
 use Rattle.channel_io.specs.FileRefusals.{pair-refusal, has-room, stored-refusal, contents-read-refusal, pair-table-refusal}
 use Rattle.channel_io.specs.FileRefusals.{has-table-room, pair-compile-refusal, file-states, file-table, contents-table-refusal, file-refusal}
 use Rattle.channel_io.specs.FileRefusals.{text-refusal, write-refusal}

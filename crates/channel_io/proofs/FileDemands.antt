@@ -21,9 +21,12 @@ use Rattle.channel_file.proofs.Claims.{shown}
 use Rattle.channel_writer.specs.Writing.{with-token, node-tokens}
 use Rattle.channel_writer.proofs.Claims.{node-claim}
 use Rattle.channel_io.specs.{declared.FileNumbers.{FileNumbers}, declared.FileRead.{FileRead}, declared.FileTable.{FileTable}}
-use Rattle.channel_io.specs.{declared.FileTable.the-variants.{Made, Refused as Unmade}, FileConditions.{file-setup, read-conditions, file-conditions}}
-use Rattle.channel_io.specs.FileConditions.{JudgedText, refusal-read, numbers-read, refusal-made, table-made, numbers, file-numbers, ReadsAs}
-use Rattle.channel_io.specs.FileConditions.{MakesTableOf}
+use Rattle.channel_io.specs.declared.FileTable.the-variants.{Made, Refused as Unmade}
+use Rattle.channel_io.specs.FileConditions.{file-setup, read-conditions}
+use Rattle.channel_io.specs.FileTables.{file-conditions}
+use Rattle.channel_io.specs.FileConditions.{JudgedText, refusal-read, numbers-read, numbers, file-numbers, ReadsAs}
+use Rattle.channel_io.specs.FileTables.{refusal-made, table-made}
+use Rattle.channel_io.specs.FileTables.{MakesTableOf}
 use Rattle.channel_io.specs.FileConditions.{IsFileOf, write-file-conditions, WritesAs}
 use Rattle.channel_io.specs.FileRefusals.{file-text}
 use Rattle.channel_io.specs.FileRefusals.{pair-refusal, stored-refusal, contents-refusal, contents-read-refusal, file-states, file-table, file-refusal}

@@ -6,7 +6,8 @@ use lib.ListN.{length}
 use Rattle.limits.specs.Limits.{file-limit}
 use Rattle.values.specs.Setup.{setup}
 use Rattle.text_format.specs.Format.{contents}
-use Rattle.channel_file.specs.ChannelFile.{Token, Contents, text, Form, first, second, encoded}
+use Rattle.channel_file.specs.ChannelFile.{Token, Contents, text, Form, encoded}
+use Rattle.channel_file.specs.FileFormat.{first, second}
 use Rattle.channel_file.specs.Bytes.{clamp, entry, node}
 use Rattle.channel_file.specs.Reading.{read-file}
 use Rattle.channel_file.proofs.Claims.{read-back-claim}

@@ -3,15 +3,11 @@ use Prim.Native.Nat.{ℕ, _<_, _≤_}
 use mathlib.Core.{List.{List, [], _∷_, _++_}, Path.{_≡_}, Option.{Option, none, some}}
 use lib.ListN.{length}
 use Rattle.refusal.specs.{Refusal.{Condition, plain, at-lowest, JudgedCall, put}, declared.Refusal.{Refusal}}
-use Rattle.values.specs.Setup.{Setup, setup, setup-meet, setup-top}
-use Rattle.formulas.specs.RuleConditions.{node-bytes, OfFormula}
-use Rattle.synthesis.specs.TableOfRule.{TableShort, pair-conditions, pair-table-conditions, IsRuleTable}
+use Rattle.values.specs.Setup.{Setup, setup}
+use Rattle.synthesis.specs.TableOfRule.{pair-conditions, pair-table-conditions}
 use Rattle.channel_file.specs.ChannelFile.{Contents, rule-numbers, text, Shows, Refused4}
 use Rattle.limits.specs.Limits.{file-limit}
-use Rattle.theory.specs.MealyMachine.{Machine}
-use Rattle.machines.specs.TableBytes.{table-bytes, entry-bytes}
-use Rattle.channel_io.specs.{declared.FileNumbers.{FileNumbers}, declared.FileRead.{FileRead}, declared.FileTable.{FileTable}}
-use Rattle.channel_io.specs.{declared.FileRead.the-variants.{Accepted, Refused}, declared.FileTable.the-variants.{Made, Refused as Unmade}}
+use Rattle.channel_io.specs.{declared.FileNumbers.{FileNumbers}, declared.FileRead.{FileRead}, declared.FileRead.the-variants.{Accepted, Refused}}
 
 -- The set-up of a file.
 abbrev pub file-setup : Contents → Setup
@@ -30,20 +26,9 @@ pub data ReadShort (c : Contents) (meet rule : List ℕ) : Type 0 where
   short-meet : length meet < length (c .meet) → ReadShort c meet rule
   short-rule : length rule < length (rule-numbers c) → ReadShort c meet rule
 
--- The same where its table is made.
-pub data CompileShort (c : Contents) (meet to : List ℕ) : Type 0 where
-  short-entries : length meet < length (c .meet) → CompileShort c meet to
-  short-table :
-      OfFormula (node-bytes (file-setup c .kind)) (rule-numbers c)
-      (λ φ. TableShort (setup-meet (file-setup c)) (setup-top (file-setup c)) (c .events) (file-setup c .kind) φ to)
-      → CompileShort c meet to
-
--- The conditions of reading a text with these contents into two buffers, and of making the table.
+-- The conditions of reading a text with these contents into two buffers.
 abbrev pub read-conditions : Contents → List ℕ → List ℕ → List Condition
 read-conditions c meet rule = contents-conditions c ++ (plain 13 (ReadShort c meet rule) ∷ [])
-
-abbrev pub file-conditions : Contents → List ℕ → List ℕ → List Condition
-file-conditions c meet to = contents-table-conditions c ++ (plain 13 (CompileShort c meet to) ∷ [])
 
 -- 4 first, then the conditions on what the text shows; none of them where it shows nothing.
 pub data TextConditions (t : List ℕ) (conditions : Contents → List Condition) : List Condition → Type 1 where
@@ -55,7 +40,7 @@ pub record JudgedText {M : Type 0} (t : List ℕ) (conditions : Contents → Lis
   pub listed : (cs : List Condition) × TextConditions t conditions cs
   pub judged : (cs : List Condition) → TextConditions t conditions cs → JudgedCall cs answer before after
 
--- Document 01's answer for each case of the enums: the refusal, the numbers of the file, and the states of its table.
+-- Document 01's answer for each case of the enums: the refusal, and the numbers of the file.
 abbrev pub refusal-read : FileRead → Option Refusal
 refusal-read (Accepted numbers) = none
 refusal-read (Refused refusal) = some refusal
@@ -63,14 +48,6 @@ refusal-read (Refused refusal) = some refusal
 abbrev pub numbers-read : FileRead → Option FileNumbers
 numbers-read (Accepted numbers) = some numbers
 numbers-read (Refused refusal) = none
-
-abbrev pub refusal-made : FileTable → Option Refusal
-refusal-made (Made numbers states) = none
-refusal-made (Unmade refusal) = some refusal
-
-abbrev pub table-made : FileTable → Option (FileNumbers × ℕ)
-table-made (Made numbers states) = some (numbers, states)
-table-made (Unmade refusal) = none
 
 -- The numbers of a file: those of its set-up, and how many meet entries and nodes it has.
 unfoldable pub numbers : ℕ → ℕ → ℕ → ℕ → ℕ → FileNumbers
@@ -87,16 +64,6 @@ pub record ReadsAs (t meet rule meet′ rule′ : List ℕ) (found : FileNumbers
   pub numbers-are : found ≡ file-numbers contents
   pub meet-put : meet′ ≡ put (contents .meet) meet
   pub rule-put : rule′ ≡ put (rule-numbers contents) rule
-
--- Where its table is made: its numbers, its meet entries, and the table of its rule.
-pub record MakesTableOf (t meet to meet′ to′ : List ℕ) (found : FileNumbers) (states : ℕ) : Type 0 where
-  pub contents : Contents
-  pub shown : Shows contents t
-  pub numbers-are : found ≡ file-numbers contents
-  pub meet-put : meet′ ≡ put (contents .meet) meet
-  pub table : Machine ℕ ℕ
-  pub is-table : IsRuleTable (file-setup contents) (rule-numbers contents) states table
-  pub table-put : to′ ≡ put (table-bytes (entry-bytes (file-setup contents .kind)) (contents .events) table states) to
 
 -- The contents that are written for a set-up and the nodes of a rule.
 abbrev pub IsFileOf : Setup → List ℕ → Contents → Type 0

@@ -1,7 +1,7 @@
 -- Twin of FileConditions, pinned by product_claims DemandOne.
--- Which refusal a file meets, computed, and the table of its rule: the twins of FileJudgement's lists.
+-- Which refusal a file meets, computed, and the table of its rule: the twins of FileConditions' lists.
 use Prim.Native.Nat.{ℕ}
-use mathlib.Core.{List.{List}, Bool.{Bool, _&&_}, Option.{Option, some}}
+use mathlib.Core.{List.{List, []}, Bool.{Bool, _&&_}, Option.{Option, none, some}}
 use lib.{Dec.{leb}, ListN.{length}}
 use Rattle.limits.specs.Limits.{state-limit}
 use Rattle.refusal.specs.{declared.Refusal.{Refusal}, declared.Refusal.the-variants.{At}, RefusalAnswers.{or-else, plain-unless}}
@@ -10,8 +10,9 @@ use Rattle.formulas.specs.RuleRefusal.{rule-refusal}
 use Rattle.machines.specs.TableBytes.{table-bytes, entry-bytes}
 use Rattle.synthesis.specs.Compilation.{rule-states, rule-table, rule-table-refusal}
 use Rattle.text_format.specs.Format.{Outcome, contents, refused}
-use Rattle.channel_file.specs.ChannelFile.{Contents, rule-numbers}
+use Rattle.channel_file.specs.ChannelFile.{Contents, rule-numbers, text}
 use Rattle.channel_io.specs.FileConditions.{file-setup}
+use Rattle.channel_writer.specs.Writing.{contents-of, node-tokens}
 
 -- ---- the text of a file
 

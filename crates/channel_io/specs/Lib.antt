@@ -1,6 +1,8 @@
 -- In reading order.
 -- What a file says, judged on its own numbers: the conditions.
 pub mod FileConditions
+-- The table of a file by one call.
+pub mod FileTables
 -- The conditions of a text, and what an accepted call yields.
 -- The same by the file reader's answer.
 -- The same computed, and the table of a file's rule.

@@ -13,7 +13,8 @@ use Rattle.refusal.proofs.Refusals.{judged}
 use Rattle.text_format.specs.Format.{contents}
 use Rattle.text_format.specs.Texts.{OneOrMore}
 use Rattle.channel_file.specs.ChannelFile.{Token, token-T, token-A, token-V, token-X, token-G, token-O, Contents, Small, SmallToken, SmallContents}
-use Rattle.channel_file.specs.ChannelFile.{first, second, kind, encoded, text}
+use Rattle.channel_file.specs.FileFormat.{first, second, kind}
+use Rattle.channel_file.specs.ChannelFile.{encoded, text}
 use Rattle.channel_file.specs.Reading.{read-file}
 use Rattle.channel_file.specs.Bytes.{clamp, node, entry, meet-bytes, rule-bytes}
 use Rattle.channel_file.proofs.Claims as read

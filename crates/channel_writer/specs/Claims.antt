@@ -5,7 +5,10 @@ use lib.ListN.{length}
 use Rattle.limits.specs.Limits.{file-limit}
 use Rattle.refusal.specs.Refusal.{Condition, plain, JudgedCall, counted-refusal}
 use Rattle.text_format.specs.Format.{contents}
-use Rattle.channel_file.specs.{ChannelFile.{Token, Contents, text, SmallContents, first, second, kind}, Reading.{read-file}, Bytes.{meet-bytes, rule-bytes}}
+use Rattle.channel_file.specs.ChannelFile.{Token, Contents, text, SmallContents}
+use Rattle.channel_file.specs.FileFormat.{first, second, kind}
+use Rattle.channel_file.specs.Reading.{read-file}
+use Rattle.channel_file.specs.Bytes.{meet-bytes, rule-bytes}
 use Rattle.channel_writer.specs.Writing.{node-token, node-tokens, contents-of, written-reply, written-buffer}
 
 -- The conditions of writing contents into a buffer: 5 where there are none, which no text can show; 13 for a text over 4,096 bytes or

@@ -2,6 +2,7 @@
 use mathlib.Core.{Path.{_≡_}, List.{List, [], _∷_}}
 use Prim.Native.Nat.{ℕ, _<_}
 use lib.ListN.{length, getD}
+use Rattle.formulas.specs.RuleConditions.{node-fields}
 use Rattle.theory.specs.Formula.{Node, truth-node, variable-node, transition-node, output-node, conjunction-node, greatest-node}
 
 module _ {B : Type 0} where
@@ -42,4 +43,4 @@ value-field greatest-node = 0
 
 -- The three bytes where values are numbers.
 abbrev pub three-bytes : Node ℕ → List ℕ
-three-bytes n = kind-number n ∷ first-field n ∷ value-field n ∷ []
+three-bytes n = node-fields n .0 ∷ node-fields n .1 ∷ node-fields n .2 ∷ []

@@ -1,43 +1,31 @@
 -- What `compile` stores, as input of a trial; and the rule of a table as input of `compile`.
-use mathlib.Core.{Path.{_≡_, refl, sym, _∙_, ap, subst, subst⁻¹}, Bool.{Bool, true, false}, Logic.{_↔_, Iff·trans}, List.{List, _++_}, Option.{Option, none, some, Option·some-ne-none}}
+use mathlib.Core.{Path.{_≡_, refl, sym, _∙_, ap, subst, subst⁻¹}, Bool.{Bool, true, false}, Logic.{_↔_, Iff·trans}, List.{List, _++_}}
+use mathlib.Core.Option.{Option, none, some, Option·some-ne-none}
 use Prim.Native.Nat.{ℕ, zero, _*_, _≤_, _<_}
-use native.Mathlib.{Nat.{mul-le-mul-right}, Omega.{arith}}
 use borrow.Author.Tests.{le-leb}
 use lib.{Dec.{T, leb}, ListN.{length, take, drop}, Seq.{take-append-seam}}
-use Rattle.theory.specs.ValueSets.{MeetSemilattice, AtOrBelow}
-use Rattle.theory.specs.Formula.{Formula, size}
-use Rattle.theory.specs.FormulaClasses.{WellFormed}
-use Rattle.theory.specs.Formula.{Answers}
-use Rattle.theory.specs.MealyMachine.{Machine, Word, after, States}
-use Rattle.theory.specs.MachineRuns.{Runs}
-use Rattle.theory.specs.Satisfaction.{Satisfies}
-use Rattle.theory.specs.TableSatisfaction.{TableSatisfies}
+use Rattle.theory.specs.{ValueSets.{MeetSemilattice, AtOrBelow}, Formula.{Formula, size, Answers}, FormulaClasses.{WellFormed}}
+use Rattle.theory.specs.{MealyMachine.{Machine, Word, after, States}, MachineRuns.{Runs}, Satisfaction.{Satisfies}, TableSatisfaction.{TableSatisfies}}
 use Rattle.theory.specs.ReachableStates.{IsTableOf}
 use Rattle.theory.proofs.Claims.{grammar, answers, table-satisfaction}
-use Rattle.refusal.specs.declared.Refusal.{Refusal}
-use Rattle.refusal.specs.RefusalAnswers.{or-else, plain-unless}
-use Rattle.refusal.specs.Refusal.{put, put-unless}
-use Rattle.refusal.specs.declared.Refusal.the-variants.{Plain}
-use Rattle.refusal.specs.Refusal.{First, JudgedCall, counted-refusal, count-of}
+use Rattle.refusal.specs.{declared.Refusal.{Refusal}, RefusalAnswers.{or-else, plain-unless}}
+use Rattle.refusal.specs.{Refusal.{put, put-unless, First, JudgedCall, counted-refusal, count-of}, declared.Refusal.the-variants.{Plain}}
 use Rattle.refusal.proofs.{Refusals.{or-else-none}, Answers.{counted-refusal-is, count-of-counted, counted-judged, counted-put}}
 use Rattle.limits.specs.Limits.{node-limit, state-limit, device-limit, table-limit, word-limit}
 use Rattle.values.specs.{Setup.{Setup, SetupValue, setup-meet, setup-top}, ValueTests.{at-or-below}, SetupTests.{setup-refusal}}
 use Rattle.values.proofs.ValueKinds.{value-kinds}
 use Rattle.machines.specs.{TableBytes.{table-bytes, entry-width, entry-bytes, machine-of}, TableRefusal.{table-refusal}}
-use Rattle.machines.proofs.{EntryBytes.{table-length}, TableRoundTrip.{read-back, entry-length}, TableRefusals.{table-accepted, accepted-table, in-order-none}}
-use Rattle.formulas.specs.RuleConditions.{encode-formula, node-bytes}
-use Rattle.formulas.specs.RuleRefusal.{rule-refusal, formula-of}
-use Rattle.formulas.specs.Claims.{AcceptedFormula}
+use Rattle.machines.proofs.{EntryBytes.{table-length}, TableRoundTrip.{read-back, entry-length}}
+use Rattle.machines.proofs.TableRefusals.{table-accepted, accepted-table, in-order-none}
+use Rattle.formulas.specs.{RuleConditions.{encode-formula, node-bytes}, RuleRefusal.{rule-refusal, formula-of}, Claims.{AcceptedFormula}}
 use Rattle.formulas.proofs.RuleClaims.{accepted-formula-of, formula-of-only, rule-judged as bytes-judged}
-use Rattle.synthesis.specs.{Compilation.{rule-table-refusal, setup-states, setup-table, compile-refusal, compile-answer, compile-contents}, Claims.{CompiledBytes}}
-use Rattle.synthesis.specs.TableOfRule.{compile-conditions, IsRuleTable}
+use Rattle.synthesis.specs.Compilation.{rule-table-refusal, setup-states, setup-table, compile-refusal, compile-answer, compile-contents}
+use Rattle.synthesis.specs.{Claims.{CompiledBytes}, TableOfRule.{compile-conditions, IsRuleTable}}
 use Rattle.synthesis.proofs.{CompiledTable.{few-states, is-table, table-runs}, LentTable.{contents-at, laws, few}}
 use Rattle.synthesis.proofs.CompileClaims.{table-agrees, compile-refusal-claim, compile-claim, made-table, printed-table}
-use Rattle.characteristic.specs.{RuleOfTable.{write-conditions, IsWritten}, RuleWriting.{write-refusal, write-answer, write-contents}}
-use Rattle.characteristic.specs.Claims.{Written}
+use Rattle.characteristic.specs.{RuleOfTable.{write-conditions, IsWritten}, RuleWriting.{write-refusal, write-answer, write-contents}, Claims.{Written}}
 use Rattle.characteristic.proofs.Claims.{write-refusal-claim, written-claim}
-use Rattle.conformance.specs.Trial.{input, DeviceInOrder, Passed}
-use Rattle.conformance.specs.TrialAnswer.{tables-refusal, trial-refusal, trial-answer}
+use Rattle.conformance.specs.{Trial.{input, DeviceInOrder, Passed}, TrialAnswer.{tables-refusal, trial-refusal, trial-answer}}
 use Rattle.conformance.proofs.TrialClaims.{trial-satisfies}
 use Rattle.product_claims.specs.Demands.{rule-trial-input, Recompiled}
 

@@ -6,13 +6,12 @@ use Rattle.refusal.proofs.Answers.{judgement-refusal-is}
 use Rattle.values.specs.{Setup.{setup-conditions}, SetupTests.{setup-refusal}}
 use Rattle.values.proofs.Setups.{setup-judged}
 use Rattle.synthesis.proofs.SetupArrays.{arrays-judged, arrays-hold, arrays-refused}
-use Rattle.conformance.specs.{Trial.{refusal-of}, TrialAnswer.{trial-refusal}}
 use Rattle.conformance.proofs.TrialClaims.{trial-refusals, trial-refused, trial-passes, trial-simulated, trial-fails-by}
 use Rattle.recorder.proofs.Tools.{one-store}
 use Rattle.recorder_claims.proofs.Calls.{calls-judged, replay-judged, replay-events, set-up-judged, refused-set-up, record-of-calls, independence}
 use Rattle.recorder_claims.proofs.Loading.{load-claim}
 use Rattle.channel_file.proofs.TextDemands.{file-to-tokens}
-use Rattle.channel_io.proofs.FileDemands.{reading-a-file, file-to-rule, compiling-a-file, file-to-table, writing-a-file, rule-to-file, file-to-rule-to-file}
+use Rattle.channel_io.proofs.FileDemands.{reading-a-file, file-to-rule, writing-a-file, rule-to-file, file-to-rule-to-file}
 use Rattle.table_report.proofs.ReportDemands.{reporting, file-to-report}
 use Rattle.product_claims.specs.Demands.{DemandOne, DemandTwo, DemandThree}
 use Rattle.product_claims.proofs.Compiled.{rule-trial, rule-judged, table-to-rule, table-to-rule-to-table, compile-judged, rule-to-table}
@@ -34,7 +33,6 @@ demand-one =
       calling = calls-judged;
       replaying = replay-judged;
       reading-a-file = reading-a-file;
-      compiling-a-file = compiling-a-file;
       writing-a-file = writing-a-file;
       reporting = reporting;
     }
@@ -50,7 +48,6 @@ demand-two =
       file-to-rule = file-to-rule;
       rule-to-file = rule-to-file;
       file-to-rule-to-file = file-to-rule-to-file;
-      file-to-table = file-to-table;
       file-to-report = file-to-report;
       file-to-tokens = file-to-tokens;
     }

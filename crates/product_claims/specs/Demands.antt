@@ -20,10 +20,9 @@ use Rattle.recorder.specs.{Store.{Store, AllCells, setup-of, channels, StoreCla
 use Rattle.recorder.specs.CallConditions.{call-conditions, replay-conditions}
 use Rattle.recorder_claims.specs.ChannelLog.{AsLogged, LoadedAs}
 use Rattle.channel_file.specs.{ChannelFile.{TokensOf}, Reading.{read-file, tokens-stretch}}
-use Rattle.channel_io.specs.{declared.FileRead.{FileRead}, declared.FileTable.{FileTable}, declared.FileNumbers.{FileNumbers}}
-use Rattle.channel_io.specs.FileConditions.{read-conditions, file-conditions, JudgedText, refusal-read, numbers-read, ReadsAs, refusal-made, table-made}
-use Rattle.channel_io.specs.FileConditions.{MakesTableOf, write-file-conditions, WritesAs}
-use Rattle.channel_io.specs.{FileReading.{Reads}, FileCompilation.{CompilesFile}, FileWriting.{WritesFile}}
+use Rattle.channel_io.specs.{declared.FileRead.{FileRead}, declared.FileNumbers.{FileNumbers}}
+use Rattle.channel_io.specs.FileConditions.{read-conditions, JudgedText, refusal-read, numbers-read, ReadsAs, write-file-conditions, WritesAs}
+use Rattle.channel_io.specs.{FileReading.{Reads}, FileWriting.{WritesFile}}
 use Rattle.table_report.specs.{PrintedTable.{Prints, report-conditions}, Report.{Reports}}
 
 -- Demand 1: "any public entry takes any input of its type: the call .. accepts or refuses by document 01's list, and a refusal changes no
@@ -55,13 +54,10 @@ pub record DemandOne : Type 1 where
       (t : Store) (c : ℕ) (word old : List ℕ) →
       JudgedCall {M = Store × List ℕ} (replay-conditions t c word old) (reply-refusal (replayed t c word old .0 .0)) (t, old)
       (replayed t c word old .0 .1, replayed t c word old .1)
-  -- channel_io `read_file`, `compile_file` and `write_file`
+  -- channel_io `read_file` and `write_file`
   pub reading-a-file :
       (t meet rule meet′ rule′ : List ℕ) (r : FileRead) → Reads t meet rule meet′ rule′ r →
       JudgedText {M = List ℕ × List ℕ} t (λ c. read-conditions c meet rule) (refusal-read r) (meet, rule) (meet′, rule′)
-  pub compiling-a-file :
-      (t meet to meet′ to′ : List ℕ) (r : FileTable) → CompilesFile t meet to meet′ to′ r →
-      JudgedText {M = List ℕ × List ℕ} t (λ c. file-conditions c meet to) (refusal-made r) (meet, to) (meet′, to′)
   pub writing-a-file :
       (events values top : ℕ) (meet rule old new : List ℕ) (r : Counted) → WritesFile events values top meet rule old new r →
       JudgedCall (write-file-conditions (setup events values top meet) rule old) (counted-refusal r) old new
@@ -113,9 +109,6 @@ pub record DemandTwo : Type 0 where
       (found : FileNumbers) → numbers-read r ≡ some found → (old new : List ℕ) (w : Counted) →
       WritesFile (found .events) (found .values) (found .top) (take (found .entries) meet′) (take (3 * found .nodes) rule′) old new w →
       length t ≤ length old → (count-of w ≡ some (length t)) × (new ≡ put t old)
-  pub file-to-table :
-      (t meet to meet′ to′ : List ℕ) (r : FileTable) → CompilesFile t meet to meet′ to′ r →
-      (found : FileNumbers) (n : ℕ) → table-made r ≡ some (found, n) → MakesTableOf t meet to meet′ to′ found n
   -- what the program prints, and the tokens of a file
   pub file-to-report :
       (t old new : List ℕ) (r : Counted) → Reports t old new r → (n : ℕ) → count-of r ≡ some n →

@@ -1,7 +1,7 @@
 -- Each call on a tool, and a sequence of events, is judged by its conditions.
 use mathlib.Core.{Path.{_≡_, refl, subst}, Logic.{inl, inr}, Bool.{Bool, true, false, cond}, List.{List, [], _∷_}}
 use mathlib.Core.Option.{Option, none, some, Option·some-ne-none}
-use Prim.Native.Nat.{ℕ, _<_}
+use Prim.Native.Nat.{ℕ, _<_, zero, suc}
 use native.Mathlib.Omega.{arith}
 use borrow.Author.Tests.{ltb-true, ltb-false, leb-true, leb-false}
 use lib.{Dec.{ltb, leb}, ListN.{length, getD}}
@@ -27,6 +27,7 @@ use Rattle.recorder.specs.CallConditions.{call-conditions}
 use Rattle.recorder.specs.CallConditions.{replay-conditions}
 use Rattle.recorder_claims.specs.Claims.{CallRefusalClaim, ReplayRefusalClaim}
 use Rattle.recorder_claims.proofs.{Claims.{fault-of, tool-tested}, LoadedRules.{rule-first}}
+use Rattle.theory.specs.MealyMachine.{Word}
 
 -- A number that is not below another.
 pub number-first : (n a b : ℕ) → First (plain n (¬ (a < b)) ∷ []) (cond (ltb a b) none (some (Plain n)))
@@ -87,7 +88,7 @@ call-first t restart-all = after-17 t restart-all [] none (λ h. no-conditions)
 call-first t (clear c) = after-17 t (clear c) (channel-condition c ∷ []) (channel-refusal c) (λ h. number-first 14 c channel-limit)
 
 pub call-refusals : CallRefusalClaim
-unfolding call-conditions rule-conditions-of condition-numbers right-places has-place part-of order
+unfolding call-conditions condition-numbers right-places has-place part-of order
 call-refusals t (load c r) = judged _ _ (call-first t (load c r)) refl refl
 call-refusals t (event c e) = judged _ _ (call-first t (event c e)) refl refl
 call-refusals t (restart c) = judged _ _ (call-first t (restart c)) refl refl

@@ -38,7 +38,6 @@ module _ (s : Setup) (rule : List ℕ) where
   module _ (ok : setup-refusal s ≡ none) where
     -- 5 to 10 beside an accepted set-up, of which none is 17.
     pub rule-first : First (rule-conditions-of s rule) (rule-judged s rule)
-    unfolding rule-conditions-of
     rule-first =
         let w = setup-accepted s .0 ok in
         subst (First (rule-conditions-of s rule)) (answer-is s rule ok)
@@ -46,7 +45,7 @@ module _ (s : Setup) (rule : List ℕ) where
         (compile-rule-claim state-limit (s .kind) (s .events) (setup-top s) (s .meet) rule (omega arith) (laws s ok) .0 .first))
 
     pub judged-not-17 : Not 17 (rule-judged s rule)
-    unfolding rule-conditions-of condition-numbers part-of
+    unfolding condition-numbers part-of
     judged-not-17 = first-not 17 (rule-conditions-of s rule) (rule-judged s rule) refl rule-first
 
     module _ (fine : rule-judged s rule ≡ none) where

@@ -9,6 +9,7 @@ use Rattle.values.specs.Setup.{Setup, setup-meet, setup-top}
 use Rattle.formulas.specs.RuleConditions.{encode-formula, node-bytes}
 use Rattle.channel_log.specs.Calls.{Call, load, event, restart, restart-all, clear, Reply, accepted, returned, refused, Channels, with-channel, map-option}
 use Rattle.channel_log.specs.Calls.{History, Loaded, StandsAs, all-empty}
+use Rattle.recorder.specs.CallConditions.{channel-conditions}
 
 abbrev pub history : Formula ℕ → List ℕ → History ℕ
 history φ w = record { rule = φ; events = w }

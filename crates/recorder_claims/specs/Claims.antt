@@ -1,7 +1,7 @@
 -- What is claimed of a tool: demand 3 and the independence of channels for the tool of every accepted set-up (document 01, "Tool"),
 -- over the calls that the contracts state; the printed condition of 17; what a refused set-up hands back; a sequence of events.
 use mathlib.Core.{Path.{_≡_}, Logic.{_↔_}, Bool.{true}, List.{List, map}, Option.{none}}
-use Prim.Native.Nat.{ℕ}
+use Prim.Native.Nat.{ℕ, _<_}
 use lib.ListN.{length}
 use Rattle.limits.specs.Limits.{channel-limit}
 use Rattle.recorder_claims.specs.ChannelLog.{AsLogged, LoadedAs}
@@ -12,6 +12,9 @@ use Rattle.channel_log.specs.{Calls.{Call, returned, refused, replies, History,
 use Rattle.channel_log.specs.Claims.{RecordClaim, IndependenceClaim}
 use Rattle.recorder.specs.{Store.{Store, channels, setup-of, AllCells}, CallConditions.{ToolFault}, ToolTests.{tool-test}, CompiledRule.{rule-judged}}
 use Rattle.recorder.specs.{Called.{called, new-store, blank}, Replay.{replay-refusal}}
+use Rattle.refusal.specs.Refusal.{Condition, Judged, plain}
+use Rattle.recorder.specs.CallConditions.{call-conditions, replay-conditions}
+use Rattle.recorder.specs.Called.{tool-refusal}
 
 -- The log of a set-up: 5 to 10 by their list, the rule that accepted bytes are, and its values by the formula semantics.
 abbrev pub setup-log : Setup → Content (History ℕ) ℕ ℕ

@@ -4,7 +4,9 @@ use mathlib.Core.{Path.{_≡_}, List.{List}, Option.{none}}
 use lib.ListN.{length}
 use Rattle.limits.specs.Limits.{table-limit, event-limit}
 use Rattle.refusal.specs.Refusal.{Judged}
-use Rattle.table_rows.specs.Rendering.{handed-refusal}
+use Rattle.table_rows.specs.Rendering.{handed-refusal, rendering-refusal}
+use Rattle.table_rows.specs.TableConditions.{rendering-conditions}
+use Rattle.table_rows.specs.Rows.{rows-text, rows-limit}
 
 -- A table handed in to be rendered is judged as document 01 asks, whatever the text.
 abbrev pub RenderingClaim : Type 0

@@ -1,7 +1,7 @@
 -- `channel_file::put_node` meets its contract: three bytes one after another.
 use mathlib.Core.{Path.{_≡_, ap, _∙_}, List.{[], _∷_}}
 use Rattle.text_output.proofs.Outputs.{puts-then, puts-as}
-use Rattle.channel_file.specs.ChannelFile.{first, second, kind}
+use Rattle.channel_file.specs.FileFormat.{first, second, kind}
 use Rattle.channel_file.specs.Bytes.{clamp, node}
 use Rattle.channel_file.specs.Steps.{token-of}
 use borrow.Author.Needs.{needs}
