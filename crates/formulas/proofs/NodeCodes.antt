@@ -11,8 +11,8 @@ use Rattle.values.specs.ValueKind.{ValueIn}
 use Rattle.values.specs.ValueBytes.{value-width, value-bytes, value-from}
 use Rattle.values.proofs.ValueBytes.{value-bytes-correct}
 use Rattle.formulas.specs.{NodeBytes.{kind-number, first-field, value-field, node-width, node-bytes}, RuleReading.{kind-of, node-of}}
-use Rattle.formulas.specs.{RuleRefusal.{kind-at, first-at, value-at}, Claims.{NodeCodeClaim}}
-use Rattle.formulas.proofs.{NodeFields.{HasFields}, Encoding.{node-back}}
+use Rattle.formulas.specs.{NodeCode.{HasFields}, RuleRefusal.{kind-at, first-at, value-at}, Claims.{NodeCodeClaim}}
+use Rattle.formulas.proofs.Encoding.{node-back}
 
 pub width-is : (kind : ValueKind) → node-width kind ≡ 2 + value-width kind
 width-is (Numbered n) = refl
