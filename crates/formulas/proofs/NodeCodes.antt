@@ -14,7 +14,8 @@ use Rattle.formulas.specs.NodeCode.{kind-number, first-field, value-fiel
 use Rattle.formulas.specs.RuleConditions.{node-width, node-bytes, node-fields}
 use Rattle.formulas.specs.RuleReading.{kind-of, node-of}
 use Rattle.formulas.specs.{RuleRefusal.{kind-at, first-at, value-at}, Claims.{NodeCodeClaim}}
-use Rattle.formulas.proofs.{NodeFields.{HasFields}, Encoding.{node-back}}
+use Rattle.formulas.specs.NodeCode.{HasFields}
+use Rattle.formulas.proofs.Encoding.{node-back}
 
 pub width-is : (kind : ValueKind) → node-width kind ≡ 2 + value-width kind
 width-is (Numbered n) = refl

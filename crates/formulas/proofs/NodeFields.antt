@@ -5,15 +5,9 @@ use native.Mathlib.Omega.{arith}
 use lib.Dec.{eqb, ltb}
 use borrow.Author.Tests.{eqb-true, ltb-true, lt-ltb}
 use Rattle.theory.specs.Formula.{Node, truth-node, variable-node, transition-node, output-node, conjunction-node, greatest-node}
-use Rattle.formulas.specs.NodeCode.{kind-number, first-field, value-field}
+use Rattle.formulas.specs.NodeCode.{kind-number, first-field, value-field, HasFields}
 use Rattle.formulas.specs.RuleConditions.{NodeFits}
 use Rattle.formulas.specs.RuleReading.{kind-of, fields-fit, node-of}
-
--- A node with these three fields.
-pub record HasFields (n : Node ℕ) (k a v : ℕ) : Type 0 where
-  pub kind-is : kind-number n ≡ k
-  pub first-is : first-field n ≡ a
-  pub value-is : value-field n ≡ v
 
 both-true : (a b : Bool) → (a && b) ≡ true → (a ≡ true) × (b ≡ true)
 both-true true b e = (refl, e)

@@ -2,11 +2,16 @@
 use mathlib.Core.{Path.{_≡_}, Logic.{_↔_}, Bool.{true}, Option.{none}, List.{List}}
 use Prim.Native.Nat.{ℕ, _*_, _≤_}
 use lib.ListN.{length}
-use Rattle.theory.specs.{Formula.{Formula, size}, FormulaClasses.{Accepted}}
-use Rattle.values.specs.{declared.ValueKind.{ValueKind}, Setup.{ValueIn}, ValueTests.{value-fits}}
+use Rattle.theory.specs.Formula.{Formula, size, Node}
+use Rattle.theory.specs.FormulaClasses.{Accepted}
+use Rattle.values.specs.declared.ValueKind.{ValueKind}
+use Rattle.values.specs.Setup.{ValueIn}
+use Rattle.values.specs.ValueTests.{value-fits}
 use Rattle.limits.specs.Limits.{node-limit}
-use Rattle.refusal.specs.Refusal.{Judged}
-use Rattle.formulas.specs.{NodeCode.{NodeCode}, RuleConditions.{encode-formula, node-width, node-bytes, NodeAtFault, byte-conditions}}
+use Rattle.refusal.specs.{declared.Judgement.{Judgement}, Refusal.{Judged, judgement-refusal}, RefusalAnswers.{judgement}}
+use Rattle.formulas.specs.NodeCode.{NodeCode, three-bytes, field-list, HoldsNodes}
+use Rattle.formulas.specs.RuleConditions.{encode-formula, node-width, node-bytes}
+use Rattle.formulas.specs.RuleConditions.{NodeAtFault, rule-conditions, byte-conditions}
 use Rattle.formulas.specs.{NodeReading.{Reads}, NodeWalks.{field}, NodeArrays.{decoded}}
 use Rattle.formulas.specs.RuleRefusal.{count-fits, fields-refusal, kind-at, first-at, value-at, rule-refusal, formula-of}
 
@@ -17,6 +22,21 @@ NodeCodeClaim = (kind : ValueKind) → NodeCode (node-width kind) (node-bytes ki
 -- A rule is judged as document 01 asks.
 abbrev pub RuleRefusalClaim : Type 0
 RuleRefusalClaim = (events : ℕ) (kind : ValueKind) (bytes : List ℕ) → Judged (byte-conditions events kind bytes) (rule-refusal events kind bytes)
+
+-- Nodes handed in as arrays of fields, the first `count` of each, are judged as document 01 asks: the list of these fields, three
+-- numbers a node; and so are bytes that hold them, under any node code. r is the answer of `check_nodes`.
+pub record NodesRefusalClaim : Type 0 where
+  pub of-fields :
+      (events : ℕ) (kind : ValueKind) (kinds firsts values : List ℕ) (count : ℕ) (r : Judgement) →
+      r ≡ judgement (fields-refusal (field kinds) (field firsts) (field values) count (value-fits kind) events) →
+      Judged (rule-conditions 3 three-bytes node-limit events (ValueIn kind) (field-list (field kinds) (field firsts) (field values) count 0))
+      (judgement-refusal r)
+  pub of-bytes :
+      (width : ℕ) (encode : Node ℕ → List ℕ) → NodeCode width encode →
+      (events : ℕ) (kind : ValueKind) (kinds firsts values : List ℕ) (count : ℕ) (bytes : List ℕ) →
+      HoldsNodes (field kinds) (field firsts) (field values) width encode events (ValueIn kind) count bytes →
+      (r : Judgement) → r ≡ judgement (fields-refusal (field kinds) (field firsts) (field values) count (value-fits kind) events) →
+      Judged (rule-conditions width encode node-limit events (ValueIn kind) bytes) (judgement-refusal r)
 
 -- Bytes are accepted exactly if they are the prefix code of a closed formula of the grammar, within the set-up and the limit.
 pub record AcceptedFormula (events : ℕ) (kind : ValueKind) (bytes : List ℕ) (φ : Formula ℕ) : Type 0 where

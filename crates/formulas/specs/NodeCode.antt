@@ -1,9 +1,10 @@
 -- What is proved with of nodes in bytes: each takes so many, and equal bytes are of equal nodes.
 use mathlib.Core.{Path.{_≡_}, List.{List, [], _∷_}}
-use Prim.Native.Nat.{ℕ, _<_}
+use Prim.Native.Nat.{ℕ, zero, suc, _*_, _<_}
 use lib.ListN.{length, getD}
 use Rattle.formulas.specs.RuleConditions.{node-fields}
 use Rattle.theory.specs.Formula.{Node, truth-node, variable-node, transition-node, output-node, conjunction-node, greatest-node}
+use Rattle.formulas.specs.RuleConditions.{NodeFits, node-at}
 
 module _ {B : Type 0} where
   -- The kinds' numbers.
@@ -44,3 +45,23 @@ value-field greatest-node = 0
 -- The three bytes where values are numbers.
 abbrev pub three-bytes : Node ℕ → List ℕ
 three-bytes n = node-fields n .0 ∷ node-fields n .1 ∷ node-fields n .2 ∷ []
+
+-- A node with these three fields.
+pub record HasFields (n : Node ℕ) (k a v : ℕ) : Type 0 where
+  pub kind-is : kind-number n ≡ k
+  pub first-is : first-field n ≡ a
+  pub value-is : value-field n ≡ v
+
+module _ (kind first value : ℕ → ℕ) where
+  -- The fields of the nodes from i on, `left` of them, in a row: three numbers a node.
+  unfoldable pub field-list : ℕ → ℕ → List ℕ
+  field-list zero i = []
+  field-list (suc left) i = kind i ∷ first i ∷ value i ∷ field-list left (suc i)
+
+  -- Bytes that hold `count` nodes with these fields, in whatever way nodes lie in bytes: the bytes of node i are those of the node
+  -- that has its fields, where that fits, and of no other.
+  pub record HoldsNodes (width : ℕ) (encode : Node ℕ → List ℕ) (events : ℕ) (In : ℕ → Type 0) (count : ℕ) (bytes : List ℕ) : Type 0 where
+    pub whole : length bytes ≡ count * width
+    pub its-bytes :
+        (i : ℕ) → i < count → (n : Node ℕ) → NodeFits events In n → HasFields n (kind i) (first i) (value i) → node-at width bytes i ≡ encode n
+    pub its-fields : (i : ℕ) → i < count → (n : Node ℕ) → node-at width bytes i ≡ encode n → HasFields n (kind i) (first i) (value i)

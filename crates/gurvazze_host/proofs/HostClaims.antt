@@ -113,6 +113,7 @@ module _ (t old new : List ℕ) (r : ℕ) (is-code : r ≡ table-code (read-file
       record {
         answer = table-answer;
         judged = table-judged;
+        of-list = text-judged-listed table-judged;
         told =
             subst (TellsRefusal table-answer) (sym (is-code ∙ table-coded (read-file t)))
             (code-claim .refusals table-answer (table-yield (read-file t)) (text-judged-listed table-judged));
@@ -176,6 +177,7 @@ module _ (t word old new : List ℕ) (r : ℕ) (is-code : r ≡ replay-code (rea
         listed = text-listed (λ c. replay-conditions c word old) t;
         judged = replay-judged;
         kept = λ q e. is-new ∙ replay-kept (read-file t) q e;
+        of-list = replay-listed;
         told = subst (TellsRefusal replay-answer) (sym (is-code ∙ replay-coded (read-file t))) (code-claim .refusals replay-answer 0 replay-listed);
         yields-zero = λ z. is-code ∙ replay-coded (read-file t) ∙ ap (λ (o : Option Refusal). code o 0) z;
         made = replay-made (read-file t) refl;
@@ -208,6 +210,7 @@ module _ (x : TrialInput) (old new : List ℕ) (r : ℕ) (is-code : r ≡ verdic
       record {
         answer = verdict;
         judged = record { judged = j; kept = λ q e. is-new ∙ trial-refused device-limit table-limit .kept x old q e };
+        of-list = judged-listed _ _ j;
         told =
             subst (TellsVerdict verdict) (sym is-code)
             (code-claim .verdicts verdict (judged-listed _ _ j) (λ n e. trial-fails device-limit table-limit x old n e .some-events));
@@ -296,6 +299,7 @@ module _ (t : List ℕ) (states start : ℕ) (device old new : List ℕ) (r : �
       record {
         answer = file-verdict;
         judged = file-judged;
+        of-list = text-judged-listed file-judged;
         told =
             subst (TellsVerdict file-verdict) (sym is-code)
             (code-claim .verdicts file-verdict (text-judged-listed file-judged) (file-fails (read-file t)));
@@ -328,6 +332,7 @@ module _ (s : Setup) (states start : ℕ) (table old new : List ℕ) (r : ℕ)
       record {
         answer = count;
         judged = record { judged = j; kept = λ q e. rule-kept q (sym count-refusal ∙ e) };
+        of-list = judged-listed _ _ j;
         told = subst (TellsCount count) (sym is-code) (code-claim .counts count (judged-listed _ _ j));
         made = λ z.
             let w = written-claim s states start table old (sym count-refusal ∙ z) in

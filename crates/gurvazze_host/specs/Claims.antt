@@ -143,10 +143,11 @@ pub record TableMade (t old new : List ℕ) (r : ℕ) : Type 0 where
   pub table-put : new ≡ put (table-bytes (entry-bytes (Numbered (inside .values))) (inside .events) table states) old
   pub numbers : TellsNumbers states (inside .events) (inside .values) (inside .top) (r / 256)
 
--- 4, 1 to 3, 5 to 10, 13.
+-- gurvazze_table: 4, 1 to 3, 5 to 10, 13.
 pub record TableCall (t old new : List ℕ) (r : ℕ) : Type 1 where
   pub answer : Option Refusal
   pub judged : JudgedText t (λ c. compile-conditions state-limit (file-setup c) (rule-numbers c) old) answer old new
+  pub of-list : ListedAnswer answer
   pub told : TellsRefusal answer r
   pub made : answer ≡ none → TableMade t old new r
 
@@ -157,12 +158,13 @@ pub record ReplayMade (t word old new : List ℕ) : Type 0 where
   pub replayed : Replayed inside word
   pub values-put : new ≡ put (word-values (file-machine inside) 0 word) old
 
--- 4, 1 to 3, 5 to 10, 16, 13.
+-- gurvazze_replay: 4, 1 to 3, 5 to 10, 16, 13, in its own order.
 pub record ReplayCall (t word old new : List ℕ) (r : ℕ) : Type 1 where
   pub answer : Option Refusal
   pub listed : (cs : List Condition) × TextConditions t (λ c. replay-conditions c word old) cs
   pub judged : (cs : List Condition) → TextConditions t (λ c. replay-conditions c word old) cs → JudgedReplay cs answer
   pub kept : (refusal : Refusal) → answer ≡ some refusal → new ≡ old
+  pub of-list : ListedAnswer answer
   pub told : TellsRefusal answer r
   pub yields-zero : answer ≡ none → r ≡ 0
   pub made : answer ≡ none → ReplayMade t word old new
@@ -187,10 +189,11 @@ pub record FileTrialMade (t : List ℕ) (states start : ℕ) (device old new : L
       ↔ TableSatisfies (setup-meet (file-setup inside)) states (machine-of (Numbered (inside .values)) (inside .events) device)
       (is-table .formula) start
 
--- 4, 1 to 3, 5 to 10, 11, 13.
+-- gurvazze_trial: 4, 1 to 3, 5 to 10, 11, 13.
 pub record FileTrialCall (t : List ℕ) (states start : ℕ) (device old new : List ℕ) (r : ℕ) : Type 1 where
   pub answer : Verdict
   pub judged : JudgedText t (λ c. file-trial-conditions c states start device old) (refusal-of answer) old new
+  pub of-list : ListedAnswer (refusal-of answer)
   pub told : TellsVerdict answer r
   pub made : refusal-of answer ≡ none → FileTrialMade t states start device old new answer
 
@@ -198,6 +201,7 @@ pub record FileTrialCall (t : List ℕ) (states start : ℕ) (device old new : L
 pub record TrialCall (x : TrialInput) (old new : List ℕ) (r : ℕ) : Type 1 where
   pub answer : Verdict
   pub judged : JudgedCall (trial-conditions device-limit table-limit x old) (refusal-of answer) old new
+  pub of-list : ListedAnswer (refusal-of answer)
   pub told : TellsVerdict answer r
   pub made : refusal-of answer ≡ none → TrialMade x old new answer
 
@@ -208,10 +212,11 @@ pub record RuleMade (s : Setup) (start : ℕ) (table old new : List ℕ) (answer
   pub count-is : count-of answer ≡ some (size rule)
   pub nodes-put : new ≡ put (encode-formula (node-bytes (s .kind)) rule) old
 
--- 1 to 3, 11, 12, 13.
+-- gurvazze_rule: 1 to 3, 11, 12, 13.
 pub record RuleCall (s : Setup) (states start : ℕ) (table old new : List ℕ) (r : ℕ) : Type 1 where
   pub answer : Counted
   pub judged : JudgedCall (write-conditions table-limit node-limit s states start table (length old)) (counted-refusal answer) old new
+  pub of-list : ListedAnswer (counted-refusal answer)
   pub told : TellsCount answer r
   pub made : counted-refusal answer ≡ none → RuleMade s start table old new answer
 
