@@ -9,7 +9,7 @@ use Rattle.text_format.specs.Texts.{ascii}
 use Rattle.text_format.specs.Combinators.{sequence, mapped, find-in, Alphabet, the}
 use Rattle.text_format.specs.Series.{Separator, newline, separator-byte, separator, number-item}
 use Rattle.text_format.specs.Texts.{separated, OneOrMore}
-use Rattle.text_format.specs.Claims.{Renders}
+use Rattle.text_format.specs.Claims.{FormatRenders}
 use Rattle.text_format.proofs.Combinators.{sequence-laws, mapped-laws, choice-laws, choice-at, choice-none, keyed-laws, keyed-fits, keyed-of-fits}
 use Rattle.text_format.proofs.Decimal.{numbered-laws}
 use Rattle.text_format.proofs.Series.{separator-laws, number-item-laws, number-item-solid, series-laws, series-text, series-fitting, series-of-fitting}
@@ -197,7 +197,7 @@ file-of-fits c h =
       rule = series-of-fitting token-item SmallToken token-of-fits (c .rule) (keyed-of-fits (ascii "rule=") tokens (c .rule) (h .0 .1 .1));
     }
 
-pub file-renders : Renders file Shows
+pub file-renders : FormatRenders file Shows
 file-renders =
     record {
       to = λ c t s. (file-fits c (s .small), sym (s .printed) ∙ sym (file-print c (s .small)));

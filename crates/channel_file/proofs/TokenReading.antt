@@ -1,9 +1,9 @@
--- How a token is read, whether or not byte 10 stands behind the text: byte 10 ends a number and a token, and begins none.
+-- How a token is read, whether or not byte 10 stands behind the text: byte 10 ends a numeral-parse and a token, and begins none.
 use Prim.Native.Nat.{ℕ, zero, suc, _+_, _-_, _*_, _≤_, _<_}
 use mathlib.Core.{Path.{_≡_, refl, ap, _∙_}, List.{List, [], _∷_, _++_}, Bool.{Bool, true, false, cond}, Option.{Option, some, none}}
 use native.Mathlib.Omega.{arith}
 use lib.{Dec.{eqb}, ListN.{length, drop, getD}}
-use Rattle.text_format.specs.{Format.{Parsed, ok, bad, bind}, Combinators.{find-in, letter-of, letter-parse, the}, Decimal.{is-digit, more, number}}
+use Rattle.text_format.specs.{Format.{Parsed, ok, bad, bind}, Combinators.{find-in, letter-of, letter-parse, the}, Decimal.{is-digit, more, numeral-parse}}
 use Rattle.text_format.specs.Series.{Separator, separator, number-item}
 use Rattle.channel_file.specs.ChannelFile.{Token, token-O}
 use Rattle.channel_file.specs.FileFormat.{Letter, letter-T, letter-O, letter-byte, letters, number-dot, body, token-item}
@@ -27,7 +27,7 @@ more-closed (suc k) v (b ∷ s) = go (is-digit b) (more-closed k (v * 10 + (b - 
     go true ih = ih
     go false ih = refl
 
-number-closed : (k : ℕ) (s : List ℕ) → number k (s ++ (10 ∷ [])) ≡ extended (number k s)
+number-closed : (k : ℕ) (s : List ℕ) → numeral-parse k (s ++ (10 ∷ [])) ≡ extended (numeral-parse k s)
 number-closed k [] = refl
 number-closed k (b ∷ s) = go (is-digit b) (eqb b 48)
   where
@@ -45,7 +45,7 @@ dot-closed (b ∷ s) = go (find-in (the 46) (tt ∷ []) b)
     go (some k) = refl
     go none = refl
 
--- a number and the dot behind it
+-- a numeral-parse and the dot behind it
 abbrev valued : {A : Type 0} → ℕ → Parsed A → Parsed (ℕ × A)
 valued v y = bind y (λ e q. ok (v, e) q)
 
@@ -53,7 +53,7 @@ abbrev dotted : Parsed ℕ → Parsed (ℕ × Unit {0})
 dotted y = bind y (λ v r. valued v (letter-parse (the 46) (tt ∷ []) r))
 
 dotted-closed : (s : List ℕ) → number-dot .parse (s ++ (10 ∷ [])) ≡ extended (number-dot .parse s)
-dotted-closed s = ap dotted (number-closed 2 s) ∙ go (number 2 s)
+dotted-closed s = ap dotted (number-closed 2 s) ∙ go (numeral-parse 2 s)
   where
     last : (v : ℕ) (y : Parsed (Unit {0})) → valued v (extended y) ≡ extended (valued v y)
     last v (ok e q) = refl
@@ -105,7 +105,7 @@ module _ (t : List ℕ) (closed : Bool) where
       go false = rw (over t i h)
       go true = rw (over t i h)
 
--- a number behind a letter, and the separator behind it
+-- a numeral-parse behind a letter, and the separator behind it
 abbrev named : (ℕ → Token) → Parsed (ℕ × Separator) → Parsed (Token × Separator)
 named f y = bind y (λ p r. ok (f (p .0), p .1) r)
 
@@ -126,7 +126,7 @@ behind-numbers : (v w : ℕ) (y : Parsed Separator) → output (paired v (valued
 behind-numbers v w (ok e r) = refl
 behind-numbers v w (bad r) = refl
 
--- a number that was looked for behind a letter, as a token
+-- a numeral-parse that was looked for behind a letter, as a token
 abbrev numbered-token : (ℕ → Item) → Number → Taken
 numbered-token item (Number.Value v n) = Taken.Of (item v) n
 numbered-token item (Number.Bad p) = Taken.Bad p
@@ -141,15 +141,15 @@ module _ (t : List ℕ) (at : ℕ) (h : at < length t) where
     pub saw-letter : (x : Item) → ((s : List ℕ) → body l .parse s ≡ with-separator (token-of x) s) → SawToken t at (Taken.Of x (at + 1))
     saw-letter x e = record { same = λ closed. lettered t closed l at h here-l ∙ e (left closed t (at + 1)); within = omega arith }
 
-    -- a letter and a number
+    -- a letter and a numeral-parse
     pub saw-number : (item : ℕ → Item)
         → ((s : List ℕ) → body l .parse s ≡ named (λ v. token-of (item v)) (number-item 2 .parse s))
-        → (r : Number) → SawNumber (number 2) t (at + 1) r → SawToken t at (numbered-token item r)
+        → (r : Number) → SawNumber (numeral-parse 2) t (at + 1) r → SawToken t at (numbered-token item r)
     saw-number item e (Number.Value v n) q =
         record {
           same = λ closed.
               lettered t closed l at h here-l ∙ e (left closed t (at + 1))
-              ∙ rw (left-read t closed (number 2) (number-closed 2) (at + 1) n v (q .same))
+              ∙ rw (left-read t closed (numeral-parse 2) (number-closed 2) (at + 1) n v (q .same))
               (behind-number (λ w. token-of (item w)) v (separator .parse (left closed t n)));
           within = q .within;
         }
@@ -157,11 +157,11 @@ module _ (t : List ℕ) (at : ℕ) (h : at < length t) where
         record {
           same = λ closed.
               lettered t closed l at h here-l ∙ e (left closed t (at + 1))
-              ∙ rw (left-stuck t closed (number 2) (number-closed 2) (at + 1) p (q .same));
+              ∙ rw (left-stuck t closed (numeral-parse 2) (number-closed 2) (at + 1) p (q .same));
           within = q .within;
         }
 
-  -- O, a number, a dot and a number
+  -- O, a numeral-parse, a dot and a numeral-parse
   module _ (here-O : getD t at 0 ≡ letter-byte letter-O) where
     pub saw-no-dot : (p : ℕ) → SawEnded 46 t (at + 1) (Number.Bad p) → SawToken t at (Taken.Bad p)
     saw-no-dot p q =
@@ -171,13 +171,13 @@ module _ (t : List ℕ) (at : ℕ) (h : at < length t) where
         }
 
     module _ (v k : ℕ) (q : SawEnded 46 t (at + 1) (Number.Value v k)) where
-      pub saw-output : (r : Number) → SawNumber (number 2) t k r → SawToken t at (numbered-token (λ w. Item.Output v w) r)
+      pub saw-output : (r : Number) → SawNumber (numeral-parse 2) t k r → SawToken t at (numbered-token (λ w. Item.Output v w) r)
       saw-output (Number.Value w n) g =
           record {
             same = λ closed.
                 lettered t closed letter-O at h here-O
                 ∙ rw (left-read t closed (number-dot .parse) dotted-closed (at + 1) k (v, tt) (q .same))
-                (rw (left-read t closed (number 2) (number-closed 2) k n w (g .same)) (behind-numbers v w (separator .parse (left closed t n))));
+                (rw (left-read t closed (numeral-parse 2) (number-closed 2) k n w (g .same)) (behind-numbers v w (separator .parse (left closed t n))));
             within = g .within;
           }
       saw-output (Number.Bad p) g =
@@ -185,6 +185,6 @@ module _ (t : List ℕ) (at : ℕ) (h : at < length t) where
             same = λ closed.
                 lettered t closed letter-O at h here-O
                 ∙ rw (left-read t closed (number-dot .parse) dotted-closed (at + 1) k (v, tt) (q .same))
-                (rw (left-stuck t closed (number 2) (number-closed 2) k p (g .same)));
+                (rw (left-stuck t closed (numeral-parse 2) (number-closed 2) k p (g .same)));
             within = g .within;
           }

@@ -1,5 +1,4 @@
--- The form of a channel file (document 01, "Channel file"), taken without its length limit: what the contents of a file are,
--- and how they stand as text. Numbers are those of the text, not yet judged and not clamped.
+-- The form of a channel file (document 01, "Channel file"), without its length limit; numbers are the text's, neither judged nor clamped.
 use Prim.Native.Nat.{ℕ, _≤_, _<_}
 use mathlib.Core.{Path.{_≡_}, List.{List, [], _∷_, _++_, map}}
 use lib.ListN.{length}
@@ -49,12 +48,8 @@ line key s = key ++ (s ++ ascii "\n")
 
 -- "Five lines ended by byte 10, in this order"; "one space between items".
 abbrev pub text : Contents → List ℕ
-text c =
-    line (ascii "events=") (number (c .events))
-    ++ (line (ascii "values=") (number (c .values))
-    ++ (line (ascii "top=") (number (c .top))
-    ++ (line (ascii "meet=") (separated (map number (c .meet)))
-    ++ line (ascii "rule=") (separated (map token-text (c .rule))))))
+text c = line (ascii "events=") (number (c .events)) ++ (line (ascii "values=") (number (c .values)) ++ (line (ascii "top=") (number (c .top))
+    ++ (line (ascii "meet=") (separated (map number (c .meet))) ++ line (ascii "rule=") (separated (map token-text (c .rule))))))
 
 -- Every number has a text; "meet and rule have at least one item".
 pub record SmallContents (c : Contents) : Type 0 where
@@ -81,8 +76,7 @@ pub data Refused4 (t : List ℕ) : ℕ → Type 0 where
 -- "The rule line's tokens are handed out as a stretch of the lent text. It runs from after `rule=` to before the last byte 10, and is
 -- empty for a text that 4 refuses."
 pub data TokensOf (t : List ℕ) : List ℕ → Type 0 where
-  of-contents :
-      (c : Contents) (front tokens : List ℕ) → length t ≤ file-limit → Shows c t → t ≡ front ++ (ascii "rule=" ++ (tokens ++ ascii "\n")) →
+  of-contents : (c : Contents) (front tokens : List ℕ) → length t ≤ file-limit → Shows c t → t ≡ front ++ (ascii "rule=" ++ (tokens ++ ascii "\n")) →
       tokens ≡ separated (map token-text (c .rule)) → TokensOf t tokens
   of-refused : (p : ℕ) → Refused4 t p → TokensOf t []
 

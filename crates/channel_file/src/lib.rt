@@ -3,7 +3,7 @@ ghost use mathlib.Core.Path.{_≡_};
 ghost use Prim.Native.Nat.{_≤_};
 ghost use lib.ListN.{length};
 ghost use Rattle.text_format.specs.Format.{read};
-ghost use Rattle.text_format.specs.Decimal.{is-digit, number};
+ghost use Rattle.text_format.specs.Decimal.{is-digit, numeral-parse};
 ghost use Rattle.text_output.specs.Output.{Puts};
 ghost use Rattle.channel_file.specs.FileFormat.{first, second};
 ghost use Rattle.channel_file.specs.FileFormat.{field, tokens, meet-line, rule-line, file};
@@ -137,10 +137,10 @@ fn digit(b: u8) -> bool
     if b < 48 { false } else { b < 58 }
 }
 
-// A number of one to three digits without leading zero.
+// A numeral-parse of one to three digits without leading zero.
 fn number_at(text: &[u8], at: usize) -> Number
     requires { ⌜ at ≤ length (now text) ⌝ }
-    ensures { λ r. ⌜ SawNumber (number 2) (now (text .entry)) at r ⌝ }
+    ensures { λ r. ⌜ SawNumber (numeral-parse 2) (now (text .entry)) at r ⌝ }
 {
     if text.len() <= at {
         return Number::Bad(at);
@@ -170,7 +170,7 @@ fn number_at(text: &[u8], at: usize) -> Number
     Number::Value(v, i)
 }
 
-// A number and the one byte that may end it.
+// A numeral-parse and the one byte that may end it.
 fn ended_at(text: &[u8], at: usize, end: u8) -> Number
     requires { ⌜ at ≤ length (now text) ⌝ }
     ensures { λ r. ⌜ SawEnded end (now (text .entry)) at r ⌝ }
@@ -395,7 +395,7 @@ fn entries_at(text: &[u8], at: usize, out: &mut [u8]) -> Number
     }
 }
 
-// A key and a number, to the line's end.
+// A key and a numeral-parse, to the line's end.
 fn field_at(text: &[u8], at: usize, key: &[u8]) -> Number
     requires { ⌜ at ≤ length (now text) ⌝ }
     ensures { λ r. ⌜ SawNumber (field (now (key .entry)) .parse) (now (text .entry)) at r ⌝ }
@@ -430,7 +430,7 @@ fn rule_line_at(text: &[u8], at: usize) -> Number
     }
 }
 
-// A line: its number, or how many items it has; and the offset behind it, where the next line starts.
+// A line: its numeral-parse, or how many items it has; and the offset behind it, where the next line starts.
 fn line_at(text: &[u8], at: usize, line: Line) -> Number
     requires { ⌜ at ≤ length (now text) ⌝ }
     ensures { λ r. ⌜ SawNumber (line-parse line) (now (text .entry)) at r ⌝ }
@@ -573,7 +573,7 @@ fn store_tokens(text: &[u8], out: &mut [u8]) -> TokenList
 }
 
 // Reads tokens with one space between, as they stand in a rule line, into a buffer as far as there is room: three bytes a node, a
-// number above 255 as 255. Nothing is written where the text is no list of tokens.
+// numeral-parse above 255 as 255. Nothing is written where the text is no list of tokens.
 pub fn read_tokens(text: &[u8], out: &mut [u8]) -> TokenList
     ensures { λ r. ⌜ ReadsTokens (now (text .entry)) (now (out .entry)) (now (out .exit)) r ⌝ }
 {
@@ -586,7 +586,7 @@ pub fn read_tokens(text: &[u8], out: &mut [u8]) -> TokenList
 }
 
 // Reads a text into two buffers as far as there is room: its meet entries, one byte each, and its rule's nodes, three bytes each, a
-// number above 255 as 255. The counts are those of the text.
+// numeral-parse above 255 as 255. The counts are those of the text.
 pub fn read_text(text: &[u8], meet: &mut [u8], rule: &mut [u8]) -> Stored
     ensures { λ r. ⌜ Stores (now (text .entry)) (now (meet .entry)) (now (rule .entry)) (now (meet .exit)) (now (rule .exit)) r ⌝ }
 {

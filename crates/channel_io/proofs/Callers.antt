@@ -7,17 +7,20 @@ use borrow.Author.Tests.{le-leb}
 use Rattle.refusal.specs.declared.Refusal.{Refusal}
 use Rattle.refusal.specs.declared.Refusal.the-variants.{At}
 use Rattle.refusal.specs.RefusalAnswers.{or-else, plain-unless}
-use Rattle.refusal.specs.Refusal.{put, put-unless}
+use Rattle.refusal.specs.Refusal.{put}
+use Rattle.refusal.specs.RefusalAnswers.{put-unless}
 use Rattle.refusal.proofs.Refusals.{or-else-none}
-use Rattle.limits.specs.Limits.{event-limit, value-limit, meet-limit, state-limit, table-bytes-limit}
+use Rattle.limits.specs.Limits.{event-limit, value-limit, meet-limit, state-limit}
+use Rattle.channel_io.specs.Claims.{table-bytes-limit}
 use Rattle.text_format.specs.Format.{Outcome, contents, refused}
 use Rattle.channel_file.specs.{ChannelFile.{Contents}, Reading.{read-file}}
 use Rattle.channel_io.specs.declared.{FileNumbers.{FileNumbers}, FileTable.{FileTable}}
 use Rattle.channel_io.specs.FileConditions.{file-setup}
 use Rattle.channel_file.specs.ChannelFile.{rule-numbers}
-use Rattle.channel_io.specs.FileConditions.{numbers, file-numbers}
+use Rattle.channel_io.specs.FileReading.{numbers}
+use Rattle.channel_io.specs.FileConditions.{file-numbers}
 use Rattle.channel_io.specs.FileRefusals.{has-table-room, pair-compile-refusal, file-states, file-table, contents-table-refusal, file-refusal}
-use Rattle.channel_io.specs.FileCompilation.{made-or, compile-answer, entries-after, table-after, CompilesFile}
+use Rattle.channel_io.specs.FileCompilation.{made-or, file-table-answer, entries-after, table-after, CompilesFile}
 use Rattle.channel_io.specs.declared.FileTable.the-variants.{Made, Refused}
 use Rattle.channel_io.proofs.{TablePairs.{rows-length, setup-passed}, Claims.{file-table-made}}
 
@@ -94,10 +97,10 @@ front-taken output old new n e h = ap (take n) h ∙ take-at output (drop (lengt
 
 module _ {t meet to meet′ to′ : List ℕ} {x : FileTable} (k : CompilesFile t meet to meet′ to′ x) where
   pub unmade : {r : Refusal} → x ≡ Refused r → Unmade t meet to r × (to′ ≡ to)
-  unfolding compile-answer table-after put-unless
+  unfolding file-table-answer table-after put-unless
   unmade {r} is = go (read-file t) refl (sym is ∙ k .answer) (k .table-is)
     where
-      go : (x : Outcome Contents) → read-file t ≡ x → Refused r ≡ compile-answer x meet to → to′ ≡ table-after x meet to
+      go : (x : Outcome Contents) → read-file t ≡ x → Refused r ≡ file-table-answer x meet to → to′ ≡ table-after x meet to
           → Unmade t meet to r × (to′ ≡ to)
       go (refused p) e f g = let z : At 4 p ≡ r = cc in (subst (Unmade t meet to) z (off-form p e), g)
       go (contents c) e f g =
@@ -105,10 +108,10 @@ module _ {t meet to meet′ to′ : List ℕ} {x : FileTable} (k : CompilesFile 
           (turned-away c r e a, g ∙ ap (λ (o : Option Refusal). put-unless o (file-table c) to) a)
 
   pub made-of : {n : FileNumbers} {j : ℕ} → x ≡ Made n j → MadeOf t meet to meet′ to′ n j
-  unfolding compile-answer entries-after table-after put-unless pair-compile-refusal numbers
+  unfolding file-table-answer entries-after table-after put-unless pair-compile-refusal numbers
   made-of {n} {j} is = go (read-file t) refl (sym is ∙ k .answer) (k .meet-is) (k .table-is)
     where
-      go : (x : Outcome Contents) → read-file t ≡ x → Made n j ≡ compile-answer x meet to → meet′ ≡ entries-after x meet to
+      go : (x : Outcome Contents) → read-file t ≡ x → Made n j ≡ file-table-answer x meet to → meet′ ≡ entries-after x meet to
           → to′ ≡ table-after x meet to → MadeOf t meet to meet′ to′ n j
       go (refused p) e f g h = let z : _≡_ {A = ℕ} 0 1 = cc in absurd (omega arith)
       go (contents c) e f g h =

@@ -15,7 +15,7 @@ use Rattle.refusal.specs.RefusalClaims.{NoneMet}
 use Rattle.refusal.proofs.{Refusals.{plain-first, judged, accepted-exactly, first-then, first-append}, Refusals.{first-rest}}
 use Rattle.values.specs.declared.ValueKind.the-variants.{Numbered}
 use Rattle.values.specs.Setup.{Setup, SetupValue, setup, setup-meet, setup-top, setup-conditions, kind-conditions}
-use Rattle.values.specs.SetupInOrder.{WellFormed}
+use Rattle.values.specs.SetupInOrder.{AcceptedSetup}
 use Rattle.values.specs.SetupTests.{setup-refusal}
 use Rattle.values.proofs.Setups.{square-small, setup-first, setup-accepted, accepted-events}
 use Rattle.formulas.specs.RuleConditions.{byte-conditions}
@@ -37,7 +37,7 @@ use Rattle.channel_io.specs.FileTables.{CompileShort, short-entries, sho
 use Rattle.channel_io.specs.FileRefusals.{file-text}
 use Rattle.channel_io.specs.FileRefusals.{pair-refusal, has-room, stored-refusal, contents-read-refusal, pair-table-refusal}
 use Rattle.channel_io.specs.FileRefusals.{has-table-room, pair-compile-refusal, file-states, file-table, contents-table-refusal, file-refusal}
-use Rattle.channel_io.specs.FileRefusals.{text-refusal, write-refusal}
+use Rattle.channel_io.specs.FileRefusals.{text-refusal, file-write-refusal}
 use Rattle.channel_io.specs.Claims.{ContentsTableClaim, FileTableMadeClaim}
 use Rattle.channel_io.proofs.TablePairs.{rows-length, compile-passed, few-states, table-made, setup-passed}
 
@@ -56,7 +56,7 @@ module _ (s : Setup) (rule : List ℕ) where
           → First (byte-conditions (s .events) (s .kind) rule ++ (states-condition (setup-meet s) (setup-top s) (s .events) (s .kind) rule state-limit ∷ []))
           (rule-table-refusal (s .kind) (s .events) (setup-top s) (s .meet) rule state-limit)
       later ok =
-          let w : WellFormed s = setup-accepted s .0 ok in
+          let w : AcceptedSetup s = setup-accepted s .0 ok in
           let f = compile-rule-claim state-limit (s .kind) (s .events) (setup-top s) (s .meet) rule (omega arith) (w .laws) .0 .first in
           let e : compile-rule-refusal (s .kind) (s .events) (setup-top s) (s .meet) rule state-limit
           ≡ rule-table-refusal (s .kind) (s .events) (setup-top s) (s .meet) rule state-limit = rw (accepted-events s ok) in
@@ -82,7 +82,6 @@ module _ (c : Contents) (meet rule : List ℕ) where
   read-first =
       first-append (pair-conditions (file-setup c) (rule-numbers c)) (plain 13 (ReadShort c meet rule) ∷ []) _ _ (pair-first (file-setup c) (rule-numbers c))
       (plain-first 13 (ReadShort c meet rule) (has-room (file-setup c) (rule-numbers c) meet rule) read-short read-room)
-
 
 -- ---- a file's table is made
 

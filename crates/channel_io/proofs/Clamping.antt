@@ -18,7 +18,7 @@ use Rattle.refusal.proofs.Refusals.{or-else-none, plain-none}
 use Rattle.values.specs.declared.ValueKind.{ValueKind}
 use Rattle.values.specs.declared.ValueKind.the-variants.{Numbered}
 use Rattle.values.specs.Setup.{setup}
-use Rattle.values.specs.SetupInOrder.{WellFormed}
+use Rattle.values.specs.SetupInOrder.{AcceptedSetup}
 use Rattle.values.specs.SetupTests.{events-test, values-test, entries-test, meet-test, kind-refusal, setup-refusal}
 use Rattle.values.proofs.Setups.{values-small, setup-accepted}
 use Rattle.formulas.specs.RuleConditions.{node-bytes, encode-formula, Position, open-to-variable, closed-to-variable}
@@ -393,7 +393,7 @@ rule-clamped (x ∷ xs) = ap₂ (λ (u v : List ℕ). u ++ v) (token-clamped x) 
 -- what an accepted set-up is within
 pub limits : (events values top : ℕ) (meet : List ℕ) → setup-refusal (setup events values top meet) ≡ none → (events ≤ event-limit) × (values ≤ value-limit)
 limits events values top meet e =
-    let w : WellFormed (setup events values top meet) = setup-accepted (setup events values top meet) .0 e in (w .few-events, w .of-kind .few-values)
+    let w : AcceptedSetup (setup events values top meet) = setup-accepted (setup events values top meet) .0 e in (w .few-events, w .of-kind .few-values)
 
 pub pair-same :
     (events values top : ℕ) (meet rule : List ℕ)

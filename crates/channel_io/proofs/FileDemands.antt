@@ -7,7 +7,8 @@ use lib.{Dec.{leb}, ListN.{length, take}}
 use borrow.Author.Tests.{le-leb, leb-true, leb-false}
 use Rattle.limits.specs.Limits.{table-limit}
 use Rattle.refusal.specs.{declared.Refusal.{Refusal}, declared.Counted.{Counted}, RefusalAnswers.{or-else, plain-unless, counted}}
-use Rattle.refusal.specs.Refusal.{put, put-unless}
+use Rattle.refusal.specs.Refusal.{put}
+use Rattle.refusal.specs.RefusalAnswers.{put-unless}
 use Rattle.refusal.specs.Refusal.{Condition, plain, First, has-place, part-of, order, condition-numbers, right-places, JudgedCall, counted-refusal, count-of}
 use Rattle.refusal.proofs.{Refusals.{plain-first, judged, first-then, or-else-none}, Answers.{counted-judged, counted-put}}
 use Rattle.values.specs.{declared.ValueKind.the-variants.{Numbered}, Setup.{Setup, setup, setup-conditions, kind-conditions}}
@@ -24,15 +25,16 @@ use Rattle.channel_io.specs.{declared.FileNumbers.{FileNumbers}, declare
 use Rattle.channel_io.specs.declared.FileTable.the-variants.{Made, Refused as Unmade}
 use Rattle.channel_io.specs.FileConditions.{file-setup, read-conditions}
 use Rattle.channel_io.specs.FileTables.{file-conditions}
-use Rattle.channel_io.specs.FileConditions.{JudgedText, refusal-read, numbers-read, numbers, file-numbers, ReadsAs}
+use Rattle.channel_io.specs.FileConditions.{JudgedText, refusal-read, numbers-read, file-numbers, ReadsAs}
+use Rattle.channel_io.specs.FileReading.{numbers}
 use Rattle.channel_io.specs.FileTables.{refusal-made, table-made}
 use Rattle.channel_io.specs.FileTables.{MakesTableOf}
 use Rattle.channel_io.specs.FileConditions.{IsFileOf, write-file-conditions, WritesAs}
 use Rattle.channel_io.specs.FileRefusals.{file-text}
 use Rattle.channel_io.specs.FileRefusals.{pair-refusal, stored-refusal, contents-refusal, contents-read-refusal, file-states, file-table, file-refusal}
-use Rattle.channel_io.specs.FileRefusals.{text-refusal, write-refusal}
-use Rattle.channel_io.specs.FileReading.{accepted-or, read-answer, meet-after, rule-after, Reads}
-use Rattle.channel_io.specs.{FileCompilation.{made-or, compile-answer, entries-after, table-after, CompilesFile}, FileWriting.{WritesFile}}
+use Rattle.channel_io.specs.FileRefusals.{text-refusal, file-write-refusal}
+use Rattle.channel_io.specs.FileReading.{accepted-or, read-answer, meet-after, rule-after, ReadsFile}
+use Rattle.channel_io.specs.{FileCompilation.{made-or, file-table-answer, entries-after, table-after, CompilesFile}, FileWriting.{WritesFile}}
 use Rattle.channel_io.proofs.{TextCalls.{text-call}, Claims.{pair-first, read-first, file-first, file-table-made, file-table-accepted}}
 use Rattle.channel_io.proofs.{ShownBytes.{numbers-length}, Callers.{front-taken, made-of}, WriteAnswers.{textual}, WriteClaims.{written, write-claim}}
 
@@ -75,7 +77,7 @@ module _ (meet rule : List ℕ) where
   read-kept (contents c) q e = ap (λ (o : Option Refusal). (put-unless o (c .meet) meet, put-unless o (rule-numbers c) rule)) e
 
 pub reading-a-file :
-    (t meet rule meet′ rule′ : List ℕ) (r : FileRead) → Reads t meet rule meet′ rule′ r →
+    (t meet rule meet′ rule′ : List ℕ) (r : FileRead) → ReadsFile t meet rule meet′ rule′ r →
     JudgedText {M = List ℕ × List ℕ} t (λ c. read-conditions c meet rule) (refusal-read r) (meet, rule) (meet′, rule′)
 unfolding setup-conditions kind-conditions condition-numbers right-places has-place part-of order
 reading-a-file t meet rule meet′ rule′ r k =
@@ -92,7 +94,7 @@ record ReadOf (t meet rule meet′ rule′ : List ℕ) (found : FileNumbers) : T
   meet-put : meet′ ≡ put (inside .meet) meet
   rule-put : rule′ ≡ put (rule-numbers inside) rule
 
-read-of : {t meet rule meet′ rule′ : List ℕ} {r : FileRead} {found : FileNumbers} → Reads t meet rule meet′ rule′ r → numbers-read r ≡ some found
+read-of : {t meet rule meet′ rule′ : List ℕ} {r : FileRead} {found : FileNumbers} → ReadsFile t meet rule meet′ rule′ r → numbers-read r ≡ some found
     → ReadOf t meet rule meet′ rule′ found
 unfolding read-answer meet-after rule-after put-unless
 read-of {t} {meet} {rule} {meet′} {rule′} {found = found} k is = go (read-file t) refl (sym (ap numbers-read (k .answer)) ∙ is) (k .meet-is) (k .rule-is)
@@ -112,7 +114,7 @@ read-of {t} {meet} {rule} {meet′} {rule′} {found = found} k is = go (read-fi
         }
 
 pub file-to-rule :
-    (t meet rule meet′ rule′ : List ℕ) (r : FileRead) → Reads t meet rule meet′ rule′ r →
+    (t meet rule meet′ rule′ : List ℕ) (r : FileRead) → ReadsFile t meet rule meet′ rule′ r →
     (found : FileNumbers) → numbers-read r ≡ some found → ReadsAs t meet rule meet′ rule′ found
 file-to-rule t meet rule meet′ rule′ r k found is =
     let w = read-of k is in
@@ -139,8 +141,8 @@ module _ (meet to : List ℕ) where
   abbrev making : Contents → Option Refusal
   making c = file-refusal c meet to
 
-  made-refused : (x : Outcome Contents) → refusal-made (compile-answer x meet to) ≡ text-refusal making x
-  unfolding compile-answer text-refusal
+  made-refused : (x : Outcome Contents) → refusal-made (file-table-answer x meet to) ≡ text-refusal making x
+  unfolding file-table-answer text-refusal
   made-refused (refused p) = refl
   made-refused (contents c) = made-refusal (making c) (file-numbers c) (file-states c)
 
@@ -234,8 +236,8 @@ module _ (events values top : ℕ) (meet rule : List ℕ) where
     text-room : pair-refusal s rule ≡ none → room ≡ true → ¬ Short
     text-room ok e (c, x, h) = let l = leb-true (length T) (length old) e in omega (arith, ap length (text-of ok c x))
 
-    write-first : First (write-file-conditions s rule old) (write-refusal events values top meet rule old)
-    unfolding write-refusal
+    write-first : First (write-file-conditions s rule old) (file-write-refusal events values top meet rule old)
+    unfolding file-write-refusal
     write-first =
         first-then (pair-conditions s rule) (plain 13 Short ∷ []) (pair-refusal s rule) _ (pair-first s rule)
         (λ ok. plain-first 13 Short room (text-short ok) (text-room ok))
@@ -245,17 +247,17 @@ pub writing-a-file :
     JudgedCall (write-file-conditions (setup events values top meet) rule old) (counted-refusal r) old new
 unfolding setup-conditions kind-conditions condition-numbers right-places has-place part-of order
 writing-a-file events values top meet rule old new r k =
-    counted-judged (write-refusal events values top meet rule old) (length (file-text events values top meet rule)) (file-text events values top meet rule) old
+    counted-judged (file-write-refusal events values top meet rule old) (length (file-text events values top meet rule)) (file-text events values top meet rule) old
     (k .answer) (k .buffer)
-    (judged (write-file-conditions (setup events values top meet) rule old) (write-refusal events values top meet rule old)
+    (judged (write-file-conditions (setup events values top meet) rule old) (file-write-refusal events values top meet rule old)
     (write-first events values top meet rule old) refl refl)
 
 pub rule-to-file :
     (events values top : ℕ) (meet rule old new : List ℕ) (r : Counted) → WritesFile events values top meet rule old new r →
     (n : ℕ) → count-of r ≡ some n → WritesAs (setup events values top meet) rule old new n
-unfolding write-refusal
+unfolding file-write-refusal
 rule-to-file events values top meet rule old new r k n is =
-    let a = counted-put (write-refusal events values top meet rule old) (length (file-text events values top meet rule))
+    let a = counted-put (file-write-refusal events values top meet rule old) (length (file-text events values top meet rule))
     (file-text events values top meet rule) old (k .answer) (k .buffer) n is in
     let ok = or-else-none (pair-refusal (setup events values top meet) rule) _ (a .0) .0 in
     let w = textual events values top meet rule ok in
@@ -273,14 +275,14 @@ rule-to-file events values top meet rule old new r k n is =
 
 write-passed :
     (events values top : ℕ) (meet rule old : List ℕ) → pair-refusal (setup events values top meet) rule ≡ none →
-    length (file-text events values top meet rule) ≤ length old → write-refusal events values top meet rule old ≡ none
-unfolding write-refusal or-else plain-unless
+    length (file-text events values top meet rule) ≤ length old → file-write-refusal events values top meet rule old ≡ none
+unfolding file-write-refusal or-else plain-unless
 write-passed events values top meet rule old ok h =
     let room = le-leb (length (file-text events values top meet rule)) (length old) h in
     rw (ok, room)
 
 pub file-to-rule-to-file :
-    (t meet rule meet′ rule′ : List ℕ) (r : FileRead) → Reads t meet rule meet′ rule′ r →
+    (t meet rule meet′ rule′ : List ℕ) (r : FileRead) → ReadsFile t meet rule meet′ rule′ r →
     (found : FileNumbers) → numbers-read r ≡ some found → (old new : List ℕ) (w : Counted) →
     WritesFile (found .events) (found .values) (found .top) (take (found .entries) meet′) (take (3 * found .nodes) rule′) old new w →
     length t ≤ length old → (count-of w ≡ some (length t)) × (new ≡ put t old)

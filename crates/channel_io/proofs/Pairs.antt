@@ -8,7 +8,8 @@ use Rattle.refusal.specs.declared.Refusal.{Refusal}
 use Rattle.refusal.specs.declared.Refusal.the-variants.{Plain}
 use Rattle.refusal.specs.declared.Judgement.the-variants.{Accepted, Refused}
 use Rattle.refusal.specs.RefusalAnswers.{or-else, plain-unless, judgement}
-use Rattle.refusal.specs.Refusal.{put, put-unless}
+use Rattle.refusal.specs.Refusal.{put}
+use Rattle.refusal.specs.RefusalAnswers.{put-unless}
 use Rattle.refusal.proofs.Refusals.{judgement-accepted, judgement-refused}
 use Rattle.values.specs.{Setup.{Setup}, SetupTests.{setup-refusal}}
 use Rattle.formulas.specs.RuleRefusal.{rule-refusal}
@@ -18,8 +19,9 @@ use Rattle.channel_io.specs.declared.FileRead.the-variants.{Accepted as 
 use Rattle.channel_io.specs.FileConditions.{file-setup}
 use Rattle.channel_file.specs.ChannelFile.{rule-numbers}
 use Rattle.channel_io.specs.FileRefusals.{pair-refusal, contents-refusal, has-room, stored-refusal}
-use Rattle.channel_io.specs.FileConditions.{numbers, file-numbers}
-use Rattle.channel_io.specs.FileReading.{accepted-or, read-answer, meet-after, rule-after, Reads}
+use Rattle.channel_io.specs.FileReading.{numbers}
+use Rattle.channel_io.specs.FileConditions.{file-numbers}
+use Rattle.channel_io.specs.FileReading.{accepted-or, read-answer, meet-after, rule-after, ReadsFile}
 use Rattle.channel_io.specs.Steps.{held-setup, shown-entries, shown-nodes, Holding, OffForm, Keeps}
 use Rattle.channel_io.proofs.ShownBytes.{file-shown, all-shown}
 
@@ -97,7 +99,7 @@ module _ (c : Contents) (meet rule meet′ rule′ : List ℕ) (r : FileRead) wh
 
 -- ---- a text
 
-pub reads-off-form : {t : List ℕ} {q : Refusal} (meet rule : List ℕ) → OffForm t q → Reads t meet rule meet rule (Unread q)
+pub reads-off-form : {t : List ℕ} {q : Refusal} (meet rule : List ℕ) → OffForm t q → ReadsFile t meet rule meet rule (Unread q)
 unfolding read-answer meet-after rule-after
 reads-off-form {t} {q} meet rule f =
     let e = f .answer in
@@ -105,7 +107,7 @@ reads-off-form {t} {q} meet rule f =
 
 pub reads-held :
     {t entries nodes : List ℕ} {n : FileNumbers} {m k : ℕ} (meet rule meet′ rule′ : List ℕ) (r : FileRead) (h : Holding t entries nodes n m k)
-    → Keeps n (take m entries) (take k nodes) meet rule meet′ rule′ r → Reads t meet rule meet′ rule′ r
+    → Keeps n (take m entries) (take k nodes) meet rule meet′ rule′ r → ReadsFile t meet rule meet′ rule′ r
 unfolding read-answer meet-after rule-after numbers
 reads-held {t} {entries} {nodes} {n} {m} {k} meet rule meet′ rule′ r h w =
     let c = h .inside in

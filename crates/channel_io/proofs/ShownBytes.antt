@@ -12,7 +12,7 @@ use Rattle.refusal.specs.Refusal.{put}
 use Rattle.refusal.proofs.Refusals.{or-else-none, plain-none}
 use Rattle.values.specs.declared.ValueKind.the-variants.{Numbered}
 use Rattle.values.specs.Setup.{setup}
-use Rattle.values.specs.SetupInOrder.{WellFormed}
+use Rattle.values.specs.SetupInOrder.{AcceptedSetup}
 use Rattle.values.specs.SetupTests.{events-test, values-test, meet-test, kind-refusal, setup-refusal}
 use Rattle.values.proofs.Setups.{values-small, square-small, meet-test-length, setup-accepted}
 use Rattle.formulas.specs.RuleRefusal.{count-fits, rule-refusal}
@@ -25,7 +25,7 @@ use Rattle.channel_file.proofs.Buffers.{encoded-length, front-whole}
 use Rattle.channel_io.specs.FileConditions.{file-setup}
 use Rattle.channel_file.specs.ChannelFile.{node-numbers, rule-numbers}
 use Rattle.channel_io.specs.FileRefusals.{pair-refusal, contents-refusal}
-use Rattle.channel_io.specs.FileConditions.{numbers}
+use Rattle.channel_io.specs.FileReading.{numbers}
 use Rattle.channel_io.specs.Steps.{shown-entries, shown-nodes, Holding, OffForm}
 use Rattle.channel_io.proofs.Clamping.{meet-clamped, rule-clamped, setup-same, rule-same, limits, nothing-clamped}
 
@@ -125,7 +125,7 @@ pub all-shown : (c : Contents) → contents-refusal c ≡ none → (shown-entrie
 unfolding pair-refusal rule-refusal
 all-shown c e =
     let p = or-else-none (setup-refusal (file-setup c)) (rule-refusal (c .events) (Numbered (c .values)) (rule-numbers c)) e in
-    let w : WellFormed (file-setup c) = setup-accepted (file-setup c) .0 (p .0) in
+    let w : AcceptedSetup (file-setup c) = setup-accepted (file-setup c) .0 (p .0) in
     let whole : length (c .meet) ≡ c .values * c .values = w .of-kind .whole in
     let few = square-small (w .of-kind .few-values) in
     let fits : CountFits 3 node-limit (length (rule-numbers c)) =

@@ -10,10 +10,11 @@ use Rattle.theory.proofs.{ReachableStates.{table-nonempty}, ValueSets.{and-left
 use Rattle.refusal.specs.declared.Refusal.{Refusal}
 use Rattle.refusal.specs.declared.Counted.the-variants.{Count, Refused as Uncounted}
 use Rattle.refusal.specs.RefusalAnswers.{or-else, plain-unless, counted}
-use Rattle.refusal.specs.Refusal.{put, put-unless}
+use Rattle.refusal.specs.Refusal.{put}
+use Rattle.refusal.specs.RefusalAnswers.{put-unless}
 use Rattle.refusal.proofs.Refusals.{counted-accepted, counted-refused, or-else-assoc, or-else-none, plain-none}
 use Rattle.values.specs.Setup.{Setup, setup-meet, setup-top}
-use Rattle.values.specs.SetupInOrder.{WellFormed}
+use Rattle.values.specs.SetupInOrder.{AcceptedSetup}
 use Rattle.values.specs.SetupTests.{setup-refusal}
 use Rattle.values.proofs.Setups.{setup-accepted}
 use Rattle.formulas.specs.RuleRefusal.{rule-refusal}
@@ -28,8 +29,9 @@ use Rattle.channel_io.specs.FileConditions.{file-setup}
 use Rattle.channel_file.specs.ChannelFile.{rule-numbers}
 use Rattle.channel_io.specs.FileRefusals.{pair-refusal, contents-refusal, pair-states, pair-table, pair-table-refusal, has-table-room}
 use Rattle.channel_io.specs.FileRefusals.{pair-compile-refusal}
-use Rattle.channel_io.specs.FileConditions.{numbers, file-numbers}
-use Rattle.channel_io.specs.FileCompilation.{made-or, compile-answer, entries-after, table-after, CompilesFile}
+use Rattle.channel_io.specs.FileReading.{numbers}
+use Rattle.channel_io.specs.FileConditions.{file-numbers}
+use Rattle.channel_io.specs.FileCompilation.{made-or, file-table-answer, entries-after, table-after, CompilesFile}
 use Rattle.channel_io.specs.Steps.{held-setup, shown-entries, shown-nodes, Holding, OffForm, CompilesPair}
 use Rattle.channel_io.proofs.ShownBytes.{file-shown, all-shown}
 
@@ -87,7 +89,7 @@ module _ (s : Setup) (rule : List ℕ) where
         subst (λ (l : List ℕ). RuleTable (setup-meet s) (setup-top s) (s .events) (s .kind) rule (pair-states s rule) (machine-of (s .kind) (s .events) l))
         room-contents (compile-claim .accepted state-limit s rule room room-passed .table)
 
-    pub setup-passed : WellFormed s
+    pub setup-passed : AcceptedSetup s
     unfolding pair-table-refusal
     setup-passed = setup-accepted s .0 (or-else-none (setup-refusal s) _ ok .0)
 
@@ -251,7 +253,7 @@ module _ (c : Contents) (meet to meet′ to′ : List ℕ) (r : FileTable) where
           (k .table-is ∙ ap (λ (o : Option Refusal). put-unless o (pair-table s (shown-nodes c)) to) a)
 
 pub compiles-off-form : {t : List ℕ} {q : Refusal} (meet to : List ℕ) → OffForm t q → CompilesFile t meet to meet to (Refused q)
-unfolding compile-answer entries-after table-after
+unfolding file-table-answer entries-after table-after
 compiles-off-form {t} {q} meet to f =
     let e = f .answer in
     record { answer = ap Refused (f .is) ∙ rw e; meet-is = rw e; table-is = rw e }
@@ -259,7 +261,7 @@ compiles-off-form {t} {q} meet to f =
 pub compiles-held :
     {t entries nodes : List ℕ} {n : FileNumbers} {m k : ℕ} (meet to meet′ to′ : List ℕ) (r : FileTable) (h : Holding t entries nodes n m k)
     → CompilesPair n (take m entries) (take k nodes) meet to meet′ to′ r → CompilesFile t meet to meet′ to′ r
-unfolding compile-answer entries-after table-after numbers
+unfolding file-table-answer entries-after table-after numbers
 compiles-held {t} {entries} {nodes} {n} {m} {k} meet to meet′ to′ r h w =
     let c = h .inside in
     let e = h .answer in

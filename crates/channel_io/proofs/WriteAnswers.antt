@@ -11,12 +11,13 @@ use Rattle.refusal.specs.declared.Refusal.the-variants.{Plain}
 use Rattle.refusal.specs.declared.Judgement.the-variants.{Accepted as Passed, Refused as Judged}
 use Rattle.refusal.specs.declared.Counted.the-variants.{Count, Refused}
 use Rattle.refusal.specs.RefusalAnswers.{or-else, plain-unless, judgement, counted}
-use Rattle.refusal.specs.Refusal.{put, put-unless}
+use Rattle.refusal.specs.Refusal.{put}
+use Rattle.refusal.specs.RefusalAnswers.{put-unless}
 use Rattle.refusal.proofs.Refusals.{judgement-accepted, judgement-refused, or-else-none}
 use Rattle.limits.specs.Limits.{event-limit, value-limit, node-limit, file-limit}
 use Rattle.values.specs.declared.ValueKind.the-variants.{Numbered}
 use Rattle.values.specs.Setup.{setup}
-use Rattle.values.specs.SetupInOrder.{WellFormed}
+use Rattle.values.specs.SetupInOrder.{AcceptedSetup}
 use Rattle.values.specs.SetupTests.{setup-refusal}
 use Rattle.values.proofs.Setups.{setup-accepted, square-small}
 use Rattle.formulas.specs.NodeCode.{three-bytes}
@@ -27,12 +28,12 @@ use Rattle.channel_file.specs.ChannelFile.{Token, token-T, token-A, token-V, to
 use Rattle.channel_file.specs.Bytes.{clamp}
 use Rattle.channel_file.specs.ChannelFile.{encoded}
 use Rattle.channel_file.proofs.Claims.{length-claim}
-use Rattle.channel_writer.specs.Writing.{with-token, node-tokens, contents-of, written-reply, written-buffer, Writes}
+use Rattle.channel_writer.specs.Writing.{with-token, node-tokens, contents-of, written-reply, written-buffer, WritesContents}
 use Rattle.channel_writer.specs.Claims.{All, none-left, one-more, Byte}
 use Rattle.channel_writer.proofs.Claims.{written-claim}
 use Rattle.channel_file.specs.ChannelFile.{node-numbers, rule-numbers}
 use Rattle.channel_io.specs.FileRefusals.{text-or-empty, file-text}
-use Rattle.channel_io.specs.FileRefusals.{pair-refusal, write-refusal}
+use Rattle.channel_io.specs.FileRefusals.{pair-refusal, file-write-refusal}
 use Rattle.channel_io.specs.FileWriting.{WritesFile}
 use Rattle.channel_io.proofs.Clamping.{limits, meet-kept, rule-kept}
 
@@ -121,7 +122,7 @@ pub textual : (events values top : ℕ) (meet rule : List ℕ) → pair-refusal 
 unfolding pair-refusal
 textual events values top meet rule e =
     let a = or-else-none (setup-refusal (setup events values top meet)) (rule-refusal events (Numbered values) rule) e in
-    let w : WellFormed (setup events values top meet) = setup-accepted (setup events values top meet) .0 (a .0) in
+    let w : AcceptedSetup (setup events values top meet) = setup-accepted (setup events values top meet) .0 (a .0) in
     let l = limits events values top meet (a .0) in
     let f = accepted-formula-of events (Numbered values) rule (a .1) in
     let φ = formula-of (Numbered values) rule in
@@ -156,7 +157,7 @@ module _ (events values top : ℕ) (meet rule old : List ℕ) where
   abbrev T : List ℕ
   T = file-text events values top meet rule
 
-  writes : (o : Option Refusal) (new : List ℕ) (r : Counted) → write-refusal events values top meet rule old ≡ o → r ≡ counted o (length T) → new
+  writes : (o : Option Refusal) (new : List ℕ) (r : Counted) → file-write-refusal events values top meet rule old ≡ o → r ≡ counted o (length T) → new
       ≡ put-unless o T old
       → WritesFile events values top meet rule old new r
   writes o new r e a b =
@@ -167,7 +168,7 @@ module _ (events values top : ℕ) (meet rule old : List ℕ) where
 
   pub writes-refused : (r : Refusal) → judgement (pair-refusal (setup events values top meet) rule) ≡ Judged r
       → WritesFile events values top meet rule old old (Refused r)
-  unfolding write-refusal or-else counted put-unless
+  unfolding file-write-refusal or-else counted put-unless
   writes-refused r e =
       writes (some r) old (Refused r)
       (ap (λ (o : Option Refusal). or-else o (plain-unless (leb (length T) (length old)) 13))
@@ -178,13 +179,13 @@ module _ (events values top : ℕ) (meet rule old : List ℕ) where
   small-numbers e =
       let a = or-else-none (setup-refusal (setup events values top meet)) (rule-refusal events (Numbered values) rule)
       (judgement-accepted (pair-refusal (setup events values top meet) rule) e) in
-      let w : WellFormed (setup events values top meet) = setup-accepted (setup events values top meet) .0 (a .0) in
+      let w : AcceptedSetup (setup events values top meet) = setup-accepted (setup events values top meet) .0 (a .0) in
       (w .few-events, w .of-kind .few-values, w .laws .top-in)
 
   pub writes-judged :
       (new : List ℕ) (r : Counted) → judgement (pair-refusal (setup events values top meet) rule) ≡ Passed
-      → Writes (contents-of events values top meet (node-tokens rule)) old new r → WritesFile events values top meet rule old new r
-  unfolding write-refusal or-else counted put-unless plain-unless file-text
+      → WritesContents (contents-of events values top meet (node-tokens rule)) old new r → WritesFile events values top meet rule old new r
+  unfolding file-write-refusal or-else counted put-unless plain-unless file-text
   writes-judged new r e w =
       let p = judgement-accepted (pair-refusal (setup events values top meet) rule) e in
       let c = textual events values top meet rule p in

@@ -1,8 +1,8 @@
 -- What is claimed of reading, writing and compiling files; each claim is inhabited in proofs/.
-use Prim.Native.Nat.{ℕ, _≤_}
+use Prim.Native.Nat.{ℕ, _≤_, _*_}
 use mathlib.Core.{Path.{_≡_}, List.{List, map}, Option.{none}}
 use lib.ListN.{length}
-use Rattle.limits.specs.Limits.{meet-limit, state-limit, table-bytes-limit, file-limit}
+use Rattle.limits.specs.Limits.{meet-limit, state-limit, file-limit, entry-limit}
 use Rattle.refusal.specs.Refusal.{Judged}
 use Rattle.values.specs.{declared.ValueKind.the-variants.{Numbered}, Setup.{setup, setup-meet, setup-top}, SetupTests.{setup-refusal}}
 use Rattle.formulas.specs.RuleRefusal.{rule-refusal}
@@ -12,6 +12,10 @@ use Rattle.text_format.specs.Format.{contents}
 use Rattle.channel_file.specs.{ChannelFile.{Contents, Form, rule-numbers}, Reading.{read-file}, Bytes.{clamp, meet-bytes, rule-bytes}}
 use Rattle.channel_io.specs.FileConditions.{file-setup, contents-table-conditions}
 use Rattle.channel_io.specs.FileRefusals.{file-text, pair-refusal, contents-refusal, file-states, file-table, contents-table-refusal}
+
+-- The bytes of a table at two an entry.
+abbrev pub table-bytes-limit : ℕ
+table-bytes-limit = entry-limit * 2
 
 -- A byte holds a number above 255 as 255. No judgement is lost by that: of a meet table, of a rule, of a file.
 pub record ClampedClaim : Type 0 where

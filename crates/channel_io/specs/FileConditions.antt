@@ -1,4 +1,5 @@
--- What a channel file says, judged (document 01, "Channel file" and "Who can ca
+-- Reading and writing a channel file (document 01, "Channel file"): the conditions of a text and of its contents, 4, then 1 to 3 and 5 to 9
+-- on the file's own numbers, none of them clamped, then 13; and what an accepted call yields.
 use Prim.Native.Nat.{ℕ, _<_, _≤_}
 use mathlib.Core.{List.{List, [], _∷_, _++_}, Path.{_≡_}, Option.{Option, none, some}}
 use lib.ListN.{length}
@@ -13,11 +14,6 @@ use Rattle.channel_io.specs.{declared.FileNumbers.{FileNumbers}, declare
 abbrev pub file-setup : Contents → Setup
 file-setup c = setup (c .events) (c .values) (c .top) (c .meet)
 
--- ---- a file's contents
-
-abbrev pub contents-conditions : Contents → List Condition
-contents-conditions c = pair-conditions (file-setup c) (rule-numbers c)
-
 abbrev pub contents-table-conditions : Contents → List Condition
 contents-table-conditions c = pair-table-conditions (file-setup c) (rule-numbers c)
 
@@ -28,7 +24,7 @@ pub data ReadShort (c : Contents) (meet rule : List ℕ) : Type 0 where
 
 -- The conditions of reading a text with these contents into two buffers.
 abbrev pub read-conditions : Contents → List ℕ → List ℕ → List Condition
-read-conditions c meet rule = contents-conditions c ++ (plain 13 (ReadShort c meet rule) ∷ [])
+read-conditions c meet rule = pair-conditions (file-setup c) (rule-numbers c) ++ (plain 13 (ReadShort c meet rule) ∷ [])
 
 -- 4 first, then the conditions on what the text shows; none of them where it shows nothing.
 pub data TextConditions (t : List ℕ) (conditions : Contents → List Condition) : List Condition → Type 1 where
@@ -50,12 +46,9 @@ numbers-read (Accepted numbers) = some numbers
 numbers-read (Refused refusal) = none
 
 -- The numbers of a file: those of its set-up, and how many meet entries and nodes it has.
-unfoldable pub numbers : ℕ → ℕ → ℕ → ℕ → ℕ → FileNumbers
-numbers events values top entries nodes =
-    record { events = events; values = values; top = top; entries = entries; nodes = nodes }
-
 abbrev pub file-numbers : Contents → FileNumbers
-file-numbers c = numbers (c .events) (c .values) (c .top) (length (c .meet)) (length (c .rule))
+file-numbers c =
+    record { events = c .events; values = c .values; top = c .top; entries = length (c .meet); nodes = length (c .rule) }
 
 -- An accepted reading yields what the text shows: its numbers; its meet entries and its nodes, in two lent buffers.
 pub record ReadsAs (t meet rule meet′ rule′ : List ℕ) (found : FileNumbers) : Type 0 where
@@ -71,8 +64,7 @@ IsFileOf s rule c = (file-setup c ≡ s) × (rule-numbers c ≡ rule)
 
 -- 1 to 3, 5 to 9, then 13: "lent buffer shorter than the output".
 abbrev pub write-file-conditions : Setup → List ℕ → List ℕ → List Condition
-write-file-conditions s rule old =
-    pair-conditions s rule ++ (plain 13 ((c : Contents) × IsFileOf s rule c × (length old < length (text c))) ∷ [])
+write-file-conditions s rule old = pair-conditions s rule ++ (plain 13 ((c : Contents) × IsFileOf s rule c × (length old < length (text c))) ∷ [])
 
 -- An accepted writing puts their text, which is of the form and within the limit, and answers its length.
 pub record WritesAs (s : Setup) (rule old new : List ℕ) (n : ℕ) : Type 0 where

@@ -88,10 +88,10 @@ text-refusal refusal (contents c) = refusal c
 abbrev pub read-refusal : Outcome Contents → List ℕ → List ℕ → Option Refusal
 read-refusal x meet rule = text-refusal (λ c. contents-read-refusal c meet rule) x
 
-abbrev pub compile-refusal : Outcome Contents → List ℕ → List ℕ → Option Refusal
-compile-refusal x meet to = text-refusal (λ c. file-refusal c meet to) x
+abbrev pub file-table-refusal : Outcome Contents → List ℕ → List ℕ → Option Refusal
+file-table-refusal x meet to = text-refusal (λ c. file-refusal c meet to) x
 
 -- ---- writing: 1 to 3, 5 to 9, then 13
-unfoldable pub write-refusal : ℕ → ℕ → ℕ → List ℕ → List ℕ → List ℕ → Option Refusal
-write-refusal events values top meet rule old =
+unfoldable pub file-write-refusal : ℕ → ℕ → ℕ → List ℕ → List ℕ → List ℕ → Option Refusal
+file-write-refusal events values top meet rule old =
     or-else (pair-refusal (setup events values top meet) rule) (plain-unless (leb (length (file-text events values top meet rule)) (length old)) 13)

@@ -1,13 +1,10 @@
 -- In reading order.
--- What a file says, judged on its own numbers: the conditions.
+-- Reading and writing a file: the conditions, and what an accepted call yields.
 pub mod FileConditions
 -- The table of a file by one call.
 pub mod FileTables
--- The conditions of a text, and what an accepted call yields.
--- The same by the file reader's answer.
--- The same computed, and the table of a file's rule.
+-- What contracts compute with: refusals, the answer to reading a file, to making its table, to writing one, and the buffers afterwards.
 pub mod FileRefusals
--- The answer to reading a file, to making its table, to writing one, and the buffers afterwards.
 pub mod FileReading
 pub mod FileCompilation
 pub mod FileWriting

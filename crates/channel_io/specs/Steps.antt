@@ -3,7 +3,7 @@ use Prim.Native.Nat.{ℕ, _≤_}
 use mathlib.Core.{Path.{_≡_}, List.{List, []}, Bool.{cond}}
 use lib.{Dec.{leb}, ListN.{length, take}}
 use Rattle.limits.specs.Limits.{meet-limit, node-limit}
-use Rattle.refusal.specs.{declared.Refusal.{Refusal}, declared.Refusal.the-variants.{At}, Refusal.{put-unless}}
+use Rattle.refusal.specs.{declared.Refusal.{Refusal}, declared.Refusal.the-variants.{At}, RefusalAnswers.{put-unless}}
 use Rattle.values.specs.Setup.{Setup, setup}
 use Rattle.text_format.specs.Format.{contents, refused}
 use Rattle.channel_file.specs.{ChannelFile.{Contents}, Reading.{read-file}, Bytes.{meet-bytes, rule-bytes}}
@@ -33,9 +33,9 @@ pub record OffForm (t : List ℕ) (r : Refusal) : Type 0 where
   pub answer : read-file t ≡ refused place
   pub is : r ≡ At 4 place
 
-abbrev pub Holds : List ℕ → List ℕ → List ℕ → Held → Type 0
-Holds t entries nodes (File n m k) = Holding t entries nodes n m k
-Holds t entries nodes (Refused r) = OffForm t r
+abbrev pub HoldsFile : List ℕ → List ℕ → List ℕ → Held → Type 0
+HoldsFile t entries nodes (File n m k) = Holding t entries nodes n m k
+HoldsFile t entries nodes (Refused r) = OffForm t r
 
 -- The set-up of a file's numbers and meet entries.
 abbrev pub held-setup : FileNumbers → List ℕ → Setup

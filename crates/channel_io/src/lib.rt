@@ -22,10 +22,10 @@ ghost use Rattle.limits.specs.Limits.{meet-limit, node-limit};
 ghost use Rattle.refusal.specs.RefusalAnswers.{judgement};
 ghost use Rattle.values.specs.Setup.{setup};
 ghost use Rattle.channel_io.specs.FileRefusals.{pair-refusal};
-ghost use Rattle.channel_io.specs.FileReading.{Reads};
+ghost use Rattle.channel_io.specs.FileReading.{ReadsFile};
 ghost use Rattle.channel_io.specs.FileCompilation.{CompilesFile};
 ghost use Rattle.channel_io.specs.FileWriting.{WritesFile};
-ghost use Rattle.channel_io.specs.Steps.{Holds, Keeps, CompilesPair};
+ghost use Rattle.channel_io.specs.Steps.{HoldsFile, Keeps, CompilesPair};
 
 // The numbers of a file: those of its set-up, and how many meet entries and nodes it has.
 pub struct FileNumbers {
@@ -78,7 +78,7 @@ fn shown(count: usize, limit: usize) -> usize
 // Stores the entries and nodes of a text.
 fn store_text(text: &[u8], entries: &mut [u8], nodes: &mut [u8]) -> Held
     requires { ⌜ (length (now entries) ≡ meet-limit) × (length (now nodes) ≡ node-limit * 3) ⌝ }
-    ensures { λ r. ⌜ Holds (now (text .entry)) (now (entries .exit)) (now (nodes .exit)) r ⌝ }
+    ensures { λ r. ⌜ HoldsFile (now (text .entry)) (now (entries .exit)) (now (nodes .exit)) r ⌝ }
 {
     match read_text(text, entries, nodes) {
         Stored::Refused(refusal) => Held::Refused(refusal),
@@ -127,9 +127,9 @@ fn keep_pair(
     FileRead::Accepted(numbers)
 }
 
-// Reads a channel file: its meet entries into one buffer and its rule's nodes, three bytes each, into the other.
+// ReadsFile a channel file: its meet entries into one buffer and its rule's nodes, three bytes each, into the other.
 pub fn read_file(text: &[u8], meet: &mut [u8], rule: &mut [u8]) -> FileRead
-    ensures { λ r. ⌜ Reads (now (text .entry)) (now (meet .entry)) (now (rule .entry)) (now (meet .exit)) (now (rule .exit)) r ⌝ }
+    ensures { λ r. ⌜ ReadsFile (now (text .entry)) (now (meet .entry)) (now (rule .entry)) (now (meet .exit)) (now (rule .exit)) r ⌝ }
 {
     let mut entries = [0u8; MEET_LIMIT];
     let mut nodes = [0u8; NODE_BYTES];

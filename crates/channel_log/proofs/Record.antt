@@ -15,7 +15,7 @@ use Rattle.refusal.specs.declared.Refusal.{Refusal}
 use Rattle.refusal.specs.declared.Refusal.the-variants.{Plain}
 use Rattle.limits.specs.Limits.{channel-limit}
 use Rattle.refusal.specs.Refusal.{Condition, plain, at-lowest, Gives, First, part-of, condition-numbers}
-use Rattle.refusal.specs.RefusalClaims.{number}
+use Rattle.refusal.specs.RefusalClaims.{refusal-number}
 use Rattle.refusal.specs.RefusalAnswers.{or-else}
 use Rattle.channel_log.specs.Calls.{Call, load, event, restart, restart-all, clear, Reply, accepted, returned, refused, Channels, all-empty}
 use Rattle.channel_log.specs.CallSteps.{channel-refusal, Content, empty-refusal, on-event, call-refusal, event-reply, accepted-reply}
@@ -36,12 +36,12 @@ not-large events e h = go (ltb e events) refl h
     go true p x = ltb-true e events p
     go false p x = absurd (Option·some-ne-none (Plain 16) x)
 
--- The refusal, if any, has another number.
+-- The refusal, if any, has another refusal-number.
 abbrev pub Not : ℕ → Option Refusal → Type 0
 Not n none = Unit {0}
-Not n (some r) = ¬ (number r ≡ n)
+Not n (some r) = ¬ (refusal-number r ≡ n)
 
--- A number that is not in a list is not the first there, nor in the rest.
+-- A refusal-number that is not in a list is not the first there, nor in the rest.
 absent : (n m : ℕ) (ms : List ℕ) → part-of (n ∷ []) (m ∷ ms) ≡ false → (¬ (m ≡ n)) × (part-of (n ∷ []) ms ≡ false)
 unfolding part-of
 absent n m ms h = go (eqb n m) refl h
@@ -50,15 +50,15 @@ absent n m ms h = go (eqb n m) refl h
     go true e h = absurd (true≢false h)
     go false e h = (λ q. eqb-false n m e (sym q), h)
 
--- A condition gives refusals of one number.
+-- A condition gives refusals of one refusal-number.
 given-number :
     (C : Condition) (cs : List Condition) →
-    (m : ℕ) × (condition-numbers (C ∷ cs) ≡ m ∷ condition-numbers cs) × ((r : Refusal) → Gives C r → number r ≡ m)
-unfolding condition-numbers number
-given-number (plain m Met) cs = (m, refl, λ r met. ap number (met .1))
-given-number (at-lowest m Met) cs = (m, refl, λ r met. ap number (met .2))
+    (m : ℕ) × (condition-numbers (C ∷ cs) ≡ m ∷ condition-numbers cs) × ((r : Refusal) → Gives C r → refusal-number r ≡ m)
+unfolding condition-numbers refusal-number
+given-number (plain m Met) cs = (m, refl, λ r met. ap refusal-number (met .1))
+given-number (at-lowest m Met) cs = (m, refl, λ r met. ap refusal-number (met .2))
 
--- Where no condition of a list has a number, what the list gives has another.
+-- Where no condition of a list has a refusal-number, what the list gives has another.
 pub first-not : (n : ℕ) (cs : List Condition) (a : Option Refusal) → part-of (n ∷ []) (condition-numbers cs) ≡ false → First cs a → Not n a
 unfolding First
 first-not n [] a h e = subst⁻¹ (Not n) e tt
@@ -68,7 +68,7 @@ first-not n (C ∷ cs) a h x =
     ⊎-elim (λ y. subst⁻¹ (Not n) (y .2) (λ q. p .0 (sym (g .2 (y .0) (y .1)) ∙ q))) (λ y. first-not n cs a (p .1) (y .1)) x
 
 plain-not-17 : (t : Bool) (k : ℕ) → ¬ (k ≡ 17) → Not 17 (cond t none (some (Plain k)))
-unfolding number
+unfolding refusal-number
 plain-not-17 true k h = tt
 plain-not-17 false k h = h
 
@@ -122,12 +122,12 @@ module _ {B : Type 0} (In : B → Type 0) (meet : B → B → B) (top : B) (laws
 
   -- 17 never arises in the log.
   event-not-17 : (h : Option (History B)) (e : ℕ) → Not 17 (on-event logged h e)
-  unfolding number
+  unfolding refusal-number
   event-not-17 none e = λ q. omega arith
   event-not-17 (some h) e = plain-not-17 (ltb e events) 16 (λ q. omega arith)
 
   empty-not-17 : (h : Option (History B)) → Not 17 (empty-refusal h)
-  unfolding number
+  unfolding refusal-number
   empty-not-17 none = λ q. omega arith
   empty-not-17 (some h) = tt
 

@@ -1,5 +1,4 @@
--- The calls on a tool, what they reply, what channels hold and how they stand by the log, and which calls concern one channel (document 01,
--- "Tool").
+-- Document 01, "Tool": the calls, what they reply, what channels hold and how they stand by the log; which calls concern one channel.
 use mathlib.Core.{Bool.{cond, Bool, true}, List.{List, [], _∷_, map}, Option.{Option, none, some}, Path.{_≡_}}
 use Prim.Native.Nat.{ℕ, zero}
 use lib.Dec.{eqb}
@@ -35,7 +34,6 @@ all-empty c = none
 abbrev pub with-channel : {X : Type 0} → ℕ → Option X → Channels X → Channels X
 with-channel c x L d = cond (eqb d c) x (L d)
 
--- The same of what is there.
 abbrev pub map-option : {X Y : Type 0} → (X → Y) → Option X → Option Y
 map-option f none = none
 map-option f (some x) = some (f x)
@@ -72,10 +70,9 @@ module _ {B : Type 0} (meet : B → B → B) (top : B) (events : ℕ) where
   StandsAs none none = Unit {0}
   StandsAs none (some h) = ⊥
   StandsAs (some x) none = ⊥
-  StandsAs (some x) (some h) =
-      IsTableOf meet top events (h .rule) (x .states) (x .table) × (x .current ≡ after (x .table) zero (h .events))
+  StandsAs (some x) (some h) = IsTableOf meet top events (h .rule) (x .states) (x .table) × (x .current ≡ after (x .table) zero (h .events))
 
--- The call names no other channel than c.
+-- The call names no other channel than c; "a number above 7 counts as another, and restart all names none".
 abbrev pub concerns : {Input : Type 0} → ℕ → Call Input → Bool
 concerns c (load d r) = eqb d c
 concerns c (event d i) = eqb d c

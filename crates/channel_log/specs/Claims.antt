@@ -2,7 +2,7 @@
 use mathlib.Core.{Path.{_≡_}, List.{List, [], _∷_}, Option.{Option}}
 use Prim.Native.Nat.{ℕ, _<_}
 use Rattle.limits.specs.Limits.{channel-limit}
-use Rattle.refusal.specs.RefusalClaims.{number}
+use Rattle.refusal.specs.RefusalClaims.{refusal-number}
 use Rattle.channel_log.specs.Calls.{Call, Reply, accepted, returned, refused, Channels, all-empty, replies, final, struck, replies-on}
 use Rattle.channel_log.specs.CallSteps.{Content, step}
 
@@ -11,15 +11,15 @@ abbrev pub Never : {Output : Type 0} → ℕ → List (Reply Output) → Type 0
 Never n [] = Unit {0}
 Never n (accepted ∷ rs) = Never n rs
 Never n (returned v ∷ rs) = Never n rs
-Never n (refused r ∷ rs) = ¬ (number r ≡ n) × Never n rs
+Never n (refused r ∷ rs) = ¬ (refusal-number r ≡ n) × Never n rs
 
 -- `call`: the function that the contracts of the five calls state; `channels`: what a tool's channels hold; `log`: the log's
 -- content; `Stands`: how a channel stands by the log.
 module _ {Tool X Y Input Output : Type 0} (call : Call Input → Tool → Reply Output × Tool) (channels : Tool → Channels Y)
     (log : Content X Input Output) (Stands : Option Y → Option X → Type 0) (tool : Tool) where
-  -- Acceptance, each refusal's number and place, and each accepted event's value equal the log's; 17 never arises; afterwards
+  -- Acceptance, each refusal's refusal-number and place, and each accepted event's value equal the log's; 17 never arises; afterwards
   -- each channel stands as the log says.
-  pub record AsLogged (calls : List (Call Input)) : Type 0 where
+  pub record AsComputed (calls : List (Call Input)) : Type 0 where
     pub same-replies : replies call calls tool ≡ replies (step log) calls all-empty
     pub never-17 : Never 17 (replies call calls tool)
     pub stands : (c : ℕ) → c < channel-limit → Stands (channels (final call calls tool) c) (final (step log) calls all-empty c)
@@ -31,7 +31,7 @@ module _ {Tool X Y Input Output : Type 0} (call : Call Input → Tool → Reply 
     pub same-channel : channels (final call calls tool) c ≡ channels (final call others tool) c
 
   abbrev pub RecordClaim : Type 0
-  RecordClaim = (calls : List (Call Input)) → AsLogged calls
+  RecordClaim = (calls : List (Call Input)) → AsComputed calls
 
   abbrev pub IndependenceClaim : Type 0
   IndependenceClaim =

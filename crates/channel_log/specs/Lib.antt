@@ -1,8 +1,6 @@
 -- In reading order.
--- The calls, what they reply, and what channels hold.
+-- The calls, what they reply, what channels hold, how they stand by the log, and which calls concern one channel.
 pub mod Calls
--- How a tool's channel stands by the log.
--- The calls that concern one channel.
 -- What contracts compute with: how channels take calls; the log's channels, and a tool's.
 pub mod CallSteps
 pub mod Log

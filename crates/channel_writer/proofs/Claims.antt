@@ -19,7 +19,7 @@ use Rattle.channel_file.specs.Reading.{read-file}
 use Rattle.channel_file.specs.Bytes.{clamp, node, entry, meet-bytes, rule-bytes}
 use Rattle.channel_file.proofs.Claims as read
 use Rattle.channel_writer.specs.Writing.{bare-token, token-of-one, node-token, with-token, node-tokens, contents-of, written-reply, written-buffer}
-use Rattle.channel_writer.specs.Claims.{All, none-left, one-more, Byte, ByteToken, ByteContents, NodeClaim, WrittenClaim, AgainClaim}
+use Rattle.channel_writer.specs.Claims.{All, none-left, one-more, Byte, ByteToken, ByteContents, NodeClaim, WrittenTextClaim, AgainClaim}
 use Rattle.channel_writer.specs.Claims.{text-written-conditions, WrittenRefusalClaim}
 
 -- ---- refusals
@@ -176,7 +176,7 @@ of-the-form : (e v p : ℕ) (meet nodes : List ℕ) (c : Contents) → Byte e �
     → contents-of e v p meet (node-tokens nodes) ≡ some c → SmallContents c
 of-the-form e v p meet nodes c = of-the-form₁ e v p meet nodes (node-tokens nodes) refl c
 
-pub written-claim : WrittenClaim
+pub written-claim : WrittenTextClaim
 written-claim =
     record {
       of-the-form = of-the-form;

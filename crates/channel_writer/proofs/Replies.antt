@@ -15,7 +15,7 @@ use Rattle.text_output.specs.Output.{offset-limit, Puts}
 use Rattle.text_output.proofs.Outputs.{puts-as, puts-long, puts-again}
 use Rattle.channel_file.specs.{ChannelFile.{Token, Contents, number, token-text, line, text}, FileFormat.{token-item, tokens, entries}}
 use Rattle.channel_file.proofs.FileFormat.{token-print}
-use Rattle.channel_writer.specs.Writing.{node-tokens, contents-of, written-reply, written-buffer, Writes}
+use Rattle.channel_writer.specs.Writing.{node-tokens, contents-of, written-reply, written-buffer, WritesContents}
 use Rattle.channel_writer.specs.Steps.{is-some, IsSome, items-of, nodes-text, lines-text}
 use Rattle.channel_writer.proofs.Texts.{none-left}
 
@@ -70,11 +70,11 @@ no-tokens e v p (m ∷ ms) (some xs) h = let z : _≡_ {A = ℕ} 0 1 = ap (λ (b
 
 -- ---- the reply
 
-pub writes-none : (o : Option Contents) (old : List ℕ) → o ≡ none → Writes o old old (Refused (Plain 5))
+pub writes-none : (o : Option Contents) (old : List ℕ) → o ≡ none → WritesContents o old old (Refused (Plain 5))
 writes-none o old e = record { reply = sym (ap (written-reply old) e); buffer = sym (ap (written-buffer old) e) }
 
 pub writes-long : (o : Option Contents) (old : List ℕ) (c : Contents) → o ≡ some c → min file-limit (length old) < length (text c)
-    → Writes o old old (Refused (Plain 13))
+    → WritesContents o old old (Refused (Plain 13))
 writes-long o old c e h =
     record {
       reply = sym (ap (written-reply old) e ∙ ap (λ (b : Bool). cond b (Refused (Plain 13)) (Count (length (text c))))
@@ -84,7 +84,7 @@ writes-long o old c e h =
 
 pub writes-all : (o : Option Contents) (old new : List ℕ) (c : Contents) (n : ℕ) → o ≡ some c → length (text c) ≤ min file-limit (length old) → n
     ≡ length (text c)
-    → new ≡ put (text c) old → Writes o old new (Count n)
+    → new ≡ put (text c) old → WritesContents o old new (Count n)
 writes-all o old new c n e h l w =
     record {
       reply = ap Count l
@@ -105,16 +105,16 @@ module _ (e v p : ℕ) (meet nodes l l′ : List ℕ) (n : ℕ) (f : Fine e v p 
   put-all : Puts l t l′ 0 n
   put-all = puts-as (sym (f .same-text)) w
 
-  pub over-limit : (old : List ℕ) → file-limit < n → Writes o old old (Refused (Plain 13))
+  pub over-limit : (old : List ℕ) → file-limit < n → WritesContents o old old (Refused (Plain 13))
   over-limit old h =
       let q : n ≡ min (0 + length t) offset-limit = put-all .next in
       writes-long o old (f .inside) (f .is) (omega arith)
 
-  pub over-buffer : (old : List ℕ) → length old < n → Writes o old old (Refused (Plain 13))
+  pub over-buffer : (old : List ℕ) → length old < n → WritesContents o old old (Refused (Plain 13))
   over-buffer old h = writes-long o old (f .inside) (f .is) (omega (arith, puts-long put-all old h))
 
   pub written : (old new : List ℕ) (r : ℕ) → n ≤ file-limit → n ≤ length old → Puts old (lines-text e v p meet nodes) new 0 r
-      → Writes o old new (Count n)
+      → WritesContents o old new (Count n)
   unfolding put
   written old new r h g k =
       let a = puts-again put-all g (puts-as (sym (f .same-text)) k) in

@@ -46,7 +46,7 @@ pub record NodeClaim : Type 0 where
   pub its-token : (x : Token) → node-token (kind x) (first x) (second x) ≡ some x
 
 -- What is written is of the form, and reads back as the contents written, where it is within the limit.
-pub record WrittenClaim : Type 0 where
+pub record WrittenTextClaim : Type 0 where
   pub of-the-form : (e v p : ℕ) (meet nodes : List ℕ) (c : Contents) → Byte e → Byte v → Byte p → All Byte meet → All Byte nodes
       → contents-of e v p meet (node-tokens nodes) ≡ some c → SmallContents c
   pub reads-back : (e v p : ℕ) (meet nodes : List ℕ) (c : Contents) → Byte e → Byte v → Byte p → All Byte meet → All Byte nodes

@@ -48,6 +48,6 @@ written-buffer old none = old
 written-buffer old (some c) = cond (ltb (min file-limit (length old)) (length (text c))) old (put (text c) old)
 
 -- Reply and buffer of a call that writes a file.
-pub record Writes (c : Option Contents) (old new : List ℕ) (r : Counted) : Type 0 where
+pub record WritesContents (c : Option Contents) (old new : List ℕ) (r : Counted) : Type 0 where
   pub reply : r ≡ written-reply old c
   pub buffer : new ≡ written-buffer old c

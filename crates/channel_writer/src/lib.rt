@@ -8,7 +8,7 @@ ghost use Rattle.text_format.specs.Texts.{ascii};
 ghost use Rattle.text_output.specs.Output.{Puts};
 ghost use Rattle.channel_file.specs.ChannelFile.{number, line};
 ghost use Rattle.channel_file.specs.FileFormat.{entries};
-ghost use Rattle.channel_writer.specs.Writing.{bare-token, token-of-one, node-token, node-tokens, contents-of, Writes};
+ghost use Rattle.channel_writer.specs.Writing.{bare-token, token-of-one, node-token, node-tokens, contents-of, WritesContents};
 ghost use Rattle.channel_writer.specs.Steps.{is-some, IsSome, node-text, nodes-text, lines-text};
 use limits::FILE_LIMIT;
 use refusal::BUFFER_LENGTH;
@@ -161,7 +161,7 @@ fn put_lines(out: &mut [u8], events: u8, values: u8, top: u8, meet: &[u8], nodes
     put_rule(out, f, nodes)
 }
 
-// Writes the text of a set-up's numbers, its meet entries and a rule's nodes: 5 without entries, without nodes, or where a node has no
+// WritesContents the text of a set-up's numbers, its meet entries and a rule's nodes: 5 without entries, without nodes, or where a node has no
 // token; 13 for a text over 4,096 bytes or longer than the buffer; else its length.
 pub fn write_text(
     events: u8,
@@ -171,7 +171,7 @@ pub fn write_text(
     nodes: &[u8],
     out: &mut [u8],
 ) -> Counted
-    ensures { λ r. ⌜ Writes (contents-of events values top (now (meet .entry)) (node-tokens (now (nodes .entry)))) (now (out .entry)) (now (out .exit)) r ⌝ }
+    ensures { λ r. ⌜ WritesContents (contents-of events values top (now (meet .entry)) (node-tokens (now (nodes .entry)))) (now (out .entry)) (now (out .exit)) r ⌝ }
 {
     if meet.len() == 0 {
         return Counted::Refused(Refusal::Plain(NODE_COUNT));

@@ -12,11 +12,11 @@ use Rattle.refusal.specs.declared.{Refusal.{Refusal}, Counted.{Counted}}
 use Rattle.refusal.specs.declared.Judgement.the-variants.{Accepted, Refused}
 use Rattle.refusal.specs.declared.Counted.the-variants.{Refused as Uncounted}
 use Rattle.refusal.specs.RefusalAnswers.{or-else, judgement, counted}
-use Rattle.refusal.specs.Refusal.{put-unless}
+use Rattle.refusal.specs.RefusalAnswers.{put-unless}
 use Rattle.refusal.proofs.Refusals.{judgement-accepted, judgement-refused}
 use Rattle.values.specs.declared.ValueKind.{ValueKind}
 use Rattle.values.specs.Setup.{Setup, setup-of-kind, SetupValue}
-use Rattle.values.specs.SetupInOrder.{WellFormed}
+use Rattle.values.specs.SetupInOrder.{AcceptedSetup}
 use Rattle.values.specs.SetupTests.{setup-refusal}
 use Rattle.values.proofs.Setups.{setup-accepted}
 use Rattle.formulas.specs.RuleConditions.{encode-formula, node-bytes}
@@ -78,7 +78,7 @@ module _ (table-most node-most : ℕ) (s : Setup) (states start : ℕ) (table : 
   -- What is accepted: a table of at least one event with the start among its states, whose rule is the written one.
   module _ (setup-in-order : setup-refusal s ≡ none)
       (table-in-order : table-refusal table-most (s .events) (s .kind) states start table ≡ none) where
-    well-formed : WellFormed s
+    well-formed : AcceptedSetup s
     well-formed = setup-accepted s .0 setup-in-order
 
     in-order : TableInOrder (entry-width (s .kind)) table-most (s .events) (SetupValue s) states start table (machine-of (s .kind) (s .events) table)

@@ -9,7 +9,8 @@ use Rattle.values.specs.declared.ValueKind.the-variants.{Numbered, Register}
 use Rattle.values.specs.Setup.{value-width, value-bytes}
 use Rattle.formulas.specs.RuleConditions.{encode-all, node-width, node-bytes}
 use Rattle.formulas.proofs.{Encoding.{encode-append}, NodeCodes.{fields-same, node-code, next-node, width-is}}
-use Rattle.machines.specs.{TableBytes.{entry-value}, Claims.{OfBytes}}
+use Rattle.machines.specs.TableRefusal.{entry-value}
+use Rattle.machines.specs.Claims.{OfBytes}
 use Rattle.characteristic.specs.NodeOutput.{Appends, AppendsOne, HasRoom}
 use Rattle.formulas.specs.NodeCode.{kind-number, first-field, value-field}
 

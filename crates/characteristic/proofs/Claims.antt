@@ -12,7 +12,7 @@ use Rattle.theory.proofs.{Claims.{characteristic}, CharacteristicFormula.{write
 use Rattle.refusal.specs.Refusal.{plain, First, has-place, condition-numbers, right-places, part-of, order}
 use Rattle.refusal.specs.RefusalAnswers.{plain-unless, counted}
 use Rattle.refusal.proofs.Refusals.{plain-first, first-then, first-append, or-else-none, plain-none}
-use Rattle.refusal.specs.Refusal.{put-unless}
+use Rattle.refusal.specs.RefusalAnswers.{put-unless}
 use Rattle.values.specs.{Setup.{Setup, SetupValue, setup-meet, setup-top, setup-conditions}, SetupTests.{setup-refusal}}
 use Rattle.values.proofs.Setups.{setup-first, judged-after-setup, setup-accepted}
 use Rattle.formulas.specs.RuleConditions.{encode-formula, node-width, node-bytes}

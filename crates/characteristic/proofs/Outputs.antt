@@ -10,7 +10,8 @@ use Rattle.refusal.specs.declared.Refusal.{Refusal}
 use Rattle.refusal.specs.declared.Refusal.the-variants.{Plain}
 use Rattle.refusal.specs.declared.Counted.the-variants.{Count, Refused}
 use Rattle.refusal.specs.RefusalAnswers.{or-else, plain-unless, counted}
-use Rattle.refusal.specs.Refusal.{put, put-unless}
+use Rattle.refusal.specs.Refusal.{put}
+use Rattle.refusal.specs.RefusalAnswers.{put-unless}
 use Rattle.values.specs.declared.ValueKind.{ValueKind}
 use Rattle.values.specs.declared.ValueKind.the-variants.{Numbered, Register}
 use Rattle.formulas.specs.RuleConditions.{encode-formula, node-width, node-bytes}

@@ -4,10 +4,9 @@ use Prim.Native.Nat.{ℕ, _+_, _*_, _-_, _≤_, _<_, min}
 use lib.ListN.{length, getD, take}
 use Rattle.limits.specs.Limits.{table-limit, node-limit}
 use Rattle.theory.specs.{Formula.{Formula, size, Node, nodes}, CharacteristicFormula.{OpenAt}}
-use Rattle.refusal.specs.{declared.Counted.{Counted}, RefusalAnswers.{counted}, Refusal.{put-unless}}
+use Rattle.refusal.specs.{declared.Counted.{Counted}, RefusalAnswers.{counted, put-unless}}
 use Rattle.values.specs.{declared.ValueKind.{ValueKind}, Setup.{setup-of-kind}, SetupTests.{setup-refusal}}
-use Rattle.formulas.specs.NodeCode.{kind-number, first-field, value-field}
-use Rattle.formulas.specs.RuleConditions.{encode-all, encode-formula, node-width, node-bytes}
+use Rattle.formulas.specs.{NodeCode.{kind-number, first-field, value-field}, RuleConditions.{encode-all, encode-formula, node-width, node-bytes}}
 use Rattle.characteristic.specs.{RuleOfTable.{IsRuleOf}, RuleWriting.{output-refusal, write-answer, write-contents}}
 
 -- Nodes with values of a kind, in so many bytes each.

@@ -1,5 +1,4 @@
--- The rule of a table (document 01, "Rule of a table", refusals 12 and 13; document 02, F-7): the conditions that writing it meets, over a
--- set-up of either kind. The limits of states and of nodes are parameters.
+-- Document 01, "Rule of a table", refusals 12 and 13: the conditions that writing a rule meets, and what is written, at any limits.
 use mathlib.Core.{Path.{_≡_}, List.{List, [], _∷_, _++_}, Option.{none}}
 use Prim.Native.Nat.{ℕ, _<_}
 use lib.ListN.{length}
@@ -20,13 +19,11 @@ module _ (table-most node-most : ℕ) (s : Setup) (states start : ℕ) (table : 
 
   -- 13: lent buffer shorter than the output.
   abbrev pub BufferTooShort : ℕ → Type 0
-  BufferTooShort room =
-      (φ : Formula ℕ) × IsRuleOf (s .events) (s .kind) start table φ × (room < length (encode-formula (node-bytes (s .kind)) φ))
+  BufferTooShort room = (φ : Formula ℕ) × IsRuleOf (s .events) (s .kind) start table φ × (room < length (encode-formula (node-bytes (s .kind)) φ))
 
   -- The conditions that a call with a buffer of `room` bytes meets, in document 01's order: those of the set-up, 11, 12, 13.
   unfoldable pub write-conditions : ℕ → List Condition
-  write-conditions room =
-      setup-conditions s
+  write-conditions room = setup-conditions s
       ++ (table-condition (entry-width (s .kind)) table-most (s .events) (SetupValue s) states start table (machine-of (s .kind) (s .events) table)
       ∷ plain 12 TooManyNodes
       ∷ plain 13 (BufferTooShort room)
@@ -37,7 +34,5 @@ pub record IsWritten (s : Setup) (start : ℕ) (table : List ℕ) (φ : Formula 
   pub is-rule : IsRuleOf (s .events) (s .kind) start table φ
   pub only : (χ : Formula ℕ) → IsRuleOf (s .events) (s .kind) start table χ → χ ≡ φ
   pub accepted : First (byte-conditions (s .events) (s .kind) (encode-formula (node-bytes (s .kind)) φ)) none
-  pub same-values :
-      (w : List ℕ) → Word (s .events) w → (e : ℕ) → e < s .events →
-      Answers (setup-meet s) (setup-top s) φ w e
+  pub same-values : (w : List ℕ) → Word (s .events) w → (e : ℕ) → e < s .events → Answers (setup-meet s) (setup-top s) φ w e
       (machine-of (s .kind) (s .events) table .value (after (machine-of (s .kind) (s .events) table) start w) e)

@@ -4,7 +4,7 @@ use mathlib.Core.{Option.{Option}, List.{List}}
 use Prim.Native.Nat.{ℕ, _-_, _*_}
 use lib.{ListN.{length}, Dec.{leb}}
 use Rattle.theory.specs.{Formula.{Formula, size}, FormulaWriting.{written}}
-use Rattle.refusal.specs.{declared.Refusal.{Refusal}, declared.Counted.{Counted}, RefusalAnswers.{or-else, plain-unless, counted}, Refusal.{put-unless}}
+use Rattle.refusal.specs.{declared.Refusal.{Refusal}, declared.Counted.{Counted}, RefusalAnswers.{or-else, plain-unless, counted, put-unless}}
 use Rattle.values.specs.{declared.ValueKind.{ValueKind}, Setup.{Setup}, SetupTests.{setup-refusal}}
 use Rattle.formulas.specs.RuleConditions.{encode-formula, node-width, node-bytes}
 use Rattle.machines.specs.{TableBytes.{machine-of}, TableRefusal.{table-refusal}}

@@ -6,11 +6,11 @@ use native.Mathlib.{Numerals.{add-one}, Omega.{arith}}
 use borrow.Author.Tests.{eqb-true, eqb-false, lt-ltb, le-ltb}
 use lib.{Dec.{eqb}, ListN.{length, getD, drop, drop-of-length-le}, Seq.{drop-cons}}
 use Rattle.theory.specs.{MealyMachine.{Machine}, Exploration.{reached, add-events, explore, explored}}
-use Rattle.theory.specs.ConformanceCheck.{same-pair, next-pair, bad-event, or-else, first-bad, bad-pair, in-play-order, counterexample}
+use Rattle.theory.specs.ConformanceCheck.{same-pair, next-pair, bad-event, first-found, first-bad, bad-pair, in-play-order, counterexample}
 use Rattle.theory.proofs.{Exploration.{Grows, explore-grows}, Conformance.{same-pair-iff, few-pairs}}
 use Rattle.values.specs.declared.ValueKind.{ValueKind}
 use Rattle.machines.specs.TableBytes.{machine-of}
-use Rattle.conformance.specs.PairQueue.{Queue, Sized, Holds, at-or-below-on, FirstBadEvent, successors, Expandable, Expanded, FailsAt, Searchable}
+use Rattle.conformance.specs.PairQueue.{Queue, Sized, HoldsPairs, at-or-below-on, FirstBadEvent, successors, Expandable, Expanded, FailsAt, Searchable}
 use Rattle.conformance.proofs.{Places.{product-bounded}, Successors.{part-grows}}
 use Rattle.values.specs.ValueTests.{at-or-below}
 
@@ -51,7 +51,7 @@ module _ {S : Type 0} (next : S → ℕ → S) (start : S) (bad : S → ℕ → 
   module _ (events : ℕ) (Q : List (List ℕ)) (i : ℕ) (i-in : i < length Q) where
     first-at :
         first-bad next start bad events (drop i Q)
-        ≡ or-else (bad-event next start bad events zero (getD Q i [])) (first-bad next start bad events (drop (suc i) Q))
+        ≡ first-found (bad-event next start bad events zero (getD Q i [])) (first-bad next start bad events (drop (suc i) Q))
     first-at = ap (first-bad next start bad events) (drop-cons Q i [] i-in)
 
 module _ {S : Type 0} (same : S → S → Bool) (next : S → ℕ → S) (start : S) (events : ℕ) where
@@ -97,7 +97,7 @@ module _ {size events : ℕ} {kind : ValueKind} {k : ℕ} {device table : List �
 
   pub record Progress (i count : ℕ) (a : Queue) : Type 0 where
     pub words : List (List ℕ)
-    pub held : Holds (x .n) k m q start words a
+    pub held : HoldsPairs (x .n) k m q start words a
     pub counted : count ≡ length words
     pub at-most : i ≤ count
     pub on-way : explore same-pair (next-pair m q) start events (limit - i) i words ≡ Q
@@ -196,10 +196,10 @@ module _ {size events : ℕ} {kind : ValueKind} {k : ℕ} {device table : List �
         taken-word : getD Q i [] ≡ w
         taken-word = words-grow .1 i i-in
 
-        here : first-from (drop i Q) ≡ or-else (bad-event (next-pair m q) start (bad-pair below m q) events zero w) (first-from (drop (suc i) Q))
+        here : first-from (drop i Q) ≡ first-found (bad-event (next-pair m q) start (bad-pair below m q) events zero w) (first-from (drop (suc i) Q))
         here =
             first-at (next-pair m q) start (bad-pair below m q) events Q i (omega (arith, i-in, words-grow .0))
-            ∙ ap (λ u. or-else (bad-event (next-pair m q) start (bad-pair below m q) events zero u) (first-from (drop (suc i) Q))) taken-word
+            ∙ ap (λ u. first-found (bad-event (next-pair m q) start (bad-pair below m q) events zero u) (first-from (drop (suc i) Q))) taken-word
 
         module _ (e : ℕ) (judged : FirstBadEvent events (at-or-below-on events kind meet device table s t) e) where
           -- The pair fails.
@@ -221,7 +221,7 @@ module _ {size events : ℕ} {kind : ValueKind} {k : ℕ} {device table : List �
                 is-first =
                     ap in-play-order
                     (sym (p .passed) ∙ here
-                    ∙ ap (λ o. or-else o (first-from (drop (suc i) Q)))
+                    ∙ ap (λ o. first-found o (first-from (drop (suc i) Q)))
                     (bad-first (next-pair m q) start (bad-pair below m q) e w (bad-is e false (judged .bad l)) events zero (omega arith) (omega arith)
                     (λ c u v. bad-is c true (judged .before c v))));
               }
@@ -240,7 +240,7 @@ module _ {size events : ℕ} {kind : ValueKind} {k : ℕ} {device table : List �
                 on-way = step-way;
                 passed =
                     sym (here
-                    ∙ ap (λ o. or-else o (first-from (drop (suc i) Q)))
+                    ∙ ap (λ o. first-found o (first-from (drop (suc i) Q)))
                     (bad-none (next-pair m q) start (bad-pair below m q) events zero w (λ c u v. bad-is c true (judged .before c (omega arith)))))
                     ∙ p .passed;
               })

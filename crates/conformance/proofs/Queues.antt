@@ -11,7 +11,7 @@ use Rattle.theory.specs.MealyMachine.{Machine}
 use Rattle.theory.specs.Exploration.{reached, has-state, add}
 use Rattle.theory.specs.ConformanceCheck.{same-pair, next-pair}
 use Rattle.theory.proofs.{Numbers.{digits-equal}, Exploration.{length-end}}
-use Rattle.conformance.specs.PairQueue.{Queue, Sized, Linked, Holds, flag, is-new, push, pushed, pushed-count}
+use Rattle.conformance.specs.PairQueue.{Queue, Sized, Linked, HoldsPairs, flag, is-new, push, pushed, pushed-count}
 
 module _ (a : Queue) (count place : ℕ) where
   pub pushed-not : (s t parent e : ℕ) → (getD (a .flags) place 0 ≡ 0 → ⊥) → pushed a count place s t parent e ≡ a
@@ -133,7 +133,7 @@ module _ (n k : ℕ) (m q : Machine ℕ ℕ) (start : ℕ × ℕ) where
   has-end (w ∷ P) v x =
       ap (λ b. same-pair (state w) x || b) (has-end P v x) ∙ or-assoc (same-pair (state w) x) (has P x) (same-pair (state v) x)
 
-  module _ (size : ℕ) (P : List (List ℕ)) (a : Queue) (sized : Sized size a) (held : Holds n k m q start P a) (i e : ℕ) (i-in : i < length P) where
+  module _ (size : ℕ) (P : List (List ℕ)) (a : Queue) (sized : Sized size a) (held : HoldsPairs n k m q start P a) (i e : ℕ) (i-in : i < length P) where
     abbrev w : List ℕ
     w = getD P i []
 
@@ -153,7 +153,7 @@ module _ (n k : ℕ) (m q : Machine ℕ ℕ) (start : ℕ × ℕ) where
         unset : has P (x, y) ≡ false → getD (a .flags) place 0 ≡ 0
         unset h = held .flagged x y x-in y-in ∙ ap flag h
 
-        extended : has P (x, y) ≡ false → length P < size → Holds n k m q start (P ++ ((e ∷ w) ∷ [])) (push a (length P) place x y i e)
+        extended : has P (x, y) ≡ false → length P < size → HoldsPairs n k m q start (P ++ ((e ∷ w) ∷ [])) (push a (length P) place x y i e)
         extended fresh room =
             record {
               linked = linked-push P (a .parents) (a .last-events) i e i-in (omega (arith, sized .parents-size))
@@ -220,7 +220,7 @@ module _ (n k : ℕ) (m q : Machine ℕ ℕ) (start : ℕ × ℕ) where
                     let c′ : _≡_ {A = ℕ} 1 0 = ap flag c in omega arith
 
         abbrev Result : Queue → ℕ → List (List ℕ) → Type 0
-        Result b r Q = Holds n k m q start Q b × (r ≡ length Q)
+        Result b r Q = HoldsPairs n k m q start Q b × (r ≡ length Q)
 
         -- Room for one more where the pair is new.
         pub push-room : length (with-word P (e ∷ w)) ≤ size → getD (a .flags) place 0 ≡ 0 → length P < size
@@ -241,10 +241,10 @@ module _ (n k : ℕ) (m q : Machine ℕ ℕ) (start : ℕ × ℕ) where
                 Result (pushed a (length P) place x y i e) (pushed-count a (length P) place) (cond b P (P ++ ((e ∷ w) ∷ [])))
             go true h r =
                 let f : getD (a .flags) place 0 ≡ 0 → ⊥ = kept (ap (has P) (sym next-state) ∙ h) in
-                (subst⁻¹ (Holds n k m q start P) (pushed-not a (length P) place x y i e f) held, counted-not a (length P) place f)
+                (subst⁻¹ (HoldsPairs n k m q start P) (pushed-not a (length P) place x y i e f) held, counted-not a (length P) place f)
             go false h r =
                 let fresh : has P (x, y) ≡ false = ap (has P) (sym next-state) ∙ h in (
-                  subst⁻¹ (Holds n k m q start (P ++ ((e ∷ w) ∷ []))) (pushed-new a (length P) place x y i e (unset fresh))
+                  subst⁻¹ (HoldsPairs n k m q start (P ++ ((e ∷ w) ∷ []))) (pushed-new a (length P) place x y i e (unset fresh))
                       (extended fresh (omega (arith, length-end P (e ∷ w)))),
                   counted-new a (length P) place (unset fresh) ∙ omega (arith, length-end P (e ∷ w)),
                 )

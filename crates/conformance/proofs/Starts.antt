@@ -13,7 +13,7 @@ use Rattle.conformance.specs.declared.{Verdict.{Verdict}, Failure.{Failu
 use Rattle.conformance.specs.declared.Verdict.the-variants.{Pass, Fail}
 use Rattle.conformance.specs.declared.Failure.the-variants.{Nowhere, At}
 use Rattle.conformance.specs.TrialAnswer.{outcome, shown}
-use Rattle.conformance.specs.PairQueue.{Queue, queue, Sized, flag, Searchable, Searched, Located, Tried, Answers, Answered, FailsAt, Empty}
+use Rattle.conformance.specs.PairQueue.{Queue, queue, Sized, flag, Searchable, Searched, Located, Tried, AnswersSearch, Answered, FailsAt, Empty}
 use Rattle.conformance.proofs.{Queues.{same-pair-self, same-pair-true, or-false}, Words.{short-word, put-last}}
 use Rattle.values.specs.ValueTests.{at-or-below}
 
@@ -160,7 +160,7 @@ module _ {size events : ℕ} {kind : ValueKind} {k : ℕ} {table : List ℕ} {s 
     found-at-place i e z = subst (λ y. Located size events found y b) z located
 
 -- The answer where the search finds nothing.
-pub answer-none : (found : Option (List ℕ)) (old : List ℕ) → found ≡ none → Answers found old Pass old
+pub answer-none : (found : Option (List ℕ)) (old : List ℕ) → found ≡ none → AnswersSearch found old Pass old
 unfolding outcome shown
 answer-none found old z = record { answer-is = ap outcome (sym z); later-is = ap (λ o. shown o old) (sym z) }
 
@@ -180,7 +180,7 @@ module _ {size events : ℕ} {found : Option (List ℕ)} {i e : ℕ} {parents la
 
   pub answer-some :
       (old later : List ℕ) (n : ℕ) → n ≡ length w → size ≤ length old → later ≡ put (reverse w) (set old n e) →
-      Answers found old (Fail (n + 1)) later
+      AnswersSearch found old (Fail (n + 1)) later
   unfolding outcome shown
   answer-some old later n z room is =
       record {

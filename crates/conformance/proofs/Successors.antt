@@ -10,7 +10,7 @@ use Rattle.theory.specs.ConformanceCheck.{same-pair, next-pair}
 use Rattle.theory.proofs.Exploration.{add-grows, add-events-grows}
 use Rattle.values.specs.declared.ValueKind.{ValueKind}
 use Rattle.machines.specs.TableBytes.{machine-of}
-use Rattle.conformance.specs.PairQueue.{Queue, Sized, Holds, is-new, Pushable, pushed, pushed-count, Expandable, successors}
+use Rattle.conformance.specs.PairQueue.{Queue, Sized, HoldsPairs, is-new, Pushable, pushed, pushed-count, Expandable, successors}
 use Rattle.conformance.proofs.{Places.{product-bounded}, Queues.{push-room, push-holds}}
 
 -- Adding words, to any list and over any states.
@@ -61,7 +61,7 @@ module _ (n k : ℕ) (m q : Machine ℕ ℕ) (start : ℕ × ℕ) (size : ℕ) (
   word-i : (e : ℕ) → getD (parts e) i [] ≡ w
   word-i e = part-keeps same-pair (next-pair m q) start P w i i-in e
 
-  module _ (a : Queue) (sized : Sized size a) (events e : ℕ) (e-in : e < events) (held : Holds n k m q start (parts e) a)
+  module _ (a : Queue) (sized : Sized size a) (events e : ℕ) (e-in : e < events) (held : HoldsPairs n k m q start (parts e) a)
       (pairs : n * k ≤ size) (fits : length (parts events) ≤ size) (x y : ℕ)
       (x-is : x ≡ m .next (reached (next-pair m q) start w .0) e) (y-is : y ≡ q .next (reached (next-pair m q) start w .1) e)
       (x-in : x < n) (y-in : y < k) (count : ℕ) (counted : count ≡ length (parts e)) where
@@ -95,11 +95,11 @@ module _ (n k : ℕ) (m q : Machine ℕ ℕ) (start : ℕ × ℕ) (size : ℕ) (
 
     pub turn :
         (b : Queue) (r : ℕ) → b ≡ pushed a count (x * k + y) x y i e → r ≡ pushed-count a count (x * k + y) →
-        Holds n k m q start (parts (e + 1)) b × (r ≡ length (parts (e + 1)))
+        HoldsPairs n k m q start (parts (e + 1)) b × (r ≡ length (parts (e + 1)))
     turn b r b-is r-is =
         let h = push-holds n k m q start size (parts e) a sized held i e (has-i e) x y next-state x-in y-in pairs more-fits in (
-          subst⁻¹ (λ Q. Holds n k m q start Q b) more-is
-              (subst⁻¹ (Holds n k m q start more) (b-is ∙ ap (λ c. pushed a c (x * k + y) x y i e) counted) (h .0)),
+          subst⁻¹ (λ Q. HoldsPairs n k m q start Q b) more-is
+              (subst⁻¹ (HoldsPairs n k m q start more) (b-is ∙ ap (λ c. pushed a c (x * k + y) x y i e) counted) (h .0)),
           r-is ∙ ap (λ c. pushed-count a c (x * k + y)) counted ∙ h .1 ∙ sym (ap length more-is),
         )
 
@@ -111,7 +111,7 @@ pub record Turned {size events : ℕ} {kind : ValueKind} {k : ℕ} {device table
   pub s-in : s < x .n
   pub t-in : t < k
   pub held :
-      Holds (x .n) k (machine-of kind events device) (machine-of kind events table) (x .start)
+      HoldsPairs (x .n) k (machine-of kind events device) (machine-of kind events table) (x .start)
       (add-events same-pair (next-pair (machine-of kind events device) (machine-of kind events table)) (x .start) e zero (x .words) (getD (x .words) i [])) a
   pub counted :
       r
@@ -200,9 +200,9 @@ module _ {size events : ℕ} {kind : ValueKind} {k : ℕ} {device table : List �
     -- After the last event.
     pub turned-end :
         e ≡ events →
-        Holds (x .n) k m q (x .start) (successors events kind device table (x .start) (x .words) i) a
+        HoldsPairs (x .n) k m q (x .start) (successors events kind device table (x .start) (x .words) i) a
         × (r ≡ length (successors events kind device table (x .start) (x .words) i))
     turned-end z = (
-      subst (λ c. Holds (x .n) k m q (x .start) (add-events same-pair (next-pair m q) (x .start) c zero (x .words) (getD (x .words) i [])) a) z (h .held),
+      subst (λ c. HoldsPairs (x .n) k m q (x .start) (add-events same-pair (next-pair m q) (x .start) c zero (x .words) (getD (x .words) i [])) a) z (h .held),
       h .counted ∙ ap (λ c. length (add-events same-pair (next-pair m q) (x .start) c zero (x .words) (getD (x .words) i []))) z,
     )

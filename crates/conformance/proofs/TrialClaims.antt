@@ -29,7 +29,7 @@ use Rattle.conformance.specs.Trial.{RuleTableInOrder, trial-conditions}
 use Rattle.conformance.specs.TrialAnswer.{trial-refusal, first-failure, outcome, shown, answer-unless}
 use Rattle.conformance.specs.TrialAnswer.{buffer-unless, trial-answer, trial-buffer}
 use Rattle.conformance.specs.Trial.{refusal-of, Passed, word-length}
-use Rattle.conformance.specs.Claims.{TrialRefusalClaim, RefusedClaim, PassClaim, FailClaim, SatisfactionClaim, LowestPassesClaim}
+use Rattle.conformance.specs.Claims.{TrialRefusalClaim, TrialRefusedClaim, PassClaim, FailClaim, TrialSatisfactionClaim, LowestPassesClaim}
 use Rattle.conformance.proofs.Trials.{Sound, sound, all-pairs}
 
 -- Tests that decide.
@@ -97,7 +97,7 @@ module _ (d t : ℕ) where
   unfolding trial-conditions condition-numbers right-places has-place part-of order
   trial-refusals x old = judged-after-setup (x .set-up) _ (trial-refusal d t x old) (refusal-first x old) refl refl refl
 
-  pub trial-refused : RefusedClaim d t
+  pub trial-refused : TrialRefusedClaim d t
   unfolding trial-answer trial-buffer buffer-unless
   trial-refused =
       record {
@@ -182,7 +182,7 @@ module _ (d t : ℕ) where
             let q : _≡_ {A = ℕ} 0 1 = cc in omega arith;
       }
 
-  pub trial-satisfies : SatisfactionClaim d t
+  pub trial-satisfies : TrialSatisfactionClaim d t
   trial-satisfies x old z φ well is-table =
       Iff·trans (answer-iff x old z)
       (trial-claim (SetupValue (x .set-up)) (meet x) (setup-top (x .set-up)) (ok x old z .set-up .laws) (x .set-up .events) (below x) (decides x old z)

@@ -13,7 +13,7 @@ use Rattle.refusal.proofs.Refusals.{judgement-accepted, judgement-refused, or-e
 use Rattle.values.specs.declared.ValueKind.{ValueKind}
 use Rattle.values.specs.Setup.{ValueIn}
 use Rattle.values.specs.Setup.{setup-of-kind}
-use Rattle.values.specs.SetupInOrder.{WellFormed}
+use Rattle.values.specs.SetupInOrder.{AcceptedSetup}
 use Rattle.values.specs.SetupTests.{setup-refusal}
 use Rattle.values.proofs.Setups.{setup-accepted}
 use Rattle.machines.specs.{TableBytes.{entry-width, machine-of, TableInOrder}, TableRefusal.{table-refusal}}
@@ -140,7 +140,7 @@ after-setup d t x buffer z =
 -- What an accepted input is.
 module _ (d t : ℕ) (x : TrialInput) (buffer : List ℕ) where
   pub record Sound : Type 0 where
-    pub set-up : WellFormed (x .set-up)
+    pub set-up : AcceptedSetup (x .set-up)
     pub tables : Handed d t (x .set-up .events) (x .set-up .kind) (x .states) (x .table) (x .device-states) (x .device-start) (x .device) buffer
 
   pub sound : trial-refusal d t x buffer ≡ none → Sound

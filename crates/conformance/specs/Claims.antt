@@ -22,7 +22,7 @@ module _ (device-most table-most : ℕ) where
       (x : TrialInput) (old : List ℕ) → Judged (trial-conditions device-most table-most x old) (trial-refusal device-most table-most x old)
 
   -- Its answer is that refusal, and a refused trial leaves the buffer.
-  pub record RefusedClaim : Type 0 where
+  pub record TrialRefusedClaim : Type 0 where
     pub answer :
         (x : TrialInput) (old : List ℕ) → refusal-of (trial-answer device-most table-most x old) ≡ trial-refusal device-most table-most x old
     pub kept :
@@ -53,8 +53,8 @@ module _ (device-most table-most : ℕ) where
 
   -- Against the table of a well-formed formula, an accepted trial passes exactly if the device's start satisfies the formula by the
   -- set definition, which builds no table.
-  abbrev pub SatisfactionClaim : Type 0
-  SatisfactionClaim =
+  abbrev pub TrialSatisfactionClaim : Type 0
+  TrialSatisfactionClaim =
       (x : TrialInput) (old : List ℕ) → trial-refusal device-most table-most x old ≡ none →
       (φ : Formula ℕ) → WellFormed (x .set-up .events) (SetupValue (x .set-up)) φ →
       IsTableOf (meet x) (setup-top (x .set-up)) (x .set-up .events) φ (x .states) (table-machine x) →

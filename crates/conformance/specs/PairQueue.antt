@@ -60,7 +60,7 @@ flag false = 0
 
 -- The arrays hold the words P and the pairs that they reach, of n and k states.
 module _ (n k : ℕ) (m q : Machine ℕ ℕ) (start : ℕ × ℕ) where
-  pub record Holds (P : List (List ℕ)) (a : Queue) : Type 0 where
+  pub record HoldsPairs (P : List (List ℕ)) (a : Queue) : Type 0 where
     pub linked : Linked P (a .parents) (a .last-events)
     pub device-at : (l : ℕ) → l < length P → getD (a .device-queue) l 0 ≡ reached (next-pair m q) start (getD P l []) .0
     pub table-at : (l : ℕ) → l < length P → getD (a .table-queue) l 0 ≡ reached (next-pair m q) start (getD P l []) .1
@@ -114,7 +114,7 @@ pub record Expandable (size events : ℕ) (kind : ValueKind) (k : ℕ) (device t
   pub ready : Ready size events kind n k device table
   pub start : ℕ × ℕ
   pub words : List (List ℕ)
-  pub held : Holds n k (machine-of kind events device) (machine-of kind events table) start words a
+  pub held : HoldsPairs n k (machine-of kind events device) (machine-of kind events table) start words a
   pub counted : count ≡ length words
   pub taken : i < count
   pub room : length (successors events kind device table start words i) ≤ n * k
@@ -123,7 +123,7 @@ pub record Expandable (size events : ℕ) (kind : ValueKind) (k : ℕ) (device t
 abbrev pub Expanded : ℕ → ℕ → ValueKind → ℕ → List ℕ → List ℕ → ℕ → ℕ → Queue → ℕ → Queue → Type 0
 Expanded size events kind k device table i count a r b =
     (x : Expandable size events kind k device table i count a) →
-    Holds (x .n) k (machine-of kind events device) (machine-of kind events table) (x .start) (successors events kind device table (x .start) (x .words) i) b
+    HoldsPairs (x .n) k (machine-of kind events device) (machine-of kind events table) (x .start) (successors events kind device table (x .start) (x .words) i) b
     × (r ≡ length (successors events kind device table (x .start) (x .words) i))
 
 -- Some list of words is linked by the arrays and has word i.
@@ -144,8 +144,8 @@ pub record Writable (i n : ℕ) (parents last-events old : List ℕ) : Type 0 wh
   pub long : n ≡ length (getD (reaches .words) i [])
   pub room : n ≤ length old
 
-abbrev pub Written : ℕ → ℕ → List ℕ → List ℕ → List ℕ → List ℕ → Type 0
-Written i n parents last-events old later =
+abbrev pub WrittenWord : ℕ → ℕ → List ℕ → List ℕ → List ℕ → List ℕ → Type 0
+WrittenWord i n parents last-events old later =
     (x : Writable i n parents last-events old) → later ≡ put (reverse (getD (x .reaches .words) i [])) old
 
 -- Each array has `size` cells; those that are read before they are written, the first table state and the flags, are 0.
@@ -161,7 +161,7 @@ pub record Searchable (size events : ℕ) (kind : ValueKind) (k : ℕ) (device t
   pub s : ℕ
   pub start-in : s < n
   pub some-states : 0 < k
-  pub held : Holds n k (machine-of kind events device) (machine-of kind events table) (s, zero) ([] ∷ []) a
+  pub held : HoldsPairs n k (machine-of kind events device) (machine-of kind events table) (s, zero) ([] ∷ []) a
 
 -- A failure at place i of the queue on event e: the word of place i, then e, is the first on which the device fails.
 pub record FailsAt (size events : ℕ) (first : Option (List ℕ)) (i e : ℕ) (parents last-events : List ℕ) : Type 0 where
@@ -190,14 +190,14 @@ pub record Tried (size events : ℕ) (kind : ValueKind) (k : ℕ) (table : List 
   pub room : size ≤ length buffer
 
 -- The answer and the later buffer are those of the first counterexample.
-pub record Answers (found : Option (List ℕ)) (old : List ℕ) (answer : Verdict) (later : List ℕ) : Type 0 where
+pub record AnswersSearch (found : Option (List ℕ)) (old : List ℕ) (answer : Verdict) (later : List ℕ) : Type 0 where
   pub answer-is : answer ≡ outcome found
   pub later-is : later ≡ shown found old
 
 abbrev pub Answered : ℕ → ℕ → ValueKind → List ℕ → ℕ → List ℕ → ℕ → List ℕ → List ℕ → Verdict → List ℕ → Type 0
 Answered size events kind meet k table s device old answer later =
     (x : Tried size events kind k table s device old) →
-    Answers
+    AnswersSearch
     (counterexample (at-or-below kind meet) (machine-of kind events device) (machine-of kind events table) events (x .n) k s zero)
     old answer later
 

@@ -1,5 +1,4 @@
--- Trial (document 01, "Trial", and refusals 1 to 3, 11 and 13; document 02, F-7): a device judged against a rule's table, both in
--- bytes, over a set-up of either kind.
+-- Document 01, "Trial", refusals 1 to 3, 11 and 13: a device judged against a rule's table, both in bytes, over a set-up of either kind.
 use mathlib.Core.{Path.{_≡_}, Logic.{_⊎_}, Option.{Option, none, some}, List.{List, [], _∷_, _++_}}
 use Prim.Native.Nat.{ℕ, zero, _*_, _≤_, _<_}
 use lib.ListN.{length, take, drop}
@@ -35,8 +34,7 @@ table-machine x = machine-of (x .set-up .kind) (x .set-up .events) (x .table)
 
 -- "The device passes when the start is simulated (definition 1) by state 0 of the rule's table."
 abbrev pub Passes : TrialInput → Type 1
-Passes x =
-    Simulated (x .set-up .events) (meet x) (States (x .device-states)) (device-machine x) (States (x .states)) (table-machine x)
+Passes x = Simulated (x .set-up .events) (meet x) (States (x .device-states)) (device-machine x) (States (x .states)) (table-machine x)
     (x .device-start) zero
 
 -- "Otherwise the answer is a word .. after whose last event the device's value is not at or below the table's": the first of them.
@@ -46,20 +44,17 @@ FirstFailure x = FirstCounterexample (x .set-up .events) (meet x) (device-machin
 module _ (device-most table-most : ℕ) (x : TrialInput) (buffer : List ℕ) where
   -- 11 is one condition, "for a device or any other table handed in": each has its own limit of states.
   abbrev pub DeviceInOrder : Type 0
-  DeviceInOrder =
-      TableInOrder (entry-width (x .set-up .kind)) device-most (x .set-up .events) (SetupValue (x .set-up)) (x .device-states) (x .device-start)
+  DeviceInOrder = TableInOrder (entry-width (x .set-up .kind)) device-most (x .set-up .events) (SetupValue (x .set-up)) (x .device-states) (x .device-start)
       (x .device) (device-machine x)
 
   abbrev pub RuleTableInOrder : Type 0
-  RuleTableInOrder =
-      TableInOrder (entry-width (x .set-up .kind)) table-most (x .set-up .events) (SetupValue (x .set-up)) (x .states) zero (x .table)
+  RuleTableInOrder = TableInOrder (entry-width (x .set-up .kind)) table-most (x .set-up .events) (SetupValue (x .set-up)) (x .states) zero (x .table)
       (table-machine x)
 
   -- The conditions that a trial meets, in document 01's order: those of the set-up, 11, and 13 for a word buffer shorter than the
   -- longest word.
   unfoldable pub trial-conditions : List Condition
-  trial-conditions =
-      setup-conditions (x .set-up)
+  trial-conditions = setup-conditions (x .set-up)
       ++ (plain 11 ((¬ DeviceInOrder) ⊎ (¬ RuleTableInOrder)) ∷ plain 13 (length buffer < device-most * table-most) ∷ [])
 
 -- A failed trial: the front of the buffer holds the word, of "1 to 4,096 events", and the bytes after it keep their contents.

@@ -20,7 +20,7 @@ ghost use Rattle.values.specs.Setup.{setup};
 ghost use Rattle.conformance.specs.Trial.{input};
 ghost use Rattle.conformance.specs.TrialAnswer.{tables-refusal, trial-answer, trial-buffer};
 ghost use Rattle.conformance.specs.PairQueue.{small-queue, at-or-below-on, FirstBadEvent, queue, Sized, Pushable, pushed, pushed-count};
-ghost use Rattle.conformance.specs.PairQueue.{Expandable, Expanded, Reaches, Deep, Writable, Written, Empty, Searchable, Searched, Tried};
+ghost use Rattle.conformance.specs.PairQueue.{Expandable, Expanded, Reaches, Deep, Writable, WrittenWord, Empty, Searchable, Searched, Tried};
 ghost use Rattle.conformance.specs.PairQueue.{Answered, Concluded};
 ghost use Rattle.limits.specs.Limits.{event-limit, device-limit, table-limit, word-limit};
 
@@ -242,7 +242,7 @@ fn depth(parents: &[u16], last_events: &[u8], i: usize) -> usize
 // Writes the events that lead to a place of the queue, in order of play, to the front of the buffer.
 fn write_path(parents: &[u16], last_events: &[u8], i: usize, n: usize, word: &mut [u8])
     requires { ⌜ Writable i n (now parents) (now «last_events») (now word) ⌝ }
-    ensures { λ r. ⌜ Written i n (now (parents .entry)) (now («last_events» .entry)) (now (word .entry)) (now (word .exit)) ⌝ }
+    ensures { λ r. ⌜ WrittenWord i n (now (parents .entry)) (now («last_events» .entry)) (now (word .entry)) (now (word .exit)) ⌝ }
 {
     let mut j = i;
     let mut at = n;

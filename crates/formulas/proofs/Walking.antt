@@ -6,7 +6,7 @@ use lib.{ListN.{length, getD, set, length-set}, Seq.{getD-set-same, getD-set-oth
 use Rattle.limits.specs.Limits.{node-limit}
 use Rattle.theory.specs.Formula.{Formula, truth, variable, transition, output, conjunction, greatest, size}
 use Rattle.formulas.specs.{NodeReading.{Reads}, RuleConditions.{Position, open-to-variable, closed-to-variable}}
-use Rattle.formulas.specs.{RuleReading.{first-of, lowest-variable, unbound-below, closed-there}, NodeWalks.{Noted, Keeps, Judged, Scanned}}
+use Rattle.formulas.specs.{RuleReading.{first-of, lowest-variable, unbound-below, closed-there}, NodeWalks.{Noted, Keeps, WalkJudged, Scanned}}
 
 pub size-positive : {B : Type 0} (φ : Formula B) → 0 < size φ
 size-positive truth = omega arith
@@ -55,8 +55,8 @@ module _ (kind first value : ℕ → ℕ) {S : Type 0} (faulty : S → ℕ → B
     -- A leaf that is no variable.
     pub walk-leaf :
         ¬ (kind at ≡ 1) → ¬ (kind at ≡ 2) → ¬ (kind at ≡ 4) → ¬ (kind at ≡ 5)
-        → Judged kind first value (J s) at left before before (at + 1)
-    unfolding Judged lowest-variable
+        → WalkJudged kind first value (J s) at left before before (at + 1)
+    unfolding WalkJudged lowest-variable
     walk-leaf k1 k2 k4 k5 truth d h = (refl, keeps-none before)
     walk-leaf k1 k2 k4 k5 (variable n) d h = absurd (k1 (d .0))
     walk-leaf k1 k2 k4 k5 (transition e φ) d h = absurd (k2 (d .0))
@@ -67,8 +67,8 @@ module _ (kind first value : ℕ → ℕ) {S : Type 0} (faulty : S → ℕ → B
     module _ (after : ℕ) where
       pub walk-variable :
           kind at ≡ 1 → Keeps (cond (faulty s (first at)) (some at) none) before after
-          → Judged kind first value (J s) at left before after (at + 1)
-      unfolding Judged lowest-variable
+          → WalkJudged kind first value (J s) at left before after (at + 1)
+      unfolding WalkJudged lowest-variable
       walk-variable k w truth d h = absurd (omega (arith, k, d))
       walk-variable k w (variable n) d h = (refl, subst (λ x. Keeps (cond (faulty s x) (some at) none) before after) (d .1) w)
       walk-variable k w (transition a φ) d h = absurd (omega (arith, k, d .0))
@@ -78,23 +78,23 @@ module _ (kind first value : ℕ → ℕ) {S : Type 0} (faulty : S → ℕ → B
 
       module _ (r : ℕ) where
         -- No node is left.
-        pub walk-none : left ≡ 0 → Judged kind first value (J s) at left before after r
-        unfolding Judged
+        pub walk-none : left ≡ 0 → WalkJudged kind first value (J s) at left before after r
+        unfolding WalkJudged
         walk-none e φ d h = absurd (omega (arith, size-positive φ))
 
         -- A node with one part, from the walk over the part.
         part :
-            (t : S) → Judged kind first value (J t) (at + 1) (left - 1) before after r → (φ : Formula ℕ)
+            (t : S) → WalkJudged kind first value (J t) (at + 1) (left - 1) before after r → (φ : Formula ℕ)
             → Reads kind first value (suc at) φ → suc (size φ) ≤ left → (r ≡ at + suc (size φ)) × Keeps (J t (suc at) φ) before after
-        unfolding Judged
+        unfolding WalkJudged
         part t w φ d h =
             let v = w φ (moved-to φ (sym (add-one at)) d) (omega arith) in
             (omega (arith, v .0), subst (λ i. Keeps (J t i φ) before after) (add-one at) (v .1))
 
         pub walk-transition :
-            kind at ≡ 2 → Judged kind first value (J (below-transition s)) (at + 1) (left - 1) before after r
-            → Judged kind first value (J s) at left before after r
-        unfolding Judged lowest-variable
+            kind at ≡ 2 → WalkJudged kind first value (J (below-transition s)) (at + 1) (left - 1) before after r
+            → WalkJudged kind first value (J s) at left before after r
+        unfolding WalkJudged lowest-variable
         walk-transition k w truth d h = absurd (omega (arith, k, d))
         walk-transition k w (variable n) d h = absurd (omega (arith, k, d .0))
         walk-transition k w (transition e φ) d h = part (below-transition s) w φ (d .2) h
@@ -103,9 +103,9 @@ module _ (kind first value : ℕ → ℕ) {S : Type 0} (faulty : S → ℕ → B
         walk-transition k w (greatest φ) d h = absurd (omega (arith, k, d .0))
 
         pub walk-greatest :
-            kind at ≡ 5 → Judged kind first value (J (below-greatest s)) (at + 1) (left - 1) before after r
-            → Judged kind first value (J s) at left before after r
-        unfolding Judged lowest-variable
+            kind at ≡ 5 → WalkJudged kind first value (J (below-greatest s)) (at + 1) (left - 1) before after r
+            → WalkJudged kind first value (J s) at left before after r
+        unfolding WalkJudged lowest-variable
         walk-greatest k w truth d h = absurd (omega (arith, k, d))
         walk-greatest k w (variable n) d h = absurd (omega (arith, k, d .0))
         walk-greatest k w (transition e φ) d h = absurd (omega (arith, k, d .0))
@@ -115,9 +115,9 @@ module _ (kind first value : ℕ → ℕ) {S : Type 0} (faulty : S → ℕ → B
 
         -- A node with two parts: a walk over each.
         pub walk-conjunction :
-            (m between : ℕ) → kind at ≡ 4 → Judged kind first value (J s) (at + 1) (left - 1) before between m
-            → Judged kind first value (J s) m (at + left - m) between after r → Judged kind first value (J s) at left before after r
-        unfolding Judged lowest-variable
+            (m between : ℕ) → kind at ≡ 4 → WalkJudged kind first value (J s) (at + 1) (left - 1) before between m
+            → WalkJudged kind first value (J s) m (at + left - m) between after r → WalkJudged kind first value (J s) at left before after r
+        unfolding WalkJudged lowest-variable
         walk-conjunction m between k one two truth d h = absurd (omega (arith, k, d))
         walk-conjunction m between k one two (variable n) d h = absurd (omega (arith, k, d .0))
         walk-conjunction m between k one two (transition e φ) d h = absurd (omega (arith, k, d .0))

@@ -1,4 +1,4 @@
--- Twin of NodeBytes, pinned by formulas DecodedClaim.
+-- Twin of RuleConditions, pinned by formulas DecodedClaim.
 -- The fields of nodes as lists of fixed length, one for each field: what nodes decode to.
 use mathlib.Core.{Bool.{cond}, List.{List, [], _∷_}}
 use Prim.Native.Nat.{ℕ, zero, suc, _/_, min}

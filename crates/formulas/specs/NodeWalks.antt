@@ -19,8 +19,8 @@ Keeps place before after = (o : Option ℕ) → Noted o before → Noted (first-
 
 -- `judge at φ`: the lowest node at fault in φ that stands at node `at`. For each formula that stands there, the walk's answer is the
 -- node after it, and the lowest node at fault is noted.
-unfoldable pub Judged : (ℕ → ℕ) → (ℕ → ℕ) → (ℕ → ℕ) → (ℕ → Formula ℕ → Option ℕ) → ℕ → ℕ → ℕ → ℕ → ℕ → Type 0
-Judged kind first value judge at left before after r =
+unfoldable pub WalkJudged : (ℕ → ℕ) → (ℕ → ℕ) → (ℕ → ℕ) → (ℕ → Formula ℕ → Option ℕ) → ℕ → ℕ → ℕ → ℕ → ℕ → Type 0
+WalkJudged kind first value judge at left before after r =
     (φ : Formula ℕ) → Reads kind first value at φ → size φ ≤ left → (r ≡ at + size φ) × Keeps (judge at φ) before after
 
 -- The walk of 8 and 9, with two notes: for 8 the first, for 9 the second.
@@ -28,8 +28,8 @@ pub record Scanned (kind first : ℕ → ℕ) (depth : ℕ) (p : Position) (at l
   pub low : at ≤ r
   pub high : r ≤ at + left
   pub sized : length after ≡ 2
-  pub unbound : (value : ℕ → ℕ) → Judged kind first value (lowest-unbound depth) at left (getD before 0 0) (getD after 0 0) r
-  pub closed : (value : ℕ → ℕ) → Judged kind first value (lowest-closed p) at left (getD before 1 0) (getD after 1 0) r
+  pub unbound : (value : ℕ → ℕ) → WalkJudged kind first value (lowest-unbound depth) at left (getD before 0 0) (getD after 0 0) r
+  pub closed : (value : ℕ → ℕ) → WalkJudged kind first value (lowest-closed p) at left (getD before 1 0) (getD after 1 0) r
 
 -- The answer of 8 and 9, for the formula whose nodes these are.
 unfoldable pub VariablesJudged : (ℕ → ℕ) → (ℕ → ℕ) → ℕ → Judgement → Type 0

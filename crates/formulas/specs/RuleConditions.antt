@@ -42,8 +42,7 @@ pub data Position : Type 0 where
 module _ {B : Type 0} (φ : Formula B) where
   pub data Placed : ℕ → Position → Formula B → Type 0 where
     root : Placed zero closed-to-variable φ
-    part-of-transition :
-        {i : ℕ} {p : Position} {e : ℕ} {ψ : Formula B} → Placed i p (transition e ψ) → Placed (suc i) open-to-variable ψ
+    part-of-transition : {i : ℕ} {p : Position} {e : ℕ} {ψ : Formula B} → Placed i p (transition e ψ) → Placed (suc i) open-to-variable ψ
     left-part : {i : ℕ} {p : Position} {ψ χ : Formula B} → Placed i p (conjunction ψ χ) → Placed (suc i) p ψ
     right-part : {i : ℕ} {p : Position} {ψ χ : Formula B} → Placed i p (conjunction ψ χ) → Placed (suc i + size ψ) p χ
     part-of-greatest : {i : ℕ} {p : Position} {ψ : Formula B} → Placed i p (greatest ψ) → Placed (suc i) closed-to-variable ψ
@@ -83,25 +82,21 @@ module _ {B : Type 0} (width : ℕ) (encode : Node B → List ℕ) (bytes : List
 
   -- 7: the nodes run out: they begin the nodes of a formula and stop short of its end; place = node count.
   abbrev pub RunOut : ℕ → Type 0
-  RunOut p =
-      (φ : Formula B) × (n : Node B) × (ns : List (Node B)) × (bytes ++ encode-all encode (n ∷ ns) ≡ encode-formula encode φ)
+  RunOut p = (φ : Formula B) × (n : Node B) × (ns : List (Node B)) × (bytes ++ encode-all encode (n ∷ ns) ≡ encode-formula encode φ)
       × (p ≡ node-count width bytes)
 
 module _ {B : Type 0} (encode : Node B → List ℕ) (bytes : List ℕ) where
   -- 7: nodes are left over after a whole formula; place = first of them.
   abbrev pub LeftOver : ℕ → Type 0
-  LeftOver p =
-      (φ : Formula B) × (n : Node B) × (ns : List (Node B)) × (bytes ≡ encode-formula encode φ ++ encode-all encode (n ∷ ns)) × (p ≡ size φ)
+  LeftOver p = (φ : Formula B) × (n : Node B) × (ns : List (Node B)) × (bytes ≡ encode-formula encode φ ++ encode-all encode (n ∷ ns)) × (p ≡ size φ)
 
   -- 8, 9 and 10 speak of the formula whose bytes these are.
   abbrev pub OfFormula : (Formula B → Type 0) → Type 0
   OfFormula Met = (φ : Formula B) × (bytes ≡ encode-formula encode φ) × Met φ
 
 -- The conditions, in order.
-abbrev pub rule-conditions :
-    {B : Type 0} (width : ℕ) (encode : Node B → List ℕ) (limit events : ℕ) (In : B → Type 0) (bytes : List ℕ) → List Condition
-rule-conditions width encode limit events In bytes =
-    plain 5 (CountAtFault width limit bytes)
+abbrev pub rule-conditions : {B : Type 0} (width : ℕ) (encode : Node B → List ℕ) (limit events : ℕ) (In : B → Type 0) (bytes : List ℕ) → List Condition
+rule-conditions width encode limit events In bytes = plain 5 (CountAtFault width limit bytes)
     ∷ at-lowest 6 (NodeAtFault width encode bytes events In)
     ∷ at-lowest 7 (λ p. RunOut width encode bytes p ⊎ LeftOver encode bytes p)
     ∷ at-lowest 8 (λ i. OfFormula encode bytes (λ φ. Unbound φ i))

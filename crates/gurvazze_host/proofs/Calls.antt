@@ -4,7 +4,8 @@ use Prim.Native.Nat.{ℕ, _*_, _≤_, _<_}
 use native.Mathlib.Omega.{arith}
 use borrow.Author.Tests.{le-leb, lt-leb, ltb-true}
 use lib.{Dec.{leb, ltb}, ListN.{length, getD, take}, Seq.{length-take-le}}
-use Rattle.limits.specs.Limits.{device-limit, table-limit, meet-limit, table-bytes-limit}
+use Rattle.limits.specs.Limits.{device-limit, table-limit, meet-limit}
+use Rattle.channel_io.specs.Claims.{table-bytes-limit}
 use Rattle.theory.specs.MealyMachine.{Machine}
 use Rattle.theory.specs.MachineRuns.{word-values}
 use Rattle.theory.specs.ValueSetTests.{every}
@@ -12,7 +13,8 @@ use Rattle.theory.proofs.ValueSets.{every-at}
 use Rattle.refusal.specs.declared.Refusal.{Refusal}
 use Rattle.refusal.specs.declared.Refusal.the-variants.{Plain}
 use Rattle.refusal.specs.RefusalAnswers.{or-else, plain-unless}
-use Rattle.refusal.specs.Refusal.{put, put-unless}
+use Rattle.refusal.specs.Refusal.{put}
+use Rattle.refusal.specs.RefusalAnswers.{put-unless}
 use Rattle.values.specs.Setup.{Setup, setup}
 use Rattle.text_format.specs.Format.{Outcome}
 use Rattle.channel_file.specs.{ChannelFile.{Contents}, Reading.{read-file}}
@@ -21,12 +23,12 @@ use Rattle.conformance.specs.Trial.{TrialInput, input}
 use Rattle.conformance.specs.TrialAnswer.{trial-refusal, trial-answer, trial-buffer, first-failure, answer-unless, buffer-unless}
 use Rattle.channel_io.specs.declared.FileNumbers.{FileNumbers}
 use Rattle.channel_io.specs.FileConditions.{file-setup}
-use Rattle.channel_io.specs.FileConditions.{numbers}
+use Rattle.channel_io.specs.FileReading.{numbers}
 use Rattle.channel_io.specs.FileRefusals.{file-states, file-table, contents-table-refusal}
 use Rattle.channel_io.specs.Claims.{FileTableMade}
 use Rattle.channel_io.proofs.{Claims.{file-table-made}, Callers.{meet-fits, table-fits, Unmade, off-form, turned-away, MadeOf, limits, events-are}}
 use Rattle.gurvazze_host.specs.Codes.{refusal-code, yield-code, code, verdict-code, table-numbers, SmallPlace, SmallNumbers}
-use Rattle.gurvazze_host.specs.FileCalls.{number-machine, table-call-refusal, table-code, table-after, file-machine, word-refusal, replay-refusal}
+use Rattle.gurvazze_host.specs.FileCalls.{number-machine, table-call-refusal, table-code, table-after, file-machine, word-refusal, file-replay-refusal}
 use Rattle.gurvazze_host.specs.FileCalls.{replay-code, replay-after, file-trial, file-trial-refusal, file-trial-answer, file-trial-buffer, Playable}
 use Rattle.gurvazze_host.specs.FileCalls.{Runnable, Replays}
 use Rattle.gurvazze_host.proofs.Places.{SmallAnswer, file-small, text-small}
@@ -63,11 +65,11 @@ module _ {t meet old : List ℕ} (wide : meet-limit ≤ length meet) where
     pub replay-stopped :
         {r : Refusal} → Unmade t meet old r → (word to : List ℕ)
         → (refusal-code r ≡ replay-code (read-file t) word to) × (to ≡ replay-after (read-file t) word to)
-    unfolding replay-code replay-after code replay-refusal put-unless
+    unfolding replay-code replay-after code file-replay-refusal put-unless
     replay-stopped (off-form p e) word to =
         (sym (ap (λ (o : Outcome Contents). replay-code o word to) e), sym (ap (λ (o : Outcome Contents). replay-after o word to) e))
     replay-stopped (turned-away c r e f) word to =
-        let a : replay-refusal c word to ≡ some r =
+        let a : file-replay-refusal c word to ≡ some r =
         or-some (word-refusal (c .events) word to) (contents-table-refusal c) r (sym (table-fits c meet old wide room) ∙ f) in (
           sym (ap (λ (o : Outcome Contents). replay-code o word to) e ∙ ap (λ (o : Option Refusal). code o 0) a),
           sym (ap (λ (o : Outcome Contents). replay-after o word to) e
@@ -141,9 +143,9 @@ module _ {t meet old meet′ new : List ℕ} {n : FileNumbers} {k : ℕ} (w : Ma
   pub replay-made :
       (word to to′ : List ℕ) (r : ℕ) → Replays (n .events) (take (k * n .events * 2) new) word to to′ r
       → (r ≡ replay-code (read-file t) word to) × (to′ ≡ replay-after (read-file t) word to)
-  unfolding replay-code replay-after replay-refusal
+  unfolding replay-code replay-after file-replay-refusal
   replay-made word to to′ r h =
-      let a : replay-refusal c word to ≡ word-refusal (n .events) word to =
+      let a : file-replay-refusal c word to ≡ word-refusal (n .events) word to =
       or-none (word-refusal (c .events) word to) (contents-table-refusal c) (w .passed) ∙ ap (λ (x : ℕ). word-refusal x word to) (sym (events-are w)) in (
         h .answer ∙ sym (ap (λ (o : Outcome Contents). replay-code o word to) (w .reads) ∙ ap (λ (o : Option Refusal). code o 0) a),
         h .buffer ∙ ap (λ (x : Machine ℕ ℕ). put-unless (word-refusal (n .events) word to) (word-values x 0 word) to) same-machine

@@ -13,7 +13,7 @@ use Rattle.theory.specs.Formula.{Answers}
 use Rattle.refusal.specs.declared.{Refusal.{Refusal}, Counted.{Counted}}
 use Rattle.refusal.specs.declared.{Refusal.the-variants.{Plain, At}, Counted.the-variants.{Count, Refused as Uncounted}}
 use Rattle.refusal.specs.Refusal.{First, plain, has-place, part-of, order, condition-numbers, right-places, counted-refusal}
-use Rattle.refusal.specs.RefusalClaims.{number, place}
+use Rattle.refusal.specs.RefusalClaims.{refusal-number, refusal-place}
 use Rattle.refusal.specs.{RefusalAnswers.{or-else, plain-unless}, RefusalClaims.{ListedRefusal}}
 use Rattle.refusal.proofs.Refusals.{or-else-none, plain-none, plain-first, first-then, first-append, first-unique, judged}
 use Rattle.values.specs.Setup.{meetOf, setup-meet, setup-conditions, kind-conditions}
@@ -33,37 +33,37 @@ use Rattle.conformance.specs.TrialAnswer.{tables-refusal, trial-refusal, trial-
 use Rattle.conformance.proofs.TrialClaims.{trial-satisfies}
 use Rattle.channel_io.proofs.Claims.{contents-table-claim, file-table-made, file-table-accepted}
 use Rattle.gurvazze_host.specs.Codes.{refusal-code, yield-code, code, counted-code, verdict-code, table-numbers, SmallNumbers}
-use Rattle.gurvazze_host.specs.FileCalls.{file-machine, word-refusal, replay-refusal, file-trial, file-trial-refusal, file-trial-answer}
-use Rattle.gurvazze_host.specs.Claims.{TellsRefusal, TellsCount, TellsVerdict, TellsNumbers, ListedAnswer, CodeClaim, replay-conditions, replay-order}
-use Rattle.gurvazze_host.specs.Claims.{file-trial-conditions, ReplayRefusalClaim, ReplayClaim, FileTrialRefusalClaim, FileTrialClaim}
+use Rattle.gurvazze_host.specs.FileCalls.{file-machine, word-refusal, file-replay-refusal, file-trial, file-trial-refusal, file-trial-answer}
+use Rattle.gurvazze_host.specs.Claims.{TellsRefusal, TellsCount, TellsVerdict, TellsNumbers, ListedAnswer, CodeClaim, file-replay-conditions, replay-order}
+use Rattle.gurvazze_host.specs.Claims.{file-trial-conditions, FileReplayRefusalClaim, FileReplayClaim, FileTrialRefusalClaim, FileTrialClaim}
 
 -- ---- codes
 
 same-refusal : (r s : Refusal) → some r ≡ some s → r ≡ s
 same-refusal r s e = cc
 
--- A refusal's code, by its number and place.
+-- A refusal's code, by its refusal-number and refusal-place.
 refused-code : (n p x : ℕ) → n ≤ 25 → x ≡ p * 256 + n → (x % 256 ≡ n) × (x / 256 ≡ p)
 refused-code n p x h e = (omega arith, omega arith)
 
 refusal-told : (r : Refusal) → ListedRefusal r → TellsRefusal (some r) (refusal-code r)
-unfolding refusal-code number place
+unfolding refusal-code refusal-number refusal-place
 refusal-told (Plain n) l =
     let k : n % 256 ≡ n = omega (arith, l .last-number) in
     record {
       accepted = (λ e. absurd (Option·some-ne-none (Plain n) e), λ e. absurd (omega (arith, l .some-number, k, e)));
-      number-is = λ s e. ap number (sym (same-refusal (Plain n) s e)) ∙ sym k;
+      number-is = λ s e. ap refusal-number (sym (same-refusal (Plain n) s e)) ∙ sym k;
       place-is = λ s e.
-          ap place (sym (same-refusal (Plain n) s e))
+          ap refusal-place (sym (same-refusal (Plain n) s e))
           ∙ sym (ap (λ (b : Bool). cond b (some (n / 256)) none) (ap has-place k ∙ l .without-place refl));
     }
 refusal-told (At n p) l =
     let k = refused-code n p (p * 256 + n) (l .last-number) refl in
     record {
       accepted = (λ e. absurd (Option·some-ne-none (At n p) e), λ e. absurd (omega (arith, l .some-number, k .0, e)));
-      number-is = λ s e. ap number (sym (same-refusal (At n p) s e)) ∙ sym (k .0);
+      number-is = λ s e. ap refusal-number (sym (same-refusal (At n p) s e)) ∙ sym (k .0);
       place-is = λ s e.
-          ap place (sym (same-refusal (At n p) s e))
+          ap refusal-place (sym (same-refusal (At n p) s e))
           ∙ sym (ap (λ (b : Bool). cond b (some ((p * 256 + n) / 256)) none) (ap has-place (k .0) ∙ l .with-place p refl) ∙ ap some (k .1));
     }
 
@@ -149,8 +149,8 @@ word-of events w h zero = tt
 word-of events [] h (suc j) = tt
 word-of events (e ∷ w) h (suc j) = (h 0 (omega arith), word-of events w (λ i l. h (suc i) (omega arith)) j)
 
-pub replay-claim : ReplayClaim
-unfolding replay-refusal word-refusal
+pub replay-claim : FileReplayClaim
+unfolding file-replay-refusal word-refusal
 replay-claim c word old e =
     let a = or-else-none (contents-table-refusal c) _ e in
     let b = or-else-none (plain-unless (every (length word) (λ i. ltb (getD word i 0) (c .events))) 16) _ (a .1) .0 in
@@ -177,8 +177,8 @@ whole-word : (events : ℕ) (w : List ℕ) → ((i : ℕ) → i < length w → g
 whole-word events [] h = tt
 whole-word events (e ∷ w) h = (h 0 (omega arith), whole-word events w (λ i l. h (suc i) (omega arith)))
 
-replay-first : (c : Contents) (word old : List ℕ) → First (replay-conditions c word old) (replay-refusal c word old)
-unfolding replay-refusal word-refusal
+replay-first : (c : Contents) (word old : List ℕ) → First (file-replay-conditions c word old) (file-replay-refusal c word old)
+unfolding file-replay-refusal word-refusal
 replay-first c word old =
     let test = every (length word) (λ i. ltb (getD word i 0) (c .events)) in
     first-append _ _ _ _ (contents-table-claim c .first)
@@ -192,12 +192,12 @@ replay-first c word old =
     (λ e. leb-false (length word) (length old) e)
     (λ e h. let l = leb-true (length word) (length old) e in omega arith)))
 
-pub replay-refusal-claim : ReplayRefusalClaim
+pub replay-refusal-claim : FileReplayRefusalClaim
 unfolding setup-conditions kind-conditions condition-numbers right-places has-place part-of replay-order
 replay-refusal-claim c word old =
     record {
       first = replay-first c word old;
-      only = λ other x. first-unique _ other (replay-refusal c word old) x (replay-first c word old);
+      only = λ other x. first-unique _ other (file-replay-refusal c word old) x (replay-first c word old);
       ordered = refl;
       placed = refl;
     }

@@ -7,7 +7,8 @@ use Rattle.theory.specs.{Formula.{Formula, size}, MachineRuns.{word-values}, Ta
 use Rattle.refusal.specs.declared.{Refusal.{Refusal}, Refusal.the-variants.{At}, Counted.{Counted}}
 use Rattle.refusal.specs.Refusal.{Condition, First, has-place, part-of, order, condition-numbers, right-places, Judged, counted-refusal, count-of}
 use Rattle.refusal.specs.RefusalAnswers.{counted}
-use Rattle.refusal.specs.Refusal.{put, put-unless}
+use Rattle.refusal.specs.Refusal.{put}
+use Rattle.refusal.specs.RefusalAnswers.{put-unless}
 use Rattle.refusal.proofs.Refusals.{all-numbered, listed-by, listed-refusal, or-else-none, first-unique}
 use Rattle.values.specs.{declared.ValueKind.the-variants.{Numbered}, Setup.{Setup, setup-meet, setup-conditions, kind-conditions}}
 use Rattle.formulas.specs.RuleConditions.{encode-formula, node-bytes}
@@ -30,9 +31,9 @@ use Rattle.channel_io.specs.FileRefusals.{file-states, file-table, contents-tab
 use Rattle.channel_io.proofs.{Claims.{file-table-made, file-table-accepted}, TablePairs.{compile-as, setup-passed}}
 use Rattle.channel_io.proofs.TextCalls.{text-listed, text-call-first, text-call}
 use Rattle.gurvazze_host.specs.Codes.{yield-code, code, verdict-code, counted-code, table-numbers}
-use Rattle.gurvazze_host.specs.FileCalls.{table-call-refusal, table-code, table-after, file-machine, replay-refusal, replay-code, replay-after}
+use Rattle.gurvazze_host.specs.FileCalls.{table-call-refusal, table-code, table-after, file-machine, file-replay-refusal, replay-code, replay-after}
 use Rattle.gurvazze_host.specs.FileCalls.{file-trial, file-trial-refusal, file-trial-answer, file-trial-buffer}
-use Rattle.gurvazze_host.specs.Claims.{TellsRefusal, TellsCount, TellsVerdict, TellsNumbers, ListedAnswer, replay-conditions, replay-order}
+use Rattle.gurvazze_host.specs.Claims.{TellsRefusal, TellsCount, TellsVerdict, TellsNumbers, ListedAnswer, file-replay-conditions, replay-order}
 use Rattle.gurvazze_host.specs.Claims.{file-trial-conditions, JudgedReplay, TableMade, TableCall, ReplayMade, ReplayCall, TrialMade, FileTrialMade, FileTrialCall}
 use Rattle.gurvazze_host.specs.Claims.{TrialCall, RuleCall, HostClaim}
 use Rattle.gurvazze_host.proofs.Claims.{code-claim, replay-claim, replay-refusal-claim, file-trial-refusal-claim, file-trial-claim}
@@ -123,40 +124,40 @@ module _ (t old new : List ℕ) (r : ℕ) (is-code : r ≡ table-code (read-file
 -- ---- gurvazze_replay
 module _ (t word old new : List ℕ) (r : ℕ) (is-code : r ≡ replay-code (read-file t) word old) (is-new : new ≡ replay-after (read-file t) word old) where
   abbrev replay-answer : Option Refusal
-  replay-answer = text-refusal (λ c. replay-refusal c word old) (read-file t)
+  replay-answer = text-refusal (λ c. file-replay-refusal c word old) (read-file t)
 
-  replay-kept : (x : Outcome Contents) (q : Refusal) → text-refusal (λ c. replay-refusal c word old) x ≡ some q → replay-after x word old ≡ old
+  replay-kept : (x : Outcome Contents) (q : Refusal) → text-refusal (λ c. file-replay-refusal c word old) x ≡ some q → replay-after x word old ≡ old
   unfolding text-refusal replay-after put-unless
   replay-kept (refused p) q e = refl
   replay-kept (contents c) q e = ap (λ (o : Option Refusal). put-unless o (word-values (file-machine c) 0 word) old) e
 
-  replay-judged : (cs : List Condition) → TextConditions t (λ c. replay-conditions c word old) cs → JudgedReplay cs replay-answer
+  replay-judged : (cs : List Condition) → TextConditions t (λ c. file-replay-conditions c word old) cs → JudgedReplay cs replay-answer
   unfolding setup-conditions kind-conditions condition-numbers right-places has-place part-of replay-order
   replay-judged cs x =
-      let first = text-call-first (λ c. replay-conditions c word old) t (λ c. replay-refusal c word old) (λ c. replay-refusal-claim c word old .first) cs x in
+      let first = text-call-first (λ c. file-replay-conditions c word old) t (λ c. file-replay-refusal c word old) (λ c. replay-refusal-claim c word old .first) cs x in
       record { first = first; only = λ other y. first-unique cs other replay-answer y first; ordered = in-order cs x; placed = in-place cs x }
     where
-      in-order : (cs : List Condition) → TextConditions t (λ c. replay-conditions c word old) cs → part-of (condition-numbers cs) replay-order ≡ true
+      in-order : (cs : List Condition) → TextConditions t (λ c. file-replay-conditions c word old) cs → part-of (condition-numbers cs) replay-order ≡ true
       in-order cs (of-contents c s) = refl
       in-order cs (no-contents none-shown) = refl
 
-      in-place : (cs : List Condition) → TextConditions t (λ c. replay-conditions c word old) cs → right-places cs ≡ true
+      in-place : (cs : List Condition) → TextConditions t (λ c. file-replay-conditions c word old) cs → right-places cs ≡ true
       in-place cs (of-contents c s) = refl
       in-place cs (no-contents none-shown) = refl
 
   replay-listed : ListedAnswer replay-answer
   unfolding all-numbered replay-order
   replay-listed q e =
-      let l = text-listed (λ c. replay-conditions c word old) t in
+      let l = text-listed (λ c. file-replay-conditions c word old) t in
       let j = replay-judged (l .0) (l .1) in
       listed-by replay-order refl (l .0) q (subst (First (l .0)) e (j .first)) (j .ordered) (j .placed)
 
-  replay-coded : (x : Outcome Contents) → replay-code x word old ≡ code (text-refusal (λ c. replay-refusal c word old) x) 0
+  replay-coded : (x : Outcome Contents) → replay-code x word old ≡ code (text-refusal (λ c. file-replay-refusal c word old) x) 0
   unfolding replay-code text-refusal code
   replay-coded (refused p) = refl
   replay-coded (contents c) = refl
 
-  replay-made : (x : Outcome Contents) → read-file t ≡ x → text-refusal (λ c. replay-refusal c word old) x ≡ none → ReplayMade t word old new
+  replay-made : (x : Outcome Contents) → read-file t ≡ x → text-refusal (λ c. file-replay-refusal c word old) x ≡ none → ReplayMade t word old new
   unfolding text-refusal replay-after put-unless
   replay-made (refused p) e z = absurd (Option·some-ne-none (At 4 p) z)
   replay-made (contents c) e z =
@@ -174,7 +175,7 @@ module _ (t word old new : List ℕ) (r : ℕ) (is-code : r ≡ replay-code (rea
   replay-call =
       record {
         answer = replay-answer;
-        listed = text-listed (λ c. replay-conditions c word old) t;
+        listed = text-listed (λ c. file-replay-conditions c word old) t;
         judged = replay-judged;
         kept = λ q e. is-new ∙ replay-kept (read-file t) q e;
         of-list = replay-listed;

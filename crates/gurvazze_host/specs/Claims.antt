@@ -7,7 +7,7 @@ use Rattle.theory.specs.TableSatisfaction.{TableSatisfies}
 use Rattle.refusal.specs.{declared.Refusal.{Refusal}, declared.Counted.{Counted}}
 use Rattle.refusal.specs.Refusal.{put, Condition, plain, has-place, First, part-of, condition-numbers, right-places, Judged, JudgedCall, counted-refusal}
 use Rattle.refusal.specs.Refusal.{count-of}
-use Rattle.refusal.specs.RefusalClaims.{ListedRefusal, number, place}
+use Rattle.refusal.specs.RefusalClaims.{ListedRefusal, refusal-number, refusal-place}
 use Rattle.formulas.specs.{RuleConditions.{encode-formula, node-bytes}, Claims.{AcceptedFormula}}
 use Rattle.text_format.specs.Format.{contents}
 use Rattle.channel_file.specs.{ChannelFile.{Contents, Shows, rule-numbers}, Reading.{read-file}}
@@ -19,18 +19,18 @@ use Rattle.conformance.specs.{declared.Verdict.{Verdict}, Trial.{TrialInput, in
 use Rattle.conformance.specs.TrialAnswer.{trial-answer, trial-buffer}
 use Rattle.channel_io.specs.FileConditions.{contents-table-conditions, file-setup, TextConditions, JudgedText}
 use Rattle.gurvazze_host.specs.Codes.{code, counted-code, verdict-code, table-numbers, SmallNumbers}
-use Rattle.gurvazze_host.specs.FileCalls.{file-machine, replay-refusal, file-trial-refusal, file-trial-answer, file-trial-buffer, table-code}
+use Rattle.gurvazze_host.specs.FileCalls.{file-machine, file-replay-refusal, file-trial-refusal, file-trial-answer, file-trial-buffer, table-code}
 use Rattle.gurvazze_host.specs.FileCalls.{table-after, replay-code, replay-after}
 use Rattle.limits.specs.Limits.{state-limit, device-limit, table-limit, word-limit, node-limit}
 
 -- ---- what a caller reads from a code
 
--- The low byte is 0 exactly if nothing is refused. Else it is the refusal's number, and the place, if that number has one, stands
+-- The low byte is 0 exactly if nothing is refused. Else it is the refusal's refusal-number, and the refusal-place, if that refusal-number has one, stands
 -- above it.
 pub record TellsRefusal (answer : Option Refusal) (r : ℕ) : Type 0 where
   pub accepted : (answer ≡ none) ↔ (r % 256 ≡ 0)
-  pub number-is : (refusal : Refusal) → answer ≡ some refusal → number refusal ≡ r % 256
-  pub place-is : (refusal : Refusal) → answer ≡ some refusal → place refusal ≡ cond (has-place (r % 256)) (some (r / 256)) none
+  pub number-is : (refusal : Refusal) → answer ≡ some refusal → refusal-number refusal ≡ r % 256
+  pub place-is : (refusal : Refusal) → answer ≡ some refusal → refusal-place refusal ≡ cond (has-place (r % 256)) (some (r / 256)) none
 
 -- Beside no refusal, the count stands above the low byte.
 pub record TellsCount (answer : Counted) (r : ℕ) : Type 0 where
@@ -50,7 +50,7 @@ pub record TellsNumbers (states events values top x : ℕ) : Type 0 where
   pub values-are : x / 2 ^ 24 % 2 ^ 8 ≡ values
   pub top-is : x / 2 ^ 32 ≡ top
 
--- An answer whose refusal, if it has one, is of the list: its number is not 0 and fits a byte (refusal's ListedRefusalClaim).
+-- An answer whose refusal, if it has one, is of the list: its refusal-number is not 0 and fits a byte (refusal's ListedRefusalClaim).
 abbrev pub ListedAnswer : Option Refusal → Type 0
 ListedAnswer answer = (refusal : Refusal) → answer ≡ some refusal → ListedRefusal refusal
 
@@ -70,8 +70,8 @@ pub record CodeClaim : Type 0 where
 
 -- The conditions of a replay: those of the table of a file's rule, 1 to 3 and 5 to 10; then 16, which the file's event count decides;
 -- then 13.
-abbrev pub replay-conditions : Contents → List ℕ → List ℕ → List Condition
-replay-conditions c word old =
+abbrev pub file-replay-conditions : Contents → List ℕ → List ℕ → List Condition
+file-replay-conditions c word old =
     contents-table-conditions c ++ (plain 16 (¬ Word (c .events) word) ∷ plain 13 (length old < length word) ∷ [])
 
 -- They stand in an order of their own: a tool has its set-up before its events, but without the file's rule there are no events to be
@@ -86,8 +86,8 @@ pub record JudgedReplay (cs : List Condition) (answer : Option Refusal) : Type 0
   pub ordered : part-of (condition-numbers cs) replay-order ≡ true
   pub placed : right-places cs ≡ true
 
-abbrev pub ReplayRefusalClaim : Type 0
-ReplayRefusalClaim = (c : Contents) (word old : List ℕ) → JudgedReplay (replay-conditions c word old) (replay-refusal c word old)
+abbrev pub FileReplayRefusalClaim : Type 0
+FileReplayRefusalClaim = (c : Contents) (word old : List ℕ) → JudgedReplay (file-replay-conditions c word old) (file-replay-refusal c word old)
 
 -- The values that a replay writes are the rule's: on each event its value after the events before it, by followers (`Answers`).
 pub record Replayed (c : Contents) (word : List ℕ) : Type 0 where
@@ -98,8 +98,8 @@ pub record Replayed (c : Contents) (word : List ℕ) : Type 0 where
       (i : ℕ) → i < length word →
       Answers (setup-meet (file-setup c)) (c .top) rule (take i word) (getD word i 0) (getD (word-values (file-machine c) 0 word) i 0)
 
-abbrev pub ReplayClaim : Type 0
-ReplayClaim = (c : Contents) (word old : List ℕ) → replay-refusal c word old ≡ none → Replayed c word
+abbrev pub FileReplayClaim : Type 0
+FileReplayClaim = (c : Contents) (word old : List ℕ) → file-replay-refusal c word old ≡ none → Replayed c word
 
 -- ---- trial against a file's rule
 
@@ -161,8 +161,8 @@ pub record ReplayMade (t word old new : List ℕ) : Type 0 where
 -- gurvazze_replay: 4, 1 to 3, 5 to 10, 16, 13, in its own order.
 pub record ReplayCall (t word old new : List ℕ) (r : ℕ) : Type 1 where
   pub answer : Option Refusal
-  pub listed : (cs : List Condition) × TextConditions t (λ c. replay-conditions c word old) cs
-  pub judged : (cs : List Condition) → TextConditions t (λ c. replay-conditions c word old) cs → JudgedReplay cs answer
+  pub listed : (cs : List Condition) × TextConditions t (λ c. file-replay-conditions c word old) cs
+  pub judged : (cs : List Condition) → TextConditions t (λ c. file-replay-conditions c word old) cs → JudgedReplay cs answer
   pub kept : (refusal : Refusal) → answer ≡ some refusal → new ≡ old
   pub of-list : ListedAnswer answer
   pub told : TellsRefusal answer r

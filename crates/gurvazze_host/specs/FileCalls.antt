@@ -4,7 +4,7 @@ use mathlib.Core.{Path.{_≡_}, List.{List}, Option.{Option}}
 use Prim.Native.Nat.{ℕ, _*_, _≤_, _<_}
 use lib.{Dec.{ltb, leb}, ListN.{length, getD}}
 use Rattle.theory.specs.{MealyMachine.{Machine}, MachineRuns.{word-values}, ValueSetTests.{every}}
-use Rattle.refusal.specs.{declared.Refusal.{Refusal}, declared.Refusal.the-variants.{At}, RefusalAnswers.{or-else, plain-unless}, Refusal.{put-unless}}
+use Rattle.refusal.specs.{declared.Refusal.{Refusal}, declared.Refusal.the-variants.{At}, RefusalAnswers.{or-else, plain-unless, put-unless}}
 use Rattle.text_format.specs.Format.{Outcome, contents, refused}
 use Rattle.channel_file.specs.ChannelFile.{Contents}
 use Rattle.values.specs.declared.ValueKind.the-variants.{Numbered}
@@ -42,17 +42,17 @@ word-refusal events word old =
     or-else (plain-unless (every (length word) (λ i. ltb (getD word i 0) events)) 16) (plain-unless (leb (length word) (length old)) 13)
 
 -- The file's refusals 1 to 3 and 5 to 10, which say whether there is a rule to play events by; then 16 and 13.
-unfoldable pub replay-refusal : Contents → List ℕ → List ℕ → Option Refusal
-replay-refusal c word old = or-else (contents-table-refusal c) (word-refusal (c .events) word old)
+unfoldable pub file-replay-refusal : Contents → List ℕ → List ℕ → Option Refusal
+file-replay-refusal c word old = or-else (contents-table-refusal c) (word-refusal (c .events) word old)
 
 -- Answer and buffer of the call: 4, or as above; a value for each event.
 unfoldable pub replay-code : Outcome Contents → List ℕ → List ℕ → ℕ
 replay-code (refused p) word old = refusal-code (At 4 p)
-replay-code (contents c) word old = code (replay-refusal c word old) 0
+replay-code (contents c) word old = code (file-replay-refusal c word old) 0
 
 unfoldable pub replay-after : Outcome Contents → List ℕ → List ℕ → List ℕ
 replay-after (refused p) word old = old
-replay-after (contents c) word old = put-unless (replay-refusal c word old) (word-values (file-machine c) 0 word) old
+replay-after (contents c) word old = put-unless (file-replay-refusal c word old) (word-values (file-machine c) 0 word) old
 
 -- ---- trial against a file's rule
 

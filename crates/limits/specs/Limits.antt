@@ -1,5 +1,5 @@
 -- The limits of documents 01 and 02, a name each; src/lib.rt has the same names for code.
-use Prim.Native.Nat.{ℕ, _*_, _/_}
+use Prim.Native.Nat.{ℕ, _*_}
 
 -- "A set-up has 1 to 16 events, 1 to 16 values, .. a meet table, .. values × values entries"; document 02, F-7: "1 to 16 lines".
 abbrev pub event-limit : ℕ
@@ -14,22 +14,16 @@ meet-limit = value-limit * value-limit
 abbrev pub line-limit : ℕ
 line-limit = 16
 
--- "1 to 256 nodes"; a set of nodes in words of 64 bits.
+-- "1 to 256 nodes".
 abbrev pub node-limit : ℕ
 node-limit = 256
 
-abbrev pub set-words : ℕ
-set-words = node-limit / 64
-
--- The states of a rule's table, "at most 64"; its entries, and its bytes at two an entry.
+-- The states of a rule's table, "at most 64"; its entries.
 abbrev pub state-limit : ℕ
 state-limit = 64
 
 abbrev pub entry-limit : ℕ
 entry-limit = state-limit * event-limit
-
-abbrev pub table-bytes-limit : ℕ
-table-bytes-limit = entry-limit * 2
 
 -- "A device is a table of 1 to 64 states"; 11 "for a device or any other table handed in: states not 1 to 64".
 abbrev pub device-limit : ℕ

@@ -11,7 +11,8 @@ use Rattle.values.proofs.ValueKinds.{fits-value, value-fitting}
 use Rattle.refusal.specs.Refusal.{First, has-place, order, part-of, condition-numbers, right-places}
 use Rattle.refusal.specs.RefusalAnswers.{plain-unless}
 use Rattle.refusal.proofs.Refusals.{plain-first, plain-none, judged}
-use Rattle.machines.specs.TableBytes.{table-bytes, entry-width, entry-bytes, entry-value, entry-next, entries, machine-of, TableInOrder, table-condition}
+use Rattle.machines.specs.TableBytes.{table-bytes, entry-width, entry-bytes, entries, machine-of, TableInOrder, table-condition}
+use Rattle.machines.specs.TableRefusal.{entry-value, entry-next}
 use Rattle.machines.specs.TableRefusal.{table-test, entry-test, table-refusal}
 use Rattle.machines.specs.Claims.{TableRefusalClaim, AcceptedTableClaim, TableAcceptedClaim}
 use Rattle.theory.proofs.ValueSets.{and-both, and-left, and-right, every-at, every-of}

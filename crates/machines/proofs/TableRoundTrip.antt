@@ -8,9 +8,10 @@ use Rattle.values.specs.declared.ValueKind.{ValueKind}
 use Rattle.values.specs.declared.ValueKind.the-variants.{Numbered, Register}
 use Rattle.values.specs.Setup.{value-width, masks-value}
 use Rattle.values.proofs.ValueBytes.{masks-read, value-bytes-correct}
-use Rattle.machines.specs.TableBytes.{table-bytes, entry-width, entry-bytes, entry-value, entry-next}
+use Rattle.machines.specs.TableBytes.{table-bytes, entry-width, entry-bytes}
+use Rattle.machines.specs.TableRefusal.{entry-value, entry-next}
 use Rattle.machines.specs.StoredEntries.{two-bytes}
-use Rattle.machines.specs.Claims.{ReadBackClaim, WriteBackClaim}
+use Rattle.machines.specs.Claims.{TableReadBackClaim, WriteBackClaim}
 use Rattle.machines.proofs.{EntryIndex.{index-below, index-state, index-event}, EntryBytes.{table-flat, table-entries, entries-at, entries-of}}
 
 -- Byte j of the entry of state l and event e, for entries of one width.
@@ -32,7 +33,7 @@ pub entry-width-is : (kind : ValueKind) → entry-width kind ≡ value-width kin
 entry-width-is (Numbered n) = refl
 entry-width-is (Register lines) = refl
 
-pub read-back : ReadBackClaim
+pub read-back : TableReadBackClaim
 unfolding unpack
 read-back (Numbered k) events n m =
     record {

@@ -6,7 +6,7 @@ use lib.ListN.{length, getD}
 use Rattle.theory.specs.{MealyMachine.{Machine, States}, MachineRuns.{Runs}}
 use Rattle.values.specs.{declared.ValueKind.{ValueKind}, declared.ValueKind.the-variants.{Numbered, Register}, Setup.{ValueIn}}
 use Rattle.refusal.specs.Refusal.{Judged}
-use Rattle.machines.specs.{TableBytes.{table-bytes, entry-width, entry-bytes, entry-value, machine-of, table-condition}, TableRefusal.{table-refusal}}
+use Rattle.machines.specs.{TableBytes.{table-bytes, entry-width, entry-bytes, machine-of, table-condition}, TableRefusal.{entry-value, table-refusal}}
 use Rattle.machines.specs.StoredEntries.{kept-bytes, stored}
 
 -- A table handed in is judged as document 01 asks.
@@ -45,8 +45,8 @@ SameBytesClaim =
     → Agree events n m k → table-bytes encode events m n ≡ table-bytes encode events k n
 
 -- A machine's bytes are read as that machine.
-abbrev pub ReadBackClaim : Type 0
-ReadBackClaim = (kind : ValueKind) (events n : ℕ) (m : Machine ℕ ℕ) → Agree events n (machine-of kind events (table-bytes (entry-bytes kind) events m n)) m
+abbrev pub TableReadBackClaim : Type 0
+TableReadBackClaim = (kind : ValueKind) (events n : ℕ) (m : Machine ℕ ℕ) → Agree events n (machine-of kind events (table-bytes (entry-bytes kind) events m n)) m
 
 -- Bytes of a table's length are those of the machine that they are read as, where it has values of the kind.
 abbrev pub WriteBackClaim : Type 0

@@ -35,16 +35,10 @@ abbrev pub entries : {B : Type 0} → ℕ → (ℕ → B) → (ℕ → ℕ) → 
 entries events value-at next-at =
     record { value = λ l e. value-at (l * events + e); next = λ l e. next-at (l * events + e) }
 
--- The value and the next state of entry i.
-abbrev pub entry-value : ValueKind → List ℕ → ℕ → ℕ
-entry-value kind bytes i = value-from kind bytes (i * entry-width kind)
-
-abbrev pub entry-next : ValueKind → List ℕ → ℕ → ℕ
-entry-next kind bytes i = getD bytes (i * entry-width kind + value-width kind) 0
-
 -- The machine of lent bytes, with values of a kind.
 abbrev pub machine-of : ValueKind → ℕ → List ℕ → Machine ℕ ℕ
-machine-of kind events bytes = entries events (entry-value kind bytes) (entry-next kind bytes)
+machine-of kind events bytes =
+    entries events (λ i. value-from kind bytes (i * entry-width kind)) (λ i. getD bytes (i * entry-width kind + value-width kind) 0)
 
 -- 11, for a device or any other table handed in: states not 1 to the limit, entry count not states × events, start, value or next
 -- state too large. A byte count that is no multiple of an entry's bytes is a wrong entry count.

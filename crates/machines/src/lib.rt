@@ -14,11 +14,13 @@ ghost use lib.Dec.{eqb, ltb};
 ghost use Rattle.theory.specs.ValueSetTests.{every};
 ghost use Rattle.refusal.specs.RefusalAnswers.{judgement};
 ghost use Rattle.values.specs.Setup.{value-width};
-ghost use Rattle.machines.specs.TableBytes.{entry-width, entry-value, entry-next};
+ghost use Rattle.machines.specs.TableBytes.{entry-width};
+ghost use Rattle.machines.specs.TableRefusal.{entry-value, entry-next};
 ghost use Rattle.machines.specs.TableRefusal.{entry-test, table-test, table-refusal};
 ghost use Rattle.machines.specs.StoredEntries.{low-bytes, five-bytes, kept-bytes, storable, after-store};
 ghost use Rattle.values.specs.ValueTests.{value-fits};
-ghost use Rattle.values.specs.Setup.{masks-from, value-from};
+ghost use Rattle.values.specs.ValueTests.{masks-from};
+ghost use Rattle.values.specs.Setup.{value-from};
 
 fn wide(x: u8) -> usize
     ensures { λ r. ⌜ r ≡ x ⌝ }

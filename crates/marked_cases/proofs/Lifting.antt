@@ -21,7 +21,7 @@ use Rattle.theory.proofs.Claims.{grammar, answers, table, table-values, charact
 use Rattle.theory.proofs.{ValueSets.{every-at}, WordOrder.{word-left, word-right}}
 use Rattle.refusal.specs.Refusal.{First}
 use Rattle.values.specs.Setup.{setup-meet, setup-top, SetupValue}
-use Rattle.values.specs.SetupInOrder.{Laws}
+use Rattle.values.specs.SetupInOrder.{SetupLaws}
 use Rattle.values.specs.ValueTests.{at-or-below}
 use Rattle.values.proofs.{Setups.{laws-hold, four-value-setup}, ValueKinds.{value-kinds}}
 use Rattle.formulas.specs.RuleConditions.{encode-all, node-width, node-bytes, byte-conditions}
@@ -76,7 +76,7 @@ Checked (failing v rule word) =
 Checked (passing v) = every 4 (λ b. below v b) ≡ true
 
 -- ---- the set-up
-laws : Laws s
+laws : SetupLaws s
 laws = laws-hold s (four-value-setup 2 (omega arith) (omega arith))
 
 true-iff : (b : Bool) → T b ↔ (b ≡ true)

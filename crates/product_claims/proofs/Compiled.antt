@@ -5,11 +5,15 @@ use Prim.Native.Nat.{ℕ, zero, _*_, _≤_, _<_}
 use borrow.Author.Tests.{le-leb}
 use lib.{Dec.{T, leb}, ListN.{length, take, drop}, Seq.{take-append-seam}}
 use Rattle.theory.specs.{ValueSets.{MeetSemilattice, AtOrBelow}, Formula.{Formula, size, Answers}, FormulaClasses.{WellFormed}}
-use Rattle.theory.specs.{MealyMachine.{Machine, Word, after, States}, MachineRuns.{Runs}, Satisfaction.{Satisfies}, TableSatisfaction.{TableSatisfies}}
+use Rattle.theory.specs.MealyMachine.{Machine, Word, after, States, Satisfies}
+use Rattle.theory.specs.MachineRuns.{Runs}
+use Rattle.theory.specs.TableSatisfaction.{TableSatisfies}
 use Rattle.theory.specs.ReachableStates.{IsTableOf}
 use Rattle.theory.proofs.Claims.{grammar, answers, table-satisfaction}
 use Rattle.refusal.specs.{declared.Refusal.{Refusal}, RefusalAnswers.{or-else, plain-unless}}
-use Rattle.refusal.specs.{Refusal.{put, put-unless, First, JudgedCall, counted-refusal, count-of}, declared.Refusal.the-variants.{Plain}}
+use Rattle.refusal.specs.Refusal.{put, First, JudgedCall, counted-refusal, count-of}
+use Rattle.refusal.specs.RefusalAnswers.{put-unless}
+use Rattle.refusal.specs.declared.Refusal.the-variants.{Plain}
 use Rattle.refusal.proofs.{Refusals.{or-else-none}, Answers.{counted-refusal-is, count-of-counted, counted-judged, counted-put}}
 use Rattle.limits.specs.Limits.{node-limit, state-limit, device-limit, table-limit, word-limit}
 use Rattle.values.specs.{Setup.{Setup, SetupValue, setup-meet, setup-top}, ValueTests.{at-or-below}, SetupTests.{setup-refusal}}

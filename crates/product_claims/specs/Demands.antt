@@ -1,10 +1,9 @@
--- The user's three demands, each as one record: over document 01's definitions, and the functions that the contracts of the public entries
--- state. proofs/Demands has a proof of each.
+-- The user's three demands, each as one record over document 01's definitions and the functions that contracts state; proved in proofs/Demands.
 use mathlib.Core.{Path.{_≡_}, Logic.{_↔_}, List.{List, map}, Option.{none, some}}
 use Prim.Native.Nat.{ℕ, zero, _*_, _≤_, _<_}
 use lib.ListN.{length, take, replicate}
 use Rattle.limits.specs.Limits.{channel-limit, entry-limit, node-limit, state-limit, device-limit, table-limit, word-limit}
-use Rattle.theory.specs.{Formula.{Formula, size}, MealyMachine.{Machine, Word, after, States}, Satisfaction.{Satisfies}}
+use Rattle.theory.specs.{Formula.{Formula, size}, MealyMachine.{Machine, Word, after, States, Satisfies}}
 use Rattle.refusal.specs.{declared.Refusal.the-variants.{Plain}, declared.Refusal.{Refusal}, declared.Counted.{Counted}}
 use Rattle.refusal.specs.{Refusal.{Judged, JudgedCall, judgement-refusal, counted-refusal, count-of, put}, RefusalAnswers.{judgement}}
 use Rattle.values.specs.{Setup.{Setup, setup, setup-meet, setup-conditions}, SetupTests.{setup-refusal}}
@@ -16,13 +15,13 @@ use Rattle.characteristic.specs.{RuleOfTable.{write-conditions, IsWritten}, Rul
 use Rattle.conformance.specs.Trial.{TrialInput, input, DeviceInOrder, trial-conditions, Passes, FailsBy, refusal-of, Passed, word-length}
 use Rattle.conformance.specs.TrialAnswer.{trial-answer, trial-buffer}
 use Rattle.channel_log.specs.Calls.{Call, load, accepted, returned, refused, reply-refusal, replies, final, event-calls, struck, replies-on}
-use Rattle.recorder.specs.{Store.{Store, AllCells, setup-of, channels, StoreClaim}, Called.{called, set-up-called}, Replay.{replayed}}
-use Rattle.recorder.specs.CallConditions.{call-conditions, replay-conditions}
+use Rattle.recorder.specs.{Store.{Store, AllCells, setup-of, channels, StoreClaim, call-conditions, replay-conditions}, Called.{called, set-up-called}}
+use Rattle.recorder.specs.Replay.{replayed}
 use Rattle.recorder_claims.specs.ChannelLog.{AsLogged, LoadedAs}
 use Rattle.channel_file.specs.{ChannelFile.{TokensOf}, Reading.{read-file, tokens-stretch}}
 use Rattle.channel_io.specs.{declared.FileRead.{FileRead}, declared.FileNumbers.{FileNumbers}}
 use Rattle.channel_io.specs.FileConditions.{read-conditions, JudgedText, refusal-read, numbers-read, ReadsAs, write-file-conditions, WritesAs}
-use Rattle.channel_io.specs.{FileReading.{Reads}, FileWriting.{WritesFile}}
+use Rattle.channel_io.specs.{FileReading.{ReadsFile}, FileWriting.{WritesFile}}
 use Rattle.table_report.specs.{PrintedTable.{Prints, report-conditions}, Report.{Reports}}
 
 -- Demand 1: "any public entry takes any input of its type: the call .. accepts or refuses by document 01's list, and a refusal changes no
@@ -31,35 +30,28 @@ pub record DemandOne : Type 1 where
   -- values `check_setup`
   pub checking-a-set-up : (s : Setup) → Judged (setup-conditions s) (judgement-refusal (judgement (setup-refusal s)))
   -- synthesis `compile` and `compile_rule`
-  pub compiling :
-      (s : Setup) (rule old : List ℕ) →
+  pub compiling : (s : Setup) (rule old : List ℕ) →
       JudgedCall (compile-conditions state-limit s rule old) (counted-refusal (compile-answer state-limit s rule old)) old
       (compile-contents state-limit s rule old)
   pub compiling-to-arrays : (s : Setup) (rule : List ℕ) → Judged (pair-table-conditions s rule) (counted-refusal (compiled-setup s rule .verdict))
   -- characteristic `write_rule`
-  pub writing-a-rule :
-      (s : Setup) (states start : ℕ) (table old : List ℕ) →
+  pub writing-a-rule : (s : Setup) (states start : ℕ) (table old : List ℕ) →
       JudgedCall (write-conditions table-limit node-limit s states start table (length old))
-      (counted-refusal (write-answer table-limit node-limit s states start table old)) old
-      (write-contents table-limit node-limit s states start table old)
+      (counted-refusal (write-answer table-limit node-limit s states start table old)) old (write-contents table-limit node-limit s states start table old)
   -- conformance `trial`
-  pub trying :
-      (x : TrialInput) (old : List ℕ) →
+  pub trying : (x : TrialInput) (old : List ℕ) →
       JudgedCall (trial-conditions device-limit table-limit x old) (refusal-of (trial-answer device-limit table-limit x old)) old
       (trial-buffer device-limit table-limit x old)
   -- recorder `set_up`; `load`, `event`, `restart`, `restart_all` and `clear`; `replay`
   pub setting-up : (s : Setup) → Judged (setup-conditions s) (reply-refusal (set-up-called s .0))
   pub calling : (t : Store) (call : Call ℕ) → JudgedCall (call-conditions t call) (reply-refusal (called call t .0)) t (called call t .1)
-  pub replaying :
-      (t : Store) (c : ℕ) (word old : List ℕ) →
+  pub replaying : (t : Store) (c : ℕ) (word old : List ℕ) →
       JudgedCall {M = Store × List ℕ} (replay-conditions t c word old) (reply-refusal (replayed t c word old .0 .0)) (t, old)
       (replayed t c word old .0 .1, replayed t c word old .1)
   -- channel_io `read_file` and `write_file`
-  pub reading-a-file :
-      (t meet rule meet′ rule′ : List ℕ) (r : FileRead) → Reads t meet rule meet′ rule′ r →
+  pub reading-a-file : (t meet rule meet′ rule′ : List ℕ) (r : FileRead) → ReadsFile t meet rule meet′ rule′ r →
       JudgedText {M = List ℕ × List ℕ} t (λ c. read-conditions c meet rule) (refusal-read r) (meet, rule) (meet′, rule′)
-  pub writing-a-file :
-      (events values top : ℕ) (meet rule old new : List ℕ) (r : Counted) → WritesFile events values top meet rule old new r →
+  pub writing-a-file : (events values top : ℕ) (meet rule old new : List ℕ) (r : Counted) → WritesFile events values top meet rule old new r →
       JudgedCall (write-file-conditions (setup events values top meet) rule old) (counted-refusal r) old new
   -- table_report `report`
   pub reporting : (t old new : List ℕ) (r : Counted) → Reports t old new r → JudgedCall (report-conditions t old) (counted-refusal r) old new
@@ -67,8 +59,7 @@ pub record DemandOne : Type 1 where
 -- The rule of a table, handed to `compile`: nothing but 13 refuses it, and its table has the start's values on every event sequence.
 pub record Recompiled (s : Setup) (start : ℕ) (table rule to : List ℕ) : Type 0 where
   pub only-13 : (r : Refusal) → counted-refusal (compile-answer state-limit s rule to) ≡ some r → r ≡ Plain 13
-  pub same-values :
-      counted-refusal (compile-answer state-limit s rule to) ≡ none → (w : List ℕ) → Word (s .events) w → (e : ℕ) → e < s .events →
+  pub same-values : counted-refusal (compile-answer state-limit s rule to) ≡ none → (w : List ℕ) → Word (s .events) w → (e : ℕ) → e < s .events →
       machine-of (s .kind) (s .events) (compile-contents state-limit s rule to) .value
       (after (machine-of (s .kind) (s .events) (compile-contents state-limit s rule to)) zero w) e
       ≡ machine-of (s .kind) (s .events) table .value (after (machine-of (s .kind) (s .events) table) start w) e
@@ -76,45 +67,33 @@ pub record Recompiled (s : Setup) (start : ℕ) (table rule to : List ℕ) : Typ
 -- Demand 2: "rule to table, table to rule, file to rule agree with source 000 and document 01".
 pub record DemandTwo : Type 0 where
   -- "the table has the rule's values on every event sequence"; beside a refusal `compile_rule` hands back zeros
-  pub rule-to-table :
-      (s : Setup) (rule old : List ℕ) (n : ℕ) → count-of (compile-answer state-limit s rule old) ≡ some n →
-      (t : Machine ℕ ℕ) × IsRuleTable s rule n t
-      × (compile-contents state-limit s rule old ≡ put (table-bytes (entry-bytes (s .kind)) (s .events) t n) old)
-  pub rule-to-arrays :
-      (s : Setup) (rule : List ℕ) (n : ℕ) → count-of (compiled-setup s rule .verdict) ≡ some n →
+  pub rule-to-table : (s : Setup) (rule old : List ℕ) (n : ℕ) → count-of (compile-answer state-limit s rule old) ≡ some n →
+      (t : Machine ℕ ℕ) × IsRuleTable s rule n t × (compile-contents state-limit s rule old ≡ put (table-bytes (entry-bytes (s .kind)) (s .events) t n) old)
+  pub rule-to-arrays : (s : Setup) (rule : List ℕ) (n : ℕ) → count-of (compiled-setup s rule .verdict) ≡ some n →
       ArraysHold s rule (compiled-setup s rule .values) (compiled-setup s rule .nexts) n
-  pub refused-arrays :
-      (s : Setup) (rule : List ℕ) (r : Refusal) → counted-refusal (compiled-setup s rule .verdict) ≡ some r →
+  pub refused-arrays : (s : Setup) (rule : List ℕ) (r : Refusal) → counted-refusal (compiled-setup s rule .verdict) ≡ some r →
       (compiled-setup s rule .values ≡ replicate entry-limit 0) × (compiled-setup s rule .nexts ≡ replicate entry-limit 0)
   -- "a rule written from a table has the table's values"
-  pub table-to-rule :
-      (s : Setup) (states start : ℕ) (table old : List ℕ) (n : ℕ) →
-      count-of (write-answer table-limit node-limit s states start table old) ≡ some n →
-      (φ : Formula ℕ) × IsWritten s start table φ × (n ≡ size φ)
+  pub table-to-rule : (s : Setup) (states start : ℕ) (table old : List ℕ) (n : ℕ) →
+      count-of (write-answer table-limit node-limit s states start table old) ≡ some n → (φ : Formula ℕ) × IsWritten s start table φ × (n ≡ size φ)
       × (write-contents table-limit node-limit s states start table old ≡ put (encode-formula (node-bytes (s .kind)) φ) old)
   -- and handed to `compile` it is refused for room alone, and its table has the start's values
-  pub table-to-rule-to-table :
-      (s : Setup) (states start : ℕ) (table old : List ℕ) (n : ℕ) →
+  pub table-to-rule-to-table : (s : Setup) (states start : ℕ) (table old : List ℕ) (n : ℕ) →
       count-of (write-answer table-limit node-limit s states start table old) ≡ some n →
       (φ : Formula ℕ) → IsWritten s start table φ → (to : List ℕ) → Recompiled s start table (encode-formula (node-bytes (s .kind)) φ) to
   -- what a file says is read; what is read is written as that file: "an accepted file written out again is the same bytes"
-  pub file-to-rule :
-      (t meet rule meet′ rule′ : List ℕ) (r : FileRead) → Reads t meet rule meet′ rule′ r →
+  pub file-to-rule : (t meet rule meet′ rule′ : List ℕ) (r : FileRead) → ReadsFile t meet rule meet′ rule′ r →
       (found : FileNumbers) → numbers-read r ≡ some found → ReadsAs t meet rule meet′ rule′ found
-  pub rule-to-file :
-      (events values top : ℕ) (meet rule old new : List ℕ) (r : Counted) → WritesFile events values top meet rule old new r →
+  pub rule-to-file : (events values top : ℕ) (meet rule old new : List ℕ) (r : Counted) → WritesFile events values top meet rule old new r →
       (n : ℕ) → count-of r ≡ some n → WritesAs (setup events values top meet) rule old new n
-  pub file-to-rule-to-file :
-      (t meet rule meet′ rule′ : List ℕ) (r : FileRead) → Reads t meet rule meet′ rule′ r →
+  pub file-to-rule-to-file : (t meet rule meet′ rule′ : List ℕ) (r : FileRead) → ReadsFile t meet rule meet′ rule′ r →
       (found : FileNumbers) → numbers-read r ≡ some found → (old new : List ℕ) (w : Counted) →
       WritesFile (found .events) (found .values) (found .top) (take (found .entries) meet′) (take (3 * found .nodes) rule′) old new w →
       length t ≤ length old → (count-of w ≡ some (length t)) × (new ≡ put t old)
   -- what the program prints, and the tokens of a file
-  pub file-to-report :
-      (t old new : List ℕ) (r : Counted) → Reports t old new r → (n : ℕ) → count-of r ≡ some n →
+  pub file-to-report : (t old new : List ℕ) (r : Counted) → Reports t old new r → (n : ℕ) → count-of r ≡ some n →
       (s : List ℕ) × Prints t s × ((other : List ℕ) → Prints t other → other ≡ s) × (n ≡ length s) × (new ≡ put s old)
-  pub file-to-tokens :
-      (t : List ℕ) →
+  pub file-to-tokens : (t : List ℕ) →
       TokensOf t (tokens-stretch t (read-file t)) × ((other : List ℕ) → TokensOf t other → other ≡ tokens-stretch t (read-file t))
 
 -- A device's trial against the table of n states that `compile` stored for a rule.
@@ -125,40 +104,32 @@ rule-trial-input s rule to n states start device =
 -- Demand 3: "the channel's record is its rule's meaning", for every list of calls; "channels are independent"; "a device passes trial
 -- exactly if its start satisfies the rule by the set definition, which builds no table".
 pub record DemandThree : Type 1 where
-  pub record-of-calls :
-      (s : Setup) → reply-refusal (set-up-called s .0) ≡ none → (calls : List (Call ℕ)) →
+  pub record-of-calls : (s : Setup) → reply-refusal (set-up-called s .0) ≡ none → (calls : List (Call ℕ)) →
       AsLogged s calls (replies called calls (set-up-called s .1)) (setup-of (final called calls (set-up-called s .1)))
       (channels (final called calls (set-up-called s .1)))
-  pub independence :
-      (s : Setup) → reply-refusal (set-up-called s .0) ≡ none → (c : ℕ) → c < channel-limit →
+  pub independence : (s : Setup) → reply-refusal (set-up-called s .0) ≡ none → (c : ℕ) → c < channel-limit →
       (calls others : List (Call ℕ)) → struck c calls ≡ struck c others →
       (replies-on c calls (replies called calls (set-up-called s .1)) ≡ replies-on c others (replies called others (set-up-called s .1)))
       × (channels (final called calls (set-up-called s .1)) c ≡ channels (final called others (set-up-called s .1)) c)
   -- on any tool, not only one that a list of calls made: what a load leaves, and a replay is its event calls
-  pub loading :
-      (t : Store) → AllCells t → (c : ℕ) (rule : List ℕ) → called (load c rule) t .0 ≡ accepted →
+  pub loading : (t : Store) → AllCells t → (c : ℕ) (rule : List ℕ) → called (load c rule) t .0 ≡ accepted →
       LoadedAs (setup-of t) c rule (channels t) (channels (called (load c rule) t .1))
-  pub replaying :
-      (t : Store) → AllCells t → (c : ℕ) (word old : List ℕ) → reply-refusal (replayed t c word old .0 .0) ≡ none →
+  pub replaying : (t : Store) → AllCells t → (c : ℕ) (word old : List ℕ) → reply-refusal (replayed t c word old .0 .0) ≡ none →
       (values : List ℕ) × (replies called (event-calls c word) t ≡ map returned values) × (length values ≡ length word)
       × (replayed t c word old .0 .1 ≡ final called (event-calls c word) t) × (replayed t c word old .1 ≡ put values old)
   -- what a refused set-up hands back is of no use, and a store says all of a tool
-  pub refused-set-up :
-      (s : Setup) (r : Refusal) → reply-refusal (set-up-called s .0) ≡ some r → (call : Call ℕ) →
+  pub refused-set-up : (s : Setup) (r : Refusal) → reply-refusal (set-up-called s .0) ≡ some r → (call : Call ℕ) →
       called call (set-up-called s .1) ≡ (refused (Plain 17), set-up-called s .1)
   pub one-tool : StoreClaim
   -- a trial of any two tables in order
-  pub passes :
-      (x : TrialInput) (old : List ℕ) → refusal-of (trial-answer device-limit table-limit x old) ≡ none →
+  pub passes : (x : TrialInput) (old : List ℕ) → refusal-of (trial-answer device-limit table-limit x old) ≡ none →
       Passed (trial-answer device-limit table-limit x old) ↔ Passes x
   pub pass-keeps :
       (x : TrialInput) (old : List ℕ) → Passed (trial-answer device-limit table-limit x old) → trial-buffer device-limit table-limit x old ≡ old
-  pub fails :
-      (x : TrialInput) (old : List ℕ) (n : ℕ) → word-length (trial-answer device-limit table-limit x old) ≡ some n →
+  pub fails : (x : TrialInput) (old : List ℕ) (n : ℕ) → word-length (trial-answer device-limit table-limit x old) ≡ some n →
       FailsBy x word-limit old (trial-buffer device-limit table-limit x old) n
   -- "for every accepted set-up and rule, every well-formed device and every word buffer that is long enough"
-  pub rule-trial :
-      (s : Setup) (rule to : List ℕ) (n : ℕ) → count-of (compile-answer state-limit s rule to) ≡ some n →
+  pub rule-trial : (s : Setup) (rule to : List ℕ) (n : ℕ) → count-of (compile-answer state-limit s rule to) ≡ some n →
       (states start : ℕ) (device word : List ℕ) →
       DeviceInOrder device-limit table-limit (rule-trial-input s rule to n states start device) word → word-limit ≤ length word →
       (φ : Formula ℕ) → rule ≡ encode-formula (node-bytes (s .kind)) φ →

@@ -23,11 +23,11 @@ use Rattle.channel_log.specs.Calls.{Loaded}
 use Rattle.channel_log.proofs.Record.{not-large}
 use Rattle.recorder.specs.declared.Decision.{Decision}
 use Rattle.recorder.specs.Store.{Store, setup-of, table-at, loaded-at, rows-start, held, channels}
-use Rattle.recorder.specs.CallConditions.{ChannelInOrder}
+use Rattle.recorder.specs.Store.{ChannelInOrder}
 use Rattle.recorder.specs.ToolTests.{setup-test, channel-test, test-of, tool-test}
 use Rattle.recorder.specs.Called.{with-current, next-state, content, tool-refusal, effect-on, settled-store, called}
 use Rattle.recorder.specs.Called.{empty-store, filled, new-store, blank, set-up-answer, set-up-called}
-use Rattle.recorder.specs.Decisions.{refusal-of, number-unless, first-number, channel-number, loaded-number, event-number}
+use Rattle.recorder.specs.Decisions.{number-refusal, number-unless, first-number, channel-number, loaded-number, event-number}
 use Rattle.recorder.specs.Decisions.{decided, entry-place, Bounds, plain-reply, value-reply, kept-number, states-after, judged-reply}
 use Rattle.recorder.proofs.{Numbers.{first-refusal, unless-refusal, test-refusal}, Rows.{getD-part, rows-in, entries-fit}}
 use Rattle.recorder.proofs.Held.{channel-below, few-events, held-above, held-some, empty-held, in-order-of-test}
@@ -78,45 +78,45 @@ module _ (t : Store) (c f : ℕ) (e-fault : f ≡ fault-number t c) where
   abbrev seventeen : Option Refusal
   seventeen = plain-unless (setup-test (setup-of t) && test-of t c) 17
 
-  fault-refusal : refusal-of f ≡ seventeen
+  fault-refusal : number-refusal f ≡ seventeen
   fault-refusal =
-      ap refusal-of e-fault ∙ unless-refusal (setup-test (setup-of t) && channel-test (t .setup .events) (t .setup .kind) (read t c)) 16
+      ap number-refusal e-fault ∙ unless-refusal (setup-test (setup-of t) && channel-test (t .setup .events) (t .setup .kind) (read t c)) 16
       ∙ ap (λ o. plain-unless (setup-test (setup-of t) && channel-test (t .setup .events) (t .setup .kind) o) 17) (read-same t c)
 
-  channel-unless : refusal-of (number-unless (ltb c channel-limit) 14) ≡ channel-refusal c
+  channel-unless : number-refusal (number-unless (ltb c channel-limit) 14) ≡ channel-refusal c
   channel-unless = test-refusal (ltb c channel-limit) 13
 
   -- 17, then 14.
-  pub channel-refused : refusal-of (channel-number f c) ≡ or-else seventeen (channel-refusal c)
+  pub channel-refused : number-refusal (channel-number f c) ≡ or-else seventeen (channel-refusal c)
   channel-refused = first-refusal f (number-unless (ltb c channel-limit) 14) ∙ ap₂ or-else fault-refusal channel-unless
 
   -- A channel that they do not refuse is where the code looks.
   here : or-else seventeen (channel-refusal c) ≡ none → w ≡ c
   here h = mod-eq-of-lt (channel-below c (or-else-none seventeen (channel-refusal c) h .1))
 
-  empty-unless : or-else seventeen (channel-refusal c) ≡ none → refusal-of (number-unless (ltb 0 k) 15) ≡ empty-refusal (channels t c)
+  empty-unless : or-else seventeen (channel-refusal c) ≡ none → number-refusal (number-unless (ltb 0 k) 15) ≡ empty-refusal (channels t c)
   empty-unless h =
-      ap (λ x. refusal-of (number-unless (ltb 0 (getD (t .states) x 0)) 15)) (here h) ∙ test-refusal (ltb 0 (getD (t .states) c 0)) 14
+      ap (λ x. number-refusal (number-unless (ltb 0 (getD (t .states) x 0)) 15)) (here h) ∙ test-refusal (ltb 0 (getD (t .states) c 0)) 14
       ∙ sym (empty-held c (t .setup .events) (getD (t .states) c 0) (getD (t .current) c 0) (t .value) (t .next)
       (channel-below c (or-else-none seventeen (channel-refusal c) h .1)))
 
   -- Then 15, and what comes after it.
-  pub loaded-refused : refusal-of (loaded-number f c k) ≡ or-else seventeen (or-else (channel-refusal c) (empty-refusal (channels t c)))
+  pub loaded-refused : number-refusal (loaded-number f c k) ≡ or-else seventeen (or-else (channel-refusal c) (empty-refusal (channels t c)))
   loaded-refused =
       first-refusal (channel-number f c) (number-unless (ltb 0 k) 15)
-      ∙ ap (λ o. or-else o (refusal-of (number-unless (ltb 0 k) 15))) channel-refused
-      ∙ or-else-same (or-else seventeen (channel-refusal c)) (refusal-of (number-unless (ltb 0 k) 15)) (empty-refusal (channels t c)) empty-unless
+      ∙ ap (λ o. or-else o (number-refusal (number-unless (ltb 0 k) 15))) channel-refused
+      ∙ or-else-same (or-else seventeen (channel-refusal c)) (number-refusal (number-unless (ltb 0 k) 15)) (empty-refusal (channels t c)) empty-unless
       ∙ sym (or-else-assoc seventeen (channel-refusal c) (empty-refusal (channels t c)))
 
   pub later-refused :
       (n : ℕ) →
-      refusal-of (first-number (loaded-number f c k) n)
-      ≡ or-else seventeen (or-else (channel-refusal c) (or-else (empty-refusal (channels t c)) (refusal-of n)))
+      number-refusal (first-number (loaded-number f c k) n)
+      ≡ or-else seventeen (or-else (channel-refusal c) (or-else (empty-refusal (channels t c)) (number-refusal n)))
   later-refused n =
       let a = channel-refusal c in
       let b = empty-refusal (channels t c) in
-      first-refusal (loaded-number f c k) n ∙ ap (λ o. or-else o (refusal-of n)) loaded-refused
-      ∙ sym (or-else-assoc seventeen (or-else a b) (refusal-of n)) ∙ ap (or-else seventeen) (sym (or-else-assoc a b (refusal-of n)))
+      first-refusal (loaded-number f c k) n ∙ ap (λ o. or-else o (number-refusal n)) loaded-refused
+      ∙ sym (or-else-assoc seventeen (or-else a b) (number-refusal n)) ∙ ap (or-else seventeen) (sym (or-else-assoc a b (number-refusal n)))
 
 -- A loaded channel that 17, 14 and 15 do not refuse.
 pub record Ready (t : Store) (c : ℕ) : Type 0 where
@@ -197,10 +197,10 @@ module _ (t : Store) (c e f : ℕ) (e-fault : f ≡ fault-number t c) where
   abbrev n : ℕ
   n = event-number f c (getD (t .states) at 0) (t .setup .events) e
 
-  large-unless : refusal-of (number-unless (ltb e (t .setup .events)) 16) ≡ large-event (t .setup .events) e
+  large-unless : number-refusal (number-unless (ltb e (t .setup .events)) 16) ≡ large-event (t .setup .events) e
   large-unless = test-refusal (ltb e (t .setup .events)) 15
 
-  number-is : refusal-of n ≡ tool-refusal t (event c e)
+  number-is : number-refusal n ≡ tool-refusal t (event c e)
   number-is =
       later-refused t c f e-fault (number-unless (ltb e (t .setup .events)) 16)
       ∙ ap (λ o. or-else (seventeen t c f e-fault) (or-else (channel-refusal c) o))
@@ -209,8 +209,8 @@ module _ (t : Store) (c e f : ℕ) (e-fault : f ≡ fault-number t c) where
   ready : n ≡ 0 → Ready t c × (e < t .setup .events)
   ready h =
       let r =
-      ready-of t c (refusal-of (number-unless (ltb e (t .setup .events)) 16))
-      (sym (later-refused t c f e-fault (number-unless (ltb e (t .setup .events)) 16)) ∙ ap refusal-of h) in
+      ready-of t c (number-refusal (number-unless (ltb e (t .setup .events)) 16))
+      (sym (later-refused t c f e-fault (number-unless (ltb e (t .setup .events)) 16)) ∙ ap number-refusal h) in
       (r .0, not-large (t .setup .events) e (sym large-unless ∙ r .1))
 
   -- Its entry lies within the arrays.
@@ -250,7 +250,7 @@ module _ (t : Store) (c e f : ℕ) (e-fault : f ≡ fault-number t c) where
       (sym (getD-part (t .value) (rows-start c) (getD (t .states) c 0 * t .setup .events) (state-of t c * t .setup .events + e) i))
       (sym (getD-part (t .next) (rows-start c) (getD (t .states) c 0 * t .setup .events) (state-of t c * t .setup .events + e) i))
       ∙ sym (ap (λ o. (event-reply (content t) o e, with-current t (set (t .current) c (next-state o e)))) (has t c (r .0)))
-      ∙ sym (accepted-call t (event c e) (sym number-is ∙ ap refusal-of h))
+      ∙ sym (accepted-call t (event c e) (sym number-is ∙ ap number-refusal h))
 
   pub event-done :
       (a : Reply ℕ) (d : Decision) (m : ℕ) → a ≡ value-reply d → d ≡ decided m (getD (t .current) at 0) (value-there at) (next-there at) → m ≡ n →
@@ -264,7 +264,7 @@ module _ (t : Store) (c e f : ℕ) (e-fault : f ≡ fault-number t c) where
       go zero h = went h
       go (suc m) h =
           ap (λ u. (refused (Plain (suc m)), u)) (same-store t at)
-          ∙ sym (refused-call t (event c e) (Plain (suc m)) (sym number-is ∙ ap refusal-of h))
+          ∙ sym (refused-call t (event c e) (Plain (suc m)) (sym number-is ∙ ap number-refusal h))
 
 -- Restart and clear.
 module _ (t : Store) (c f : ℕ) (e-fault : f ≡ fault-number t c) where
@@ -275,10 +275,10 @@ module _ (t : Store) (c f : ℕ) (e-fault : f ≡ fault-number t c) where
       (a : Reply ℕ) (q m : ℕ) → a ≡ plain-reply m → q ≡ kept-number m (getD (t .current) x 0) → m ≡ loaded-number f c (getD (t .states) x 0) →
       (a, with-current t (set (t .current) x q)) ≡ called (restart c) t
   restart-done a q m e1 e2 e3 =
-      ap₂ (λ a q. (a, with-current t (set (t .current) x q))) e1 e2 ∙ go m (ap refusal-of e3 ∙ loaded-refused t c f e-fault)
+      ap₂ (λ a q. (a, with-current t (set (t .current) x q))) e1 e2 ∙ go m (ap number-refusal e3 ∙ loaded-refused t c f e-fault)
     where
       go :
-          (m : ℕ) → refusal-of m ≡ tool-refusal t (restart c) →
+          (m : ℕ) → number-refusal m ≡ tool-refusal t (restart c) →
           (plain-reply m, with-current t (set (t .current) x (kept-number m (getD (t .current) x 0)))) ≡ called (restart c) t
       go zero h =
           ap (λ d. (accepted, with-current t (set (t .current) d 0)))
@@ -295,10 +295,10 @@ module _ (t : Store) (c f : ℕ) (e-fault : f ≡ fault-number t c) where
       m ≡ channel-number f c → (a, emptied x k q) ≡ called (clear c) t
   clear-done a k q m e1 e2 e3 e4 =
       ap (λ a. (a, emptied x k q)) e1 ∙ ap₂ (λ k q. (plain-reply m, emptied x k q)) e2 e3
-      ∙ go m (ap refusal-of e4 ∙ channel-refused t c f e-fault)
+      ∙ go m (ap number-refusal e4 ∙ channel-refused t c f e-fault)
     where
       go :
-          (m : ℕ) → refusal-of m ≡ tool-refusal t (clear c) →
+          (m : ℕ) → number-refusal m ≡ tool-refusal t (clear c) →
           (plain-reply m, emptied x (kept-number m (getD (t .states) x 0)) (kept-number m (getD (t .current) x 0))) ≡ called (clear c) t
       go zero h = ap (λ d. (accepted, emptied d 0 0)) (here t c f e-fault (sym h)) ∙ sym (accepted-call t (clear c) (sym h))
       go (suc m) h =
@@ -312,13 +312,13 @@ pub restart-all-done :
 unfolding or-else
 restart-all-done t a l m e1 e2 e3 =
     ap₂ (λ a l. (a, with-current t l)) e1 e2
-    ∙ go m (ap refusal-of e3 ∙ unless-refusal (tool-test t restart-all) 16 ∙ last (plain-unless (tool-test t restart-all) 17))
+    ∙ go m (ap number-refusal e3 ∙ unless-refusal (tool-test t restart-all) 16 ∙ last (plain-unless (tool-test t restart-all) 17))
   where
     last : (o : Option Refusal) → o ≡ or-else o none
     last none = refl
     last (some r) = refl
 
-    go : (m : ℕ) → refusal-of m ≡ tool-refusal t restart-all → (plain-reply m, with-current t (states-after m (t .current))) ≡ called restart-all t
+    go : (m : ℕ) → number-refusal m ≡ tool-refusal t restart-all → (plain-reply m, with-current t (states-after m (t .current))) ≡ called restart-all t
     go zero h = sym (accepted-call t restart-all (sym h))
     go (suc m) h = sym (refused-call t restart-all (Plain (suc m)) (sym h))
 

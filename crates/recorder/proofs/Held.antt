@@ -16,15 +16,16 @@ use Rattle.refusal.proofs.Refusals.{judgement-accepted, judgement-refused}
 use Rattle.values.specs.declared.ValueKind.{ValueKind}
 use Rattle.values.specs.ValueTests.{value-fits}
 use Rattle.values.specs.Setup.{Setup, setup}
-use Rattle.values.specs.SetupInOrder.{WellFormed}
+use Rattle.values.specs.SetupInOrder.{AcceptedSetup}
 use Rattle.values.specs.SetupTests.{events-test, values-test, meet-test, kind-refusal, setup-refusal}
 use Rattle.values.proofs.{Setups.{setup-accepted}, ValueKinds.{value-kinds}}
 use Rattle.channel_log.specs.CallSteps.{channel-refusal, empty-refusal}
 use Rattle.channel_log.specs.Calls.{Loaded}
 use Rattle.machines.specs.TableBytes.{entry-width, entry-bytes}
 use Rattle.machines.proofs.{EntryIndex.{index-below, every-entry}, EntryBytes.{table-length}, TableRoundTrip.{entry-length}}
-use Rattle.recorder.specs.Store.{part, table-at, loaded-at, rows-start, held}
-use Rattle.recorder.specs.CallConditions.{ChannelInOrder}
+use Rattle.recorder.specs.ToolTests.{part}
+use Rattle.recorder.specs.Store.{table-at, loaded-at, rows-start, held}
+use Rattle.recorder.specs.Store.{ChannelInOrder}
 use Rattle.recorder.specs.ToolTests.{passed, setup-test, entries-test, loaded-test, channel-test}
 use Rattle.recorder.proofs.Rows.{getD-part}
 
@@ -49,10 +50,10 @@ pub test-of-accepted : (s : Setup) → setup-refusal s ≡ none → setup-test s
 unfolding setup-test
 test-of-accepted s h = ap passed h
 
-pub well-formed-of-test : (s : Setup) → setup-test s ≡ true → WellFormed s
+pub well-formed-of-test : (s : Setup) → setup-test s ≡ true → AcceptedSetup s
 well-formed-of-test s h = setup-accepted s .0 (accepted-of-test s h)
 
-pub test-of-well-formed : (s : Setup) → WellFormed s → setup-test s ≡ true
+pub test-of-well-formed : (s : Setup) → AcceptedSetup s → setup-test s ≡ true
 test-of-well-formed s h = test-of-accepted s (setup-accepted s .1 h)
 
 pub few-events : (s : Setup) → setup-test s ≡ true → s .events ≤ event-limit

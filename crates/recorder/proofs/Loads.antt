@@ -17,7 +17,7 @@ use Rattle.recorder.specs.Store.{Store, setup-of}
 use Rattle.recorder.specs.ToolTests.{setup-test, test-of}
 use Rattle.recorder.specs.CompiledRule.{rule-judged, states-of-rule, compiled-rule}
 use Rattle.recorder.specs.Called.{with-rows, stored-rows, tool-refusal, called}
-use Rattle.recorder.specs.Decisions.{refusal-of, channel-number, plain-reply, counted-reply, low-byte}
+use Rattle.recorder.specs.Decisions.{number-refusal, channel-number, plain-reply, counted-reply, low-byte}
 use Rattle.recorder.proofs.{Numbers.{number-some, plain-refused}, Held.{channel-below, accepted-of-test}}
 use Rattle.recorder.proofs.Decided.{fault-number, refused-call, accepted-call, channel-refused}
 use Rattle.recorder.proofs.CompiledRules.{rule-refused, rule-counted, values-are, nexts-are, few-states, low-values}
@@ -30,10 +30,10 @@ module _ (t : Store) (c : ℕ) (r : List ℕ) (f : ℕ) (e-fault : f ≡ fault-n
   judged = rule-judged (setup-of t) r
 
   -- 17 and 14, and 5 to 10 after them.
-  number-is : refusal-of m ≡ or-else earlier (channel-refusal c)
-  number-is = ap refusal-of e-number ∙ channel-refused t c f e-fault
+  number-is : number-refusal m ≡ or-else earlier (channel-refusal c)
+  number-is = ap number-refusal e-number ∙ channel-refused t c f e-fault
 
-  judged-after : (o : Option Refusal) → refusal-of m ≡ o → tool-refusal t (load c r) ≡ or-else o judged
+  judged-after : (o : Option Refusal) → number-refusal m ≡ o → tool-refusal t (load c r) ≡ or-else o judged
   judged-after o h = or-else-assoc earlier (channel-refusal c) judged ∙ ap (λ x. or-else x judged) (sym number-is ∙ h)
 
   pub load-refused : (a : Reply ℕ) → a ≡ plain-reply m → 0 < m → (a, t) ≡ called (load c r) t
@@ -44,7 +44,7 @@ module _ (t : Store) (c : ℕ) (r : List ℕ) (f : ℕ) (e-fault : f ≡ fault-n
 
   module _ (went : m ≡ 0) where
     passed : (earlier ≡ none) × (channel-refusal c ≡ none)
-    passed = or-else-none earlier (channel-refusal c) (sym number-is ∙ ap refusal-of went)
+    passed = or-else-none earlier (channel-refusal c) (sym number-is ∙ ap number-refusal went)
 
     pub setup-passes : setup-test (setup-of t) ≡ true
     setup-passes = and-left (setup-test (setup-of t)) (test-of t c) (plain-none (setup-test (setup-of t) && test-of t c) 17 (passed .0))
@@ -54,7 +54,7 @@ module _ (t : Store) (c : ℕ) (r : List ℕ) (f : ℕ) (e-fault : f ≡ fault-n
 
     judged-is : tool-refusal t (load c r) ≡ judged
     unfolding or-else
-    judged-is = judged-after none (ap refusal-of went)
+    judged-is = judged-after none (ap number-refusal went)
 
     pub load-judged :
         (a : Reply ℕ) (A : Compiled) (x : Refusal) → a ≡ counted-reply (A .verdict) → A ≡ compiled-rule (setup-of t) r → A .verdict ≡ Refused x →

@@ -6,19 +6,19 @@ use Rattle.refusal.specs.declared.Refusal.the-variants.{Plain}
 use Rattle.refusal.specs.RefusalAnswers.{or-else, plain-unless}
 use Rattle.channel_log.specs.Calls.{refused}
 use Rattle.recorder.specs.declared.Decision.{Decision}
-use Rattle.recorder.specs.Decisions.{refusal-of, number-unless, first-number, decided, plain-reply}
+use Rattle.recorder.specs.Decisions.{number-refusal, number-unless, first-number, decided, plain-reply}
 
-pub first-refusal : (a b : ℕ) → refusal-of (first-number a b) ≡ or-else (refusal-of a) (refusal-of b)
+pub first-refusal : (a b : ℕ) → number-refusal (first-number a b) ≡ or-else (number-refusal a) (number-refusal b)
 unfolding or-else
 first-refusal zero b = refl
 first-refusal (suc n) b = refl
 
-pub unless-refusal : (t : Bool) (n : ℕ) → refusal-of (number-unless t (suc n)) ≡ plain-unless t (suc n)
+pub unless-refusal : (t : Bool) (n : ℕ) → number-refusal (number-unless t (suc n)) ≡ plain-unless t (suc n)
 unfolding plain-unless
 unless-refusal true n = refl
 unless-refusal false n = refl
 
-pub test-refusal : (t : Bool) (n : ℕ) → refusal-of (number-unless t (suc n)) ≡ cond t none (some (Plain (suc n)))
+pub test-refusal : (t : Bool) (n : ℕ) → number-refusal (number-unless t (suc n)) ≡ cond t none (some (Plain (suc n)))
 test-refusal true n = refl
 test-refusal false n = refl
 
@@ -31,8 +31,8 @@ pub by-zero : (P : ℕ → Type 0) → P 0 → (n : ℕ) → n ≤ 0 → P n
 by-zero P p zero h = p
 by-zero P p (suc n) h = absurd (omega arith)
 
-pub number-some : (n : ℕ) → 0 < n → refusal-of n ≡ some (Plain n)
-number-some = by-suc (λ n. refusal-of n ≡ some (Plain n)) (λ m. refl)
+pub number-some : (n : ℕ) → 0 < n → number-refusal n ≡ some (Plain n)
+number-some = by-suc (λ n. number-refusal n ≡ some (Plain n)) (λ m. refl)
 
 pub plain-refused : (n : ℕ) → 0 < n → refused (Plain n) ≡ plain-reply n
 plain-refused = by-suc (λ n. refused (Plain n) ≡ plain-reply n) (λ m. refl)

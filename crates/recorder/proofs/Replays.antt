@@ -9,7 +9,8 @@ use Rattle.limits.specs.Limits.{channel-limit, store-limit}
 use Rattle.theory.specs.MealyMachine.{Word, after}
 use Rattle.theory.specs.MachineRuns.{word-values}
 use Rattle.refusal.specs.RefusalAnswers.{or-else, plain-unless}
-use Rattle.refusal.specs.Refusal.{put, put-unless}
+use Rattle.refusal.specs.Refusal.{put}
+use Rattle.refusal.specs.RefusalAnswers.{put-unless}
 use Rattle.refusal.proofs.Refusals.{or-else-none, plain-none}
 use Rattle.channel_log.specs.Calls.{event, Reply, accepted, returned, replies, final}
 use Rattle.channel_log.specs.CallSteps.{channel-refusal, empty-refusal}
@@ -18,7 +19,7 @@ use Rattle.recorder.specs.ToolTests.{channel-test, test-of, setup-test}
 use Rattle.recorder.specs.Called.{with-current, called}
 use Rattle.channel_log.specs.Calls.{event-calls}
 use Rattle.recorder.specs.Replay.{returned-values, word-test, replay-refusal, replay-settled, replayed}
-use Rattle.recorder.specs.Decisions.{refusal-of, first-number, number-unless, replay-number, plain-reply, Runnable}
+use Rattle.recorder.specs.Decisions.{number-refusal, first-number, number-unless, replay-number, plain-reply, Runnable}
 use Rattle.recorder.proofs.{Numbers.{first-refusal, unless-refusal, number-some, plain-refused}, Rows.{rows-in, entries-fit}}
 use Rattle.recorder.proofs.Held.{held-some, test-of-in-order, flat-next}
 use Rattle.recorder.proofs.Decided.{fault-number, later-refused, Ready, ready-of, table-of, state-of, loaded-with, has, ready-facts, ready-events}
@@ -125,9 +126,9 @@ module _ (t : Store) (c : ℕ) (word out : List ℕ) (f : ℕ) (e-fault : f ≡ 
   abbrev k : ℕ
   k = getD (t .states) w 0
 
-  number-is : refusal-of m ≡ replay-refusal t c word out
+  number-is : number-refusal m ≡ replay-refusal t c word out
   number-is =
-      ap refusal-of (e-number ∙ ap₂ (replay-number f c k) e-word e-fits)
+      ap number-refusal (e-number ∙ ap₂ (replay-number f c k) e-word e-fits)
       ∙ later-refused t c f e-fault (first-number (number-unless (word-test (t .setup .events) word) 16) (number-unless (leb (length word) (length out)) 13))
       ∙ ap (λ o. or-else (plain-unless (setup-test (setup-of t) && test-of t c) 17) (or-else (channel-refusal c) (or-else (empty-refusal (channels t c)) o)))
       (first-refusal (number-unless (word-test (t .setup .events) word) 16) (number-unless (leb (length word) (length out)) 13)
@@ -140,7 +141,7 @@ module _ (t : Store) (c : ℕ) (word out : List ℕ) (f : ℕ) (e-fault : f ≡ 
 
   module _ (went : m ≡ 0) where
     fine : replay-refusal t c word out ≡ none
-    fine = sym number-is ∙ ap refusal-of went
+    fine = sym number-is ∙ ap number-refusal went
 
     facts : Accepted t c word out
     facts = accepted-of t c word out fine

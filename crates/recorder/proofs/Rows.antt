@@ -6,7 +6,9 @@ use borrow.Author.Tests.{ltb-true, ltb-false}
 use lib.{Dec.{ltb}, ListN.{length, getD, set, take, drop, replicate, length-append, length-take, length-drop, length-replicate, List·getD-append}}
 use lib.Seq.{paste, paste-suc, drop-length, length-paste-head, length-paste, length-take-le, take-all, getD-append-add, getD-take, getD-drop, ext-getD}
 use Rattle.limits.specs.Limits.{channel-limit, event-limit, table-limit, entry-limit, store-limit}
-use Rattle.recorder.specs.{Store.{part, rows-start}, Called.{filled}}
+use Rattle.recorder.specs.ToolTests.{part}
+use Rattle.recorder.specs.Store.{rows-start}
+use Rattle.recorder.specs.Called.{filled}
 
 pub length-part : (l : List ℕ) (at n : ℕ) → at + n ≤ length l → length (part l at n) ≡ n
 length-part l at n h = simp (length-take, length-drop) (omega arith)

@@ -1,16 +1,18 @@
--- Twin of ToolFault, pinned by product_claims DemandThree.
+-- Twin of Store, pinned by product_claims DemandThree.
 -- The calls on a tool (document 01, "Tool"): what each answers and what the tool holds afterwards, whatever it held before.
 use mathlib.Core.{List.{List, _++_}, Option.{Option, none, some}}
 use Prim.Native.Nat.{ℕ, _-_}
 use lib.{ListN.{length, set, take, replicate}, Seq.{paste}}
 use Rattle.limits.specs.Limits.{meet-limit, channel-limit, entry-limit, store-limit}
 use Rattle.refusal.specs.{declared.Refusal.{Refusal}, RefusalAnswers.{or-else, plain-unless}}
-use Rattle.values.specs.{declared.ValueKind.{ValueKind}, declared.ValueKind.the-variants.{Numbered, Register}}
-use Rattle.values.specs.{Setup.{Setup, setup-of-kind, setup, register-setup}, SetupTests.{setup-refusal}}
+use Rattle.values.specs.{declared.ValueKind.{ValueKind}, declared.ValueKind.the-variants.{Numbered, Register}, Setup.{Setup, setup-of-kind, setup}}
+use Rattle.values.specs.SetupTests.{setup-refusal}
 use Rattle.channel_log.specs.Calls.{Call, load, event, restart, restart-all, clear, Reply, accepted, refused, Loaded}
 use Rattle.channel_log.specs.{CallSteps.{Content, call-refusal, accepted-reply}, Recorded.{recorded}}
 use Rattle.recorder.specs.{Store.{Store, setup-of, rows-start, channels}, ToolTests.{tool-test}}
 use Rattle.recorder.specs.CompiledRule.{rule-judged, states-of-rule, values-of-rule, nexts-of-rule, loaded-rule}
+use Rattle.theory.specs.ValueSets.{pack, top-masks}
+use mathlib.Core.List.{[]}
 
 -- The store with other current states; with another table in channel c, at state 0.
 abbrev pub with-current : Store → List ℕ → Store
@@ -79,6 +81,10 @@ meet-cells (Register lines) meet = meet
 -- What an accepted set-up makes.
 unfoldable pub new-store : Setup → Store
 new-store s = empty-store (setup-of-kind (s .events) (s .kind) (s .top) (meet-cells (s .kind) (s .meet)))
+
+-- A register's set-up.
+abbrev pub register-setup : ℕ → ℕ → Setup
+register-setup events lines = setup-of-kind events (Register lines) (pack (top-masks lines)) []
 
 -- What a refused set-up hands back, by its kind of values: every cell is 0, and every call on it is 17.
 abbrev pub blank-setup : ValueKind → Setup

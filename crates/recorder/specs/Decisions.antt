@@ -11,9 +11,9 @@ use Rattle.channel_log.specs.Calls.{Reply, accepted, returned, refused}
 use Rattle.recorder.specs.{Store.{rows-start}, declared.Decision.{Decision}}
 
 -- The refusal of a number; 0 is none.
-abbrev pub refusal-of : ℕ → Option Refusal
-refusal-of zero = none
-refusal-of (suc n) = some (Plain (suc n))
+abbrev pub number-refusal : ℕ → Option Refusal
+number-refusal zero = none
+number-refusal (suc n) = some (Plain (suc n))
 
 -- The number of a test that fails where a refusal is met; the first of two numbers.
 abbrev pub number-unless : Bool → ℕ → ℕ

@@ -1,10 +1,10 @@
--- Twin of CallConditions, pinned by product_claims DemandThree.
+-- Twin of Store, pinned by product_claims DemandThree.
 -- A sequence of events on one channel into a lent buffer: the event call repeated (document 01, "Tool"), all or nothing.
 use mathlib.Core.{Bool.{Bool}, List.{List, [], _∷_}, Option.{Option}}
 use Prim.Native.Nat.{ℕ}
 use lib.{Dec.{ltb, leb}, ListN.{getD, length}}
 use Rattle.theory.specs.ValueSetTests.{every}
-use Rattle.refusal.specs.{declared.Refusal.{Refusal}, RefusalAnswers.{or-else, plain-unless}, Refusal.{put-unless}}
+use Rattle.refusal.specs.{declared.Refusal.{Refusal}, RefusalAnswers.{or-else, plain-unless, put-unless}}
 use Rattle.channel_log.specs.{Calls.{event, Reply, accepted, returned, refused, replies, final, event-calls}, CallSteps.{channel-refusal, empty-refusal}}
 use Rattle.recorder.specs.{Store.{Store, channels}, ToolTests.{tool-test}, Called.{settled-store, called}}
 

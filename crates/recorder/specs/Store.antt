@@ -1,15 +1,20 @@
--- What a tool holds, however it is represented (document 01, "Tool": "one set-up and eight channels"; "a channel is empty or has a table
--- and a current state"), and the tool of numbered values as one representation.
-use mathlib.Core.{Path.{_≡_}, Bool.{_&&_, cond}, List.{List}, Option.{Option, none, some}}
-use Prim.Native.Nat.{ℕ, _+_, _*_}
+-- What a tool holds, however it is represented, and the tool of numbered values as one representation (document 01, "Tool"); when a call on
+-- it is refused, and with what ("Who can cause a refusal": 17, 14, 15, 16, then 5 to 10).
+use mathlib.Core.{Path.{_≡_}, Bool.{_&&_, cond}, List.{List, [], _∷_}, Option.{Option, none, some}}
+use Prim.Native.Nat.{ℕ, _+_, _*_, _<_}
 use lib.{Dec.{ltb}, ListN.{length, getD, take, drop}}
-use Rattle.limits.specs.Limits.{channel-limit, entry-limit, store-limit}
-use Rattle.theory.specs.MealyMachine.{Machine}
-use Rattle.values.specs.{declared.ValueKind.{ValueKind}, declared.ValueKind.the-variants.{Numbered, Register}, Setup.{Setup, setup-of-kind, setup}}
-use Rattle.channel_log.specs.Calls.{Channels, Loaded, Reply, accepted, returned, refused}
+use Rattle.limits.specs.Limits.{channel-limit, entry-limit, store-limit, table-limit}
+use Rattle.theory.specs.MealyMachine.{Machine, Word}
+use Rattle.values.specs.{declared.ValueKind.{ValueKind}, declared.ValueKind.the-variants.{Numbered, Register}}
+use Rattle.values.specs.Setup.{Setup, setup-of-kind, setup, ValueIn, setup-conditions}
+use Rattle.channel_log.specs.Calls.{Channels, Loaded, Reply, accepted, returned, refused, Call, load, event, restart, restart-all, clear, concerns}
 use Rattle.recorder.specs.{declared.Tool.{Tool}, declared.Answer.{Answer}}
+use Rattle.refusal.specs.{declared.Refusal.{Refusal}, Refusal.{First, Condition, plain}}
+use Rattle.machines.specs.TableBytes.{table-bytes, entry-width, entry-bytes, TableInOrder}
+use Rattle.synthesis.specs.TableOfRule.{rule-conditions-of}
 use Rattle.recorder.specs.declared.Reply as declared
 use Rattle.recorder.specs.declared.Reply.the-variants as variant
+use lib.Dec.{T}
 
 -- Every cell of a tool. The set-up has all cells that the meet table is kept in. Each channel has a count of states, 0 where it is
 -- empty, and a current state; the entries of all tables lie in two lists, values and next states.
@@ -27,19 +32,14 @@ meet-part (Register lines) cells = cells
 
 -- Its set-up, as one that is handed in.
 abbrev pub setup-of : Store → Setup
-setup-of t =
-    setup-of-kind (t .setup .events) (t .setup .kind) (t .setup .top) (meet-part (t .setup .kind) (t .setup .meet))
-
--- So many elements of a list from a place on.
-abbrev pub part : List ℕ → ℕ → ℕ → List ℕ
-part l at n = take n (drop at l)
+setup-of t = setup-of-kind (t .setup .events) (t .setup .kind) (t .setup .top) (meet-part (t .setup .kind) (t .setup .meet))
 
 -- The table of k states whose entries lie from a place on, by state, then event. What lies after them is no part of it.
 abbrev pub table-at : ℕ → ℕ → ℕ → List ℕ → List ℕ → Machine ℕ ℕ
 table-at at events k value next =
     record {
-      value = λ l e. getD (part value at (k * events)) (l * events + e) 0;
-      next = λ l e. getD (part next at (k * events)) (l * events + e) 0;
+      value = λ l e. getD (take (k * events) (drop at value)) (l * events + e) 0;
+      next = λ l e. getD (take (k * events) (drop at next)) (l * events + e) 0;
     }
 
 abbrev pub loaded-at : ℕ → ℕ → ℕ → ℕ → List ℕ → List ℕ → Loaded ℕ
@@ -89,3 +89,39 @@ replay-answer r buffer = (answer r, buffer)
 -- A store is that of one tool: what a contract says of it, it says of the tool.
 abbrev pub StoreClaim : Type 0
 StoreClaim = (t u : Tool) → store-of t ≡ store-of u → t ≡ u
+
+-- A loaded channel's table is one that 11 does not refuse, its current state taken as the start.
+abbrev pub ChannelInOrder : ℕ → ValueKind → Loaded ℕ → Type 0
+ChannelInOrder events kind x = TableInOrder (entry-width kind) table-limit events (ValueIn kind) (x .states) (x .current)
+    (table-bytes (entry-bytes kind) events (x .table) (x .states)) (x .table)
+
+-- 17, for the named channel, or for restart all each. A channel above 7 holds nothing, so that only the set-up is looked at there.
+pub data ToolFault (t : Store) (call : Call ℕ) : Type 0 where
+  setup-fails : (refusal : Refusal) → First (setup-conditions (setup-of t)) (some refusal) → ToolFault t call
+  channel-fails : (c : ℕ) (x : Loaded ℕ) → T (concerns c call) → channels t c ≡ some x → ¬ ChannelInOrder (t .setup .events) (t .setup .kind) x →
+      ToolFault t call
+
+-- 14: channel above 7.
+abbrev pub channel-condition : ℕ → Condition
+channel-condition c = plain 14 (¬ (c < channel-limit))
+
+-- Over channels of which those of `Empty` are empty: 14, 15, 16, then 5 to 10. A call meets only the conditions that concern its inputs.
+abbrev pub channel-conditions : Setup → (ℕ → Type 0) → Call ℕ → List Condition
+channel-conditions s Empty (load c rule) = channel-condition c ∷ rule-conditions-of s rule
+channel-conditions s Empty (event c e) = channel-condition c ∷ plain 15 (Empty c) ∷ plain 16 (¬ (e < s .events)) ∷ []
+channel-conditions s Empty (restart c) = channel-condition c ∷ plain 15 (Empty c) ∷ []
+channel-conditions s Empty restart-all = []
+channel-conditions s Empty (clear c) = channel-condition c ∷ []
+
+-- On a tool 17 comes first.
+unfoldable pub call-conditions : Store → Call ℕ → List Condition
+call-conditions t call = plain 17 (ToolFault t call) ∷ channel-conditions (setup-of t) (λ c. channels t c ≡ none) call
+
+-- A sequence of events: 16 for any of them, and 13 where the buffer has no room for a value each.
+unfoldable pub replay-conditions : Store → ℕ → List ℕ → List ℕ → List Condition
+replay-conditions t c word buffer = plain 17 (ToolFault t (event c 0))
+    ∷ channel-condition c
+    ∷ plain 15 (channels t c ≡ none)
+    ∷ plain 16 (¬ Word (t .setup .events) word)
+    ∷ plain 13 (length buffer < length word)
+    ∷ []

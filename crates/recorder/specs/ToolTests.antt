@@ -1,8 +1,9 @@
--- Twin of ToolFault, pinned by recorder_claims ToolTestClaim.
+-- Twin of Store, pinned by recorder_claims ToolTestClaim.
 -- Refusal 17, computed: tests that fail where it is met.
 use mathlib.Core.{Bool.{Bool, true, false, _&&_}, Option.{Option, none, some}}
+use mathlib.Core.List.{List}
 use Prim.Native.Nat.{ℕ}
-use lib.Dec.{ltb, leb}
+use lib.{Dec.{ltb, leb}, ListN.{take, drop}}
 use Rattle.limits.specs.Limits.{channel-limit, table-limit}
 use Rattle.theory.specs.{MealyMachine.{Machine}, ValueSetTests.{every}}
 use Rattle.refusal.specs.declared.Refusal.{Refusal}
@@ -43,3 +44,7 @@ named-test t (clear c) = test-of t c
 
 abbrev pub tool-test : Store → Call ℕ → Bool
 tool-test t call = setup-test (setup-of t) && named-test t call
+
+-- So many elements of a list from a place on.
+abbrev pub part : List ℕ → ℕ → ℕ → List ℕ
+part l at n = take n (drop at l)

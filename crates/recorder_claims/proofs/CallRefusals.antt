@@ -15,16 +15,16 @@ use Rattle.refusal.proofs.Refusals.{plain-none, plain-first, first-append, firs
 use Rattle.channel_log.specs.Calls.{Call, load, event, restart, restart-all, clear}
 use Rattle.channel_log.specs.{CallSteps.{Content, channel-refusal, empty-refusal, on-event}, Log.{large-event}}
 use Rattle.recorder.specs.Store.{Store, setup-of, channels}
-use Rattle.recorder.specs.CallConditions.{ToolFault}
+use Rattle.recorder.specs.Store.{ToolFault}
 use Rattle.recorder.specs.ToolTests.{setup-test, named-test, tool-test}
 use Rattle.recorder.specs.CompiledRule.{rule-judged}
 use Rattle.recorder.specs.{Called.{content, tool-refusal}, Replay.{word-test, replay-refusal}}
 use Rattle.recorder.proofs.Held.{accepted-of-test}
 use Rattle.synthesis.specs.TableOfRule.{rule-conditions-of}
 use Rattle.recorder_claims.specs.Claims.{fault-condition, empty-condition, event-condition}
-use Rattle.recorder.specs.CallConditions.{channel-condition}
-use Rattle.recorder.specs.CallConditions.{call-conditions}
-use Rattle.recorder.specs.CallConditions.{replay-conditions}
+use Rattle.recorder.specs.Store.{channel-condition}
+use Rattle.recorder.specs.Store.{call-conditions}
+use Rattle.recorder.specs.Store.{replay-conditions}
 use Rattle.recorder_claims.specs.Claims.{CallRefusalClaim, ReplayRefusalClaim}
 use Rattle.recorder_claims.proofs.{Claims.{fault-of, tool-tested}, LoadedRules.{rule-first}}
 use Rattle.theory.specs.MealyMachine.{Word}

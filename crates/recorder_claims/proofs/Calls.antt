@@ -4,7 +4,8 @@ use Prim.Native.Nat.{ℕ, _<_}
 use lib.ListN.{length}
 use Rattle.limits.specs.Limits.{channel-limit}
 use Rattle.refusal.specs.{declared.Refusal.{Refusal}, declared.Refusal.the-variants.{Plain}}
-use Rattle.refusal.specs.Refusal.{Judged, JudgedCall, put, put-unless}
+use Rattle.refusal.specs.Refusal.{Judged, JudgedCall, put}
+use Rattle.refusal.specs.RefusalAnswers.{put-unless}
 use Rattle.values.specs.{Setup.{Setup, setup-conditions}, SetupTests.{setup-refusal}}
 use Rattle.values.proofs.Setups.{setup-judged}
 use Rattle.channel_log.specs.Calls.{Call, load, event, restart, restart-all, clear, returned, refused, reply-refusal, Channels, replies, final}
@@ -14,8 +15,8 @@ use Rattle.recorder.specs.Store.{Store, AllCells, setup-of, channels}
 use Rattle.recorder.specs.Called.{content, tool-refusal, effect-on, settled-store, called, new-store, set-up-answer, set-up-called}
 use Rattle.recorder.specs.Replay.{returned-values, replay-refusal, replay-settled, replayed}
 use Rattle.recorder.proofs.{Decided.{refused-call}, Replays.{values-back}}
-use Rattle.recorder.specs.CallConditions.{call-conditions}
-use Rattle.recorder.specs.CallConditions.{replay-conditions}
+use Rattle.recorder.specs.Store.{call-conditions}
+use Rattle.recorder.specs.Store.{replay-conditions}
 use Rattle.recorder_claims.specs.ChannelLog.{AsLogged}
 use Rattle.recorder_claims.proofs.{Claims.{tool-independence, blank-refused, replay-repeated}, CallRefusals.{call-refusals, replay-refusals}}
 use Rattle.recorder_claims.proofs.PrintedLog.{printed-record}

@@ -4,7 +4,7 @@ use mathlib.Core.Option.{Option, none, some, Option·some-ne-none}
 use Prim.Native.Nat.{ℕ}
 use native.Mathlib.Omega.{arith}
 use borrow.Author.Tests.{ltb-true, ltb-false}
-use lib.{Dec.{ltb}, ListN.{take, length-replicate}}
+use lib.{Dec.{T, eqb, ltb, eqb→eq, eqb-refl}, ListN.{take, length-replicate}}
 use Rattle.theory.specs.MachineRuns.{word-values}
 use Rattle.theory.specs.ValueSetTests.{every}
 use Rattle.theory.proofs.{Words.{length-word-values}, ValueSets.{and-left, and-right, and-failed, and-cases, every-at, every-some}}
@@ -25,7 +25,8 @@ use Rattle.channel_log.specs.Calls.{Call, load, event, restart, restart-all, cl
 use Rattle.channel_log.specs.CallSteps.{call-refusal}
 use Rattle.channel_log.proofs.Record.{record-claim, independence-claim}
 use Rattle.recorder.specs.Store.{Store, meet-part, setup-of, channels}
-use Rattle.recorder.specs.CallConditions.{LooksAt, ToolFault, setup-fails, channel-fails}
+use Rattle.recorder_claims.specs.Claims.{LooksAt}
+use Rattle.recorder.specs.Store.{ToolFault, setup-fails, channel-fails}
 use Rattle.recorder.specs.ToolTests.{passed, setup-test, channel-test, test-of, named-test, tool-test}
 use Rattle.recorder.specs.{CompiledRule.{rule-judged, loaded-rule}, Called.{content, called, filled, empty-store, meet-cells, new-store, blank}}
 use Rattle.recorder.proofs.Rows.{getD-zeros, take-filled}
@@ -111,6 +112,26 @@ module _ (t : Store) where
       go false p =
           ap (channel-test (t .setup .events) (t .setup .kind)) (held-above c (t .setup .events) _ _ (t .value) (t .next) (ltb-false c channel-limit p))
 
+  named-at : (c d : ℕ) → T (eqb d c) → c ≡ d
+  named-at c d h = sym (eqb→eq d c h)
+
+  looked : (call : Call ℕ) (c : ℕ) → T (concerns c call) → LooksAt call c
+  looked (load d r) c h = named-at c d h
+  looked (event d i) c h = named-at c d h
+  looked (restart d) c h = named-at c d h
+  looked restart-all c h = tt
+  looked (clear d) c h = named-at c d h
+
+  named-back : (c d : ℕ) → c ≡ d → T (eqb d c)
+  named-back c d e = subst⁻¹ (λ k. T (eqb d k)) e (eqb-refl d)
+
+  looked-back : (call : Call ℕ) (c : ℕ) → LooksAt call c → T (concerns c call)
+  looked-back (load d r) c e = named-back c d e
+  looked-back (event d i) c e = named-back c d e
+  looked-back (restart d) c e = named-back c d e
+  looked-back restart-all c e = tt
+  looked-back (clear d) c e = named-back c d e
+
   looked-passes : (call : Call ℕ) → named-test t call ≡ true → (c : ℕ) → LooksAt call c → test-of t c ≡ true
   looked-passes (load d r) h c e = subst⁻¹ (λ c. test-of t c ≡ true) e h
   looked-passes (event d i) h c e = subst⁻¹ (λ c. test-of t c ≡ true) e h
@@ -133,7 +154,7 @@ module _ (t : Store) where
     where
       go : (c : ℕ) → LooksAt call c → (o : Option (Loaded ℕ)) → channels t c ≡ o → channel-test (t .setup .events) (t .setup .kind) o ≡ false → ToolFault t call
       go c l none e f = absurd (false≢true (sym f))
-      go c l (some x) e f = channel-fails c x l e (λ g. absurd (false≢true (sym f ∙ test-of-in-order (t .setup .events) (t .setup .kind) x g)))
+      go c l (some x) e f = channel-fails c x (looked-back call c l) e (λ g. absurd (false≢true (sym f ∙ test-of-in-order (t .setup .events) (t .setup .kind) x g)))
 
   no-fault : (call : Call ℕ) → tool-test t call ≡ true → ToolFault t call → ⊥
   no-fault call h (setup-fails refusal f) =
@@ -142,7 +163,7 @@ module _ (t : Store) where
       f
       (in-order-of-test (t .setup .events) (t .setup .kind) x
       (subst (λ o. channel-test (t .setup .events) (t .setup .kind) o ≡ true) e
-      (looked-passes call (and-right (setup-test (setup-of t)) (named-test t call) h) c l)))
+      (looked-passes call (and-right (setup-test (setup-of t)) (named-test t call) h) c (looked call c l))))
 
 pub tool-tested : ToolTestClaim
 tool-tested t call = (no-fault t call, λ f. go (tool-test t call) refl f)

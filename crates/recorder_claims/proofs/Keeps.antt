@@ -19,7 +19,7 @@ use Rattle.channel_log.specs.Calls.{Loaded}
 use Rattle.channel_log.specs.Recorded.{at-state, recorded}
 use Rattle.channel_log.proofs.Record.{not-large}
 use Rattle.recorder.specs.Store.{Store, setup-of, rows-start, channels}
-use Rattle.recorder.specs.CallConditions.{ChannelInOrder}
+use Rattle.recorder.specs.Store.{ChannelInOrder}
 use Rattle.recorder.specs.ToolTests.{setup-test, channel-test, test-of, named-test, tool-test}
 use Rattle.recorder.specs.CompiledRule.{rule-judged, states-of-rule, values-of-rule, nexts-of-rule, loaded-rule}
 use Rattle.recorder.specs.Called.{with-current, with-rows, stored-rows, next-state, content, effect-on, settled-store, called}

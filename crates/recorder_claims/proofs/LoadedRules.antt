@@ -18,8 +18,8 @@ use Rattle.synthesis.specs.Compilation.{flat}
 use Rattle.synthesis.proofs.{Compilation.{flat-at}, CompileClaims.{table-agrees, compile-rule-claim}, CompiledTable.{is-table}}
 use Rattle.synthesis.proofs.LentTable.{laws, few, few-events, formula-well-formed, formula-small}
 use Rattle.channel_log.proofs.Record.{Not, first-not}
-use Rattle.recorder.specs.Store.{part}
-use Rattle.recorder.specs.CallConditions.{ChannelInOrder}
+use Rattle.recorder.specs.ToolTests.{part}
+use Rattle.recorder.specs.Store.{ChannelInOrder}
 use Rattle.recorder.specs.CompiledRule.{rule-judged, states-of-rule, table-of-rule, values-of-rule, nexts-of-rule, loaded-rule}
 use Rattle.recorder.proofs.{Rows.{getD-part, entries-fit}, CompiledRules.{answer-is, few-states, rule-runs}}
 use Rattle.synthesis.specs.TableOfRule.{rule-conditions-of}

@@ -12,7 +12,7 @@ use Rattle.formulas.specs.RuleRefusal.{formula-of}
 use Rattle.channel_log.specs.Calls.{load, accepted, reply-refusal, Loaded, StandsAs}
 use Rattle.channel_log.specs.CallSteps.{channel-refusal, call-refusal}
 use Rattle.recorder.specs.Store.{Store, AllCells, setup-of, channels}
-use Rattle.recorder.specs.CallConditions.{ChannelInOrder}
+use Rattle.recorder.specs.Store.{ChannelInOrder}
 use Rattle.recorder.specs.ToolTests.{setup-test, named-test, tool-test}
 use Rattle.recorder.specs.CompiledRule.{rule-judged, states-of-rule, values-of-rule, nexts-of-rule, loaded-rule}
 use Rattle.recorder.specs.Called.{content, tool-refusal, effect-on, called}

@@ -8,7 +8,8 @@ use lib.{Dec.{ltb, eqb}, ListN.{length, getD, set, replicate}, Seq.{getD-set-sam
 use Rattle.limits.specs.Limits.{channel-limit, event-limit, table-limit, entry-limit, store-limit}
 use Rattle.channel_log.specs.Calls.{Channels, with-channel, map-option, Loaded}
 use Rattle.channel_log.specs.Recorded.{at-state}
-use Rattle.recorder.specs.Store.{Store, part, loaded-at, rows-start, held, channels}
+use Rattle.recorder.specs.Store.{Store, loaded-at, rows-start, held, channels}
+use Rattle.recorder.specs.ToolTests.{part}
 use Rattle.recorder.specs.ToolTests.{channel-test, test-of}
 use Rattle.recorder.specs.Called.{with-current, with-rows, stored-rows}
 use Rattle.recorder.proofs.Rows.{getD-zeros, part-inside, part-before, part-after, rows-in, rows-apart, entries-fit}

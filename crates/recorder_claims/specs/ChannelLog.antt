@@ -9,7 +9,7 @@ use Rattle.values.specs.Setup.{Setup, setup-meet, setup-top}
 use Rattle.formulas.specs.RuleConditions.{encode-formula, node-bytes}
 use Rattle.channel_log.specs.Calls.{Call, load, event, restart, restart-all, clear, Reply, accepted, returned, refused, Channels, with-channel, map-option}
 use Rattle.channel_log.specs.Calls.{History, Loaded, StandsAs, all-empty}
-use Rattle.recorder.specs.CallConditions.{channel-conditions}
+use Rattle.recorder.specs.Store.{channel-conditions}
 
 abbrev pub history : Formula ℕ → List ℕ → History ℕ
 history φ w = record { rule = φ; events = w }
@@ -25,17 +25,14 @@ module _ (s : Setup) (L : Channels (History ℕ)) where
     -- "A refused call changes nothing in the log."
     refuses : (call : Call ℕ) (r : Refusal) → First (log-conditions call) (some r) → Takes call (refused r) L
     -- "The channel gets that rule and no events, whatever it had": the rule whose code the bytes are.
-    loads :
-        (c : ℕ) (bytes : List ℕ) (φ : Formula ℕ) → First (log-conditions (load c bytes)) none →
+    loads : (c : ℕ) (bytes : List ℕ) (φ : Formula ℕ) → First (log-conditions (load c bytes)) none →
         bytes ≡ encode-formula (node-bytes (s .kind)) φ → Takes (load c bytes) accepted (with-channel c (some (history φ [])) L)
     -- "Returns the rule's value on it after the channel's events, the follower being taken on each in turn; then it is added at their end."
-    returns :
-        (c e : ℕ) (h : History ℕ) (v : ℕ) → First (log-conditions (event c e)) none → L c ≡ some h →
+    returns : (c e : ℕ) (h : History ℕ) (v : ℕ) → First (log-conditions (event c e)) none → L c ≡ some h →
         Answers (setup-meet s) (setup-top s) (h .rule) (h .events) e v →
         Takes (event c e) (returned v) (with-channel c (some (history (h .rule) (h .events ++ (e ∷ [])))) L)
     -- "The channel's events go."
-    restarts :
-        (c : ℕ) (h : History ℕ) → First (log-conditions (restart c)) none → L c ≡ some h →
+    restarts : (c : ℕ) (h : History ℕ) → First (log-conditions (restart c)) none → L c ≡ some h →
         Takes (restart c) accepted (with-channel c (some (history (h .rule) [])) L)
     -- "All channels' events go, rules stay."
     restarts-all : Takes restart-all accepted (λ d. map-option (λ h. history (h .rule) []) (L d))
@@ -45,8 +42,7 @@ module _ (s : Setup) (L : Channels (History ℕ)) where
 -- A list of calls, from a log: the replies, and the log afterwards.
 pub data Logs (s : Setup) : Channels (History ℕ) → List (Call ℕ) → List (Reply ℕ) → Channels (History ℕ) → Type 0 where
   no-calls : {L : Channels (History ℕ)} → Logs s L [] [] L
-  one-more :
-      {L M N : Channels (History ℕ)} {call : Call ℕ} {calls : List (Call ℕ)} {reply : Reply ℕ} {rs : List (Reply ℕ)} →
+  one-more : {L M N : Channels (History ℕ)} {call : Call ℕ} {calls : List (Call ℕ)} {reply : Reply ℕ} {rs : List (Reply ℕ)} →
       Takes s L call reply M → Logs s M calls rs N → Logs s L (call ∷ calls) (reply ∷ rs) N
 
 -- What is claimed of a list of calls on the tool of a set-up: its replies are the log's, and the log's only ones; afterwards the tool has the

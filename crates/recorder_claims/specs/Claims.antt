@@ -5,16 +5,13 @@ use Prim.Native.Nat.{ℕ, _<_}
 use lib.ListN.{length}
 use Rattle.limits.specs.Limits.{channel-limit}
 use Rattle.recorder_claims.specs.ChannelLog.{AsLogged, LoadedAs}
-use Rattle.refusal.specs.declared.Refusal.the-variants.{Plain}
+use Rattle.refusal.specs.{declared.Refusal.the-variants.{Plain}, Refusal.{Condition, Judged, plain}}
 use Rattle.values.specs.{declared.ValueKind.{ValueKind}, Setup.{Setup, setup-meet, setup-top}, SetupTests.{setup-refusal}}
 use Rattle.formulas.specs.RuleRefusal.{formula-of}
 use Rattle.channel_log.specs.{Calls.{Call, returned, refused, replies, History, event-calls, StandsAs, final, load, accepted}, CallSteps.{Content}, Log.{log}}
 use Rattle.channel_log.specs.Claims.{RecordClaim, IndependenceClaim}
-use Rattle.recorder.specs.{Store.{Store, channels, setup-of, AllCells}, CallConditions.{ToolFault}, ToolTests.{tool-test}, CompiledRule.{rule-judged}}
-use Rattle.recorder.specs.{Called.{called, new-store, blank}, Replay.{replay-refusal}}
-use Rattle.refusal.specs.Refusal.{Condition, Judged, plain}
-use Rattle.recorder.specs.CallConditions.{call-conditions, replay-conditions}
-use Rattle.recorder.specs.Called.{tool-refusal}
+use Rattle.recorder.specs.{Store.{Store, channels, setup-of, AllCells, ToolFault, call-conditions, replay-conditions}, ToolTests.{tool-test}}
+use Rattle.recorder.specs.{CompiledRule.{rule-judged}, Called.{called, new-store, blank, tool-refusal}, Replay.{replay-refusal}}
 
 -- The log of a set-up: 5 to 10 by their list, the rule that accepted bytes are, and its values by the formula semantics.
 abbrev pub setup-log : Setup → Content (History ℕ) ℕ ℕ
@@ -57,6 +54,14 @@ abbrev pub LoadClaim : Type 0
 LoadClaim =
     (t : Store) → AllCells t → (c : ℕ) (rule : List ℕ) → called (load c rule) t .0 ≡ accepted →
     LoadedAs (setup-of t) c rule (channels t) (channels (called (load c rule) t .1))
+
+-- The channels that 17 looks at: the named one; for restart all, each.
+abbrev pub LooksAt : Call ℕ → ℕ → Type 0
+LooksAt (load c r) d = d ≡ c
+LooksAt (event c e) d = d ≡ c
+LooksAt (restart c) d = d ≡ c
+LooksAt restart-all d = Unit {0}
+LooksAt (clear c) d = d ≡ c
 
 -- 17, 15 and 16 of a call.
 abbrev pub fault-condition : Store → Call ℕ → Condition

@@ -5,7 +5,8 @@ use Rattle.refusal.specs.declared.{Refusal.{Refusal}, Counted.{Counted}}
 use Rattle.refusal.specs.declared.Counted.the-variants.{Count, Refused}
 use Rattle.refusal.specs.Refusal.{Condition, Judged, JudgedCall, judgement-refusal, counted-refusal, count-of}
 use Rattle.refusal.specs.RefusalAnswers.{judgement, counted}
-use Rattle.refusal.specs.Refusal.{put, put-unless}
+use Rattle.refusal.specs.Refusal.{put}
+use Rattle.refusal.specs.RefusalAnswers.{put-unless}
 
 pub judgement-refusal-is : (a : Option Refusal) → judgement-refusal (judgement a) ≡ a
 unfolding judgement

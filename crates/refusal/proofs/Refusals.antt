@@ -1,4 +1,4 @@
--- There is one first refusal and one lowest place; the computing twins yield them.
+-- There is one first refusal and one lowest refusal-place; the computing twins yield them.
 use mathlib.Core.{Path.{_≡_, refl, sym, _∙_, ap, subst}, Logic.{inl, inr}, Bool.{Bool, true, false, cond, not, _&&_}}
 use mathlib.Core.{Option.{Option, none, some, Option·some-ne-none}, List.{List, [], _∷_, _++_}}
 use Prim.Native.Nat.{ℕ, _≤_, _<_}
@@ -10,13 +10,13 @@ use Rattle.refusal.specs.declared.Refusal.the-variants.{Plain, At}
 use Rattle.refusal.specs.declared.Judgement.the-variants.{Accepted, Refused}
 use Rattle.refusal.specs.declared.Counted.the-variants.{Count, Refused as Uncounted}
 use Rattle.refusal.specs.Refusal.{Condition, plain, at-lowest, Gives, Lowest, First, has-place, order, part-of, condition-numbers}
-use Rattle.refusal.specs.RefusalClaims.{number, place}
+use Rattle.refusal.specs.RefusalClaims.{refusal-number, refusal-place}
 use Rattle.refusal.specs.Refusal.{right-places}
 use Rattle.refusal.specs.RefusalAnswers.{or-else, plain-unless, judgement, counted}
-use Rattle.refusal.specs.RefusalClaims.{LowestUniqueClaim, FirstUniqueClaim, JudgedClaim, FirstAppendClaim, NoneMet, AcceptedClaim}
+use Rattle.refusal.specs.RefusalClaims.{LowestUniqueClaim, FirstUniqueClaim, JudgedClaim, FirstAppendClaim, NoneMet, NoneMetClaim}
 use Rattle.refusal.specs.RefusalClaims.{ListedRefusal, ListedRefusalClaim}
 
--- The lowest place is one, so that a condition gives one refusal at most.
+-- The lowest refusal-place is one, so that a condition gives one refusal at most.
 pub lowest-unique : LowestUniqueClaim
 lowest-unique P p q l m =
     let not-above : ¬ (q < p) = λ h. l .least q h (m .holds) in
@@ -27,11 +27,11 @@ gives-one : (C : Condition) (r s : Refusal) → Gives C r → Gives C s → r �
 gives-one (plain n Met) r s met met2 = met .1 ∙ sym (met2 .1)
 gives-one (at-lowest n Met) r s (p, l, e) (q, m, d) = e ∙ ap (At n) (lowest-unique Met p q l m) ∙ sym d
 
--- Where at most one place will do, it is the lowest.
+-- Where at most one refusal-place will do, it is the lowest.
 pub only-place : (P : ℕ → Type 0) (p : ℕ) → P p → ((q : ℕ) → P q → q ≡ p) → Lowest P p
 only-place P p h one = record { holds = h; least = λ i l m. omega (arith, l, one i m) }
 
--- The twin of a condition without a place, from a test that decides it.
+-- The twin of a condition without a refusal-place, from a test that decides it.
 pub plain-first : (n : ℕ) (Met : Type 0) (test : Bool) → (test ≡ false → Met) → (test ≡ true → ¬ Met) → First (plain n Met ∷ []) (plain-unless test n)
 unfolding First plain-unless
 plain-first n Met true met unmet = inr (λ r m. unmet refl (m .0), refl)
@@ -49,7 +49,7 @@ pub judged : JudgedClaim
 judged cs answer first ordered placed =
     record { first = first; only = λ other x. first-unique cs other answer x first; ordered = ordered; placed = placed }
 
-pub accepted-exactly : AcceptedClaim
+pub accepted-exactly : NoneMetClaim
 unfolding First NoneMet
 accepted-exactly [] a x = (λ e. tt, λ u. x)
 accepted-exactly (C ∷ cs) a (inl (r, x, d)) =
@@ -138,7 +138,7 @@ both : (a b : Bool) → (a && b) ≡ true → (a ≡ true) × (b ≡ true)
 both true b e = (refl, e)
 both false b e = let z : _≡_ {A = ℕ} 0 1 = cc in absurd (omega arith)
 
--- The first number of a list is one of every list that it is part of, and the others are part of that too.
+-- The first refusal-number of a list is one of every list that it is part of, and the others are part of that too.
 numbered-head : (m : ℕ) (ms : List ℕ) → all-numbered (m ∷ ms) ≡ true → ((1 ≤ m) × (m ≤ 25)) × (all-numbered ms ≡ true)
 unfolding all-numbered
 numbered-head m ms h =
@@ -176,12 +176,12 @@ part-rest n ks (m ∷ ms) e = go (eqb n m) e (λ k js d. part-rest k js ms d)
     go false d rest = longer ks (rest n ks d) rest
 
 listed-plain : (n : ℕ) → (1 ≤ n) × (n ≤ 25) → has-place n ≡ false → ListedRefusal (Plain n)
-unfolding number place
+unfolding refusal-number refusal-place
 listed-plain n h e =
     record { some-number = h .0; last-number = h .1; with-place = λ p d. absurd (Option·some-ne-none p (sym d)); without-place = λ d. e }
 
 listed-at : (n p : ℕ) → (1 ≤ n) × (n ≤ 25) → has-place n ≡ true → ListedRefusal (At n p)
-unfolding number place
+unfolding refusal-number refusal-place
 listed-at n p h e =
     record { some-number = h .0; last-number = h .1; with-place = λ q d. e; without-place = λ d. absurd (Option·some-ne-none p d) }
 

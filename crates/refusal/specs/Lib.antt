@@ -1,7 +1,6 @@
 -- In reading order.
--- Numbers and places, the order of refusals, which refusal a call gives, and what is claimed of every call.
+-- The order of refusals, which refusal a call gives, what is claimed of every call, and a lent buffer after it.
 pub mod Refusal
--- Lent buffers after a call.
 -- What contracts compute refusals with.
 pub mod RefusalAnswers
 -- What is claimed of the first refusal.

@@ -1,5 +1,4 @@
--- Refusals (document 01, "Who can cause a refusal"): their order, which one a call gives, what is claimed of every call, and a lent buffer
--- after it.
+-- Refusals (document 01, "Who can cause a refusal"): their order, which one a call gives, and what is claimed of every call.
 use mathlib.Core.{Path.{_≡_}, Logic.{_⊎_}, Bool.{Bool, true, false, cond, not, _&&_, _||_}, Option.{Option, none, some}, List.{List, [], _∷_, _++_}}
 use Prim.Native.Nat.{ℕ, _<_}
 use lib.{Dec.{eqb, leb}, ListN.{length, drop}}
@@ -15,8 +14,7 @@ has-place n = eqb n 4 || (leb 6 n && leb n 9)
 -- where a table is loaded, after 10; 19 after 16; 22 "first of all"; 20 "in the place of 2 and 3", then 18; 23 after 8 and, for a
 -- written rule, after 12; 21 and 24 after 11.
 unfoldable pub order : List ℕ
-order =
-    17 ∷ 25 ∷ 14 ∷ 15 ∷ 16 ∷ 19 ∷ 22 ∷ 4 ∷ 1 ∷ 2 ∷ 3 ∷ 20 ∷ 18 ∷ 5 ∷ 6 ∷ 7 ∷ 8 ∷ 23 ∷ 9 ∷ 10 ∷ 25 ∷ 11 ∷ 12 ∷ 23 ∷ 21 ∷ 24 ∷ 13 ∷ []
+order = 17 ∷ 25 ∷ 14 ∷ 15 ∷ 16 ∷ 19 ∷ 22 ∷ 4 ∷ 1 ∷ 2 ∷ 3 ∷ 20 ∷ 18 ∷ 5 ∷ 6 ∷ 7 ∷ 8 ∷ 23 ∷ 9 ∷ 10 ∷ 25 ∷ 11 ∷ 12 ∷ 23 ∷ 21 ∷ 24 ∷ 13 ∷ []
 
 -- The lowest place at which something holds.
 pub record Lowest (P : ℕ → Type 0) (p : ℕ) : Type 0 where
@@ -37,8 +35,7 @@ Gives (at-lowest n Met) refusal = (p : ℕ) × Lowest Met p × (refusal ≡ At n
 -- and a call that meets none of the conditions is accepted.
 unfoldable pub First : List Condition → Option Refusal → Type 0
 First [] answer = answer ≡ none
-First (C ∷ cs) answer =
-    ((refusal : Refusal) × Gives C refusal × (answer ≡ some refusal)) ⊎ (((refusal : Refusal) → ¬ Gives C refusal) × First cs answer)
+First (C ∷ cs) answer = ((refusal : Refusal) × Gives C refusal × (answer ≡ some refusal)) ⊎ (((refusal : Refusal) → ¬ Gives C refusal) × First cs answer)
 
 -- The first list is the second with some numbers left out.
 unfoldable pub part-of : List ℕ → List ℕ → Bool
@@ -86,8 +83,3 @@ count-of (Uncounted refusal) = none
 -- An output over the front of what a buffer held.
 unfoldable pub put : List ℕ → List ℕ → List ℕ
 put output old = output ++ drop (length output) old
-
--- The same where nothing is refused; beside a refusal the buffer is as before.
-unfoldable pub put-unless : Option Refusal → List ℕ → List ℕ → List ℕ
-put-unless none output old = put output old
-put-unless (some refusal) output old = old

@@ -1,10 +1,11 @@
 -- Twin of Refusal, pinned by refusal JudgedClaim.
 -- What contracts compute refusals with: the first of several answers, and the enums that hold them.
-use mathlib.Core.{Bool.{Bool, true, false}, Option.{Option, none, some}}
+use mathlib.Core.{Bool.{Bool, true, false}, Option.{Option, none, some}, List.{List}}
 use Prim.Native.Nat.{ℕ}
 use Rattle.refusal.specs.{declared.Refusal.{Refusal}, declared.Refusal.the-variants.{Plain, At}, declared.Judgement.{Judgement}}
 use Rattle.refusal.specs.{declared.Judgement.the-variants.{Accepted, Refused}, declared.Counted.{Counted}}
 use Rattle.refusal.specs.declared.Counted.the-variants.{Count, Refused as Uncounted}
+use Rattle.refusal.specs.Refusal.{put}
 
 -- The first of two answers that is a refusal.
 unfoldable pub or-else : Option Refusal → Option Refusal → Option Refusal
@@ -30,3 +31,8 @@ judgement (some refusal) = Refused refusal
 unfoldable pub counted : Option Refusal → ℕ → Counted
 counted none count = Count count
 counted (some refusal) count = Uncounted refusal
+
+-- A lent buffer after a call that puts an output: beside a refusal it is as before.
+unfoldable pub put-unless : Option Refusal → List ℕ → List ℕ → List ℕ
+put-unless none output old = put output old
+put-unless (some refusal) output old = old

@@ -6,17 +6,17 @@ use Rattle.refusal.specs.declared.Refusal.the-variants.{Plain, At}
 use Rattle.refusal.specs.Refusal.{order, Condition, Gives, Lowest, First, part-of, condition-numbers, right-places, Judged, has-place}
 use Rattle.refusal.specs.RefusalAnswers.{or-else}
 
--- A refusal's number in the list of document 01.
-unfoldable pub number : Refusal → ℕ
-number (Plain n) = n
-number (At n p) = n
+-- A refusal's refusal-number in the list of document 01.
+unfoldable pub refusal-number : Refusal → ℕ
+refusal-number (Plain n) = n
+refusal-number (At n p) = n
 
--- A refusal's place, where it has one.
-unfoldable pub place : Refusal → Option ℕ
-place (Plain n) = none
-place (At n p) = some p
+-- A refusal's refusal-place, where it has one.
+unfoldable pub refusal-place : Refusal → Option ℕ
+refusal-place (Plain n) = none
+refusal-place (At n p) = some p
 
--- There is at most one lowest place.
+-- There is at most one lowest refusal-place.
 abbrev pub LowestUniqueClaim : Type 1
 LowestUniqueClaim = (P : ℕ → Type 0) (p q : ℕ) → Lowest P p → Lowest P q → p ≡ q
 
@@ -40,16 +40,16 @@ unfoldable pub NoneMet : List Condition → Type 0
 NoneMet [] = Unit
 NoneMet (C ∷ cs) = ((refusal : Refusal) → ¬ Gives C refusal) × NoneMet cs
 
-abbrev pub AcceptedClaim : Type 1
-AcceptedClaim = (cs : List Condition) (a : Option Refusal) → First cs a → (a ≡ none) ↔ NoneMet cs
+abbrev pub NoneMetClaim : Type 1
+NoneMetClaim = (cs : List Condition) (a : Option Refusal) → First cs a → (a ≡ none) ↔ NoneMet cs
 
--- A refusal of the list: its number is 1 to 25, and it has a place exactly if that number has one.
+-- A refusal of the list: its refusal-number is 1 to 25, and it has a refusal-place exactly if that refusal-number has one.
 pub record ListedRefusal (refusal : Refusal) : Type 0 where
-  pub some-number : 1 ≤ number refusal
-  pub last-number : number refusal ≤ 25
-  pub with-place : (p : ℕ) → place refusal ≡ some p → has-place (number refusal) ≡ true
-  pub without-place : place refusal ≡ none → has-place (number refusal) ≡ false
+  pub some-number : 1 ≤ refusal-number refusal
+  pub last-number : refusal-number refusal ≤ 25
+  pub with-place : (p : ℕ) → refusal-place refusal ≡ some p → has-place (refusal-number refusal) ≡ true
+  pub without-place : refusal-place refusal ≡ none → has-place (refusal-number refusal) ≡ false
 
--- Every refusal that conditions in order give is one of the list; none has the number 0.
+-- Every refusal that conditions in order give is one of the list; none has the refusal-number 0.
 abbrev pub ListedRefusalClaim : Type 1
 ListedRefusalClaim = (cs : List Condition) (refusal : Refusal) → Judged cs (some refusal) → ListedRefusal refusal

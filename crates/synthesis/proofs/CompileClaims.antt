@@ -16,7 +16,8 @@ use Rattle.refusal.specs.declared.Refusal.the-variants.{Plain}
 use Rattle.refusal.specs.Refusal.{Condition, plain, First, has-place, part-of, order, condition-numbers, right-places}
 use Rattle.refusal.specs.RefusalAnswers.{or-else, plain-unless}
 use Rattle.refusal.proofs.Refusals.{first-then, judged, or-else-none, or-else-assoc, plain-none}
-use Rattle.refusal.specs.Refusal.{put, put-unless}
+use Rattle.refusal.specs.Refusal.{put}
+use Rattle.refusal.specs.RefusalAnswers.{put-unless}
 use Rattle.values.specs.declared.ValueKind.{ValueKind}
 use Rattle.values.specs.declared.ValueKind.the-variants.{Numbered, Register}
 use Rattle.values.specs.Setup.{ValueIn, meetOf, value-width, Setup, setup-meet, setup-top, EventsFault, setup-conditions}

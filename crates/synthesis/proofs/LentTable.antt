@@ -14,12 +14,13 @@ use Rattle.refusal.specs.declared.Refusal.the-variants.{Plain}
 use Rattle.refusal.specs.declared.Judgement.the-variants.{Accepted as AcceptedJudgement, Refused as RefusedJudgement}
 use Rattle.refusal.specs.declared.Counted.the-variants.{Count, Refused}
 use Rattle.refusal.specs.RefusalAnswers.{or-else, plain-unless, judgement, counted}
-use Rattle.refusal.specs.Refusal.{put, put-unless}
+use Rattle.refusal.specs.Refusal.{put}
+use Rattle.refusal.specs.RefusalAnswers.{put-unless}
 use Rattle.refusal.proofs.Refusals.{judgement-accepted, judgement-refused, counted-accepted, counted-refused, or-else-none, plain-none}
 use Rattle.values.specs.declared.ValueKind.{ValueKind}
 use Rattle.values.specs.declared.ValueKind.the-variants.{Numbered, Register}
 use Rattle.values.specs.Setup.{ValueIn, topOf, Setup, setup-of-kind, setup, setup-meet, setup-top}
-use Rattle.values.specs.SetupInOrder.{Laws}
+use Rattle.values.specs.SetupInOrder.{SetupLaws}
 use Rattle.values.specs.SetupTests.{kind-refusal, setup-refusal}
 use Rattle.values.proofs.Setups.{setup-accepted, laws-hold, accepted-events, accepted-count, kind-passed}
 use Rattle.formulas.specs.RuleRefusal.{rule-refusal, formula-of}
@@ -53,7 +54,7 @@ of-bytes (Register lines) top table e v h = tt
 
 -- What an accepted set-up and an accepted rule are.
 module _ (s : Setup) (ok : setup-refusal s ≡ none) where
-  pub laws : Laws s
+  pub laws : SetupLaws s
   laws = laws-hold s ok
 
   pub few-events : s .events ≤ event-limit

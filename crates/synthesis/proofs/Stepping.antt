@@ -11,7 +11,7 @@ use Rattle.theory.specs.ReachableStates.{NodeSet}
 use Rattle.theory.specs.DemandSets.{empty, union, demands, moved}
 use Rattle.formulas.specs.{NodeReading.{Reads}, NodeWalks.{field}}
 use Rattle.synthesis.specs.{NodeWords.{row, United}, NodeWalks.{Binds}, DemandRows.{AllBelow, UnguardedRows, RowsTo}}
-use Rattle.synthesis.specs.Exploring.{some-in, for-event, brings, stepped, Passed}
+use Rattle.synthesis.specs.Exploring.{some-in, for-event, brings, stepped, PassedStates}
 use Rattle.synthesis.proofs.DemandRows.{below-later, unguarded-row}
 
 some-split : (p : ℕ → Bool) (i n m : ℕ) → some-in p i (n + m) ≡ some-in p i n || some-in p (i + n) m
@@ -106,15 +106,15 @@ module _ (kinds firsts rows : List ℕ) (events i : ℕ) (before : List ℕ) whe
   abbrev came : ℕ → Bool → NodeSet
   came e t = cond t (union (row before e) (row rows (i + 1))) (row before e)
 
-  pub passed-other : ¬ (field kinds i ≡ 2) → Passed kinds firsts rows events i before before
+  pub passed-other : ¬ (field kinds i ≡ 2) → PassedStates kinds firsts rows events i before before
   passed-other h e u = sym (ap (came e) (other-kind kinds firsts 2 e i h))
 
-  pub passed-far : field kinds i ≡ 2 → events ≤ field firsts i → Passed kinds firsts rows events i before before
+  pub passed-far : field kinds i ≡ 2 → events ≤ field firsts i → PassedStates kinds firsts rows events i before before
   passed-far k h e u = sym (ap (came e) (same-kind kinds firsts 2 e i k ∙ ne-eqb (field firsts i) e (λ q. omega (arith, q))))
 
   pub passed-here :
       (after : List ℕ) (event : ℕ) → field kinds i ≡ 2 → event ≡ field firsts i →
-      United before after event (row rows (i + 1)) → Passed kinds firsts rows events i before after
+      United before after event (row rows (i + 1)) → PassedStates kinds firsts rows events i before after
   passed-here after event k q x e u = go (ℕ-discrete e event)
     where
       go : Dec (e ≡ event) → row after e ≡ came e (for-event kinds firsts 2 e i)

@@ -5,7 +5,7 @@ use Prim.Native.Nat.{ℕ, _*_, _/_, _%_}
 use lib.{Dec.{leb}, ListN.{length, replicate}}
 use Rattle.theory.specs.MealyMachine.{Machine}
 use Rattle.refusal.specs.{declared.Refusal.{Refusal}, declared.Counted.{Counted}, declared.Counted.the-variants.{Count, Refused}}
-use Rattle.refusal.specs.{RefusalAnswers.{or-else, plain-unless, counted}, Refusal.{put-unless}}
+use Rattle.refusal.specs.RefusalAnswers.{or-else, plain-unless, counted, put-unless}
 use Rattle.values.specs.{declared.ValueKind.{ValueKind}, Setup.{meetOf, Setup, setup-top}, SetupTests.{events-test, setup-refusal}}
 use Rattle.formulas.specs.{RuleRefusal.{rule-refusal, formula-of}, NodeArrays.{padded}}
 use Rattle.machines.specs.TableBytes.{table-bytes, entry-width, entry-bytes}

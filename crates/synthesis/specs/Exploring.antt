@@ -3,9 +3,9 @@
 use mathlib.Core.{Path.{_≡_}, Bool.{Bool, false, _&&_, _||_, cond}, List.{List, [], _∷_}}
 use Prim.Native.Nat.{ℕ, zero, suc, _+_, _*_, _/_, _%_, _≤_, _<_}
 use lib.{Dec.{eqb}, ListN.{length, getD}}
-use Rattle.limits.specs.Limits.{node-limit, set-words}
+use Rattle.limits.specs.Limits.{node-limit}
+use Rattle.synthesis.specs.NodeWords.{set-words, row, bits-at}
 use Rattle.theory.specs.{ReachableStates.{NodeSet}, DemandSets.{union}, Exploration.{reached, add, explored, index, member, bits, same-bits}}
-use Rattle.synthesis.specs.NodeWords.{row, bits-at}
 use Rattle.formulas.specs.NodeWalks.{field}
 
 -- Some of the n numbers from i on.
@@ -26,8 +26,8 @@ unfoldable pub stepped : List ℕ → List ℕ → List ℕ → ℕ → NodeSet 
 stepped kinds firsts rows n D e d = some-in (brings kinds firsts rows D e d) 0 n
 
 -- Node i was passed: where it is a G, the demands of its part came into the set of its event.
-abbrev pub Passed : List ℕ → List ℕ → List ℕ → ℕ → ℕ → List ℕ → List ℕ → Type 0
-Passed kinds firsts rows events i before after =
+abbrev pub PassedStates : List ℕ → List ℕ → List ℕ → ℕ → ℕ → List ℕ → List ℕ → Type 0
+PassedStates kinds firsts rows events i before after =
     (e : ℕ) → e < events →
     row after e ≡ cond (for-event kinds firsts 2 e i) (union (row before e) (row rows (i + 1))) (row before e)
 

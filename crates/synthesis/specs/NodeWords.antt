@@ -2,8 +2,12 @@
 use mathlib.Core.{Path.{_≡_}, Bool.{Bool, true, false, _&&_}, List.{List}}
 use Prim.Native.Nat.{ℕ, _+_, _-_, _*_, _/_, _%_, _^_, _≤_, _<_}
 use lib.{Dec.{ltb, eqb}, ListN.{length, getD}}
-use Rattle.limits.specs.Limits.{event-limit, node-limit, set-words}
+use Rattle.limits.specs.Limits.{event-limit, node-limit}
 use Rattle.theory.specs.{ReachableStates.{NodeSet}, DemandSets.{union}, Exploration.{bits}}
+
+-- A set of nodes is kept in words of 64 bits.
+abbrev pub set-words : ℕ
+set-words = node-limit / 64
 
 -- The words of a row for each node and of an empty one, and of a next set for each event.
 abbrev pub row-words : ℕ

@@ -27,9 +27,7 @@ module _ (meet : ℕ → ℕ → ℕ) (top events : ℕ) (kind : ValueKind) wher
 
 -- The conditions of compiling, in order: those of the set-up, 5 to 9, 10, 13.
 abbrev pub compile-conditions : ℕ → Setup → List ℕ → List ℕ → List Condition
-compile-conditions limit s rule old =
-    setup-conditions s
-    ++ (byte-conditions (s .events) (s .kind) rule
+compile-conditions limit s rule old = setup-conditions s ++ (byte-conditions (s .events) (s .kind) rule
     ++ (states-condition (setup-meet s) (setup-top s) (s .events) (s .kind) rule limit
     ∷ buffer-condition (setup-meet s) (setup-top s) (s .events) (s .kind) rule old
     ∷ []))
@@ -51,9 +49,7 @@ pub record IsRuleTable (s : Setup) (rule : List ℕ) (n : ℕ) (t : Machine ℕ 
   pub code : rule ≡ encode-formula (node-bytes (s .kind)) formula
   pub only : (χ : Formula ℕ) → rule ≡ encode-formula (node-bytes (s .kind)) χ → χ ≡ formula
   pub is-table : IsTableOf (setup-meet s) (setup-top s) (s .events) formula n t
-  pub answers :
-      (w : List ℕ) → Word (s .events) w → (e : ℕ) → e < s .events →
-      Answers (setup-meet s) (setup-top s) formula w e (t .value (after t zero w) e)
+  pub answers : (w : List ℕ) → Word (s .events) w → (e : ℕ) → e < s .events → Answers (setup-meet s) (setup-top s) formula w e (t .value (after t zero w) e)
 
 -- The same in two arrays, entries by state, then event, and zeros after them.
 pub record ArraysHold (s : Setup) (rule values nexts : List ℕ) (n : ℕ) : Type 0 where

@@ -11,7 +11,8 @@ ghost use mathlib.Core.Path.{_≡_};
 ghost use Prim.Native.Nat.{_+_, _*_, _<_, _≤_};
 ghost use lib.ListN.{length};
 ghost use Rattle.values.specs.Setup.{meetOf};
-ghost use Rattle.limits.specs.Limits.{event-limit, node-limit, set-words};
+ghost use Rattle.limits.specs.Limits.{event-limit, node-limit};
+ghost use Rattle.synthesis.specs.NodeWords.{set-words};
 ghost use Rattle.synthesis.specs.Exploring.{Unchanged};
 ghost use Rattle.synthesis.specs.TableEntries.{state-value, EntriesTo, RowTo, OpenRow, Met};
 

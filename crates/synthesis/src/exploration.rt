@@ -16,9 +16,10 @@ ghost use mathlib.Core.Path.{_≡_};
 ghost use Prim.Native.Nat.{ℕ, _+_, _*_, _<_, _≤_};
 ghost use lib.ListN.{length};
 ghost use Rattle.theory.specs.DemandSets.{empty};
-ghost use Rattle.limits.specs.Limits.{event-limit, node-limit, set-words};
+ghost use Rattle.limits.specs.Limits.{event-limit, node-limit};
+ghost use Rattle.synthesis.specs.NodeWords.{set-words};
 ghost use Rattle.synthesis.specs.NodeWords.{row-words, next-words, set-at, row, bits-at};
-ghost use Rattle.synthesis.specs.Exploring.{Passed, NextSets, next-bits, Found, Counted, Expanded, sequences, Unchanged};
+ghost use Rattle.synthesis.specs.Exploring.{PassedStates, NextSets, next-bits, Found, Counted, Expanded, sequences, Unchanged};
 
 // A node of a set is passed: where it is a G, the demands of its part come into the next set on its event.
 fn advance_node(
@@ -33,7 +34,7 @@ fn advance_node(
         × (length (now rows) ≡ row-words)
         × (length (now sets) ≡ next-words) ⌝ }
     ensures { λ _. ⌜ (length (now (sets .exit)) ≡ next-words)
-        × Passed (now (kinds .entry)) (now (firsts .entry)) (now (rows .entry)) events node (now (sets .entry)) (now (sets .exit)) ⌝ }
+        × PassedStates (now (kinds .entry)) (now (firsts .entry)) (now (rows .entry)) events node (now (sets .entry)) (now (sets .exit)) ⌝ }
 {
     if kinds[node] != TRANSITION {
         return;

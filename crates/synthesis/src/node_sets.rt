@@ -7,7 +7,8 @@ ghost use mathlib.Core.Path.{_≡_};
 ghost use mathlib.Core.Bool.{true, false};
 ghost use Prim.Native.Nat.{_+_, _*_, _<_, _≤_, _^_};
 ghost use lib.ListN.{length};
-ghost use Rattle.limits.specs.Limits.{event-limit, node-limit, set-words};
+ghost use Rattle.limits.specs.Limits.{event-limit, node-limit};
+ghost use Rattle.synthesis.specs.NodeWords.{set-words};
 ghost use Rattle.synthesis.specs.NodeWords.{row-words, next-words, set-at, row, bits-at, Stored, United, FirstBit, LastBit, FirstMember, LastMember};
 
 // The words of a row for each node and of an empty one; and of a next set for each event.

@@ -3,12 +3,13 @@ use Prim.Native.Nat.{ℕ, _*_, _≤_}
 use mathlib.Core.{Path.{_≡_, refl, sym, ap, ap₂, _∙_}, List.{List}, Option.{Option, none}}
 use native.Mathlib.Omega.{arith}
 use lib.ListN.{length, take}
-use Rattle.limits.specs.Limits.{meet-limit, table-bytes-limit}
+use Rattle.limits.specs.Limits.{meet-limit}
+use Rattle.channel_io.specs.Claims.{table-bytes-limit}
 use Rattle.refusal.specs.declared.{Refusal.{Refusal}, Counted.{Counted}}
 use Rattle.refusal.specs.declared.Counted.the-variants.{Count}
 use Rattle.refusal.proofs.Refusals.{counted-accepted}
 use Rattle.channel_io.specs.declared.FileNumbers.{FileNumbers}
-use Rattle.channel_io.specs.FileConditions.{numbers}
+use Rattle.channel_io.specs.FileReading.{numbers}
 use Rattle.channel_io.specs.FileRefusals.{file-states, file-table}
 use Rattle.channel_io.proofs.Callers.{table-fits, Unmade, off-form, turned-away, MadeOf, events-are}
 use Rattle.table_rows.specs.{Rendering.{handed-refusal, Renders}, Rows.{rows-text}}

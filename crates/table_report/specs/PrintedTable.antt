@@ -19,10 +19,8 @@ refusal-text (At n p) = line (ascii "refused=") (separated (numeral n ∷ numera
 -- The refusal, by 4, 1 to 3 and 5 to 10 in this order, or the table of the text's rule.
 pub data Prints (t : List ℕ) : List ℕ → Type 0 where
   off-form : (p : ℕ) → Refused4 t p → Prints t (refusal-text (At 4 p))
-  refused :
-      (c : Contents) (r : Refusal) → length t ≤ file-limit → Shows c t → First (contents-table-conditions c) (some r) → Prints t (refusal-text r)
-  table :
-      (c : Contents) (n : ℕ) (m : Machine ℕ ℕ) → length t ≤ file-limit → Shows c t → First (contents-table-conditions c) none →
+  refused : (c : Contents) (r : Refusal) → length t ≤ file-limit → Shows c t → First (contents-table-conditions c) (some r) → Prints t (refusal-text r)
+  table : (c : Contents) (n : ℕ) (m : Machine ℕ ℕ) → length t ≤ file-limit → Shows c t → First (contents-table-conditions c) none →
       IsRuleTable (file-setup c) (rule-numbers c) n m → Prints t (table-text (c .events) n m)
 
 -- 13, where the lent buffer is shorter than what is printed.

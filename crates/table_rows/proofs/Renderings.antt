@@ -12,7 +12,8 @@ use Rattle.refusal.specs.declared.Judgement.the-variants.{Refused as Unaccepted
 use Rattle.refusal.specs.declared.Counted.the-variants.{Count, Refused}
 use Rattle.refusal.specs.Refusal.{First, condition-numbers, right-places, part-of, order, has-place}
 use Rattle.refusal.specs.RefusalAnswers.{or-else, plain-unless, judgement, counted}
-use Rattle.refusal.specs.Refusal.{put, put-unless}
+use Rattle.refusal.specs.Refusal.{put}
+use Rattle.refusal.specs.RefusalAnswers.{put-unless}
 use Rattle.refusal.proofs.Refusals.{plain-first, first-append, judged, or-else-assoc, or-else-none, plain-none}
 use Rattle.values.specs.declared.ValueKind.the-variants.{Numbered}
 use Rattle.values.specs.SetupTests.{events-test, values-test}

@@ -1,10 +1,10 @@
--- Twin of TableConditions, pinned by table_rows RenderingClaim.
+-- Twin of PrintedTable, pinned by table_rows RenderingClaim.
 -- A call that renders a table handed in as a text in a lent buffer.
 use Prim.Native.Nat.{ℕ}
 use mathlib.Core.{Path.{_≡_}, List.{List}, Option.{Option}}
 use lib.{Dec.{leb}, ListN.{length}}
 use Rattle.limits.specs.Limits.{table-limit}
-use Rattle.refusal.specs.{declared.Refusal.{Refusal}, declared.Counted.{Counted}, RefusalAnswers.{or-else, plain-unless, counted}, Refusal.{put-unless}}
+use Rattle.refusal.specs.{declared.Refusal.{Refusal}, declared.Counted.{Counted}, RefusalAnswers.{or-else, plain-unless, counted, put-unless}}
 use Rattle.values.specs.{declared.ValueKind.the-variants.{Numbered}, SetupTests.{events-test, values-test}}
 use Rattle.machines.specs.TableRefusal.{table-refusal}
 

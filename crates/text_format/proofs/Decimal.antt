@@ -6,7 +6,7 @@ use native.Mathlib.Omega.{arith}
 use lib.{Dec.{ltb, eqb}, ListN.{length, length-append}}
 use borrow.Author.Tests.{eqb-true, eqb-false, ne-eqb, ltb-true, ltb-false, lt-ltb, le-ltb}
 use Rattle.text_format.specs.{Format.{Parsed, ok, bad, bind, Format, Stuck, Laws}, Combinators.{find-in, letter-of, letter-parse, Alphabet}}
-use Rattle.text_format.specs.Decimal.{limit, is-digit, Digits, one-more, value-from, Numeral, more, number, numbered}
+use Rattle.text_format.specs.Decimal.{limit, is-digit, Digits, one-more, value-from, Numeral, more, numeral-parse, numbered}
 use Rattle.text_format.specs.Texts.{decimal}
 use Rattle.text_format.specs.Claims.{NumeralClaim}
 use Rattle.text_format.specs.Decimal as D
@@ -58,7 +58,7 @@ limit-mono m (suc j) (suc k) h = let i : limit m ≤ limit k = limit-mono m j k 
 pub limit-pos : (k : ℕ) → 0 < limit k
 limit-pos k = let i : limit zero ≤ limit k = limit-mono zero k k (omega arith) in omega arith
 
--- ---- what a number read is
+-- ---- what a numeral-parse read is
 
 -- w stands before r, and is read there too if anything follows the next byte
 record Took (k : ℕ) (shown : List ℕ) (parse : List ℕ → Parsed ℕ) (s : List ℕ) (w : ℕ) (r : List ℕ) : Type 0 where
@@ -156,19 +156,19 @@ more-never zero v s r h = let z : _≡_ {A = ℕ} 0 1 = cc in omega arith
 more-never (suc j) v [] r h = let z : _≡_ {A = ℕ} 0 1 = cc in omega arith
 more-never (suc j) v (b ∷ s) r h = more-never₁ (is-digit b) j v b s r h (more-never j (v * 10 + (b - 48)) s r)
 
--- ---- a number at the front of a text
+-- ---- a numeral-parse at the front of a text
 
-pub number-zero : (k b : ℕ) (u : List ℕ) → b ≡ 48 → number k (b ∷ u) ≡ ok 0 u
+pub number-zero : (k b : ℕ) (u : List ℕ) → b ≡ 48 → numeral-parse k (b ∷ u) ≡ ok 0 u
 number-zero k b u h = rw h
 
-pub number-go : (k b : ℕ) (u : List ℕ) → is-digit b ≡ true → eqb b 48 ≡ false → number k (b ∷ u) ≡ more k (b - 48) u
+pub number-go : (k b : ℕ) (u : List ℕ) → is-digit b ≡ true → eqb b 48 ≡ false → numeral-parse k (b ∷ u) ≡ more k (b - 48) u
 number-go k b u h n = rw (h, n)
 
-pub number-not : (k b : ℕ) (u : List ℕ) → is-digit b ≡ false → number k (b ∷ u) ≡ bad (b ∷ u)
+pub number-not : (k b : ℕ) (u : List ℕ) → is-digit b ≡ false → numeral-parse k (b ∷ u) ≡ bad (b ∷ u)
 number-not k b u h = rw h
 
 number-law₂ : (t : Bool) (k b : ℕ) (s : List ℕ) (w : ℕ) (r : List ℕ) → is-digit b ≡ true → eqb b 48 ≡ t
-    → cond t (ok 0 s) (more k (b - 48) s) ≡ ok w r → Took k [] (number k) (b ∷ s) w r
+    → cond t (ok 0 s) (more k (b - 48) s) ≡ ok w r → Took k [] (numeral-parse k) (b ∷ s) w r
 number-law₂ true k b s w r d e h =
     let hb : b ≡ 48 = eqb-true b 48 e in
     let hw : 0 ≡ w = cc in
@@ -198,15 +198,15 @@ number-law₂ false k b s w r d e h =
     }
 
 number-law₁ : (t : Bool) (k b : ℕ) (s : List ℕ) (w : ℕ) (r : List ℕ) → is-digit b ≡ t
-    → cond t (cond (eqb b 48) (ok 0 s) (more k (b - 48) s)) (bad (b ∷ s)) ≡ ok w r → Took k [] (number k) (b ∷ s) w r
+    → cond t (cond (eqb b 48) (ok 0 s) (more k (b - 48) s)) (bad (b ∷ s)) ≡ ok w r → Took k [] (numeral-parse k) (b ∷ s) w r
 number-law₁ true k b s w r d h = number-law₂ (eqb b 48) k b s w r d refl h
 number-law₁ false k b s w r d h = let z : _≡_ {A = ℕ} 0 1 = cc in absurd (omega arith)
 
-number-law : (k : ℕ) (s : List ℕ) (w : ℕ) (r : List ℕ) → number k s ≡ ok w r → Took k [] (number k) s w r
+number-law : (k : ℕ) (s : List ℕ) (w : ℕ) (r : List ℕ) → numeral-parse k s ≡ ok w r → Took k [] (numeral-parse k) s w r
 number-law k [] w r h = let z : _≡_ {A = ℕ} 0 1 = cc in absurd (omega arith)
 number-law k (b ∷ s) w r h = number-law₁ (is-digit b) k b s w r refl h
 
--- a text with no number in front stops there
+-- a text with no numeral-parse in front stops there
 number-bad₁ : (t : Bool) (k b : ℕ) (s r : List ℕ) → is-digit b ≡ t
     → cond t (cond (eqb b 48) (ok 0 s) (more k (b - 48) s)) (bad (b ∷ s)) ≡ bad r → (b ∷ s ≡ r) × (is-digit b ≡ false)
 number-bad₁ true k b s r d h = absurd (go (eqb b 48) h)
@@ -216,7 +216,7 @@ number-bad₁ true k b s r d h = absurd (go (eqb b 48) h)
     go false g = more-never k (b - 48) s r g
 number-bad₁ false k b s r d h = (cc, d)
 
-pub number-bad : (k : ℕ) (s r : List ℕ) → number k s ≡ bad r → (s ≡ r) × ((b : ℕ) (r′ : List ℕ) → r ≡ b ∷ r′ → is-digit b ≡ false)
+pub number-bad : (k : ℕ) (s r : List ℕ) → numeral-parse k s ≡ bad r → (s ≡ r) × ((b : ℕ) (r′ : List ℕ) → r ≡ b ∷ r′ → is-digit b ≡ false)
 number-bad k [] r h = (cc, λ b r′ e. let z : _≡_ {A = ℕ} 0 1 = cc in absurd (omega arith))
 number-bad k (b ∷ s) r h =
     let g = number-bad₁ (is-digit b) k b s r refl h in
@@ -226,7 +226,7 @@ number-bad k (b ∷ s) r h =
 record Room (k m v : ℕ) : Type 0 where
   left : ℕ
   enough : k ≤ left + m
-  reads : (s : List ℕ) → number k (decimal m v ++ s) ≡ more left v s
+  reads : (s : List ℕ) → numeral-parse k (decimal m v ++ s) ≡ more left v s
 
 room-small : (k m v : ℕ) → 0 < v → v < 10 → Room k m v
 room-small k m v p h =
@@ -236,10 +236,10 @@ room-small k m v p h =
     record {
       left = k;
       enough = omega arith;
-      reads = λ s. ap (λ (z : List ℕ). number k (z ++ s)) (decimal-small m v h) ∙ number-go k (48 + v) s d e ∙ ap (λ (z : ℕ). more k z s) ev;
+      reads = λ s. ap (λ (z : List ℕ). numeral-parse k (z ++ s)) (decimal-small m v h) ∙ number-go k (48 + v) s d e ∙ ap (λ (z : ℕ). more k z s) ev;
     }
 
-room-large : (k m v : ℕ) → 10 ≤ v → suc m ≤ k → (j : ℕ) → k ≤ j + m → ((s : List ℕ) → number k (decimal m (v / 10) ++ s) ≡ more j (v / 10) s) → Room k (suc m) v
+room-large : (k m v : ℕ) → 10 ≤ v → suc m ≤ k → (j : ℕ) → k ≤ j + m → ((s : List ℕ) → numeral-parse k (decimal m (v / 10) ++ s) ≡ more j (v / 10) s) → Room k (suc m) v
 room-large k m v h l zero e f = absurd (omega arith)
 room-large k m v h l (suc j) e f =
     let d : is-digit (48 + v % 10) ≡ true = digit-in-range (48 + v % 10) (omega arith) (omega arith) in
@@ -248,8 +248,8 @@ room-large k m v h l (suc j) e f =
       left = j;
       enough = omega arith;
       reads = λ s.
-          ap (λ (z : List ℕ). number k (z ++ s)) (decimal-large m v h)
-          ∙ ap (number k) (append-assoc (decimal m (v / 10)) ((48 + v % 10) ∷ []) s)
+          ap (λ (z : List ℕ). numeral-parse k (z ++ s)) (decimal-large m v h)
+          ∙ ap (numeral-parse k) (append-assoc (decimal m (v / 10)) ((48 + v % 10) ∷ []) s)
           ∙ f ((48 + v % 10) ∷ s) ∙ more-go j (v / 10) (48 + v % 10) s d ∙ ap (λ (z : ℕ). more j z s) ev;
     }
 
@@ -264,13 +264,13 @@ room : (k m v : ℕ) → 0 < v → v < limit m → m ≤ k → Room k m v
 room k zero v p h l = room-small k zero v p h
 room k (suc m) v p h l = room₁ (ltb v 10) k m v refl p l (λ g. room k m (v / 10) (omega arith) (omega arith) (omega arith))
 
-pub number-full : (k v e : ℕ) (w : List ℕ) → v < limit k → is-digit e ≡ false → number k (decimal k v ++ (e ∷ w)) ≡ ok v (e ∷ w)
-number-full k zero e w h n = ap (λ (z : List ℕ). number k (z ++ (e ∷ w))) (decimal-small k 0 (omega arith))
+pub number-full : (k v e : ℕ) (w : List ℕ) → v < limit k → is-digit e ≡ false → numeral-parse k (decimal k v ++ (e ∷ w)) ≡ ok v (e ∷ w)
+number-full k zero e w h n = ap (λ (z : List ℕ). numeral-parse k (z ++ (e ∷ w))) (decimal-small k 0 (omega arith))
 number-full k (suc v) e w h n =
     let q : Room k k (suc v) = room k k (suc v) (omega arith) h (omega arith) in
     q .reads (e ∷ w) ∙ more-stop (q .left) (suc v) e w n
 
--- ---- a number and the byte that ends it
+-- ---- a numeral-parse and the byte that ends it
 
 module _ {K : Type 0} (k : ℕ) (byte : K → ℕ) (k₀ : K) (ks : List K) (all : Alphabet byte k₀ ks)
     (apart : (e : K) → is-digit (byte e) ≡ false) where
@@ -280,12 +280,12 @@ module _ {K : Type 0} (k : ℕ) (byte : K → ℕ) (k₀ : K) (ks : List K) (all
   abbrev end-of : List ℕ → Parsed K
   end-of = letter-parse byte (k₀ ∷ ks)
 
-  numbered-sound₂ : (s : List ℕ) (v : ℕ) (r : List ℕ) → number k s ≡ ok v r → (x : Parsed K) → end-of r ≡ x → (p : ℕ × K) (q : List ℕ)
+  numbered-sound₂ : (s : List ℕ) (v : ℕ) (r : List ℕ) → numeral-parse k s ≡ ok v r → (x : Parsed K) → end-of r ≡ x → (p : ℕ × K) (q : List ℕ)
       → _≡_ {A = Parsed (ℕ × K)} (bind x (λ e r′. ok (v, e) r′)) (ok p q) → N .Fits p × (s ≡ N .print p ++ q)
   numbered-sound₂ s v r e (ok c r′) f p q h =
       let hp : _≡_ {A = ℕ × K} (v, c) p = cc in
       let hr : r′ ≡ q = cc in
-      let t : Took k [] (number k) s v r = number-law k s v r e in
+      let t : Took k [] (numeral-parse k) s v r = number-law k s v r e in
       let g = letter-sound byte k₀ ks all r c r′ f in
       subst (λ (z : ℕ × K). N .Fits z × (s ≡ N .print z ++ q)) hp (
         t .small,
@@ -294,7 +294,7 @@ module _ {K : Type 0} (k : ℕ) (byte : K → ℕ) (k₀ : K) (ks : List K) (all
       )
   numbered-sound₂ s v r e (bad r′) f p q h = let z : _≡_ {A = ℕ} 0 1 = cc in absurd (omega arith)
 
-  numbered-sound₁ : (s : List ℕ) (x : Parsed ℕ) → number k s ≡ x → (p : ℕ × K) (q : List ℕ)
+  numbered-sound₁ : (s : List ℕ) (x : Parsed ℕ) → numeral-parse k s ≡ x → (p : ℕ × K) (q : List ℕ)
       → _≡_ {A = Parsed (ℕ × K)} (bind x (λ v r. bind (letter-parse byte (k₀ ∷ ks) r) (λ e r′. ok (v, e) r′))) (ok p q) → N .Fits p × (s ≡ N .print p ++ q)
   numbered-sound₁ s (ok v r) e p q h = numbered-sound₂ s v r e (end-of r) refl p q h
   numbered-sound₁ s (bad r) e p q h = let z : _≡_ {A = ℕ} 0 1 = cc in absurd (omega arith)
@@ -304,10 +304,10 @@ module _ {K : Type 0} (k : ℕ) (byte : K → ℕ) (k₀ : K) (ks : List K) (all
       rw (append-assoc (decimal k (p .0)) (byte (p .1) ∷ []) w, number-full k (p .0) (byte (p .1)) w h (apart (p .1)))
       (rw (letter-full byte k₀ ks all (p .1) tt w))
 
-  numbered-local₁ : (s r : List ℕ) → number k s ≡ bad r → N .parse s ≡ bad r
+  numbered-local₁ : (s r : List ℕ) → numeral-parse k s ≡ bad r → N .parse s ≡ bad r
   numbered-local₁ s r e = rw e
 
-  numbered-local₂ : (s : List ℕ) (v : ℕ) (q r : List ℕ) → number k s ≡ ok v q → end-of q ≡ bad r → N .parse s ≡ bad r
+  numbered-local₂ : (s : List ℕ) (v : ℕ) (q r : List ℕ) → numeral-parse k s ≡ ok v q → end-of q ≡ bad r → N .parse s ≡ bad r
   numbered-local₂ s v q r e f = rw e (rw f)
 
   -- the byte where no end stands is the next byte
@@ -326,14 +326,14 @@ module _ {K : Type 0} (k : ℕ) (byte : K → ℕ) (k₀ : K) (ks : List K) (all
       go (some c) g = let z : _≡_ {A = ℕ} 0 1 = cc in absurd (omega arith)
       go none g = refl
 
-  numbered-stuck₂ : (s : List ℕ) (v : ℕ) (q : List ℕ) → number k s ≡ ok v q → (x : Parsed K) → end-of q ≡ x → (r : List ℕ)
+  numbered-stuck₂ : (s : List ℕ) (v : ℕ) (q : List ℕ) → numeral-parse k s ≡ ok v q → (x : Parsed K) → end-of q ≡ x → (r : List ℕ)
       → _≡_ {A = Parsed (ℕ × K)} (bind x (λ e r′. ok (v, e) r′)) (bad r) → Stuck N s r
   numbered-stuck₂ s v q e (ok c r′) f r h = let z : _≡_ {A = ℕ} 0 1 = cc in absurd (omega arith)
   numbered-stuck₂ s v q e (bad r′) f r h =
       let hr : r′ ≡ r = cc in
       let fr : end-of q ≡ bad r = f ∙ ap (λ (z : List ℕ). bad z) hr in
       let hq : q ≡ r = end-here q r fr in
-      let t : Took k [] (number k) s v q = number-law k s v q e in
+      let t : Took k [] (numeral-parse k) s v q = number-law k s v q e in
       record {
         before = t .before;
         splits = t .splits ∙ ap (λ (z : List ℕ). t .before ++ z) hq;
@@ -346,7 +346,7 @@ module _ {K : Type 0} (k : ℕ) (byte : K → ℕ) (k₀ : K) (ks : List K) (all
             (end-again b r″ u r (ap end-of (sym (hq ∙ e′)) ∙ fr));
       }
 
-  numbered-stuck₁ : (s : List ℕ) (x : Parsed ℕ) → number k s ≡ x → (r : List ℕ)
+  numbered-stuck₁ : (s : List ℕ) (x : Parsed ℕ) → numeral-parse k s ≡ x → (r : List ℕ)
       → _≡_ {A = Parsed (ℕ × K)} (bind x (λ v r. bind (letter-parse byte (k₀ ∷ ks) r) (λ e r′. ok (v, e) r′))) (bad r) → Stuck N s r
   numbered-stuck₁ s (ok v q) e r h = numbered-stuck₂ s v q e (end-of q) refl r h
   numbered-stuck₁ s (bad q) e r h =
@@ -367,9 +367,9 @@ module _ {K : Type 0} (k : ℕ) (byte : K → ℕ) (k₀ : K) (ks : List K) (all
   numbered-laws =
       record {
         sample-fits = limit-pos k;
-        sound = λ s p r h. numbered-sound₁ s (number k s) refl p r h;
+        sound = λ s p r h. numbered-sound₁ s (numeral-parse k s) refl p r h;
         full = numbered-full;
-        stuck = λ s r h. numbered-stuck₁ s (number k s) refl r h;
+        stuck = λ s r h. numbered-stuck₁ s (numeral-parse k s) refl r h;
       }
 
 -- three digits at most, written out
@@ -402,7 +402,7 @@ numeral-small k v h =
       value = omega arith;
     }
 
--- a number of one digit or more, and one digit more
+-- a numeral-parse of one digit or more, and one digit more
 numeral-large : (k v : ℕ) (s : List ℕ) → 10 ≤ v → Numeral k (v / 10) s → Numeral (suc k) v (s ++ ((48 + v % 10) ∷ []))
 numeral-large k v [] h n = let l : 1 ≤ 0 = n .some-digit in absurd (omega arith)
 numeral-large k v (c ∷ s) h n =
@@ -438,7 +438,7 @@ digits-more (suc j) v [] d h = refl
 digits-more zero v (b ∷ s) d h = absurd (omega arith)
 digits-more (suc j) v (b ∷ s) (one-more l u d) h = more-go j v b s (digit-in-range b l u) ∙ digits-more j (v * 10 + (b - 48)) s d (omega arith)
 
-numeral-number₁ : (t : Bool) (k v b : ℕ) (s : List ℕ) → eqb b 48 ≡ t → is-digit b ≡ true → Digits s → Numeral k v (b ∷ s) → number k (b ∷ s) ≡ ok v []
+numeral-number₁ : (t : Bool) (k v b : ℕ) (s : List ℕ) → eqb b 48 ≡ t → is-digit b ≡ true → Digits s → Numeral k v (b ∷ s) → numeral-parse k (b ∷ s) ≡ ok v []
 numeral-number₁ true k v b s e i d n =
     let hb : b ≡ 48 = eqb-true b 48 e in
     let hs : s ≡ [] = n .no-leading-zero s (ap (λ (z : ℕ). z ∷ s) hb) in
@@ -449,13 +449,13 @@ numeral-number₁ false k v b s e i d n =
     let z : b - 48 ≡ 0 * 10 + (b - 48) = omega arith in
     number-go k b s i e ∙ digits-more k (b - 48) s d (omega arith) ∙ ap (λ (x : ℕ). ok (value-from x s) []) z ∙ ap (λ (x : ℕ). ok x []) (n .value)
 
-numeral-number : (k v : ℕ) (s : List ℕ) → Digits s → Numeral k v s → number k s ≡ ok v []
+numeral-number : (k v : ℕ) (s : List ℕ) → Digits s → Numeral k v s → numeral-parse k s ≡ ok v []
 numeral-number k v [] d n = let l : 1 ≤ 0 = n .some-digit in absurd (omega arith)
 numeral-number k v (b ∷ s) (one-more l u d) n = numeral-number₁ (eqb b 48) k v b s refl (digit-in-range b l u) d n
 
 pub numeral-decimal : (k v : ℕ) (s : List ℕ) → Numeral k v s → (v < limit k) × (s ≡ decimal k v)
 numeral-decimal k v s n =
-    let t : Took k [] (number k) s v [] = number-law k s v [] (numeral-number k v s (n .digits) n) in
+    let t : Took k [] (numeral-parse k) s v [] = number-law k s v [] (numeral-number k v s (n .digits) n) in
     (t .small, t .splits ∙ append-nil (t .before) ∙ t .printed)
 
 pub numeral-claim : NumeralClaim

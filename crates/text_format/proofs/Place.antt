@@ -6,7 +6,7 @@ use lib.{ListN.{length, take, drop, length-append, take-append-drop}, Seq.{take-
 use Rattle.text_format.specs.Format.{Parsed, ok, bad, bind, Format, Stuck, Laws, Outcome, contents, refused, at-end, whole, outcome, read}
 use Rattle.text_format.specs.Texts.{Begins, Refused, at, early, FormOf}
 use Rattle.text_format.specs.Claims.{AnswersText}
-use Rattle.text_format.specs.Claims.{Renders, AnswerClaim, OneAnswerClaim, PlaceClaim, ReadBackClaim}
+use Rattle.text_format.specs.Claims.{FormatRenders, AnswerClaim, OneAnswerClaim, PlaceClaim, FormatReadBackClaim}
 use Rattle.text_format.proofs.Combinators.{not-both}
 
 -- ---- any form
@@ -83,13 +83,13 @@ module _ {A : Type 0} (F : Format A) (LF : Laws F) where
   pub whole-sound : (t : List ℕ) (a : A) (r : List ℕ) → whole F t ≡ ok a r → F .Fits a × (t ≡ F .print a)
   whole-sound t a r h = whole-sound₁ t (F .parse t) refl a r h
 
-read-back : ReadBackClaim
+read-back : FormatReadBackClaim
 read-back A F LF a h = ap (outcome (F .print a)) (whole-print F LF a h)
 
-pub read-back-claim : ReadBackClaim
+pub read-back-claim : FormatReadBackClaim
 read-back-claim = read-back
 
-module _ {A : Type 0} (F : Format A) (Shows : A → List ℕ → Type 0) (LF : Laws F) (R : Renders F Shows) where
+module _ {A : Type 0} (F : Format A) (Shows : A → List ℕ → Type 0) (LF : Laws F) (R : FormatRenders F Shows) where
   abbrev Form : List ℕ → Type 0
   Form = FormOf Shows
 

@@ -6,7 +6,7 @@ use mathlib.Core.{Path.{_≡_}, List.{List, [], _∷_, _++_}, Bool.{Bool, false,
 use lib.{Dec.{ltb, eqb}, ListN.{length}}
 use Rattle.text_format.specs.{Format.{Parsed, ok, bad, bind, Format}, Combinators.{letter-parse}, Texts.{decimal}}
 
--- The first number that needs more than k + 1 digits.
+-- The first numeral-parse that needs more than k + 1 digits.
 abbrev pub limit : ℕ → ℕ
 limit zero = 10
 limit (suc k) = limit k * 10
@@ -20,7 +20,7 @@ pub data Digits : List ℕ → Type 0 where
   none : Digits []
   one-more : {b : ℕ} {s : List ℕ} → 48 ≤ b → b < 58 → Digits s → Digits (b ∷ s)
 
--- The number that digits stand for, behind the digits of v.
+-- The numeral-parse that digits stand for, behind the digits of v.
 abbrev pub value-from : ℕ → List ℕ → ℕ
 value-from v [] = v
 value-from v (b ∷ s) = value-from (v * 10 + (b - 48)) s
@@ -41,14 +41,14 @@ more zero v s = ok v s
 more (suc k) v [] = ok v []
 more (suc k) v (b ∷ s) = cond (is-digit b) (more k (v * 10 + (b - 48)) s) (ok v (b ∷ s))
 
-abbrev pub number : ℕ → List ℕ → Parsed ℕ
-number k [] = bad []
-number k (b ∷ s) = cond (is-digit b) (cond (eqb b 48) (ok 0 s) (more k (b - 48) s)) (bad (b ∷ s))
+abbrev pub numeral-parse : ℕ → List ℕ → Parsed ℕ
+numeral-parse k [] = bad []
+numeral-parse k (b ∷ s) = cond (is-digit b) (cond (eqb b 48) (ok 0 s) (more k (b - 48) s)) (bad (b ∷ s))
 
 abbrev pub numbered-parse : {K : Type 0} → ℕ → (K → ℕ) → List K → List ℕ → Parsed (ℕ × K)
-numbered-parse k byte ks s = bind (number k s) (λ v r. bind (letter-parse byte ks r) (λ e r′. ok (v, e) r′))
+numbered-parse k byte ks s = bind (numeral-parse k s) (λ v r. bind (letter-parse byte ks r) (λ e r′. ok (v, e) r′))
 
--- A number and the byte that ends it, out of an alphabet without digits.
+-- A numeral-parse and the byte that ends it, out of an alphabet without digits.
 abbrev pub numbered : {K : Type 0} → ℕ → (K → ℕ) → K → List K → Format (ℕ × K)
 numbered k byte k₀ ks =
     record {

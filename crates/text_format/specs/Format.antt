@@ -1,4 +1,4 @@
--- Twin of Place, pinned by text_format AnswerClaim.
+-- Twin of Texts, pinned by text_format AnswerClaim.
 -- Two-way formats: how the values of a type stand as text (print), a parser that reads a value from the front of a text
 -- (parse), and the laws that tie the two together. A text is a list of byte values.
 use Prim.Native.Nat.{ℕ, _-_}

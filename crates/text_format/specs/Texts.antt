@@ -1,5 +1,4 @@
--- Texts as lists of byte values: words, numbers in decimal, items with one space between; and where a text is refused (document 01,
--- "Channel file" and refusal 4). Form t says that t is a text of the form.
+-- Texts as lists of byte values, and where a text is refused (document 01, "Channel file", refusal 4). Form t: t is a text of the form.
 use Prim.Native.{Nat.{ℕ, zero, suc, _+_, _/_, _%_, _<_}, Char.{code}, String.{String}}
 use mathlib.Core.{List.{List, [], _∷_, _++_}, Bool.{cond}}
 use lib.{Dec.{ltb}, ListN.{length, take}}

@@ -7,7 +7,7 @@ use native.Mathlib.{Nat.{le-of-suc-le-suc, not-suc-le-zero, eq-or-lt-of-le, mul-
 use lib.{Dec.{T}, ListN.{length}}
 use Rattle.theory.specs.MealyMachine.{Word}
 use Rattle.theory.specs.Exploration.{reached, explored}
-use Rattle.theory.specs.ConformanceCheck.{bad-event, or-else, first-bad}
+use Rattle.theory.specs.ConformanceCheck.{bad-event, first-found, first-bad}
 use Rattle.theory.proofs.{Numbers.{digits-less}, WordOrder.{code}, Exploration.{at, Kept, Hits, invariant, all-reached}}
 
 module _ {S : Type 0} (next : S → ℕ → S) (start : S) (bad : S → ℕ → Bool) (events : ℕ) where
@@ -53,7 +53,7 @@ module _ {S : Type 0} (next : S → ℕ → S) (start : S) (bad : S → ℕ → 
     where
       go :
           (o : Option (List ℕ)) → EventFound events zero w o → (r : Option (List ℕ)) → WordFound P r →
-          WordFound (w ∷ P) (or-else o r)
+          WordFound (w ∷ P) (first-found o r)
       go (some u) s r k = (zero, s .0, suc-le-suc zero-le, omega (arith, s .2), s .3, s .4, first)
         where
           first :

@@ -8,7 +8,7 @@ use Rattle.theory.specs.Formula.{Formula, truth, variable, transition, o
 use Rattle.theory.specs.FormulaClasses.{FreeBelow, GuardedIn, Guarded, Fits, WellFormed}
 use Rattle.theory.specs.MealyMachine.{Machine}
 use Rattle.theory.specs.MachineRuns.{Runs, BelowOnWords}
-use Rattle.theory.specs.Satisfaction.{extend, SatisfiesIn}
+use Rattle.theory.specs.MealyMachine.{extend, SatisfiesIn}
 use Rattle.theory.specs.Evaluation.{formulas}
 use Rattle.theory.specs.Claims.{SatisfactionClaim}
 use Rattle.theory.proofs.Instantiation.{instantiate, nth, instantiate-truth, instantiate-transition, instantiate-output, instantiate-conjunction}

@@ -10,7 +10,7 @@ use Rattle.theory.specs.Formula.{Formula, truth, variable, transition, o
 use Rattle.theory.specs.FormulaClasses.{Fits}
 use Rattle.theory.specs.MealyMachine.{Machine, States}
 use Rattle.theory.specs.MachineRuns.{Runs}
-use Rattle.theory.specs.Satisfaction.{extend, SatisfiesIn}
+use Rattle.theory.specs.MealyMachine.{extend, SatisfiesIn}
 use Rattle.theory.specs.TableSatisfaction.{TableSatisfiesIn}
 use Rattle.theory.specs.Claims.{TableSatisfactionClaim}
 use Rattle.theory.proofs.Counting.{count, count-le, Inside, inside-or-fewer}

@@ -4,8 +4,8 @@ use Prim.Native.Nat.{ℕ, zero, suc, _+_, _*_, _≤_, _<_}
 use lib.{Dec.{T}, ListN.{length}}
 use Rattle.theory.specs.{ValueSets.{MeetSemilattice, AtOrBelow}, Formula.{Formula, transition, output, conjunction, size, Steps, Answers, Stands}}
 use Rattle.theory.specs.FormulaClasses.{binders, Closed, ClosedPosition, Fits, WellFormed, Accepted}
-use Rattle.theory.specs.{MealyMachine.{Machine, Word, after, States, Simulated, FirstCounterexample}, MachineRuns.{Runs, SimulatedTable, BelowOnWords}}
-use Rattle.theory.specs.{Satisfaction.{Satisfies}, TableSatisfaction.{TableSatisfies}}
+use Rattle.theory.specs.MealyMachine.{Machine, Word, after, States, Simulated, FirstCounterexample, Satisfies}
+use Rattle.theory.specs.{MachineRuns.{Runs, SimulatedTable, BelowOnWords}, TableSatisfaction.{TableSatisfies}}
 use Rattle.theory.specs.{ReachableStates.{NodeSet, IsSetMachine, Numbering, IsTable, IsTableOf, StatesAtMost}, CharacteristicFormula.{Writes}}
 use Rattle.theory.specs.{FormulaWriting.{written}, ConformanceCheck.{counterexample}, Evaluation.{value, follower, formulas}}
 use Rattle.theory.specs.{DemandSets.{set-machine, first-set}, Exploration.{state-count, table-of}}

@@ -1,4 +1,4 @@
--- Twin of Conformance, pinned by theory ConformanceClaim.
+-- Twin of MealyMachine, pinned by theory ConformanceClaim.
 -- The first failing word of one table against another, computed.
 use mathlib.Core.{Bool.{Bool, not, _&&_, cond}, List.{List, [], _∷_, reverse}, Option.{Option, none, some}}
 use Prim.Native.Nat.{ℕ, zero, suc, _*_}
@@ -6,9 +6,9 @@ use lib.Dec.{eqb}
 use Rattle.theory.specs.{MealyMachine.{Machine}, Exploration.{reached, explored}}
 
 -- Breadth first over pairs of states, each pair judged once, events rising.
-abbrev pub or-else : Option (List ℕ) → Option (List ℕ) → Option (List ℕ)
-or-else none o = o
-or-else (some w) o = some w
+abbrev pub first-found : Option (List ℕ) → Option (List ℕ) → Option (List ℕ)
+first-found none o = o
+first-found (some w) o = some w
 
 abbrev pub same-pair : ℕ × ℕ → ℕ × ℕ → Bool
 same-pair x y = eqb (x .0) (y .0) && eqb (x .1) (y .1)
@@ -25,7 +25,7 @@ module _ {S : Type 0} (next : S → ℕ → S) (start : S) (bad : S → ℕ → 
 
   abbrev pub first-bad : ℕ → List (List ℕ) → Option (List ℕ)
   first-bad events [] = none
-  first-bad events (w ∷ P) = or-else (bad-event events zero w) (first-bad events P)
+  first-bad events (w ∷ P) = first-found (bad-event events zero w) (first-bad events P)
 
 -- The pair of states after an event.
 abbrev pub next-pair : {B : Type 0} → Machine ℕ B → Machine ℕ B → ℕ × ℕ → ℕ → ℕ × ℕ

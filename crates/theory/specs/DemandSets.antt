@@ -1,4 +1,4 @@
--- Twin of Demands, pinned by theory DemandClaim.
+-- Twin of ReachableStates, pinned by theory DemandClaim.
 -- First set and next set computed: the computing twin of `Demands`.
 use mathlib.Core.{Bool.{false, _||_, _&&_, cond}, List.{List, [], _∷_}, Logic.{_↔_}}
 use Prim.Native.Nat.{ℕ, zero, suc, _+_}

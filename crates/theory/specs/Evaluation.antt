@@ -1,4 +1,4 @@
--- Twin of Semantics, pinned by theory AnswersClaim.
+-- Twin of Formula, pinned by theory AnswersClaim.
 -- Value and follower computed: the computing twin of `Semantics`.
 use mathlib.Core.Bool.{cond}
 use Prim.Native.Nat.{ℕ, zero, suc, max}

@@ -67,8 +67,7 @@ module _ {B : Type 0} (φ : Formula B) where
     root : Stands zero [] φ
     part-of-transition : {i : ℕ} {bs : List ℕ} {e : ℕ} {ψ : Formula B} → Stands i bs (transition e ψ) → Stands (suc i) bs ψ
     left-part : {i : ℕ} {bs : List ℕ} {ψ χ : Formula B} → Stands i bs (conjunction ψ χ) → Stands (suc i) bs ψ
-    right-part :
-        {i : ℕ} {bs : List ℕ} {ψ χ : Formula B} → Stands i bs (conjunction ψ χ) → Stands (suc i + size ψ) bs χ
+    right-part : {i : ℕ} {bs : List ℕ} {ψ χ : Formula B} → Stands i bs (conjunction ψ χ) → Stands (suc i + size ψ) bs χ
     part-of-greatest : {i : ℕ} {bs : List ℕ} {ψ : Formula B} → Stands i bs (greatest ψ) → Stands (suc i) (i ∷ bs) ψ
 
 module _ {B : Type 0} (meet : B → B → B) (top : B) where
@@ -80,13 +79,10 @@ module _ {B : Type 0} (meet : B → B → B) (top : B) where
     of-other-transition : {a : ℕ} {φ : Formula B} → ¬ (a ≡ e) → Steps e (transition a φ) top truth
     of-output : {b : B} → Steps e (output e b) b truth
     of-other-output : {a : ℕ} {b : B} → ¬ (a ≡ e) → Steps e (output a b) top truth
-    of-conjunction :
-        {φ χ φ′ χ′ : Formula B} {b c : B} →
-        Steps e φ b φ′ → Steps e χ c χ′ → Steps e (conjunction φ χ) (meet b c) (conjunction φ′ χ′)
+    of-conjunction : {φ χ φ′ χ′ : Formula B} {b c : B} → Steps e φ b φ′ → Steps e χ c χ′ → Steps e (conjunction φ χ) (meet b c) (conjunction φ′ χ′)
     of-greatest : {ψ φ′ : Formula B} {b : B} → Steps e (unfolded ψ) b φ′ → Steps e (greatest ψ) b φ′
 
   -- `Answers φ w e b`: after the events w, the follower being taken on each in turn, the value on e is b.
   pub data Answers : Formula B → List ℕ → ℕ → B → Type 0 where
     now : {φ φ′ : Formula B} {e : ℕ} {b : B} → Steps e φ b φ′ → Answers φ [] e b
-    later :
-        {φ φ′ : Formula B} {a e : ℕ} {w : List ℕ} {b c : B} → Steps a φ c φ′ → Answers φ′ w e b → Answers φ (a ∷ w) e b
+    later : {φ φ′ : Formula B} {a e : ℕ} {w : List ℕ} {b c : B} → Steps a φ c φ′ → Answers φ′ w e b → Answers φ (a ∷ w) e b

@@ -1,16 +1,16 @@
 -- In reading order.
 -- Value sets and their order.
 pub mod ValueSets
--- Formulas and their meaning.
+-- Formulas, their nodes in prefix order, and their meaning.
 pub mod Formula
--- Machines, simulation, and satisfaction by the set definition.
+-- Machines, simulation, satisfaction by the set definition, and the words on which one machine fails against another.
 pub mod MealyMachine
-pub mod Satisfaction
 -- The table of a formula.
 pub mod ReachableStates
--- The formula of a table; the words on which one table fails against another.
+-- The formula of a table.
 pub mod CharacteristicFormula
--- What contracts compute with: the twins of Semilattice, Semantics, Demands, ReachableStates, CharacteristicFormula and Conformance.
+-- What contracts compute with: the laws of a meet table, values and followers, demands, numbered states, the formula of a table, the first
+-- failing word.
 pub mod ValueSetTests
 pub mod Evaluation
 pub mod DemandSets

@@ -1,8 +1,8 @@
 -- Mealy machines, values on event sequences, and simulation (source 000, section 2, definition 1); the words on which one machine fails
 -- against another (document 01, "Trial"). Document 01 calls a machine whose states are numbers a table, or a device where it is judged.
-use mathlib.Core.{List.{List, [], _∷_, _++_}, Path.{_≡_}, Logic.{_⊎_}}
-use Prim.Native.Nat.{ℕ, _<_}
-use Rattle.theory.specs.ValueSets.{AtOrBelow}
+use mathlib.Core.{List.{List, [], _∷_, _++_}, Path.{_≡_}, Logic.{_⊎_, Lift}}
+use Prim.Native.Nat.{ℕ, _<_, zero, suc}
+use Rattle.theory.specs.{ValueSets.{AtOrBelow}, Formula.{Formula, truth, variable, transition, output, conjunction, greatest}}
 use lib.ListN.{length}
 
 -- In each state, on each event, a value and a next state.
@@ -25,11 +25,9 @@ abbrev pub States : ℕ → ℕ → Type 0
 States n s = s < n
 
 -- Definition 1, between the states `StateS` of m and the states `StateQ` of q.
-module _ {B S Q : Type 0} (events : ℕ) (meet : B → B → B)
-    (StateS : S → Type 0) (m : Machine S B) (StateQ : Q → Type 0) (q : Machine Q B) where
+module _ {B S Q : Type 0} (events : ℕ) (meet : B → B → B) (StateS : S → Type 0) (m : Machine S B) (StateQ : Q → Type 0) (q : Machine Q B) where
   abbrev pub IsSimulation : (S → Q → Type 0) → Type 0
-  IsSimulation R =
-      (s : S) (t : Q) → StateS s → StateQ t → R s t → (e : ℕ) → e < events →
+  IsSimulation R = (s : S) (t : Q) → StateS s → StateQ t → R s t → (e : ℕ) → e < events →
       AtOrBelow meet (m .value s e) (q .value t e) × R (m .next s e) (q .next t e)
 
   -- s is simulated by t: some simulation holds between them.
@@ -56,3 +54,25 @@ module _ {B : Type 0} (events : ℕ) (meet : B → B → B) (m q : Machine ℕ B
   pub record FirstCounterexample (word : List ℕ) : Type 0 where
     pub fails : Counterexample word
     pub first : (other : List ℕ) → Counterexample other → NoLater word other
+
+-- A valuation with A for the innermost variable.
+abbrev pub extend {κ} : {Set : Type κ} → Set → (ℕ → Set) → ℕ → Set
+extend A η zero = A
+extend A η (suc n) = η n
+
+-- Sets of states are predicates: every machine, finite or not. T has all states; X the set put for its variable; G the states
+-- whose next state on its event is in its part's set; O those whose value on its event is at or below its own; A what both
+-- parts share; V the union of all sets that lie within its part's set when put for its variable: s is in that union when
+-- some such set has it.
+module _ {B S : Type 0} (meet : B → B → B) (State : S → Type 0) (m : Machine S B) where
+  abbrev pub SatisfiesIn : (ℕ → S → Type 0) → Formula B → S → Type 1
+  SatisfiesIn η truth s = Unit {1}
+  SatisfiesIn η (variable n) s = Lift {0, 1} (η n s)
+  SatisfiesIn η (transition e φ) s = SatisfiesIn η φ (m .next s e)
+  SatisfiesIn η (output e b) s = Lift {0, 1} (AtOrBelow meet (m .value s e) b)
+  SatisfiesIn η (conjunction φ χ) s = SatisfiesIn η φ s × SatisfiesIn η χ s
+  SatisfiesIn η (greatest φ) s = (A : S → Type 0) × A s × ((t : S) → State t → A t → SatisfiesIn (extend A η) φ t)
+
+  -- A closed formula, with the empty valuation.
+  abbrev pub Satisfies : Formula B → S → Type 1
+  Satisfies φ s = SatisfiesIn (λ n t. ⊥) φ s

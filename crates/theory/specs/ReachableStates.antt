@@ -1,5 +1,4 @@
--- The table of a rule (document 01, "Table of a rule"): demands, the sets of nodes that are its states, and the states that event sequences
--- reach, numbered by their first sequence, over any machine and start.
+-- Document 01, "Table of a rule": demands, the sets of nodes that are states, and the reached states, numbered by their first sequence.
 use mathlib.Core.{Path.{_≡_}, Logic.{_↔_}, Bool.{Bool, _&&_, cond}, List.{List, [], _∷_}}
 use Prim.Native.Nat.{ℕ, zero, suc, _+_, _<_, _≤_}
 use lib.{Dec.{T, eqb}, ListN.{length, getD}}
@@ -18,11 +17,9 @@ module _ {B : Type 0} (φ : Formula B) where
     of-transition : {i : ℕ} {bs : List ℕ} {e : ℕ} {ψ : Formula B} → Stands φ i bs (transition e ψ) → Demands i i
     of-output : {i : ℕ} {bs : List ℕ} {e : ℕ} {b : B} → Stands φ i bs (output e b) → Demands i i
     of-left : {i d : ℕ} {bs : List ℕ} {ψ χ : Formula B} → Stands φ i bs (conjunction ψ χ) → Demands (suc i) d → Demands i d
-    of-right :
-        {i d : ℕ} {bs : List ℕ} {ψ χ : Formula B} → Stands φ i bs (conjunction ψ χ) → Demands (suc i + size ψ) d → Demands i d
+    of-right : {i d : ℕ} {bs : List ℕ} {ψ χ : Formula B} → Stands φ i bs (conjunction ψ χ) → Demands (suc i + size ψ) d → Demands i d
     of-greatest : {i d : ℕ} {bs : List ℕ} {ψ : Formula B} → Stands φ i bs (greatest ψ) → Demands (suc i) d → Demands i d
-    of-variable :
-        {i d n : ℕ} {bs : List ℕ} → Stands φ i bs (variable n) → n < length bs → Demands (getD bs n zero) d → Demands i d
+    of-variable : {i d n : ℕ} {bs : List ℕ} → Stands φ i bs (variable n) → n < length bs → Demands (getD bs n zero) d → Demands i d
 
   -- The next state of D on e is the union of the demands of the parts of its G nodes for e.
   abbrev pub InNextSet : NodeSet → ℕ → ℕ → Type 0
@@ -66,9 +63,7 @@ module _ {S B : Type 0} (events : ℕ) (m : Machine S B) (start : S) where
     pub words : (l : ℕ) → l < length W → Word events (getD W l [])
     pub rising : (j l : ℕ) → j < l → l < length W → Before (getD W j []) (getD W l [])
     pub different : (j l : ℕ) → j < l → l < length W → ¬ (state-at W j ≡ state-at W l)
-    pub complete :
-        (w : List ℕ) → Word events w →
-        (l : ℕ) × (l < length W) × (state-at W l ≡ after m start w) × NoLater (getD W l []) w
+    pub complete : (w : List ℕ) → Word events w → (l : ℕ) × (l < length W) × (state-at W l ≡ after m start w) × NoLater (getD W l []) w
 
   -- At most so many states are reached.
   abbrev pub ReachesAtMost : ℕ → Type 0
@@ -80,9 +75,7 @@ module _ {S B : Type 0} (events : ℕ) (m : Machine S B) (start : S) where
     pub numbering : Numbering sequences
     pub count : length sequences ≡ n
     pub values : (l e : ℕ) → l < n → e < events → t .value l e ≡ m .value (state-at sequences l) e
-    pub nexts :
-        (l e : ℕ) → l < n → e < events →
-        (t .next l e < n) × (state-at sequences (t .next l e) ≡ m .next (state-at sequences l) e)
+    pub nexts : (l e : ℕ) → l < n → e < events → (t .next l e < n) × (state-at sequences (t .next l e) ≡ m .next (state-at sequences l) e)
 
 -- The table of a formula: of its machine of node sets, from the root's demands.
 module _ {B : Type 0} (meet : B → B → B) (top : B) (events : ℕ) (φ : Formula B) where
@@ -91,5 +84,4 @@ module _ {B : Type 0} (meet : B → B → B) (top : B) (events : ℕ) (φ : Form
 
   -- Refusal 10 is given where this does not hold of the limit.
   abbrev pub StatesAtMost : ℕ → Type 0
-  StatesAtMost limit =
-      (m : Machine NodeSet B) × (first : NodeSet) × IsSetMachine meet top φ m first × ReachesAtMost events m first limit
+  StatesAtMost limit = (m : Machine NodeSet B) × (first : NodeSet) × IsSetMachine meet top φ m first × ReachesAtMost events m first limit

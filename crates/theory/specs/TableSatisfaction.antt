@@ -2,8 +2,8 @@
 use mathlib.Core.Bool.{Bool, false}
 use Prim.Native.Nat.{ℕ, _<_}
 use lib.Dec.{T}
-use Rattle.theory.specs.{ValueSets.{AtOrBelow}, Formula.{Formula, truth, variable, transition, output, conjunction, greatest}, MealyMachine.{Machine}}
-use Rattle.theory.specs.Satisfaction.{extend}
+use Rattle.theory.specs.{ValueSets.{AtOrBelow}, Formula.{Formula, truth, variable, transition, output, conjunction, greatest}}
+use Rattle.theory.specs.MealyMachine.{Machine, extend}
 
 -- The same over a table of n states with decided sets, so that it can stand in a contract.
 module _ {B : Type 0} (meet : B → B → B) (n : ℕ) (m : Machine ℕ B) where

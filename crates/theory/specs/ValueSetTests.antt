@@ -1,4 +1,4 @@
--- Twin of Semilattice, pinned by theory LawfulClaim.
+-- Twin of ValueSets, pinned by theory LawfulClaim.
 -- The laws of a meet table as tests.
 use mathlib.Core.{Bool.{Bool, true, _&&_}, List.{List}}
 use Prim.Native.Nat.{ℕ, zero, suc}

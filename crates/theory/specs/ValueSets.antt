@@ -1,5 +1,4 @@
--- Value sets (document 01, "Value sets"; source 000, section 2): meet-semilattices, and the two kinds of values, numbers with a meet table
--- and registers of lines (document 02, F-7). Both are instances; nothing else in this crate knows of either.
+-- Value sets (document 01, "Value sets"; source 000, section 2), and the two kinds of values: numbers, and registers of lines (document 02, F-7).
 use mathlib.Core.{Path.{_≡_}, List.{List, [], _∷_}}
 use Prim.Native.Nat.{ℕ, _+_, _*_, _-_, _/_, _%_, _^_, _<_}
 use lib.ListN.{getD}

@@ -21,7 +21,7 @@ use Rattle.values.specs.declared.ValueKind.the-variants.{Numbered, Regis
 use Rattle.values.specs.Setup.{ValueIn, meetOf, topOf}
 use Rattle.values.specs.Setup.{Setup, setup, EventsFault, ValuesFault, values-out-of-limits, top-not-below, MeetFault, length-wrong, entry-not-below}
 use Rattle.values.specs.Setup.{law-broken, LinesFault, kind-conditions, setup-conditions}
-use Rattle.values.specs.SetupInOrder.{KindInLimits, WellFormed}
+use Rattle.values.specs.SetupInOrder.{KindInLimits, AcceptedSetup}
 use Rattle.values.specs.SetupTests.{events-test, values-test, entries-test, meet-test, lines-test, kind-refusal, setup-refusal, Square}
 use Rattle.values.specs.Claims.{SetupClaim, SetupAcceptedClaim, LawsClaim, FourValueSetupClaim}
 use Rattle.values.proofs.ValueKinds.{register-semilattice}
@@ -262,7 +262,7 @@ accepted-kind (Register lines) top meet e =
     let few = lines-few lines (plain-none _ 20 e) in
     (record { some-lines = few .0; few-lines = few .1 }, register-semilattice lines (few .1))
 
-accepted-well-formed : (s : Setup) → setup-refusal s ≡ none → WellFormed s
+accepted-well-formed : (s : Setup) → setup-refusal s ≡ none → AcceptedSetup s
 unfolding setup-refusal
 accepted-well-formed s e =
     let parts = or-else-none _ _ e in
@@ -285,7 +285,7 @@ kind-accepted (Numbered values) top meet k laws =
     rw (v, m)
 kind-accepted (Register lines) top meet k laws = let l = lines-tested lines (k .some-lines, k .few-lines) in rw l
 
-well-formed-accepted : (s : Setup) → WellFormed s → setup-refusal s ≡ none
+well-formed-accepted : (s : Setup) → AcceptedSetup s → setup-refusal s ≡ none
 unfolding setup-refusal or-else plain-unless
 well-formed-accepted s w =
     let e = events-tested (s .events) (w .some-events, w .few-events) in

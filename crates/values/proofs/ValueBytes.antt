@@ -9,7 +9,8 @@ use Rattle.theory.proofs.ValueSets.{and-left, and-right, and-both}
 use Rattle.values.specs.declared.ValueKind.{ValueKind}
 use Rattle.values.specs.declared.ValueKind.the-variants.{Numbered, Register}
 use Rattle.values.specs.Setup.{ValueIn}
-use Rattle.values.specs.Setup.{value-width, value-bytes, masks-value, masks-from, value-from}
+use Rattle.values.specs.Setup.{value-width, value-bytes, masks-value, value-from}
+use Rattle.values.specs.ValueTests.{masks-from}
 use Rattle.values.specs.Claims.{ValueBytesClaim}
 
 -- Bytes of two masks.

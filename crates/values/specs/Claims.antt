@@ -7,8 +7,8 @@ use Rattle.refusal.specs.Refusal.{Judged}
 use Rattle.theory.specs.ValueSets.{AtOrBelow, four-value-meet}
 use Rattle.values.specs.declared.ValueKind.{ValueKind}
 use Rattle.values.specs.Setup.{ValueIn, meetOf, value-width, value-bytes, value-from, Setup, setup, setup-conditions}
-use Rattle.values.specs.SetupInOrder.{Laws}
-use Rattle.values.specs.{ValueTests.{value-fits, at-or-below}, SetupInOrder.{WellFormed}, SetupTests.{setup-refusal}}
+use Rattle.values.specs.SetupInOrder.{SetupLaws}
+use Rattle.values.specs.{ValueTests.{value-fits, at-or-below}, SetupInOrder.{AcceptedSetup}, SetupTests.{setup-refusal}}
 
 -- The test decides which numbers are values, and the comparison is the order.
 pub record ValueKindClaim : Type 0 where
@@ -33,11 +33,11 @@ SetupClaim = (s : Setup) → Judged (setup-conditions s) (setup-refusal s)
 
 -- A set-up is accepted exactly if it is a meet-semilattice with that top within the limits, at every size.
 abbrev pub SetupAcceptedClaim : Type 0
-SetupAcceptedClaim = (s : Setup) → (setup-refusal s ≡ none) ↔ WellFormed s
+SetupAcceptedClaim = (s : Setup) → (setup-refusal s ≡ none) ↔ AcceptedSetup s
 
 -- So the values of an accepted one, of either kind, obey the laws.
 abbrev pub LawsClaim : Type 0
-LawsClaim = (s : Setup) → setup-refusal s ≡ none → Laws s
+LawsClaim = (s : Setup) → setup-refusal s ≡ none → SetupLaws s
 
 -- The four-value set is accepted with any number of events within the limits.
 abbrev pub FourValueSetupClaim : Type 0

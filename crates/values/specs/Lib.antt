@@ -1,7 +1,5 @@
 -- In reading order.
--- The two kinds of values: which numbers are values, their meet and top.
--- Values in bytes.
--- A set-up and its refusals.
+-- Values of either kind, in numbers and in bytes; a set-up and its refusals.
 pub mod Setup
 -- What contracts compute with: tests of values and of a set-up.
 pub mod ValueTests

@@ -1,5 +1,4 @@
--- Values in numbers and bytes, and a set-up with its refusals: 1, 2 and 3, or 1 and 20 (document 01, "Value sets" and "Who can cause a
--- refusal"; document 02, F-7).
+-- Values of either kind, in numbers and in bytes, and a set-up with its refusals (document 01, "Value sets"; document 02, F-7).
 use mathlib.Core.{List.{List, [], _∷_, _++_}, Bool.{cond, _&&_}, Path.{_≡_}}
 use Prim.Native.Nat.{ℕ, _^_, _<_, _+_, _*_, _/_, _%_, _≤_}
 use lib.{Bits.{bitAnd}, Dec.{ltb}, ListN.{getD, length}}
@@ -28,6 +27,7 @@ abbrev pub topOf : ValueKind → ℕ → ℕ
 topOf (Numbered n) top = top
 topOf (Register lines) top = pack (top-masks lines)
 
+-- A value in bytes: one for a number; for a register the low mask, then the high mask, each mask's low byte first.
 abbrev pub value-width : ValueKind → ℕ
 value-width (Numbered n) = 1
 value-width (Register lines) = 4
@@ -43,12 +43,9 @@ value-bytes (Register lines) v = mask-bytes (unpack v .low) ++ mask-bytes (unpac
 unfoldable pub masks-value : ℕ → ℕ → ℕ → ℕ → ℕ
 masks-value a b c d = cond (ltb a 256 && (ltb b 256 && ltb c 256)) (a + 256 * b + 65536 * (c + 256 * d)) (2 ^ 32)
 
-abbrev pub masks-from : List ℕ → ℕ → ℕ
-masks-from bytes at = masks-value (getD bytes at 0) (getD bytes (at + 1) 0) (getD bytes (at + 2) 0) (getD bytes (at + 3) 0)
-
 abbrev pub value-from : ValueKind → List ℕ → ℕ → ℕ
 value-from (Numbered n) bytes at = getD bytes at 0
-value-from (Register lines) bytes at = masks-from bytes at
+value-from (Register lines) bytes at = masks-value (getD bytes at 0) (getD bytes (at + 1) 0) (getD bytes (at + 2) 0) (getD bytes (at + 3) 0)
 
 -- A set-up as it is handed in: any numbers, and the meet table's entries, row by row. A register's top and meet are fixed: what
 -- stands there is not looked at.
@@ -61,12 +58,9 @@ pub record Setup : Type 0 where
 abbrev pub setup-of-kind : ℕ → ValueKind → ℕ → List ℕ → Setup
 setup-of-kind events kind top meet = record { events = events; kind = kind; top = top; meet = meet }
 
--- Document 01's set-up, and document 02's of a register.
+-- Document 01's set-up.
 abbrev pub setup : ℕ → ℕ → ℕ → List ℕ → Setup
 setup events values top meet = setup-of-kind events (Numbered values) top meet
-
-abbrev pub register-setup : ℕ → ℕ → Setup
-register-setup events lines = setup-of-kind events (Register lines) (pack (top-masks lines)) []
 
 -- Which numbers are its values, their meet, and top.
 abbrev pub SetupValue : Setup → ℕ → Type 0

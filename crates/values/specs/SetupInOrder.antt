@@ -8,8 +8,8 @@ use Rattle.values.specs.{declared.ValueKind.{ValueKind}, declared.ValueK
 use Rattle.values.specs.Setup.{Setup, SetupValue, setup-meet, setup-top}
 
 -- What its values obey.
-abbrev pub Laws : Setup → Type 0
-Laws s = MeetSemilattice (SetupValue s) (setup-meet s) (setup-top s)
+abbrev pub SetupLaws : Setup → Type 0
+SetupLaws s = MeetSemilattice (SetupValue s) (setup-meet s) (setup-top s)
 
 -- Its kind of values is within the limits, and the meet table of numbers is whole.
 pub record NumbersInLimits (values : ℕ) (meet : List ℕ) : Type 0 where
@@ -26,8 +26,8 @@ KindInLimits (Numbered values) meet = NumbersInLimits values meet
 KindInLimits (Register lines) meet = LinesInLimits lines
 
 -- What an accepted set-up is: a meet-semilattice with that top, within the limits.
-pub record WellFormed (s : Setup) : Type 0 where
+pub record AcceptedSetup (s : Setup) : Type 0 where
   pub some-events : 1 ≤ s .events
   pub few-events : s .events ≤ event-limit
   pub of-kind : KindInLimits (s .kind) (s .meet)
-  pub laws : Laws s
+  pub laws : SetupLaws s

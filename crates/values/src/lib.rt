@@ -13,7 +13,8 @@ ghost use Rattle.theory.specs.ValueSetTests.{idempotent-test, commutative-test,
 ghost use Rattle.values.specs.Setup.{setup};
 ghost use Rattle.values.specs.SetupTests.{events-test, values-test, entries-test, meet-test, setup-refusal, Square};
 ghost use Rattle.values.specs.Setup.{value-width};
-ghost use Rattle.values.specs.Setup.{masks-value, masks-from, value-from};
+ghost use Rattle.values.specs.Setup.{masks-value, value-from};
+ghost use Rattle.values.specs.ValueTests.{masks-from};
 ghost use Rattle.values.specs.Setup.{meetOf};
 ghost use Rattle.values.specs.ValueTests.{masks-fit, value-fits, at-or-below};
 

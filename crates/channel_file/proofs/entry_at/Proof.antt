@@ -1,5 +1,5 @@
 -- `channel_file::entry_at` meets its contract. Assumes nothing.
-use Rattle.text_format.specs.Decimal.{number}
+use Rattle.text_format.specs.Decimal.{numeral-parse}
 use Rattle.channel_file.specs.Steps.{SawNumber, SawEnd}
 use denote.Ref.{now}
 use mathlib.Core.Path.{subst}
@@ -9,19 +9,19 @@ use Rattle.channel_file.proofs.entry_at.Tie as tie
 
 end-at-requires : tie.Need-end-at-requires
 end-at-requires c κs =
-    let q = subst (SawNumber (number 2) (now (c .before .before .before .before .before .args .text)) (c .before .before .before .before .before .args .at))
+    let q = subst (SawNumber (numeral-parse 2) (now (c .before .before .before .before .before .args .text)) (c .before .before .before .before .before .args .at))
     (c .before .v .given .1) (c .before .before .before .number-at .ensures) in
     q .within
 
 returns : tie.Need-returns
 returns c =
-    let q = subst (SawNumber (number 2) (now (c .before .before .before .before .before .args .text)) (c .before .before .before .before .before .args .at))
+    let q = subst (SawNumber (numeral-parse 2) (now (c .before .before .before .before .before .args .text)) (c .before .before .before .before .before .args .at))
     (c .before .p .given .1) (c .before .before .before .number-at .ensures) in
     record { same = rw (q .same); within = q .within }
 
 returns-2 : tie.Need-returns-2
 returns-2 c =
-    let q = subst (SawNumber (number 2) (now (c .before .before .before .before .before .before .before .before .before .args .text))
+    let q = subst (SawNumber (numeral-parse 2) (now (c .before .before .before .before .before .before .before .before .before .args .text))
     (c .before .before .before .before .before .before .before .before .before .args .at)) (c .before .before .before .before .before .v .given .1)
     (c .before .before .before .before .before .before .before .number-at .ensures) in
     let e = subst (SawEnd (now (c .before .before .before .before .before .before .before .before .before .args .text))
@@ -30,7 +30,7 @@ returns-2 c =
 
 returns-3 : tie.Need-returns-3
 returns-3 c =
-    let q = subst (SawNumber (number 2) (now (c .before .before .before .before .before .before .before .before .before .args .text))
+    let q = subst (SawNumber (numeral-parse 2) (now (c .before .before .before .before .before .before .before .before .before .args .text))
     (c .before .before .before .before .before .before .before .before .before .args .at)) (c .before .before .before .before .before .v .given .1)
     (c .before .before .before .before .before .before .before .number-at .ensures) in
     let e = subst (SawEnd (now (c .before .before .before .before .before .before .before .before .before .args .text))

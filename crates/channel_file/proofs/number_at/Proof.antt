@@ -1,5 +1,5 @@
--- `channel_file::number_at` meets its contract. The loop's invariant: what is left to read of the number from here is what the number is.
-use Rattle.text_format.specs.Decimal.{is-digit, number, more}
+-- `channel_file::number_at` meets its contract. The loop's invariant: what is left to read of the numeral-parse from here is what the numeral-parse is.
+use Rattle.text_format.specs.Decimal.{is-digit, numeral-parse, more}
 use Rattle.text_format.proofs.Decimal.{digit-range, more-done, more-over, more-on, more-stop, number-zero, number-go, number-not}
 use Rattle.channel_file.proofs.Offsets.{here, over}
 use Prim.Native.Nat.{ℕ, _+_, _-_, _*_, _≤_, _<_}
@@ -12,7 +12,7 @@ use Rattle.channel_file.proofs.number_at.Tie as tie
 
 abbrev Inv-loop : tie.InvT-loop
 Inv-loop text at b v₀ i₀ k₀ v i k =
-    (i ≤ length text) × (k ≤ 2) × (v < 1000) × (1 ≤ k → v < 100) × (2 ≤ k → v < 10) × (number 2 (drop at text) ≡ more k v (drop i text))
+    (i ≤ length text) × (k ≤ 2) × (v < 1000) × (1 ≤ k → v < 100) × (2 ≤ k → v < 10) × (numeral-parse 2 (drop at text) ≡ more k v (drop i text))
 
 abbrev μ-loop : tie.MeasureT-loop
 μ-loop text at b v₀ i₀ k₀ v i k = k

@@ -2,7 +2,7 @@
 use Prim.Native.Nat.{_+_}
 use mathlib.Core.Path.{refl, subst}
 use lib.ListN.{getD}
-use Rattle.text_format.specs.Decimal.{number}
+use Rattle.text_format.specs.Decimal.{numeral-parse}
 use Rattle.channel_file.specs.{FileFormat.{letter-T, letter-A, letter-V, letter-X, letter-G}, Steps.{SawNumber, SawEnded}}
 use Rattle.channel_file.specs.declared.{Item.{Item}, Number.{Number}}
 use Rattle.channel_file.proofs.{FileFormat.{no-letter}, TokenReading.{token-over, saw-none, saw-letter, saw-number, saw-no-dot, saw-output}}
@@ -40,28 +40,28 @@ returns-5 c =
     let a = c .before .before .before .before .before .before .before .before .args in
     saw-number (a .text .now) (a .at) (c .before .before .before .before .before .before .if1 .left) letter-X
     (c .before .before .before .before .match .keys4) (λ v. Item.Variable v) (λ s. refl) (Number.Bad _)
-    (subst (SawNumber (number 2) (a .text .now) (a .at + 1)) (c .before .p .given .1) (c .before .before .before .number-at .ensures))
+    (subst (SawNumber (numeral-parse 2) (a .text .now) (a .at + 1)) (c .before .p .given .1) (c .before .before .before .number-at .ensures))
 
 returns-6 : tie.Need-returns-6
 returns-6 c =
     let a = c .before .before .before .before .before .before .before .before .args in
     saw-number (a .text .now) (a .at) (c .before .before .before .before .before .before .if1 .left) letter-X
     (c .before .before .before .before .match .keys4) (λ v. Item.Variable v) (λ s. refl) (Number.Value _ _)
-    (subst (SawNumber (number 2) (a .text .now) (a .at + 1)) (c .before .v .given .1) (c .before .before .before .number-at .ensures))
+    (subst (SawNumber (numeral-parse 2) (a .text .now) (a .at + 1)) (c .before .v .given .1) (c .before .before .before .number-at .ensures))
 
 returns-7 : tie.Need-returns-7
 returns-7 c =
     let a = c .before .before .before .before .before .before .before .before .args in
     saw-number (a .text .now) (a .at) (c .before .before .before .before .before .before .if1 .left) letter-G
     (c .before .before .before .before .match .keys5) (λ v. Item.Next v) (λ s. refl) (Number.Bad _)
-    (subst (SawNumber (number 2) (a .text .now) (a .at + 1)) (c .before .p2 .given .1) (c .before .before .before .number-at2 .ensures))
+    (subst (SawNumber (numeral-parse 2) (a .text .now) (a .at + 1)) (c .before .p2 .given .1) (c .before .before .before .number-at2 .ensures))
 
 returns-8 : tie.Need-returns-8
 returns-8 c =
     let a = c .before .before .before .before .before .before .before .before .args in
     saw-number (a .text .now) (a .at) (c .before .before .before .before .before .before .if1 .left) letter-G
     (c .before .before .before .before .match .keys5) (λ v. Item.Next v) (λ s. refl) (Number.Value _ _)
-    (subst (SawNumber (number 2) (a .text .now) (a .at + 1)) (c .before .v2 .given .1) (c .before .before .before .number-at2 .ensures))
+    (subst (SawNumber (numeral-parse 2) (a .text .now) (a .at + 1)) (c .before .v2 .given .1) (c .before .before .before .number-at2 .ensures))
 
 returns-9 : tie.Need-returns-9
 returns-9 c =
@@ -76,7 +76,7 @@ returns-10 c =
     let q = subst (SawEnded 46 (a .text .now) (a .at + 1)) (v .1) (c .before .before .before .before .before .before .before .ended-at .ensures) in
     saw-output (a .text .now) (a .at) (c .before .before .before .before .before .before .before .before .before .before .if1 .left)
     (c .before .before .before .before .before .before .before .before .match .keys6) _ _ q (Number.Bad _)
-    (subst (SawNumber (number 2) (a .text .now) (v .0 .1 .0)) (c .before .p4 .given .1) (c .before .before .before .number-at3 .ensures))
+    (subst (SawNumber (numeral-parse 2) (a .text .now) (v .0 .1 .0)) (c .before .p4 .given .1) (c .before .before .before .number-at3 .ensures))
 
 returns-11 : tie.Need-returns-11
 returns-11 c =
@@ -85,7 +85,7 @@ returns-11 c =
     let q = subst (SawEnded 46 (a .text .now) (a .at + 1)) (v .1) (c .before .before .before .before .before .before .before .ended-at .ensures) in
     saw-output (a .text .now) (a .at) (c .before .before .before .before .before .before .before .before .before .before .if1 .left)
     (c .before .before .before .before .before .before .before .before .match .keys6) _ _ q (Number.Value _ _)
-    (subst (SawNumber (number 2) (a .text .now) (v .0 .1 .0)) (c .before .w .given .1) (c .before .before .before .number-at3 .ensures))
+    (subst (SawNumber (numeral-parse 2) (a .text .now) (v .0 .1 .0)) (c .before .w .given .1) (c .before .before .before .number-at3 .ensures))
 
 returns-12 : tie.Need-returns-12
 returns-12 c =

@@ -2,7 +2,7 @@
 use mathlib.Core.Path.{sym, subst}
 use native.Mathlib.Omega.{arith}
 use lib.Seq.{length-take-le}
-use Rattle.channel_io.specs.Steps.{Holds}
+use Rattle.channel_io.specs.Steps.{HoldsFile}
 use Rattle.channel_io.proofs.TablePairs.{compiles-off-form, compiles-held}
 use borrow.Author.Needs.{needs}
 use Rattle.channel_io.proofs.compile_file.Statement.{statement}
@@ -10,39 +10,39 @@ use Rattle.channel_io.proofs.compile_file.Tie as tie
 
 array-share-prefix-entries : tie.Need-array-share-prefix-entries
 array-share-prefix-entries c =
-    let h = subst (Holds (c .before .before .before .before .before .before .before .before .before .before .before .args .text .now) _ _)
+    let h = subst (HoldsFile (c .before .before .before .before .before .before .before .before .before .before .before .args .text .now) _ _)
     (c .before .numbers .given .1) (c .before .before .before .before .before .store-text .ensures) in
     omega (arith, h .few-entries)
 
 slice-aggregate-compile-pair : tie.Need-slice-aggregate-compile-pair
 slice-aggregate-compile-pair c =
-    let h = subst (Holds (c .before .before .before .before .before .before .before .before .before .before .before .before .args .text .now) _ _)
+    let h = subst (HoldsFile (c .before .before .before .before .before .before .before .before .before .before .before .before .args .text .now) _ _)
     (c .before .before .numbers .given .1) (c .before .before .before .before .before .before .store-text .ensures) in
     sym (length-take-le _ _ (omega (arith, h .few-entries)))
 
 array-share-prefix-nodes : tie.Need-array-share-prefix-nodes
 array-share-prefix-nodes c =
-    let h = subst (Holds (c .before .before .before .before .before .before .before .before .before .before .before .before .args .text .now) _ _)
+    let h = subst (HoldsFile (c .before .before .before .before .before .before .before .before .before .before .before .before .args .text .now) _ _)
     (c .before .before .numbers .given .1) (c .before .before .before .before .before .before .store-text .ensures) in
     omega (arith, h .few-nodes)
 
 slice-aggregate-compile-pair-2 : tie.Need-slice-aggregate-compile-pair-2
 slice-aggregate-compile-pair-2 c =
-    let h = subst (Holds (c .before .before .before .before .before .before .before .before .before .before .before .before .before .args .text .now) _ _)
+    let h = subst (HoldsFile (c .before .before .before .before .before .before .before .before .before .before .before .before .before .args .text .now) _ _)
     (c .before .before .before .numbers .given .1) (c .before .before .before .before .before .before .before .store-text .ensures) in
     sym (length-take-le _ _ (omega (arith, h .few-nodes)))
 
 returns : tie.Need-returns
 returns c =
     let a = c .before .before .before .before .before .before .before .before .before .before .before .args in
-    compiles-off-form (a .meet .now) (a .to .now) (subst (Holds (a .text .now) _ _) (c .before .refusal .given .1)
+    compiles-off-form (a .meet .now) (a .to .now) (subst (HoldsFile (a .text .now) _ _) (c .before .refusal .given .1)
     (c .before .before .before .before .before .store-text .ensures))
 
 returns-2 : tie.Need-returns-2
 returns-2 c =
     let d = c .before .before .before .before .before .before .before .before .before .before in
     let a = d .before .before .before .before .before .before .before .before .before .before .args in
-    compiles-held (a .meet .now) (a .to .now) _ _ _ (subst (Holds (a .text .now) _ _) (d .numbers .given .1)
+    compiles-held (a .meet .now) (a .to .now) _ _ _ (subst (HoldsFile (a .text .now) _ _) (d .numbers .given .1)
     (d .before .before .before .before .store-text .ensures))
     (c .before .before .before .before .compile-pair .ensures)
 

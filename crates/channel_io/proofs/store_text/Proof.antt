@@ -2,7 +2,7 @@
 use mathlib.Core.Path.{_∙_}
 use native.Mathlib.Omega.{arith}
 use Rattle.limits.specs.Limits.{node-limit}
-use Rattle.channel_io.specs.FileConditions.{numbers}
+use Rattle.channel_io.specs.FileReading.{numbers}
 use Rattle.channel_io.proofs.ShownBytes.{shown-few, off-form, holds}
 use borrow.Author.Needs.{needs}
 use Rattle.channel_io.proofs.store_text.Statement.{statement}

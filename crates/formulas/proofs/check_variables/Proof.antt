@@ -1,6 +1,6 @@
 -- `check_variables` meets its contract: 8's note is looked at before 9's.
 use Rattle.formulas.proofs.Answers.{kept-place, kept-clear, answer-unbound, answer-closed}
-use Rattle.formulas.specs.NodeWalks.{Judged, VariablesJudged}
+use Rattle.formulas.specs.NodeWalks.{WalkJudged, VariablesJudged}
 use Rattle.refusal.specs.RefusalAnswers.{at-found, judgement}
 use native.Mathlib.Omega.{arith}
 use mathlib.Core.Path.{sym, _∙_, ap}
@@ -9,20 +9,20 @@ use Rattle.formulas.proofs.check_variables.Statement.{statement}
 use Rattle.formulas.proofs.check_variables.Tie as tie
 
 returns : tie.Need-returns
-unfolding VariablesJudged Judged judgement
+unfolding VariablesJudged WalkJudged judgement
 returns c = λ value φ d e.
     let w = c .before .closed-position .ensures in
     sym (ap judgement (answer-unbound φ _ (kept-place _ _ (w .unbound value φ d (omega (arith, e)) .1) (c .if1 .taken))))
 
 returns-2 : tie.Need-returns-2
-unfolding VariablesJudged Judged judgement at-found
+unfolding VariablesJudged WalkJudged judgement at-found
 returns-2 c = λ value φ d e.
     let w = c .before .before .closed-position .ensures in
     sym (ap judgement (answer-closed φ (kept-clear _ _ (w .unbound value φ d (omega (arith, e)) .1) (c .before .if1 .left)) ∙ ap (λ o. at-found o 9)
     (kept-place _ _ (w .closed value φ d (omega (arith, e)) .1) (c .if2 .taken))))
 
 returns-3 : tie.Need-returns-3
-unfolding VariablesJudged Judged judgement at-found
+unfolding VariablesJudged WalkJudged judgement at-found
 returns-3 c = λ value φ d e.
     let w = c .before .before .closed-position .ensures in
     sym (ap judgement (answer-closed φ (kept-clear _ _ (w .unbound value φ d (omega (arith, e)) .1) (c .before .if1 .left)) ∙ ap (λ o. at-found o 9)

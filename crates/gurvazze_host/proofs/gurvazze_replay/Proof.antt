@@ -1,5 +1,6 @@
 -- `gurvazze_replay` meets its contract: a refused file, or a replay by its rule's table.
-use Rattle.limits.specs.Limits.{meet-limit, table-bytes-limit}
+use Rattle.limits.specs.Limits.{meet-limit}
+use Rattle.channel_io.specs.Claims.{table-bytes-limit}
 use Rattle.gurvazze_host.proofs.Calls.{unmade-small, replay-stopped, playable, replay-made}
 use Rattle.channel_io.proofs.Callers.{unmade, made-of, limits}
 use lib.{Seq.{length-take-le}, ListN.{length-replicate}}

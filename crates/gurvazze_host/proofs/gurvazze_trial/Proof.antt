@@ -1,5 +1,6 @@
 -- `gurvazze_trial` meets its contract: a refused file, or a trial against its rule's table.
-use Rattle.limits.specs.Limits.{meet-limit, table-bytes-limit}
+use Rattle.limits.specs.Limits.{meet-limit}
+use Rattle.channel_io.specs.Claims.{table-bytes-limit}
 use Rattle.gurvazze_host.proofs.{Calls.{unmade-small, trial-stopped, trial-made}, Small.{verdict-small}}
 use Rattle.gurvazze_host.specs.Codes.{verdict-code, SmallVerdict}
 use Rattle.channel_io.proofs.Callers.{unmade, made-of, limits}

@@ -3,7 +3,8 @@ use Prim.Native.Nat.{ℕ}
 use mathlib.Core.Path.{sym}
 use native.Mathlib.Omega.{arith}
 use lib.{ListN.{length-replicate}, Seq.{length-take-le}}
-use Rattle.limits.specs.Limits.{meet-limit, table-bytes-limit}
+use Rattle.limits.specs.Limits.{meet-limit}
+use Rattle.channel_io.specs.Claims.{table-bytes-limit}
 use Rattle.channel_io.proofs.Callers.{unmade, made-of}
 use Rattle.table_report.proofs.Answers.{refused-reports, made-reports}
 use borrow.Author.Needs.{needs}
