@@ -185,6 +185,7 @@ module _ {t entries nodes entries′ nodes′ : List ℕ} {r : Stored} (s : Stor
   pub holds : {e v p m n : ℕ} (j i : ℕ) → length entries ≡ meet-limit → length nodes ≡ node-limit * 3 → length entries′ ≡ meet-limit
       → length nodes′ ≡ node-limit * 3 → r ≡ Stored.Form e v p m n → j ≡ cond (leb m meet-limit) m 0 → i ≡ cond (leb n node-limit) n 0
       → Holding t entries′ nodes′ (numbers e v p m n) j (3 * i)
+  unfolding numbers
   holds {e} {v} {p} {m} {n} j i le ln le′ ln′ d dj di = go (read-file t) refl (sym d ∙ s .reply) (s .meet-is) (s .rule-is)
     where
       go : (x : Outcome Contents) → read-file t ≡ x → Stored.Form e v p m n ≡ stored-reply x → entries′ ≡ stored-meet x entries → nodes′ ≡ stored-rule x nodes

@@ -21,7 +21,7 @@ use Rattle.values.specs.SetupTests.{setup-refusal, events-test}
 use Rattle.values.proofs.Setups.{setup-judged, setup-accepted, square-small}
 use Rattle.formulas.specs.RuleRefusal.{formula-of}
 use Rattle.synthesis.proofs.LentTable.{laws}
-use Rattle.channel_log.specs.Calls.{Call, load, event, restart, restart-all, clear, all-empty, Loaded}
+use Rattle.channel_log.specs.Calls.{Call, load, event, restart, restart-all, clear, all-empty, Loaded, concerns}
 use Rattle.channel_log.specs.CallSteps.{call-refusal}
 use Rattle.channel_log.proofs.Record.{record-claim, independence-claim}
 use Rattle.recorder.specs.Store.{Store, meet-part, setup-of, channels}
