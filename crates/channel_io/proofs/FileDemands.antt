@@ -247,7 +247,8 @@ pub writing-a-file :
     JudgedCall (write-file-conditions (setup events values top meet) rule old) (counted-refusal r) old new
 unfolding setup-conditions kind-conditions condition-numbers right-places has-place part-of order
 writing-a-file events values top meet rule old new r k =
-    counted-judged (file-write-refusal events values top meet rule old) (length (file-text events values top meet rule)) (file-text events values top meet rule) old
+    counted-judged (file-write-refusal events values top meet rule old) (length (file-text events values top meet rule))
+    (file-text events values top meet rule) old
     (k .answer) (k .buffer)
     (judged (write-file-conditions (setup events values top meet) rule old) (file-write-refusal events values top meet rule old)
     (write-first events values top meet rule old) refl refl)

@@ -171,7 +171,8 @@ pub fn write_text(
     nodes: &[u8],
     out: &mut [u8],
 ) -> Counted
-    ensures { λ r. ⌜ WritesContents (contents-of events values top (now (meet .entry)) (node-tokens (now (nodes .entry)))) (now (out .entry)) (now (out .exit)) r ⌝ }
+    ensures { λ r. ⌜ WritesContents (contents-of events values top (now (meet .entry)) (node-tokens (now (nodes .entry))))
+        (now (out .entry)) (now (out .exit)) r ⌝ }
 {
     if meet.len() == 0 {
         return Counted::Refused(Refusal::Plain(NODE_COUNT));

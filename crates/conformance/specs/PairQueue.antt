@@ -123,7 +123,8 @@ pub record Expandable (size events : ℕ) (kind : ValueKind) (k : ℕ) (device t
 abbrev pub Expanded : ℕ → ℕ → ValueKind → ℕ → List ℕ → List ℕ → ℕ → ℕ → Queue → ℕ → Queue → Type 0
 Expanded size events kind k device table i count a r b =
     (x : Expandable size events kind k device table i count a) →
-    HoldsPairs (x .n) k (machine-of kind events device) (machine-of kind events table) (x .start) (successors events kind device table (x .start) (x .words) i) b
+    HoldsPairs (x .n) k (machine-of kind events device) (machine-of kind events table) (x .start)
+    (successors events kind device table (x .start) (x .words) i) b
     × (r ≡ length (successors events kind device table (x .start) (x .words) i))
 
 -- Some list of words is linked by the arrays and has word i.

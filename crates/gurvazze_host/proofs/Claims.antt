@@ -34,7 +34,8 @@ use Rattle.conformance.proofs.TrialClaims.{trial-satisfies}
 use Rattle.channel_io.proofs.Claims.{contents-table-claim, file-table-made, file-table-accepted}
 use Rattle.gurvazze_host.specs.Codes.{refusal-code, yield-code, code, counted-code, verdict-code, table-numbers, SmallNumbers}
 use Rattle.gurvazze_host.specs.FileCalls.{file-machine, word-refusal, file-replay-refusal, file-trial, file-trial-refusal, file-trial-answer}
-use Rattle.gurvazze_host.specs.Claims.{TellsRefusal, TellsCount, TellsVerdict, TellsNumbers, ListedAnswer, CodeClaim, file-replay-conditions, replay-order}
+use Rattle.gurvazze_host.specs.Claims.{TellsRefusal, TellsCount, TellsVerdict, TellsNumbers, ListedAnswer, CodeClaim}
+use Rattle.gurvazze_host.specs.Claims.{file-replay-conditions, replay-order}
 use Rattle.gurvazze_host.specs.Claims.{file-trial-conditions, FileReplayRefusalClaim, FileReplayClaim, FileTrialRefusalClaim, FileTrialClaim}
 
 -- ---- codes

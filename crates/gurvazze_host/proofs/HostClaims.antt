@@ -34,7 +34,8 @@ use Rattle.gurvazze_host.specs.Codes.{yield-code, code, verdict-code, co
 use Rattle.gurvazze_host.specs.FileCalls.{table-call-refusal, table-code, table-after, file-machine, file-replay-refusal, replay-code, replay-after}
 use Rattle.gurvazze_host.specs.FileCalls.{file-trial, file-trial-refusal, file-trial-answer, file-trial-buffer}
 use Rattle.gurvazze_host.specs.Claims.{TellsRefusal, TellsCount, TellsVerdict, TellsNumbers, ListedAnswer, file-replay-conditions, replay-order}
-use Rattle.gurvazze_host.specs.Claims.{file-trial-conditions, JudgedReplay, TableMade, TableCall, ReplayMade, ReplayCall, TrialMade, FileTrialMade, FileTrialCall}
+use Rattle.gurvazze_host.specs.Claims.{file-trial-conditions, JudgedReplay, TableMade, TableCall, ReplayMade, ReplayCall, TrialMade}
+use Rattle.gurvazze_host.specs.Claims.{FileTrialMade, FileTrialCall}
 use Rattle.gurvazze_host.specs.Claims.{TrialCall, RuleCall, HostClaim}
 use Rattle.gurvazze_host.proofs.Claims.{code-claim, replay-claim, replay-refusal-claim, file-trial-refusal-claim, file-trial-claim}
 
@@ -134,7 +135,8 @@ module _ (t word old new : List ℕ) (r : ℕ) (is-code : r ≡ replay-code (rea
   replay-judged : (cs : List Condition) → TextConditions t (λ c. file-replay-conditions c word old) cs → JudgedReplay cs replay-answer
   unfolding setup-conditions kind-conditions condition-numbers right-places has-place part-of replay-order
   replay-judged cs x =
-      let first = text-call-first (λ c. file-replay-conditions c word old) t (λ c. file-replay-refusal c word old) (λ c. replay-refusal-claim c word old .first) cs x in
+      let first =
+      text-call-first (λ c. file-replay-conditions c word old) t (λ c. file-replay-refusal c word old) (λ c. replay-refusal-claim c word old .first) cs x in
       record { first = first; only = λ other y. first-unique cs other replay-answer y first; ordered = in-order cs x; placed = in-place cs x }
     where
       in-order : (cs : List Condition) → TextConditions t (λ c. file-replay-conditions c word old) cs → part-of (condition-numbers cs) replay-order ≡ true

@@ -308,7 +308,8 @@ module _ (s : Setup) (rule old : List ℕ) where
       (u : Machine ℕ ℕ) × IsRuleTable s rule k u
       × (compile-contents state-limit s rule old ≡ put (table-bytes (entry-bytes (s .kind)) (s .events) u k) old)
   rule-to-table k h =
-      let p = counted-put (compile-refusal state-limit s rule old) (setup-states state-limit s rule) _ old refl (contents-at state-limit s rule old _ refl) k h in
+      let p =
+      counted-put (compile-refusal state-limit s rule old) (setup-states state-limit s rule) _ old refl (contents-at state-limit s rule old _ refl) k h in
       subst⁻¹
       (λ k. (u : Machine ℕ ℕ) × IsRuleTable s rule k u
       × (compile-contents state-limit s rule old ≡ put (table-bytes (entry-bytes (s .kind)) (s .events) u k) old))

@@ -154,7 +154,9 @@ module _ (t : Store) where
     where
       go : (c : ℕ) → LooksAt call c → (o : Option (Loaded ℕ)) → channels t c ≡ o → channel-test (t .setup .events) (t .setup .kind) o ≡ false → ToolFault t call
       go c l none e f = absurd (false≢true (sym f))
-      go c l (some x) e f = channel-fails c x (looked-back call c l) e (λ g. absurd (false≢true (sym f ∙ test-of-in-order (t .setup .events) (t .setup .kind) x g)))
+      go c l (some x) e f =
+          channel-fails c x (looked-back call c l) e
+          (λ g. absurd (false≢true (sym f ∙ test-of-in-order (t .setup .events) (t .setup .kind) x g)))
 
   no-fault : (call : Call ℕ) → tool-test t call ≡ true → ToolFault t call → ⊥
   no-fault call h (setup-fails refusal f) =

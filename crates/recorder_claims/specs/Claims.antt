@@ -8,7 +8,8 @@ use Rattle.recorder_claims.specs.ChannelLog.{AsLogged, LoadedAs}
 use Rattle.refusal.specs.{declared.Refusal.the-variants.{Plain}, Refusal.{Condition, Judged, plain}}
 use Rattle.values.specs.{declared.ValueKind.{ValueKind}, Setup.{Setup, setup-meet, setup-top}, SetupTests.{setup-refusal}}
 use Rattle.formulas.specs.RuleRefusal.{formula-of}
-use Rattle.channel_log.specs.{Calls.{Call, event, restart, restart-all, clear, returned, refused, replies, History, event-calls, StandsAs, final, load, accepted}, CallSteps.{Content}, Log.{log}}
+use Rattle.channel_log.specs.Calls.{Call, event, restart, restart-all, clear, returned, refused, replies, History, event-calls, StandsAs, final}
+use Rattle.channel_log.specs.{Calls.{load, accepted}, CallSteps.{Content}, Log.{log}}
 use Rattle.channel_log.specs.Claims.{RecordClaim, IndependenceClaim}
 use Rattle.recorder.specs.{Store.{Store, channels, setup-of, AllCells, ToolFault, call-conditions, replay-conditions}, ToolTests.{tool-test}}
 use Rattle.recorder.specs.{CompiledRule.{rule-judged}, Called.{called, new-store, blank, tool-refusal}, Replay.{replay-refusal}}

@@ -239,7 +239,9 @@ room-small k m v p h =
       reads = λ s. ap (λ (z : List ℕ). numeral-parse k (z ++ s)) (decimal-small m v h) ∙ number-go k (48 + v) s d e ∙ ap (λ (z : ℕ). more k z s) ev;
     }
 
-room-large : (k m v : ℕ) → 10 ≤ v → suc m ≤ k → (j : ℕ) → k ≤ j + m → ((s : List ℕ) → numeral-parse k (decimal m (v / 10) ++ s) ≡ more j (v / 10) s) → Room k (suc m) v
+room-large :
+    (k m v : ℕ) → 10 ≤ v → suc m ≤ k → (j : ℕ) → k ≤ j + m →
+    ((s : List ℕ) → numeral-parse k (decimal m (v / 10) ++ s) ≡ more j (v / 10) s) → Room k (suc m) v
 room-large k m v h l zero e f = absurd (omega arith)
 room-large k m v h l (suc j) e f =
     let d : is-digit (48 + v % 10) ≡ true = digit-in-range (48 + v % 10) (omega arith) (omega arith) in

@@ -18,7 +18,8 @@ returns c =
 
 returns-2 : tie.Need-returns-2
 returns-2 c =
-    let q = subst (SawNumber (numeral-parse 2) (now (c .before .before .before .before .before .args .text)) (c .before .before .before .before .before .args .at))
+    let q = subst
+    (SawNumber (numeral-parse 2) (now (c .before .before .before .before .before .args .text)) (c .before .before .before .before .before .args .at))
     (c .before .p .given .1) (c .before .before .before .number-at .ensures) in
     record { same = rw (q .same); within = q .within }
 

@@ -9,13 +9,15 @@ use Rattle.channel_file.proofs.entry_at.Tie as tie
 
 end-at-requires : tie.Need-end-at-requires
 end-at-requires c κs =
-    let q = subst (SawNumber (numeral-parse 2) (now (c .before .before .before .before .before .args .text)) (c .before .before .before .before .before .args .at))
+    let q = subst
+    (SawNumber (numeral-parse 2) (now (c .before .before .before .before .before .args .text)) (c .before .before .before .before .before .args .at))
     (c .before .v .given .1) (c .before .before .before .number-at .ensures) in
     q .within
 
 returns : tie.Need-returns
 returns c =
-    let q = subst (SawNumber (numeral-parse 2) (now (c .before .before .before .before .before .args .text)) (c .before .before .before .before .before .args .at))
+    let q = subst
+    (SawNumber (numeral-parse 2) (now (c .before .before .before .before .before .args .text)) (c .before .before .before .before .before .args .at))
     (c .before .p .given .1) (c .before .before .before .number-at .ensures) in
     record { same = rw (q .same); within = q .within }
 
