@@ -12,6 +12,7 @@ use Rattle.channel_file.specs.Bytes.{clamp, entry, node}
 use Rattle.channel_file.specs.Reading.{read-file}
 use Rattle.channel_file.proofs.Claims.{read-back-claim}
 use Rattle.channel_writer.specs.{Writing.{node-tokens, contents-of}, Claims.{All, none-left, one-more, Byte, ByteToken}}
+use Rattle.channel_file.proofs.Claims.{rewrite-claim}
 use Rattle.channel_writer.proofs.Claims.{again-claim}
 use Rattle.channel_file.specs.ChannelFile.{node-numbers, rule-numbers}
 use Rattle.channel_io.specs.FileRefusals.{text-or-empty, file-text}
@@ -43,7 +44,7 @@ again t c e a =
     let same = again-claim .same-contents t c e (record { meet = entry-bytes (c .meet) (n .0); rule = token-bytes (c .rule) (n .1) }) in
     ap text-or-empty
     (ap₂ (λ (m r : List ℕ). contents-of (c .events) (c .values) (c .top) m (node-tokens r)) (sym (n .0)) (sym (n .1)) ∙ same)
-    ∙ again-claim .same-text t c e
+    ∙ rewrite-claim t c e
 
 module _ (events values top : ℕ) (meet rule : List ℕ) (a : pair-refusal (setup events values top meet) rule ≡ none) where
   pub written : file-text events values top meet rule ≡ text (textual events values top meet rule a .inside)

@@ -219,4 +219,4 @@ same-contents t c e b =
     ∙ both-some (c .events) (c .values) (c .top) (c .meet) (c .rule) (s .meet) (s .rule)
 
 pub again-claim : AgainClaim
-again-claim = record { same-contents = same-contents; same-text = read.rewrite-claim }
+again-claim = record { same-contents = same-contents }

@@ -56,4 +56,3 @@ pub record WrittenTextClaim : Type 0 where
 pub record AgainClaim : Type 0 where
   pub same-contents : (t : List ℕ) (c : Contents) → read-file t ≡ contents c → ByteContents c
       → contents-of (c .events) (c .values) (c .top) (meet-bytes c) (node-tokens (rule-bytes c)) ≡ some c
-  pub same-text : (t : List ℕ) (c : Contents) → read-file t ≡ contents c → text c ≡ t
