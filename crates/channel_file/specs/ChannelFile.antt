@@ -94,8 +94,7 @@ abbrev pub encoded : {A : Type 0} → (A → List ℕ) → List A → List ℕ
 encoded code [] = []
 encoded code (a ∷ xs) = code a ++ encoded code xs
 
--- The rule of a file, three numbers a node. "In a rule item a number above 255 is 6 for an event or value,
--- 8 for X": the numbers are those of the text.
+-- The rule of a file, three numbers a node, as the text has them: "In a rule item a number above 255 is 6 for an event or value, 8 for X".
 abbrev pub node-numbers : Token → List ℕ
 node-numbers x = token-fields x .0 ∷ token-fields x .1 ∷ token-fields x .2 ∷ []
 

@@ -29,8 +29,7 @@ entry-width (Register lines) = 5
 abbrev pub entry-bytes : ValueKind → ℕ → ℕ → List ℕ
 entry-bytes kind v t = value-bytes kind v ++ (t ∷ [])
 
--- Lent bytes read as a machine: the entry of state l and event e is entry l × events + e. `value-at i` and `next-at i` read
--- entry i.
+-- Lent bytes read as a machine: the entry of state l and event e is entry l × events + e. `value-at i` and `next-at i` read entry i.
 abbrev pub entries : {B : Type 0} → ℕ → (ℕ → B) → (ℕ → ℕ) → Machine ℕ B
 entries events value-at next-at =
     record { value = λ l e. value-at (l * events + e); next = λ l e. next-at (l * events + e) }

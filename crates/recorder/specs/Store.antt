@@ -57,13 +57,14 @@ held c events k q value next = cond (ltb c channel-limit && ltb 0 k) (some (load
 abbrev pub channels : Store → Channels (Loaded ℕ)
 channels t c = held c (t .setup .events) (getD (t .states) c 0) (getD (t .current) c 0) (t .value) (t .next)
 
--- All cells of eight channels are there.
+-- All cells of eight channels are there, as in every tool: its arrays have these lengths.
 pub record AllCells (t : Store) : Type 0 where
   pub states-are : length (t .states) ≡ channel-limit
   pub current-are : length (t .current) ≡ channel-limit
   pub values-are : length (t .value) ≡ store-limit
   pub nexts-are : length (t .next) ≡ store-limit
 
+-- The tool of numbered values is one representation: its cells, and nothing else.
 abbrev pub store-of : Tool → Store
 store-of t =
     record {

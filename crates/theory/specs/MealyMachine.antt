@@ -34,6 +34,7 @@ module _ {B S Q : Type 0} (events : ℕ) (meet : B → B → B) (StateS : S → 
   abbrev pub Simulated : S → Q → Type 1
   Simulated s t = (R : S → Q → Type 0) × IsSimulation R × R s t
 
+-- The order of event sequences (document 01, "Table of a rule"): shortest first, then the smaller at the first difference.
 pub data Before : List ℕ → List ℕ → Type 0 where
   shorter : (v w : List ℕ) → length v < length w → Before v w
   smaller : (u v w : List ℕ) {a b : ℕ} → length v ≡ length w → a < b → Before (u ++ (a ∷ v)) (u ++ (b ∷ w))
@@ -60,6 +61,7 @@ abbrev pub extend {κ} : {Set : Type κ} → Set → (ℕ → Set) → ℕ → S
 extend A η zero = A
 extend A η (suc n) = η n
 
+-- The set definition (document 01, "Trial"; source 000, section 3, second definition), which builds no table.
 -- Sets of states are predicates: every machine, finite or not. T has all states; X the set put for its variable; G the states
 -- whose next state on its event is in its part's set; O those whose value on its event is at or below its own; A what both
 -- parts share; V the union of all sets that lie within its part's set when put for its variable: s is in that union when

@@ -11,8 +11,7 @@ abbrev pub NodeSet : Type 0
 NodeSet = ℕ → Bool
 
 module _ {B : Type 0} (φ : Formula B) where
-  -- `Demands i d`: node i demands node d. T none; G and O themselves; A those of both parts; V those of its part;
-  -- X those of its binder.
+  -- `Demands i d`: node i demands node d. T none; G and O themselves; A those of both parts; V those of its part; X those of its binder.
   pub data Demands : ℕ → ℕ → Type 0 where
     of-transition : {i : ℕ} {bs : List ℕ} {e : ℕ} {ψ : Formula B} → Stands φ i bs (transition e ψ) → Demands i i
     of-output : {i : ℕ} {bs : List ℕ} {e : ℕ} {b : B} → Stands φ i bs (output e b) → Demands i i
