@@ -1,4 +1,4 @@
--- Between tables, simulation by a decided relation is simulation, and the check decides it.
+-- Between tables, simulation by a decided relation is simulation, and the check decides it; the word that it finds is the only first one.
 use mathlib.Core.{Path.{_≡_, refl}, Bool.{Bool, true, false}, Logic.{_↔_}, List.{[], _∷_}, Option.{Option, none, some}}
 use Prim.Native.Nat.{ℕ, _<_}
 use native.Mathlib.Omega.{arith}
@@ -7,8 +7,8 @@ use Rattle.theory.specs.ValueSets.{MeetSemilattice, AtOrBelow}
 use Rattle.theory.specs.MealyMachine.{Machine, States}
 use Rattle.theory.specs.MachineRuns.{Runs, SimulatedTable, BelowOnWords}
 use Rattle.theory.specs.ConformanceCheck.{counterexample}
-use Rattle.theory.specs.Claims.{TableSimulationClaim, ConformanceClaim}
-use Rattle.theory.proofs.{Simulation.{simulation-below}, Conformance.{conformance}}
+use Rattle.theory.specs.Claims.{TableSimulationClaim, ConformanceClaim, OneFirstWordClaim}
+use Rattle.theory.proofs.{Simulation.{simulation-below}, Conformance.{conformance}, WordOrder.{no-later-antisymmetric}}
 
 is-none : {A : Type 0} → Option A → Bool
 is-none none = true
@@ -70,3 +70,7 @@ module _ {B : Type 0} (In : B → Type 0) (meet : B → B → B) (top : B) (even
     passes-iff-simulated In meet at-or-below decides events n m k q runs-m runs-q s t hs ht,
     conformance In meet at-or-below decides events n m k q runs-m runs-q s t hs ht .1,
   )
+
+  -- Of two first counterexamples neither is later than the other.
+  pub one-first-word-claim : OneFirstWordClaim In meet top events
+  one-first-word-claim m q s t v w x y = no-later-antisymmetric v w (x .first w (y .fails)) (y .first v (x .fails))

@@ -97,6 +97,11 @@ module _ {B : Type 0} (In : B → Type 0) (meet : B → B → B) (top : B) (even
       × ((word : List ℕ) → counterexample at-or-below m q events n k s t ≡ some word →
       FirstCounterexample events meet m q s t word × (0 < length word) × (length word ≤ n * k))
 
+  -- There is one first counterexample at most: it is fixed by the two machines, and its length with it (document 02, F-1).
+  abbrev pub OneFirstWordClaim : Type 0
+  OneFirstWordClaim =
+      (m q : Machine ℕ B) (s t : ℕ) (v w : List ℕ) → FirstCounterexample events meet m q s t v → FirstCounterexample events meet m q s t w → v ≡ w
+
 -- For any value set that obeys the laws.
 module _ {B : Type 0} (In : B → Type 0) (meet : B → B → B) (top : B) (laws : MeetSemilattice In meet top) (events : ℕ) where
   -- A state satisfies a formula by the set definition exactly if the formula simulates it, for every machine.

@@ -51,7 +51,7 @@ module _ {B : Type 0} (events : ℕ) (meet : B → B → B) (m q : Machine ℕ B
     pub ends : word ≡ before ++ (last ∷ [])
     pub not-below : ¬ AtOrBelow meet (m .value (after m s before) last) (q .value (after q t before) last)
 
-  -- The shortest, and among those the one with the smaller event at the first difference.
+  -- The shortest, and among those the one with the smaller event at the first difference (document 02, F-1).
   pub record FirstCounterexample (word : List ℕ) : Type 0 where
     pub fails : Counterexample word
     pub first : (other : List ℕ) → Counterexample other → NoLater word other
