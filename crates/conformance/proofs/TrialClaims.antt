@@ -1,5 +1,5 @@
 -- The claims on a trial: its refusals are the list's; it passes exactly if the device is simulated; a word that it shows is the first
--- on which the device fails; against a formula's table it decides satisfaction.
+-- on which the device fails, and the only one; against a formula's table it decides satisfaction.
 use mathlib.Core.{Path.{_≡_, refl, sym, _∙_, ap, subst⁻¹}, Bool.{Bool, true, false}, Logic.{_↔_, Iff·trans, _⊎_, inl, inr, ⊎-elim}}
 use mathlib.Core.{List.{List, [], _∷_, _++_}, Option.{Option, none, some}}
 use Prim.Native.Nat.{ℕ, zero, _*_, _≤_, _<_}
@@ -10,7 +10,7 @@ use Rattle.theory.specs.ValueSets.{AtOrBelow}
 use Rattle.theory.specs.MachineRuns.{Runs}
 use Rattle.theory.specs.MealyMachine.{States}
 use Rattle.theory.specs.ConformanceCheck.{counterexample}
-use Rattle.theory.proofs.{ConformanceClaims.{table-simulation-claim, conformance-claim}, Trial.{trial-claim}}
+use Rattle.theory.proofs.{ConformanceClaims.{table-simulation-claim, conformance-claim, one-first-word-claim}, Trial.{trial-claim}}
 use Rattle.refusal.specs.declared.Refusal.{Refusal}
 use Rattle.refusal.specs.Refusal.{plain, First, has-place, condition-numbers, right-places, part-of, order}
 use Rattle.refusal.specs.RefusalAnswers.{or-else}
@@ -19,7 +19,7 @@ use Rattle.refusal.proofs.Refusals.{plain-first, first-append}
 use Rattle.values.specs.Setup.{SetupValue, setup-top}
 use Rattle.values.proofs.{Setups.{setup-first, judged-after-setup}, ValueKinds.{value-kinds}}
 use Rattle.machines.proofs.TableRefusals.{table-refusal-first}
-use Rattle.conformance.specs.Trial.{Passes, FailsBy}
+use Rattle.conformance.specs.Trial.{Passes}
 use Rattle.conformance.specs.declared.Verdict.{Verdict}
 use Rattle.conformance.specs.declared.Verdict.the-variants.{Pass, Fail, Refused}
 use Rattle.conformance.specs.Trial.{TrialInput, meet, device-machine, table-machine, FirstFailure, DeviceInOrder}
@@ -105,6 +105,12 @@ module _ (d t : ℕ) where
         kept = λ x old r e. ap (λ o. buffer-unless o (first-failure x) old) (sym (refusal-same (trial-refusal d t x old) (first-failure x)) ∙ e);
       }
 
+  -- Two first words of one input are equal.
+  one-word : (x : TrialInput) (v w : List ℕ) → FirstFailure x v → FirstFailure x w → v ≡ w
+  one-word x v w =
+      one-first-word-claim (SetupValue (x .set-up)) (meet x) (setup-top (x .set-up)) (x .set-up .events) (device-machine x) (table-machine x)
+      (x .device-start) zero v w
+
   -- An accepted input's tables run, and the values obey the laws.
   module _ (x : TrialInput) (old : List ℕ) (z : trial-refusal d t x old ≡ none) where
     ok : Sound d t x old
@@ -168,16 +174,17 @@ module _ (d t : ℕ) where
       let later : trial-buffer d t x old ≡ word ++ drop (length word) old
       = ap (λ o. buffer-unless o (first-failure x) old) (c .0) ∙ ap (λ f. shown f old) (c .1 .1) in
       let long : length word ≡ n = c .1 .2 in
+      let front : take n (trial-buffer d t x old) ≡ word
+      = ap (take n) later ∙ ap (λ i. take i (word ++ drop (length word) old)) (sym long) ∙ take-append-seam word (drop (length word) old) in
       record {
         some-events = omega (arith, said .1, long);
         few-events = omega (arith, few x old (c .0) word (said .2), long);
-        word =
-            subst⁻¹ (FirstFailure x)
-            (ap (take n) later ∙ ap (λ i. take i (word ++ drop (length word) old)) (sym long) ∙ take-append-seam word (drop (length word) old)) (said .0);
+        word = subst⁻¹ (FirstFailure x) front (said .0);
+        only = λ other h. let same : word ≡ other = one-word x word other (said .0) h in (front ∙ same, sym long ∙ ap length same);
         rest-kept =
             ap (drop n) later ∙ ap (λ i. drop i (word ++ drop (length word) old)) (sym long) ∙ drop-append-seam word (drop (length word) old)
             ∙ ap (λ i. drop i old) long;
-        not-passed = λ p. let u : found x old (c .0) ≡ none = says x old (c .0) .0 .1 p in
+        not-passed = λ p. let u : found x old (c .0) ≡ none = says x old (c .0) .0 .1 (by-definition x old (c .0) .1 p) in
             let v : found x old (c .0) ≡ some word = c .1 .1 in
             let q : _≡_ {A = ℕ} 0 1 = cc in omega arith;
       }
@@ -204,17 +211,3 @@ module _ (d t : ℕ) where
       let e = trial-passes .exactly x old z in
       let f = by-definition x old z in
       ((λ p. f .0 (e .0 p)), λ q. e .1 (f .1 q))
-
-  pub trial-fails-by :
-      (x : TrialInput) (old : List ℕ) (n : ℕ) → word-length (trial-answer d t x old) ≡ some n → FailsBy x (d * t) old (trial-buffer d t x old) n
-  unfolding trial-answer
-  trial-fails-by x old n e =
-      let w = trial-fails x old n e in
-      let z = failed-some (trial-refusal d t x old) (first-failure x) n e .0 in
-      record {
-        some-events = w .some-events;
-        few-events = w .few-events;
-        word = w .word;
-        rest-kept = w .rest-kept;
-        not-passed = λ p. w .not-passed (by-definition x old z .1 p);
-      }

@@ -1,13 +1,12 @@
 -- What is claimed of a trial (document 01, "Trial"), for every limit on the device's and the table's states; proofs/TrialClaims has a
 -- proof of each.
 use mathlib.Core.{Path.{_≡_}, Logic.{_↔_}, List.{List}, Option.{none, some}}
-use Prim.Native.Nat.{ℕ, _*_, _≤_, _<_, zero}
-use lib.ListN.{take, drop}
+use Prim.Native.Nat.{ℕ, _*_, _<_, zero}
 use Rattle.theory.specs.{ValueSets.{AtOrBelow}, Formula.{Formula}, FormulaClasses.{WellFormed}, TableSatisfaction.{TableSatisfies}}
 use Rattle.theory.specs.{ReachableStates.{IsTableOf}, MachineRuns.{SimulatedTable}}
 use Rattle.refusal.specs.{declared.Refusal.{Refusal}, Refusal.{Judged}}
 use Rattle.values.specs.Setup.{SetupValue, setup-top}
-use Rattle.conformance.specs.Trial.{TrialInput, meet, device-machine, table-machine, FirstFailure, trial-conditions, refusal-of, Passed, word-length}
+use Rattle.conformance.specs.Trial.{TrialInput, meet, device-machine, table-machine, FailsBy, trial-conditions, refusal-of, Passed, word-length}
 use Rattle.conformance.specs.TrialAnswer.{trial-refusal, trial-answer, trial-buffer}
 
 -- Definition 1 with decided relations: the same over tables (theory's `TableSimulationClaim`).
@@ -38,18 +37,12 @@ module _ (device-most table-most : ℕ) where
     pub kept :
         (x : TrialInput) (old : List ℕ) → Passed (trial-answer device-most table-most x old) → trial-buffer device-most table-most x old ≡ old
 
-  -- A failed trial: the front of the buffer holds n events, at least one and no more than there are pairs of states, the first word
-  -- after whose last event the device's value is not at or below the table's; the bytes after it keep their contents.
-  pub record Failed (x : TrialInput) (old : List ℕ) (n : ℕ) : Type 0 where
-    pub some-events : 1 ≤ n
-    pub few-events : n ≤ device-most * table-most
-    pub word : FirstFailure x (take n (trial-buffer device-most table-most x old))
-    pub rest-kept : drop n (trial-buffer device-most table-most x old) ≡ drop n old
-    pub not-passed : ¬ PassesDecided x
-
-  abbrev pub FailClaim : Type 0
+  -- A failed trial shows the first word after whose last event the device's value is not at or below the table's, and no other: at least
+  -- one event, and no more than there are pairs of states.
+  abbrev pub FailClaim : Type 1
   FailClaim =
-      (x : TrialInput) (old : List ℕ) (n : ℕ) → word-length (trial-answer device-most table-most x old) ≡ some n → Failed x old n
+      (x : TrialInput) (old : List ℕ) (n : ℕ) → word-length (trial-answer device-most table-most x old) ≡ some n →
+      FailsBy x (device-most * table-most) old (trial-buffer device-most table-most x old) n
 
   -- Against the table of a well-formed formula, an accepted trial passes exactly if the device's start satisfies the formula by the
   -- set definition, which builds no table.

@@ -8,8 +8,7 @@ use Rattle.values.specs.Setup.{Setup, SetupValue, setup-meet, setup-conditions}
 use Rattle.machines.specs.TableBytes.{entry-width, machine-of, TableInOrder}
 use Rattle.conformance.specs.{declared.Verdict.{Verdict}, declared.Verdict.the-variants.{Pass, Fail, Refused}}
 
--- What is handed in beside the word buffer: a set-up, the rule's table with its state count, and the device with its state count
--- and start. The rule's table starts at state 0.
+-- What is handed in beside the word buffer. The rule's table starts at state 0.
 pub record TrialInput : Type 0 where
   pub set-up : Setup
   pub states : ℕ
@@ -37,7 +36,7 @@ abbrev pub Passes : TrialInput → Type 1
 Passes x = Simulated (x .set-up .events) (meet x) (States (x .device-states)) (device-machine x) (States (x .states)) (table-machine x)
     (x .device-start) zero
 
--- "Otherwise the answer is a word .. after whose last event the device's value is not at or below the table's": the first of them.
+-- "Otherwise the answer is a word .. after whose last event the device's value is not at or below the table's"; "the first" (document 02, F-1).
 abbrev pub FirstFailure : TrialInput → List ℕ → Type 0
 FirstFailure x = FirstCounterexample (x .set-up .events) (meet x) (device-machine x) (table-machine x) (x .device-start) zero
 
@@ -51,17 +50,18 @@ module _ (device-most table-most : ℕ) (x : TrialInput) (buffer : List ℕ) whe
   RuleTableInOrder = TableInOrder (entry-width (x .set-up .kind)) table-most (x .set-up .events) (SetupValue (x .set-up)) (x .states) zero (x .table)
       (table-machine x)
 
-  -- The conditions that a trial meets, in document 01's order: those of the set-up, 11, and 13 for a word buffer shorter than the
-  -- longest word.
+  -- The conditions that a trial meets, in order: those of the set-up, 11, and 13 for a word buffer shorter than the longest word.
   unfoldable pub trial-conditions : List Condition
   trial-conditions = setup-conditions (x .set-up)
       ++ (plain 11 ((¬ DeviceInOrder) ⊎ (¬ RuleTableInOrder)) ∷ plain 13 (length buffer < device-most * table-most) ∷ [])
 
--- A failed trial: the front of the buffer holds the word, of "1 to 4,096 events", and the bytes after it keep their contents.
+-- A failed trial: the front of the buffer holds the word, of "1 to 4,096 events", and the bytes after it keep their contents. "It is then no
+-- longer free. The word's length is now fixed by the two tables as well" (document 02, F-1): every first word is this one, and n its length.
 pub record FailsBy (x : TrialInput) (longest : ℕ) (old new : List ℕ) (n : ℕ) : Type 1 where
   pub some-events : 1 ≤ n
   pub few-events : n ≤ longest
   pub word : FirstFailure x (take n new)
+  pub only : (other : List ℕ) → FirstFailure x other → (take n new ≡ other) × (n ≡ length other)
   pub rest-kept : drop n new ≡ drop n old
   pub not-passed : ¬ Passes x
 

@@ -27,7 +27,7 @@ module _ (device-most table-most : ℕ) (x : TrialInput) (buffer : List ℕ) whe
       (x .device))
       (plain-unless (leb (device-most * table-most) (length buffer)) 13))
 
--- The first word on which the device fails, or none; the computing twin of `Passes` and `FirstFailure`.
+-- The first word on which the device fails, the only one (document 02, F-1), or none; the computing twin of `Passes` and `FirstFailure`.
 unfoldable pub first-failure : TrialInput → Option (List ℕ)
 first-failure x =
     counterexample (below x) (device-machine x) (table-machine x)

@@ -463,7 +463,7 @@ fn trial_accepted(
 }
 
 // The trial of a device against a rule's table, both in bytes, two an entry. A failed one has the first word on which the device
-// fails written to the front of the buffer.
+// fails written to the front of the buffer; the two tables fix that word and its length (document 02, F-1).
 pub fn trial(
     events: usize,
     values: usize,

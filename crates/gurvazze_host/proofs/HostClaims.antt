@@ -25,7 +25,7 @@ use Rattle.conformance.specs.declared.Verdict.{Verdict}
 use Rattle.conformance.specs.Trial.{TrialInput, refusal-of, Passed, word-length}
 use Rattle.conformance.specs.TrialAnswer.{trial-refusal, first-failure, answer-unless, buffer-unless, trial-answer, trial-buffer}
 use Rattle.conformance.proofs.TrialClaims.{failed-some, refusal-same, trial-refusals, trial-refused, trial-passes, trial-fails}
-use Rattle.conformance.proofs.TrialClaims.{trial-simulated, trial-fails-by}
+use Rattle.conformance.proofs.TrialClaims.{trial-simulated}
 use Rattle.channel_io.specs.FileConditions.{file-setup, TextConditions, of-contents, no-contents, JudgedText}
 use Rattle.channel_io.specs.FileRefusals.{file-states, file-table, contents-table-refusal, text-refusal}
 use Rattle.channel_io.proofs.{Claims.{file-table-made, file-table-accepted}, TablePairs.{compile-as, setup-passed}}
@@ -195,7 +195,7 @@ trial-made x old z =
     record {
       passes = trial-simulated device-limit table-limit x old z;
       kept = trial-passes device-limit table-limit .kept x old;
-      fails = trial-fails-by device-limit table-limit x old;
+      fails = trial-fails device-limit table-limit x old;
     }
 
 -- ---- gurvazze_trial_table

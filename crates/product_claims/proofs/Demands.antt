@@ -6,7 +6,7 @@ use Rattle.refusal.proofs.Answers.{judgement-refusal-is}
 use Rattle.values.specs.{Setup.{setup-conditions}, SetupTests.{setup-refusal}}
 use Rattle.values.proofs.Setups.{setup-judged}
 use Rattle.synthesis.proofs.SetupArrays.{arrays-judged, arrays-hold, arrays-refused}
-use Rattle.conformance.proofs.TrialClaims.{trial-refusals, trial-refused, trial-passes, trial-simulated, trial-fails-by}
+use Rattle.conformance.proofs.TrialClaims.{trial-refusals, trial-refused, trial-passes, trial-simulated, trial-fails}
 use Rattle.recorder.proofs.Tools.{one-store}
 use Rattle.recorder_claims.proofs.Calls.{calls-judged, replay-judged, replay-events, set-up-judged, refused-set-up, record-of-calls, independence}
 use Rattle.recorder_claims.proofs.Loading.{load-claim}
@@ -64,6 +64,6 @@ demand-three =
       passes = λ x old z.
           trial-simulated device-limit table-limit x old (sym (trial-refused device-limit table-limit .answer x old) ∙ z);
       pass-keeps = trial-passes device-limit table-limit .kept;
-      fails = trial-fails-by device-limit table-limit;
+      fails = trial-fails device-limit table-limit;
       rule-trial = rule-trial;
     }
