@@ -14,28 +14,27 @@ use Rattle.text_format.specs.Texts.{numeral}
 use Rattle.table_rows.specs.TableText.{row-line, table-text}
 use Rattle.channel_io.specs.FileRefusals.{pair-table-refusal}
 use Rattle.table_report.specs.Report.{answer-text, outcome-text}
-use Rattle.marked_cases.specs.MarkedCases.{cases, MarkedCasesClaim}
+use Rattle.marked_cases.specs.MarkedCases.{cases, MarkedCasesClaim, request-cases, RequestCasesClaim}
 use Rattle.marked_cases.proofs.Lifting.{Checked, AllChecked, all-lifted}
 
 -- All of them, one computation each. The state of case 4 to which event 1 leads, and where it stays, is 2.
-all-checked : AllChecked cases
+all-checked : AllChecked cases × AllChecked request-cases
 unfolding AllChecked Checked rule-refusal formula-of or-else plain-unless at-found count-fits nodes-refusal misfit-place structure-refusal
     variables-refusal lowest-from kind-of fields-fit awaited end-fault first-of node-of nodes-from with-parts formulas first-formula formula-read
     lowest-variable unbound-below closed-there meetOf meetAt four-value-meet empty only union table-refusal table-test entry-test every
     closed-test idempotent-test commutative-test associative-test neutral-test lawful events-test values-test entries-test meet-test kind-refusal
     setup-refusal formula-states formula-table rule-table-refusal pair-table-refusal numeral row-line table-text answer-text outcome-text
 all-checked = (
-  (refl, refl, refl, refl),
   (
-    refl,
+    (refl, refl, refl, refl),
     (
-      (refl, refl, refl, refl),
+      refl,
       (
         (refl, refl, refl, refl),
         (
-          (refl, refl, refl, refl, (2, refl, refl, refl)),
+          (refl, refl, refl, refl),
           (
-            refl,
+            (refl, refl, refl, refl, (2, refl, refl, refl)),
             (
               refl,
               (
@@ -45,12 +44,15 @@ all-checked = (
                   (
                     refl,
                     (
-                      (refl, refl, refl, refl),
+                      refl,
                       (
-                        (refl, refl, refl, refl, refl, refl),
+                        (refl, refl, refl, refl),
                         (
-                          (refl, refl, refl, refl),
-                          (refl, tt),
+                          (refl, refl, refl, refl, refl, refl),
+                          (
+                            (refl, refl, refl, refl),
+                            (refl, tt),
+                          ),
                         ),
                       ),
                     ),
@@ -63,7 +65,11 @@ all-checked = (
       ),
     ),
   ),
+  ((refl, refl, refl, refl), ((refl, refl, refl, refl), ((refl, refl, refl, refl), tt))),
 )
 
 pub marked-cases : MarkedCasesClaim
-marked-cases = all-lifted cases all-checked
+marked-cases = all-lifted cases (all-checked .0)
+
+pub request-cases-hold : RequestCasesClaim
+request-cases-hold = all-lifted request-cases (all-checked .1)

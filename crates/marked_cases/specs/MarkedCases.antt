@@ -1,5 +1,5 @@
--- Document 01, "Marked for proof": the twelve cases in its order, and what it is for a case to hold, by document 01's definitions.
--- Four-value set, two events.
+-- Document 01, "Marked for proof": the twelve cases in its order, and what it is for a case to hold, by document 01's definitions; then cases of
+-- document 02's requests. Four-value set, two events.
 use mathlib.Core.{Path.{_≡_}, Logic.{Lift}, List.{List, [], _∷_}, Option.{none, some}}
 use Prim.Native.Nat.{ℕ, zero, suc}
 use Rattle.theory.specs.ValueSets.{four-value-meet}
@@ -121,6 +121,15 @@ cases =
     ∷ passing 0
     ∷ []
 
+-- Cases of document 02, in its order.
+abbrev pub request-cases : List Case
+request-cases =
+    -- F-1. the first word: the smaller event; the smaller at the first difference; the shortest
+    failing 3 (A ∷ O 0 1 ∷ O 1 1 ∷ []) (0 ∷ [])
+    ∷ failing 3 (A ∷ G 0 ∷ O 1 1 ∷ G 1 ∷ O 0 1 ∷ []) (0 ∷ 1 ∷ [])
+    ∷ failing 3 (A ∷ G 1 ∷ O 0 1 ∷ G 0 ∷ G 0 ∷ O 0 1 ∷ []) (1 ∷ 0 ∷ [])
+    ∷ []
+
 unfoldable pub AllHold : List Case → Type 1
 AllHold [] = Unit {1}
 AllHold (c ∷ cs) = Holds c × AllHold cs
@@ -128,3 +137,6 @@ AllHold (c ∷ cs) = Holds c × AllHold cs
 -- The cases hold.
 abbrev pub MarkedCasesClaim : Type 1
 MarkedCasesClaim = AllHold cases
+
+abbrev pub RequestCasesClaim : Type 1
+RequestCasesClaim = AllHold request-cases
