@@ -63,11 +63,13 @@ uint64_t gurvazze_replay(const uint8_t *text, size_t text_length, const uint8_t 
                          size_t to_length);
 
 /* Trial of a device against a channel file's rule. Yields 0 for a pass, and else the length of the failing word, which stands at the
- * front of the word buffer. Refusals 4, 1 to 3, 5 to 10, 11, 13. */
+ * front of the word buffer: the first word after whose last event the device's value is not at or below the rule's, the shortest, and
+ * among those the one with the smaller event at the first difference. Word and length are fixed by the two tables.
+ * Refusals 4, 1 to 3, 5 to 10, 11, 13. */
 uint64_t gurvazze_trial(const uint8_t *text, size_t text_length, size_t device_states, size_t device_start, const uint8_t *device,
                         size_t device_length, uint8_t *word, size_t word_length);
 
-/* The same against a rule's table, from its state 0. Refusals 1 to 3, 11, 13. */
+/* The same against a rule's table, from its state 0, with the same word. Refusals 1 to 3, 11, 13. */
 uint64_t gurvazze_trial_table(size_t events, size_t values, size_t top, const uint8_t *meet, size_t meet_length, size_t states,
                               const uint8_t *table, size_t table_length, size_t device_states, size_t device_start,
                               const uint8_t *device, size_t device_length, uint8_t *word, size_t word_length);

@@ -10,6 +10,7 @@ use gurvazze_reference::channel_file::{self, ChannelFile};
 use gurvazze_reference::formula::Rule;
 use gurvazze_reference::generate::{Generator, RawTable};
 use gurvazze_reference::table::Table;
+use gurvazze_reference::trial::first_word;
 use gurvazze_reference::values::{RawSetUp, SetUp};
 
 /// So many seeds, times the number in the environment's SEEDS_TIMES where there is one.
@@ -163,6 +164,12 @@ fn is_counterexample(set_up: &SetUp, device: &RawTable, table: &Table, word: &[u
     below.pop() == Some(false) && below.iter().all(|&holds| holds)
 }
 
+/// It is the first such word by distances (document 02, F-1); nothing where there is none.
+fn is_first(set_up: &SetUp, device: &RawTable, table: &Table, word: &[u8]) -> bool {
+    let typed = device.lent().table(set_up).unwrap();
+    first_word(set_up, (&typed, device.start), (table, 0)).unwrap_or_default() == word
+}
+
 #[test]
 fn trials() {
     let mut tally = Tally::default();
@@ -177,6 +184,7 @@ fn trials() {
         let old = word_buffer(&mut generator);
         let library = trial::library(&text, &device, &old);
         if let (Ok(length), Some(table)) = (library.0, &of_rule) {
+            assert!(is_first(&set_up, &device, table, &library.1[..length]), "seed {seed}");
             if length == 0 {
                 passes += 1;
             } else {
@@ -203,12 +211,15 @@ fn trials_of_tables() {
         let device = device(&mut generator, &set_up, typed.as_ref());
         let raw = if generator.once_in(10) { generator.damaged_set_up() } else { set_up.raw().clone() };
         let old = word_buffer(&mut generator);
-        tally.compare(
-            trial_table::library(&raw, &table, &device, &old),
-            trial_table::reference(&raw, &table, &device, &old),
-            &old,
-            || format!("seed {seed}: {raw:?} {table:?} {device:?}"),
-        );
+        let library = trial_table::library(&raw, &table, &device, &old);
+        // A damaged set-up may be another good one.
+        if let (Ok(length), Ok(set_up)) = (library.0, SetUp::new(raw.clone())) {
+            let typed = RawTable { start: 0, ..table.clone() }.lent().table(&set_up).unwrap();
+            assert!(is_first(&set_up, &device, &typed, &library.1[..length]), "seed {seed}");
+        }
+        tally.compare(library, trial_table::reference(&raw, &table, &device, &old), &old, || {
+            format!("seed {seed}: {raw:?} {table:?} {device:?}")
+        });
     }
     tally.has(&[0, 1, 2, 3, 11, 13]);
 }

@@ -14,7 +14,8 @@ pub const WORD_BYTES: usize = 4096;
 pub enum Verdict {
     /// "The device passes when the start is simulated (definition 1) by state 0 of the rule's table."
     Passes,
-    /// "a word of 1 to 4,096 events after whose last event the device's value is not at or below the table's".
+    /// "a word of 1 to 4,096 events after whose last event the device's value is not at or below the table's": "the first: shortest, and
+    /// among those the one with the smaller event at the first difference" (document 02, F-1).
     Fails(Vec<u8>),
 }
 
@@ -23,7 +24,7 @@ pub enum Verdict {
 pub enum Outcome {
     /// The device passes; the word buffer keeps its contents.
     Passes,
-    /// The device fails; the word is that long.
+    /// The device fails; the first word is that long.
     Fails(usize),
 }
 
@@ -76,6 +77,61 @@ fn word_to(pairs: &[Pair], mut pair: usize, last: u8) -> Vec<u8> {
     }
     word.reverse();
     word
+}
+
+/// The first word on which a device fails, by distances: from the start, each time the smallest event that leads one nearer to a
+/// failure. The same word as that of `trial`, found from the other end.
+pub fn first_word(set_up: &SetUp, device: (&Table, usize), table: (&Table, usize)) -> Option<Vec<u8>> {
+    let ((device, mut s), (table, mut t)) = (device, table);
+    let away = distances(set_up, device, table);
+    let mut word = Vec::new();
+    for left in (0..away[s][t]?).rev() {
+        let nearer = |&event: &usize| match left {
+            0 => fails_on(set_up, device, table, (s, t), event),
+            _ => away_after(&away, device, table, (s, t), event) == Some(left),
+        };
+        let event = (0..set_up.events()).find(nearer)?;
+        word.push(event as u8);
+        (s, t) = (device.entry(s, event).next.into(), table.entry(t, event).next.into());
+    }
+    Some(word)
+}
+
+/// For each pair of states the length of the shortest word on which the device fails from there, where it does: 1 where it fails on
+/// some event, and one more than the least of its successors otherwise.
+fn distances(set_up: &SetUp, device: &Table, table: &Table) -> Vec<Vec<Option<usize>>> {
+    let mut away = vec![vec![None; table.states()]; device.states()];
+    for length in 1.. {
+        let mut found = false;
+        for (s, t) in (0..device.states()).flat_map(|s| (0..table.states()).map(move |t| (s, t))) {
+            let near = |event: usize| match length {
+                1 => fails_on(set_up, device, table, (s, t), event),
+                _ => away_after(&away, device, table, (s, t), event) == Some(length - 1),
+            };
+            if away[s][t].is_none() && (0..set_up.events()).any(near) {
+                away[s][t] = Some(length);
+                found = true;
+            }
+        }
+        if !found {
+            break;
+        }
+    }
+    away
+}
+
+fn fails_on(set_up: &SetUp, device: &Table, table: &Table, (s, t): (usize, usize), event: usize) -> bool {
+    !set_up.at_or_below(device.entry(s, event).value, table.entry(t, event).value)
+}
+
+fn away_after(
+    away: &[Vec<Option<usize>>],
+    device: &Table,
+    table: &Table,
+    (s, t): (usize, usize),
+    event: usize,
+) -> Option<usize> {
+    away[usize::from(device.entry(s, event).next)][usize::from(table.entry(t, event).next)]
 }
 
 /// Trial against a rule's table that is handed in too, its states and its entries; it starts at state 0: refusals 1 to 3, 11, 13.

@@ -89,6 +89,17 @@ fn case_12_trials() {
     }
 }
 
+/// Document 02, F-1: shortest, then the smaller event at the first difference. One state, both values 3.
+#[test]
+fn the_first_failing_word() {
+    let set_up = four(2);
+    let open = Lent { states: 1, start: 0, bytes: &[3, 0, 3, 0] }.table(&set_up).unwrap();
+    for (items, word) in [("A O0.1 O1.1", vec![0]), ("A G0 O1.1 G1 O0.1", vec![0, 1]), ("A G1 O0.1 G0 G0 O0.1", vec![1, 0])] {
+        let of_rule = table(&set_up, items).unwrap();
+        assert_eq!(trial(&set_up, (&open, 0), (&of_rule, 0)), Verdict::Fails(word), "{items}");
+    }
+}
+
 #[test]
 fn sixty_four_states_and_no_more() {
     let set_up = four(2);

@@ -9,7 +9,7 @@ use common::{bytes, four, seeds};
 use gurvazze_reference::formula::{Formulas, Id, Node, Rule};
 use gurvazze_reference::generate::Generator;
 use gurvazze_reference::table::Table;
-use gurvazze_reference::trial::{satisfies, satisfying, trial, Verdict};
+use gurvazze_reference::trial::{first_word, satisfies, satisfying, trial, Verdict};
 use gurvazze_reference::values::SetUp;
 use gurvazze_reference::{characteristic, Refusal};
 
@@ -373,9 +373,11 @@ fn trial_is_simulation_and_satisfaction() {
             }
         }
         assert_eq!(satisfies(&set_up, &rule, &device, raw.start), verdict == Verdict::Passes, "seed {seed}");
+        let by_distances = first_word(&set_up, ours, theirs);
         match verdict {
             Verdict::Passes => {
                 passes += 1;
+                assert_eq!(by_distances, None, "seed {seed}");
                 let word = g.word(&set_up, 60);
                 assert!(below_on(&set_up, ours, theirs, &word).iter().all(|&below| below), "seed {seed}");
             }
@@ -383,6 +385,7 @@ fn trial_is_simulation_and_satisfaction() {
                 fails += 1;
                 longest = longest.max(word.len());
                 assert!((1..=4096).contains(&word.len()));
+                assert_eq!(by_distances.as_ref(), Some(&word), "seed {seed}");
                 let below = below_on(&set_up, ours, theirs, &word);
                 assert_eq!(below.iter().position(|below| !below), Some(word.len() - 1), "seed {seed}");
                 if word.len() <= length_for(set_up.events()) {

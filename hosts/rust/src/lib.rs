@@ -52,7 +52,8 @@ pub struct TableNumbers {
 pub enum Verdict {
     /// The device does what the rule asks.
     Pass,
-    /// It does not; the first word that shows it is that long and stands at the front of the word buffer.
+    /// It does not. The word that shows it is that long and stands at the front of the word buffer; it is the first: the shortest, and
+    /// among those the one with the smaller event at the first difference. Word and length are fixed by the two tables.
     Fail(usize),
 }
 
@@ -130,6 +131,9 @@ pub fn replay(text: &[u8], events: &[u8], to: &mut [u8]) -> Result<(), Refusal> 
 /// let open = Table { states: 1, start: 0, bytes: &[3, 0, 3, 0] };
 /// assert_eq!(gurvazze::trial(file, open, &mut word)?, Verdict::Fail(1));
 /// assert_eq!(word[0], 0);
+/// let late = b"events=2\nvalues=4\ntop=3\nmeet=0 0 0 0 0 1 0 1 0 0 2 2 0 1 2 3\nrule=A G0 O1.1 G1 O0.1\n";
+/// assert_eq!(gurvazze::trial(late, open, &mut word)?, Verdict::Fail(2));
+/// assert_eq!(word[..2], [0, 1]);
 /// let conflict = Table { states: 1, start: 0, bytes: &[0, 0, 0, 0] };
 /// assert_eq!(gurvazze::trial(file, conflict, &mut word)?, Verdict::Pass);
 /// # Ok::<(), gurvazze::Refusal>(())
