@@ -7,8 +7,8 @@ use Rattle.theory.specs.Claims.{CharacteristicClaim, ConformanceClaim, O
 use Rattle.theory.proofs.{Substitution.{accepted-well-formed}, SemanticsEquality.{semantics-claim, answers-claim, conjunction-claim}}
 use Rattle.theory.proofs.{Simulation.{simulation-claim}, Satisfaction.{satisfaction-claim}, TableSatisfaction.{table-satisfaction-claim}}
 use Rattle.theory.proofs.{DemandClaims.{demand-claim, demand-values-claim}, TableClaims.{numbering-claim, table-claim, table-values-claim}}
-use Rattle.theory.proofs.{CharacteristicClaims.{characteristic-claim}, ConformanceClaims.{table-simulation-claim, conformance-claim, one-first-word-claim}}
-use Rattle.theory.proofs.Trial.{trial-claim}
+use Rattle.theory.proofs.{CharacteristicClaims.{characteristic-claim}, Trial.{trial-claim}}
+use Rattle.theory.proofs.ConformanceClaims.{table-simulation-claim, conformance-claim, one-first-word-claim}
 
 pub grammar : GrammarClaim
 grammar B limit events In φ = accepted-well-formed limit events In φ
