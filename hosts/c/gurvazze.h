@@ -69,7 +69,7 @@ uint64_t gurvazze_replay(const uint8_t *text, size_t text_length, const uint8_t 
 uint64_t gurvazze_trial(const uint8_t *text, size_t text_length, size_t device_states, size_t device_start, const uint8_t *device,
                         size_t device_length, uint8_t *word, size_t word_length);
 
-/* The same against a rule's table, from its state 0, with the same word. Refusals 1 to 3, 11, 13. */
+/* The same against a rule's table, from its state 0; a failing word is the first here too. Refusals 1 to 3, 11, 13. */
 uint64_t gurvazze_trial_table(size_t events, size_t values, size_t top, const uint8_t *meet, size_t meet_length, size_t states,
                               const uint8_t *table, size_t table_length, size_t device_states, size_t device_start,
                               const uint8_t *device, size_t device_length, uint8_t *word, size_t word_length);

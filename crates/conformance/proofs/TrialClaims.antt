@@ -73,6 +73,12 @@ either-first n P Q a b (inr (unmet, e)) (inl (r, y, d)) = inl (r, (inr (y .0), y
 either-first n P Q a b (inr (unmet, e)) (inr (neither, d)) =
     inr ((λ r m. ⊎-elim (λ p. unmet r (p, m .1)) (λ q. neither r (q, m .1)) (m .0)), ap (λ o. or-else o b) e ∙ d)
 
+-- Two first words of one input are equal.
+one-word : (x : TrialInput) (v w : List ℕ) → FirstFailure x v → FirstFailure x w → v ≡ w
+one-word x v w =
+    one-first-word-claim (SetupValue (x .set-up)) (meet x) (setup-top (x .set-up)) (x .set-up .events) (device-machine x) (table-machine x)
+    (x .device-start) zero v w
+
 module _ (d t : ℕ) where
   -- The refusals.
   module _ (x : TrialInput) (old : List ℕ) where
@@ -104,12 +110,6 @@ module _ (d t : ℕ) where
         answer = λ x old. refusal-same (trial-refusal d t x old) (first-failure x);
         kept = λ x old r e. ap (λ o. buffer-unless o (first-failure x) old) (sym (refusal-same (trial-refusal d t x old) (first-failure x)) ∙ e);
       }
-
-  -- Two first words of one input are equal.
-  one-word : (x : TrialInput) (v w : List ℕ) → FirstFailure x v → FirstFailure x w → v ≡ w
-  one-word x v w =
-      one-first-word-claim (SetupValue (x .set-up)) (meet x) (setup-top (x .set-up)) (x .set-up .events) (device-machine x) (table-machine x)
-      (x .device-start) zero v w
 
   -- An accepted input's tables run, and the values obey the laws.
   module _ (x : TrialInput) (old : List ℕ) (z : trial-refusal d t x old ≡ none) where

@@ -8,7 +8,7 @@ use Rattle.values.specs.Setup.{Setup, SetupValue, setup-meet, setup-conditions}
 use Rattle.machines.specs.TableBytes.{entry-width, machine-of, TableInOrder}
 use Rattle.conformance.specs.{declared.Verdict.{Verdict}, declared.Verdict.the-variants.{Pass, Fail, Refused}}
 
--- What is handed in beside the word buffer. The rule's table starts at state 0.
+-- Handed in beside the word buffer: a set-up, the rule's table, which starts at state 0, with its state count, the device with its own and a start.
 pub record TrialInput : Type 0 where
   pub set-up : Setup
   pub states : ℕ
@@ -50,7 +50,7 @@ module _ (device-most table-most : ℕ) (x : TrialInput) (buffer : List ℕ) whe
   RuleTableInOrder = TableInOrder (entry-width (x .set-up .kind)) table-most (x .set-up .events) (SetupValue (x .set-up)) (x .states) zero (x .table)
       (table-machine x)
 
-  -- The conditions that a trial meets, in order: those of the set-up, 11, and 13 for a word buffer shorter than the longest word.
+  -- What a trial is refused for, in document 01's order: the set-up's conditions, 11, and 13 for a buffer shorter than the longest word.
   unfoldable pub trial-conditions : List Condition
   trial-conditions = setup-conditions (x .set-up)
       ++ (plain 11 ((¬ DeviceInOrder) ⊎ (¬ RuleTableInOrder)) ∷ plain 13 (length buffer < device-most * table-most) ∷ [])

@@ -1,5 +1,5 @@
 -- Document 01, "Marked for proof": the twelve cases in its order, and what it is for a case to hold, by document 01's definitions; then cases of
--- document 02's requests. Four-value set, two events.
+-- our own for document 02's requests. Four-value set, two events.
 use mathlib.Core.{Path.{_≡_}, Logic.{Lift}, List.{List, [], _∷_}, Option.{none, some}}
 use Prim.Native.Nat.{ℕ, zero, suc}
 use Rattle.theory.specs.ValueSets.{four-value-meet}
@@ -121,7 +121,7 @@ cases =
     ∷ passing 0
     ∷ []
 
--- Cases of document 02, in its order.
+-- Cases of our own for document 02, which marks none.
 abbrev pub request-cases : List Case
 request-cases =
     -- F-1. the first word: the smaller event; the smaller at the first difference; the shortest
