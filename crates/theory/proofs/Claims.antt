@@ -3,12 +3,12 @@ use Prim.Native.Nat.{ℕ}
 use Rattle.theory.specs.ValueSets.{MeetSemilattice}
 use Rattle.theory.specs.Claims.{GrammarClaim, SemanticsClaim, AnswersClaim, ConjunctionClaim, SimulationClaim, NumberingClaim, TableSimulationClaim}
 use Rattle.theory.specs.Claims.{SatisfactionClaim, TableSatisfactionClaim, DemandClaim, DemandValuesClaim, TableClaim, TableValuesClaim}
-use Rattle.theory.specs.Claims.{CharacteristicClaim, ConformanceClaim, OneFirstWordClaim, TrialClaim}
+use Rattle.theory.specs.Claims.{CharacteristicClaim, ConformanceClaim, OneFirstWordClaim, SameValuesClaim, TrialClaim}
 use Rattle.theory.proofs.{Substitution.{accepted-well-formed}, SemanticsEquality.{semantics-claim, answers-claim, conjunction-claim}}
 use Rattle.theory.proofs.{Simulation.{simulation-claim}, Satisfaction.{satisfaction-claim}, TableSatisfaction.{table-satisfaction-claim}}
 use Rattle.theory.proofs.{DemandClaims.{demand-claim, demand-values-claim}, TableClaims.{numbering-claim, table-claim, table-values-claim}}
 use Rattle.theory.proofs.{CharacteristicClaims.{characteristic-claim}, Trial.{trial-claim}}
-use Rattle.theory.proofs.ConformanceClaims.{table-simulation-claim, conformance-claim, one-first-word-claim}
+use Rattle.theory.proofs.ConformanceClaims.{table-simulation-claim, conformance-claim, one-first-word-claim, same-values-claim}
 
 pub grammar : GrammarClaim
 grammar B limit events In φ = accepted-well-formed limit events In φ
@@ -43,6 +43,9 @@ module _ {B : Type 0} (In : B → Type 0) (meet : B → B → B) (top : B) (even
 
   pub one-first-word : OneFirstWordClaim In meet top events
   one-first-word = one-first-word-claim In meet top events
+
+  pub same-values : SameValuesClaim In meet top events
+  same-values = same-values-claim In meet top events
 
   module _ (laws : MeetSemilattice In meet top) where
     pub satisfaction : SatisfactionClaim In meet top laws events

@@ -1,5 +1,5 @@
--- The check of one table against another: no word is found exactly where every value is at or below on every word, which is
--- simulation; a word that is found is the first counterexample, of at least one and at most n × k events.
+-- The check of one table against another, for any test of two values: no word is found exactly where the values are so related on every
+-- word; a word that is found is the first where they are not, of at least one and at most n × k events.
 use mathlib.Core.{Path.{_≡_, refl, _∙_, ap, subst, subst⁻¹}, Bool.{Bool, true, false, not}, Logic.{_↔_}}
 use mathlib.Core.{List.{List, [], _∷_, _++_, reverse, reverse-cons, reverse-reverse, reverse-append}, Option.{Option, none, some}}
 use Prim.Native.Nat.{ℕ, _+_, _*_, _≤_, _<_}
@@ -8,10 +8,10 @@ use lib.{Dec.{T, eqb, eqb→eq, eqb-refl, T-not, not-T}, ListN.{length, length-r
 use mir.Facts.{and-yes, yes-and}
 use Rattle.theory.specs.ValueSets.{AtOrBelow}
 use Rattle.theory.specs.MealyMachine.{Machine, Word, after, States}
-use Rattle.theory.specs.MachineRuns.{Runs, BelowOnWords}
+use Rattle.theory.specs.MachineRuns.{Runs, RelatedOnWords}
 use Rattle.theory.specs.MealyMachine.{NoLater}
 use Rattle.theory.specs.Exploration.{reached, explored}
-use Rattle.theory.specs.MealyMachine.{Counterexample, FirstCounterexample}
+use Rattle.theory.specs.MealyMachine.{FirstCounterexample}
 use Rattle.theory.specs.ConformanceCheck.{first-bad, next-pair, bad-pair, same-pair, in-play-order, counterexample}
 use Rattle.theory.proofs.{Numbers.{digits-equal, pigeonhole}, WordOrder.{word-reverse, word-left, word-right, no-later-iff-number}}
 use Rattle.theory.proofs.{Exploration.{at, Kept, invariant}, ReachableStates.{reached-reverse}, FirstBad.{Answer, answer}}
@@ -66,17 +66,18 @@ module _ {B : Type 0} (events n k : ℕ) (m q : Machine ℕ B) (m-in : (s e : �
           (at-in j (omega arith) .1) (at-in l h .1) e in
           inv .1 .different j l u h (λ i. (d .0 i, d .1 i))
 
-module _ {B : Type 0} (In : B → Type 0) (meet : B → B → B) (at-or-below : B → B → Bool)
-    (decides : (b c : B) → T (at-or-below b c) ↔ AtOrBelow meet b c) (events n : ℕ) (m : Machine ℕ B) (k : ℕ) (q : Machine ℕ B)
+-- For any relation of two values that is decided.
+module _ {B : Type 0} (In : B → Type 0) (Related : B → B → Type 0) (related : B → B → Bool)
+    (decides : (b c : B) → T (related b c) ↔ Related b c) (events n : ℕ) (m : Machine ℕ B) (k : ℕ) (q : Machine ℕ B)
     (runs-m : Runs events In (States n) m) (runs-q : Runs events In (States k) q) where
-  not-below-iff : (b c : B) → T (not (at-or-below b c)) ↔ (¬ AtOrBelow meet b c)
-  not-below-iff b c = (
-    (λ x y. T-not (at-or-below b c) x (decides b c .1 y)),
-    λ f. not-T (at-or-below b c) (λ x. f (decides b c .0 x)),
+  not-related-iff : (b c : B) → T (not (related b c)) ↔ (¬ Related b c)
+  not-related-iff b c = (
+    (λ x y. T-not (related b c) x (decides b c .1 y)),
+    λ f. not-T (related b c) (λ x. f (decides b c .0 x)),
   )
 
-  below-if-not-not : (b c : B) → ¬ (¬ AtOrBelow meet b c) → AtOrBelow meet b c
-  below-if-not-not b c f = decides b c .0 (stable (at-or-below b c) (λ x. f (not-below-iff b c .0 x)))
+  related-if-not-not : (b c : B) → ¬ (¬ Related b c) → Related b c
+  related-if-not-not b c f = decides b c .0 (stable (related b c) (λ x. f (not-related-iff b c .0 x)))
     where
       stable : (b : Bool) → (T (not b) → ⊥) → T b
       stable true f = tt
@@ -97,98 +98,115 @@ module _ {B : Type 0} (In : B → Type 0) (meet : B → B → B) (at-or-below : 
     few =
         few-pairs events n k m q (λ l e h i. runs-m .next-in l h e i) (λ l e h i. runs-q .next-in l h e i) s t s-in t-in
 
-    -- A word in order of play: the test strikes exactly where the value is not at or below.
-    abbrev BelowAfter : List ℕ → ℕ → Type 0
-    BelowAfter w e = AtOrBelow meet (m .value (after m s w) e) (q .value (after q t w) e)
+    -- A word in order of play: the test strikes exactly where the values are not related.
+    abbrev RelatedAfter : List ℕ → ℕ → Type 0
+    RelatedAfter w e = Related (m .value (after m s w) e) (q .value (after q t w) e)
 
     pair-in-play-order : (w : List ℕ) → pair-after (reverse w) ≡ (after m s w, after q t w)
     pair-in-play-order w = pair-after-is (reverse w) ∙ (λ i. (reached-reverse m s w i, reached-reverse q t w i))
 
-    bad-iff : (w : List ℕ) (e : ℕ) → T (bad-pair at-or-below m q (pair-after (reverse w)) e) ↔ (¬ BelowAfter w e)
+    bad-iff : (w : List ℕ) (e : ℕ) → T (bad-pair related m q (pair-after (reverse w)) e) ↔ (¬ RelatedAfter w e)
     bad-iff w e =
-        subst⁻¹ (λ x. T (bad-pair at-or-below m q x e) ↔ (¬ BelowAfter w e)) (pair-in-play-order w)
-        (not-below-iff (m .value (after m s w) e) (q .value (after q t w) e))
+        subst⁻¹ (λ x. T (bad-pair related m q x e) ↔ (¬ RelatedAfter w e)) (pair-in-play-order w)
+        (not-related-iff (m .value (after m s w) e) (q .value (after q t w) e))
 
-    bad-iff-reversed : (w : List ℕ) (e : ℕ) → T (bad-pair at-or-below m q (pair-after w) e) ↔ (¬ BelowAfter (reverse w) e)
+    bad-iff-reversed : (w : List ℕ) (e : ℕ) → T (bad-pair related m q (pair-after w) e) ↔ (¬ RelatedAfter (reverse w) e)
     bad-iff-reversed w e =
-        subst (λ x. T (bad-pair at-or-below m q (pair-after x) e) ↔ (¬ BelowAfter (reverse w) e)) (reverse-reverse w) (bad-iff (reverse w) e)
+        subst (λ x. T (bad-pair related m q (pair-after x) e) ↔ (¬ RelatedAfter (reverse w) e)) (reverse-reverse w) (bad-iff (reverse w) e)
+
+    -- u, last event first, is the first word after whose last event the values are not related.
+    pub record FirstUnrelated (u : List ℕ) : Type 0 where
+      pub before : List ℕ
+      pub last : ℕ
+      pub ends : u ≡ last ∷ before
+      pub events-of : Word events u
+      pub unrelated : ¬ RelatedAfter (reverse before) last
+      pub few-events : length u ≤ n * k
+      pub first : (w : List ℕ) (e : ℕ) → Word events (w ++ (e ∷ [])) → ¬ RelatedAfter w e → NoLater (reverse u) (w ++ (e ∷ []))
+
+    -- What each answer of the check says.
+    unfoldable pub Says : Option (List ℕ) → Type 0
+    Says none = RelatedOnWords events Related m q s t
+    Says (some u) = FirstUnrelated u
 
     abbrev PairAnswer : Option (List ℕ) → Type 0
     PairAnswer o =
-        Answer (next-pair m q) (s, t) (bad-pair at-or-below m q) events same-pair same-pair-iff (n * k) o
+        Answer (next-pair m q) (s, t) (bad-pair related m q) events same-pair same-pair-iff (n * k) o
 
-    -- What each answer says.
-    abbrev Says : Option (List ℕ) → Type 0
-    Says o =
-        ((o ≡ none) ↔ BelowOnWords events meet m q s t)
-        × ((word : List ℕ) → o ≡ some word →
-        FirstCounterexample events meet m q s t word × (0 < length word) × (length word ≤ n * k))
+    says : (o : Option (List ℕ)) → PairAnswer o → Says o
+    unfolding Answer Says
+    says none f = λ w v a l. related-if-not-not (m .value (after m s w) a) (q .value (after q t w) a)
+        (λ g. f (reverse w) a (word-reverse events w v) l (bad-iff w a .1 g))
+    says (some u) f =
+        record {
+          before = f .0;
+          last = f .1;
+          ends = f .2;
+          events-of = f .3;
+          unrelated = bad-iff-reversed (f .0) (f .1) .0 (f .4);
+          few-events = omega (arith, f .5, few);
+          first = λ w e h g.
+              let p : reverse (w ++ (e ∷ [])) ≡ e ∷ reverse w = reverse-append w (e ∷ []) in
+              no-later-iff-number events (reverse u) (w ++ (e ∷ [])) (word-reverse events u (f .3)) h .1
+              (rw (reverse-reverse u, p)
+              (f .6 (reverse w) e (word-reverse events w (word-left events w (e ∷ []) h)) (word-right events w (e ∷ []) h .0) (bad-iff w e .1 g)));
+        }
 
-    says-none : PairAnswer none → Says none
-    unfolding Answer
-    says-none f = (
-      (
-        (λ e w v a l. below-if-not-not (m .value (after m s w) a) (q .value (after q t w) a)
-            (λ g. f (reverse w) a (word-reverse events w v) l (bad-iff w a .1 g))),
-        λ b. refl,
-      ),
-      λ word e. let z : _≡_ {A = ℕ} 0 1 = cc in absurd (omega arith),
-    )
+    abbrev found : Option (List ℕ)
+    found = first-bad (next-pair m q) (s, t) (bad-pair related m q) events P
 
-    says-some : (u : List ℕ) → PairAnswer (some u) → Says (some (reverse u))
-    unfolding Answer
-    says-some u f = (
-      (
-        (λ e. let z : _≡_ {A = ℕ} 0 1 = cc in absurd (omega arith)),
-        λ b. absurd (not-below (b (reverse w) (word-reverse events w (word .1)) a (word .0))),
-      ),
-      λ other e. let p : reverse u ≡ other = cc in
+    pub found-says : Says found
+    found-says = says found (answer (next-pair m q) (s, t) (bad-pair related m q) events same-pair same-pair-iff (n * k) few)
+
+    -- No word is found exactly where the values are related on every word.
+    pub none-iff-related : (counterexample related m q events n k s t ≡ none) ↔ RelatedOnWords events Related m q s t
+    unfolding Says
+    none-iff-related = go found found-says
+      where
+        go : (o : Option (List ℕ)) → Says o → (in-play-order o ≡ none) ↔ RelatedOnWords events Related m q s t
+        go none f = ((λ e. f), λ b. refl)
+        go (some u) f = (
+          (λ e. let z : _≡_ {A = ℕ} 0 1 = cc in absurd (omega arith)),
+          λ b. let h : Word events (f .last ∷ f .before) = subst (Word events) (f .ends) (f .events-of) in
+              absurd (f .unrelated (b (reverse (f .before)) (word-reverse events (f .before) (h .1)) (f .last) (h .0))),
+        )
+
+-- For the order of values: a word that is found is the first counterexample.
+module _ {B : Type 0} (In : B → Type 0) (meet : B → B → B) (at-or-below : B → B → Bool)
+    (decides : (b c : B) → T (at-or-below b c) ↔ AtOrBelow meet b c) (events n : ℕ) (m : Machine ℕ B) (k : ℕ) (q : Machine ℕ B)
+    (runs-m : Runs events In (States n) m) (runs-q : Runs events In (States k) q) (s t : ℕ) (s-in : s < n) (t-in : t < k) where
+  abbrev Unrelated : List ℕ → Type 0
+  Unrelated = FirstUnrelated In (AtOrBelow meet) at-or-below decides events n m k q runs-m runs-q s t s-in t-in
+
+  first-counterexample : (u : List ℕ) → Unrelated u → FirstCounterexample events meet m q s t (reverse u)
+  first-counterexample u f =
+      record {
+        fails = record {
+          events-of = word-reverse events u (f .events-of);
+          before = reverse (f .before);
+          last = f .last;
+          ends = ap reverse (f .ends) ∙ reverse-cons (f .last) (f .before);
+          not-below = f .unrelated;
+        };
+        first = λ other c. subst⁻¹ (NoLater (reverse u)) (c .ends)
+            (f .first (c .before) (c .last) (subst (Word events) (c .ends) (c .events-of)) (c .not-below));
+      }
+
+  pub first-shown :
+      (word : List ℕ) → counterexample at-or-below m q events n k s t ≡ some word →
+      FirstCounterexample events meet m q s t word × (0 < length word) × (length word ≤ n * k)
+  unfolding Says
+  first-shown word e =
+      go (found In (AtOrBelow meet) at-or-below decides events n m k q runs-m runs-q s t s-in t-in)
+      (found-says In (AtOrBelow meet) at-or-below decides events n m k q runs-m runs-q s t s-in t-in) e
+    where
+      go :
+          (o : Option (List ℕ)) → Says In (AtOrBelow meet) at-or-below decides events n m k q runs-m runs-q s t s-in t-in o → in-play-order o ≡ some word →
+          FirstCounterexample events meet m q s t word × (0 < length word) × (length word ≤ n * k)
+      go none f e = let z : _≡_ {A = ℕ} 0 1 = cc in absurd (omega arith)
+      go (some u) f e = let p : reverse u ≡ word = cc in
           subst (λ x. FirstCounterexample events meet m q s t x × (0 < length x) × (length x ≤ n * k)) p (
-            record { fails = fails; first = first },
-            omega (arith, length-reverse u, ap length is),
-            omega (arith, length-reverse u, f .5, few),
-          ),
-    )
-      where
-        w : List ℕ
-        w = f .0
-
-        a : ℕ
-        a = f .1
-
-        is : u ≡ a ∷ w
-        is = f .2
-
-        word : Word events (a ∷ w)
-        word = subst (Word events) is (f .3)
-
-        not-below : ¬ BelowAfter (reverse w) a
-        not-below = bad-iff-reversed w a .0 (f .4)
-
-        fails : Counterexample events meet m q s t (reverse u)
-        fails =
-            record {
-              events-of = word-reverse events u (f .3);
-              before = reverse w;
-              last = a;
-              ends = ap reverse is ∙ reverse-cons a w;
-              not-below = not-below;
-            }
-
-        first : (other : List ℕ) → Counterexample events meet m q s t other → NoLater (reverse u) other
-        first other c =
-            let p : reverse other ≡ c .last ∷ reverse (c .before) = ap reverse (c .ends) ∙ reverse-append (c .before) (c .last ∷ []) in
-            let h : Word events (c .before ++ (c .last ∷ [])) = subst (Word events) (c .ends) (c .events-of) in
-            no-later-iff-number events (reverse u) other (word-reverse events u (f .3)) (c .events-of) .1
-            (rw (reverse-reverse u, p)
-            (f .6 (reverse (c .before)) (c .last) (word-reverse events (c .before) (word-left events (c .before) (c .last ∷ []) h))
-            (word-right events (c .before) (c .last ∷ []) h .0) (bad-iff (c .before) (c .last) .1 (c .not-below))))
-
-    pub conformance : Says (counterexample at-or-below m q events n k s t)
-    conformance =
-        go (first-bad (next-pair m q) (s, t) (bad-pair at-or-below m q) events P)
-        (answer (next-pair m q) (s, t) (bad-pair at-or-below m q) events same-pair same-pair-iff (n * k) few)
-      where
-        go : (o : Option (List ℕ)) → PairAnswer o → Says (in-play-order o)
-        go none f = says-none f
-        go (some u) f = says-some u f
+            first-counterexample u f,
+            omega (arith, length-reverse u, ap length (f .ends)),
+            omega (arith, length-reverse u, f .few-events),
+          )

@@ -1,21 +1,17 @@
--- Between tables, simulation by a decided relation is simulation, and the check decides it; the word that it finds is the only first one.
-use mathlib.Core.{Path.{_≡_, refl}, Bool.{Bool, true, false}, Logic.{_↔_}, List.{[], _∷_}, Option.{Option, none, some}}
+-- Between tables, simulation by a decided relation is simulation, and the check decides it; the word that it finds is the only first one. With
+-- equality the check decides whether all values are the same.
+use mathlib.Core.{Path.{_≡_, refl}, Bool.{Bool}, Logic.{_↔_}, List.{[], _∷_}, Option.{Option, none, some}}
 use Prim.Native.Nat.{ℕ, _<_}
 use native.Mathlib.Omega.{arith}
 use lib.Dec.{T}
-use Rattle.theory.specs.ValueSets.{MeetSemilattice, AtOrBelow}
+use Rattle.theory.specs.ValueSets.{AtOrBelow}
 use Rattle.theory.specs.MealyMachine.{Machine, States}
 use Rattle.theory.specs.MachineRuns.{Runs, SimulatedTable, BelowOnWords}
-use Rattle.theory.specs.ConformanceCheck.{counterexample}
-use Rattle.theory.specs.Claims.{TableSimulationClaim, ConformanceClaim, OneFirstWordClaim}
-use Rattle.theory.proofs.{Simulation.{simulation-below}, Conformance.{conformance}, WordOrder.{no-later-antisymmetric}}
+use Rattle.theory.specs.ConformanceCheck.{is-none, counterexample}
+use Rattle.theory.specs.Claims.{TableSimulationClaim, ConformanceClaim, OneFirstWordClaim, SameValuesClaim}
+use Rattle.theory.proofs.{Simulation.{simulation-below}, Conformance.{none-iff-related, first-shown}, WordOrder.{no-later-antisymmetric}}
 
-is-none : {A : Type 0} → Option A → Bool
-is-none none = true
-is-none (some a) = false
-
-is-none-iff : {A : Type 0} (o : Option A) → T (is-none o) ↔ (o ≡ none)
-unfolding is-none
+pub is-none-iff : {A : Type 0} (o : Option A) → T (is-none o) ↔ (o ≡ none)
 is-none-iff none = ((λ t. refl), λ e. tt)
 is-none-iff (some a) = ((λ t. absurd t), λ e. let z : _≡_ {A = ℕ} 0 1 = cc in absurd (omega arith))
 
@@ -27,7 +23,7 @@ module _ {B : Type 0} (In : B → Type 0) (meet : B → B → B) (at-or-below : 
   Passes x y = counterexample at-or-below m q events n k x y ≡ none
 
   pub passes-iff : (s t : ℕ) → s < n → t < k → Passes s t ↔ BelowOnWords events meet m q s t
-  passes-iff s t hs ht = conformance In meet at-or-below decides events n m k q runs-m runs-q s t hs ht .0
+  passes-iff s t hs ht = none-iff-related In (AtOrBelow meet) at-or-below decides events n m k q runs-m runs-q s t hs ht
 
   -- That the check finds no word is a decided relation, and a simulation.
   pub below-simulated : (s t : ℕ) → s < n → t < k → BelowOnWords events meet m q s t → SimulatedTable events meet n m k q s t
@@ -68,9 +64,13 @@ module _ {B : Type 0} (In : B → Type 0) (meet : B → B → B) (top : B) (even
   pub conformance-claim : ConformanceClaim In meet top events
   conformance-claim at-or-below decides n m k q runs-m runs-q s t hs ht = (
     passes-iff-simulated In meet at-or-below decides events n m k q runs-m runs-q s t hs ht,
-    conformance In meet at-or-below decides events n m k q runs-m runs-q s t hs ht .1,
+    first-shown In meet at-or-below decides events n m k q runs-m runs-q s t hs ht,
   )
 
   -- Of two first counterexamples neither is later than the other.
   pub one-first-word-claim : OneFirstWordClaim In meet top events
   one-first-word-claim m q s t v w x y = no-later-antisymmetric v w (x .first w (y .fails)) (y .first v (x .fails))
+
+  pub same-values-claim : SameValuesClaim In meet top events
+  same-values-claim equal decides n m k q runs-m runs-q s t hs ht =
+      none-iff-related In (λ b c. b ≡ c) equal decides events n m k q runs-m runs-q s t hs ht

@@ -8,7 +8,7 @@ use native.Mathlib.Omega.{arith}
 use lib.{Dec.{T, ltb}, ListN.{length, getD, length-append, List·getD-append}, Seq.{getD-append-seam}}
 use borrow.Author.Tests.{ltb-true, ltb-false}
 use Rattle.theory.specs.{MealyMachine.{Word}, Exploration.{reached, has-state, add, add-events, explore, explored}}
-use Rattle.theory.proofs.{Numbers.{Comparison, less, equal, greater, comparison, digits-less, digits-equal}, WordOrder.{code}}
+use Rattle.theory.proofs.{Numbers.{Trichotomy, less, equal, greater, trichotomy, digits-less, digits-equal}, WordOrder.{code}}
 
 abbrev Sequences : Type 0
 Sequences = List (List ℕ)
@@ -104,9 +104,9 @@ module _ {S : Type 0} (same : S → S → Bool) (same-iff : (x y : S) → T (sam
     pub taken : (j a : ℕ) → j < length P → a < events → rank (a ∷ at P j) < c → HitsNext P j a
 
   by-code : (c : ℕ) (P : Sequences) → Invariant c P → (j i : ℕ) → j < length P → i < length P → rank (at P j) ≡ rank (at P i) → j ≡ i
-  by-code c P v j i hj hi q = go (comparison j i)
+  by-code c P v j i hj hi q = go (trichotomy j i)
     where
-      go : Comparison j i → j ≡ i
+      go : Trichotomy j i → j ≡ i
       go (less h) = absurd (omega (arith, v .rising j i h hi, q))
       go (equal h) = h
       go (greater h) = absurd (omega (arith, v .rising i j h hj, q))
@@ -326,9 +326,9 @@ module _ {S : Type 0} (same : S → S → Bool) (same-iff : (x y : S) → T (sam
       into j a u k h = up-to (rank (events ∷ at Q i)) Q i v hi j a h k
 
       earlier : suc i < length Q → (j a : ℕ) → j < length Q → a < events → rank (a ∷ at Q j) < rank (0 ∷ at Q (suc i)) → j ≤ i
-      earlier h j a u k x = go (comparison j (suc i))
+      earlier h j a u k x = go (trichotomy j (suc i))
         where
-          go : Comparison j (suc i) → j ≤ i
+          go : Trichotomy j (suc i) → j ≤ i
           go (less l) = omega arith
           go (equal l) = absurd (omega (arith, x, ap (λ y. rank (at Q y) * events) l))
           go (greater l) =
@@ -444,9 +444,9 @@ module _ {S : Type 0} (same : S → S → Bool) (same-iff : (x y : S) → T (sam
         subst (λ x. rank (at Q x) ≤ rank w) (one-place (r .0) (r .1) (r .2 ∙ q)) (r .3)
       where
         one-place : (j : ℕ) → j < length Q → state (at Q j) ≡ state (at Q l) → j ≡ l
-        one-place j b e = go (comparison j l)
+        one-place j b e = go (trichotomy j l)
           where
-            go : Comparison j l → j ≡ l
+            go : Trichotomy j l → j ≡ l
             go (less x) = absurd (result .0 .1 .different j l x u e)
             go (equal x) = x
             go (greater x) = absurd (result .0 .1 .different l j x b (sym e))

@@ -6,15 +6,15 @@ use lib.Dec.{eqb}
 use borrow.Author.Tests.{eqb-true, eqb-false}
 
 -- How two numbers compare.
-pub data Comparison (a b : ℕ) : Type 0 where
-  less : a < b → Comparison a b
-  equal : a ≡ b → Comparison a b
-  greater : b < a → Comparison a b
+pub data Trichotomy (a b : ℕ) : Type 0 where
+  less : a < b → Trichotomy a b
+  equal : a ≡ b → Trichotomy a b
+  greater : b < a → Trichotomy a b
 
-pub comparison : (a b : ℕ) → Comparison a b
-comparison a b = go (decLt a b) (decLt b a)
+pub trichotomy : (a b : ℕ) → Trichotomy a b
+trichotomy a b = go (decLt a b) (decLt b a)
   where
-    go : Dec (a < b) → Dec (b < a) → Comparison a b
+    go : Dec (a < b) → Dec (b < a) → Trichotomy a b
     go (yes h) y = less h
     go (no f) (yes h) = greater h
     go (no f) (no g) = equal (omega arith)
@@ -25,9 +25,9 @@ digits-less base x y a b h l = omega (arith, mul-le-mul-right base h, suc-mul x 
 
 pub digits-equal :
     (base x y a b : ℕ) → a < base → b < base → x * base + a ≡ y * base + b → (x ≡ y) × (a ≡ b)
-digits-equal base x y a b ha hb e = go (comparison x y)
+digits-equal base x y a b ha hb e = go (trichotomy x y)
   where
-    go : Comparison x y → (x ≡ y) × (a ≡ b)
+    go : Trichotomy x y → (x ≡ y) × (a ≡ b)
     go (less h) = absurd (omega (arith, digits-less base x y a b h ha))
     go (equal h) = (h, omega (arith, ap (λ z. z * base) h))
     go (greater h) = absurd (omega (arith, digits-less base y x b a h hb))

@@ -9,7 +9,7 @@ use Rattle.theory.specs.MealyMachine.{Machine, Word, after, States}
 use Rattle.theory.specs.MachineRuns.{Runs}
 use Rattle.theory.specs.MealyMachine.{Before, NoLater}
 use Rattle.theory.specs.{ReachableStates.{state-at, Numbering, IsTable}, Exploration.{reached}}
-use Rattle.theory.proofs.Numbers.{Comparison, less, equal, greater, comparison}
+use Rattle.theory.proofs.Numbers.{Trichotomy, less, equal, greater, trichotomy}
 use Rattle.theory.proofs.WordOrder.{not-before-empty, before-irreflexive, before-asymmetric, no-later-antisymmetric}
 
 pub after-append : {S B : Type 0} (m : Machine S B) (s : S) (v w : List ℕ) → after m s (v ++ w) ≡ after m (after m s v) w
@@ -51,9 +51,9 @@ module _ {S B : Type 0} (events : ℕ) (m : Machine S B) (start : S) where
   pub one-number :
       (W : List (List ℕ)) → Numbers W → (j l : ℕ) → j < length W → l < length W →
       state W j ≡ state W l → j ≡ l
-  one-number W N j l hj hl e = go (comparison j l)
+  one-number W N j l hj hl e = go (trichotomy j l)
     where
-      go : Comparison j l → j ≡ l
+      go : Trichotomy j l → j ≡ l
       go (less h) = absurd (N .different j l h hl e)
       go (equal h) = h
       go (greater h) = absurd (N .different l j h hj (sym e))
@@ -84,12 +84,12 @@ module _ {S B : Type 0} (events : ℕ) (m : Machine S B) (start : S) where
         (r .0, r .1, no-later-antisymmetric (entry W (r .0)) (entry U l) (r .3) back)
 
     shared-rising : (j l : ℕ) (hj : j < length U) (hl : l < length U) → j < l → shared j hj .0 < shared l hl .0
-    shared-rising j l hj hl u = go (comparison (shared j hj .0) (shared l hl .0))
+    shared-rising j l hj hl u = go (trichotomy (shared j hj .0) (shared l hl .0))
       where
         before : Before (entry W (shared j hj .0)) (entry W (shared l hl .0))
         before = rw (shared j hj .2, shared l hl .2) (M .rising j l u hl)
 
-        go : Comparison (shared j hj .0) (shared l hl .0) → shared j hj .0 < shared l hl .0
+        go : Trichotomy (shared j hj .0) (shared l hl .0) → shared j hj .0 < shared l hl .0
         go (less h) = h
         go (equal h) =
             absurd (before-irreflexive (entry W (shared l hl .0))
@@ -113,9 +113,9 @@ module _ {S B : Type 0} (events : ℕ) (m : Machine S B) (start : S) where
       (subst (λ i. i < length W) q (r .1), sym (r .2) ∙ ap (entry W) q)
 
   pub no-longer : (U W : List (List ℕ)) → Numbers U → Numbers W → length U ≤ length W
-  no-longer U W M N = go (comparison (length W) (length U))
+  no-longer U W M N = go (trichotomy (length W) (length U))
     where
-      go : Comparison (length W) (length U) → length U ≤ length W
+      go : Trichotomy (length W) (length U) → length U ≤ length W
       go (less h) = absurd (omega (arith, same-entry U W M N (length W) h .0))
       go (equal h) = omega arith
       go (greater h) = omega arith

@@ -6,7 +6,7 @@ use Prim.Native.Nat.{ℕ, zero, suc, _+_, _*_, _≤_, _<_, zero-le, suc-le-suc}
 use native.Mathlib.{Nat.{suc-inj, not-suc-le-zero, eq-or-lt-of-le}, Omega.{arith}}
 use lib.ListN.{length, length-reverse}
 use Rattle.theory.specs.MealyMachine.{Word, Before, shorter, smaller, NoLater}
-use Rattle.theory.proofs.Numbers.{Comparison, less, equal, greater, comparison, digits-less}
+use Rattle.theory.proofs.Numbers.{Trichotomy, less, equal, greater, trichotomy, digits-less}
 
 -- Words of the events of a count.
 pub word-append : (events : ℕ) (v w : List ℕ) → Word events v → Word events w → Word events (v ++ w)
@@ -95,9 +95,9 @@ same-length : (v w : List ℕ) → length v ≡ length w → Placement v w
 same-length [] [] e = same refl
 same-length [] (b ∷ w) e = absurd (omega arith)
 same-length (a ∷ v) [] e = absurd (omega arith)
-same-length (a ∷ v) (b ∷ w) e = go (comparison a b) (same-length v w (suc-inj e))
+same-length (a ∷ v) (b ∷ w) e = go (trichotomy a b) (same-length v w (suc-inj e))
   where
-    go : Comparison a b → Placement v w → Placement (a ∷ v) (b ∷ w)
+    go : Trichotomy a b → Placement v w → Placement (a ∷ v) (b ∷ w)
     go (less l) p = first (smaller [] v w (suc-inj e) l)
     go (greater l) p = second (smaller [] w v (sym (suc-inj e)) l)
     go (equal q) (first h) = first (rw q (before-cons b h))
@@ -105,9 +105,9 @@ same-length (a ∷ v) (b ∷ w) e = go (comparison a b) (same-length v w (suc-in
     go (equal q) (second h) = second (rw q (before-cons b h))
 
 pub placement : (v w : List ℕ) → Placement v w
-placement v w = go (comparison (length v) (length w))
+placement v w = go (trichotomy (length v) (length w))
   where
-    go : Comparison (length v) (length w) → Placement v w
+    go : Trichotomy (length v) (length w) → Placement v w
     go (less l) = first (shorter v w l)
     go (equal e) = same-length v w e
     go (greater l) = second (shorter w v l)

@@ -4,7 +4,7 @@ use Prim.Native.Nat.{ℕ, zero, suc, _+_, _*_, _≤_, _<_}
 use lib.{Dec.{T}, ListN.{length}}
 use Rattle.theory.specs.{ValueSets.{MeetSemilattice, AtOrBelow}, Formula.{Formula, transition, output, conjunction, size, Steps, Answers, Stands}}
 use Rattle.theory.specs.FormulaClasses.{binders, Closed, ClosedPosition, Fits, WellFormed, Accepted}
-use Rattle.theory.specs.MealyMachine.{Machine, Word, after, States, Simulated, FirstCounterexample, Satisfies}
+use Rattle.theory.specs.MealyMachine.{Machine, Word, after, States, Simulated, SameValues, FirstCounterexample, Satisfies}
 use Rattle.theory.specs.{MachineRuns.{Runs, SimulatedTable, BelowOnWords}, TableSatisfaction.{TableSatisfies}}
 use Rattle.theory.specs.{ReachableStates.{NodeSet, IsSetMachine, Numbering, IsTable, IsTableOf, StatesAtMost}, CharacteristicFormula.{Writes}}
 use Rattle.theory.specs.{FormulaWriting.{written}, ConformanceCheck.{counterexample}, Evaluation.{value, follower, formulas}}
@@ -101,6 +101,14 @@ module _ {B : Type 0} (In : B → Type 0) (meet : B → B → B) (top : B) (even
   abbrev pub OneFirstWordClaim : Type 0
   OneFirstWordClaim =
       (m q : Machine ℕ B) (s t : ℕ) (v w : List ℕ) → FirstCounterexample events meet m q s t v → FirstCounterexample events meet m q s t w → v ≡ w
+
+  -- The same check with equality: no word is found exactly where every event sequence ends in equal values (document 02, F-5).
+  abbrev pub SameValuesClaim : Type 0
+  SameValuesClaim =
+      (equal : B → B → Bool) → ((b c : B) → T (equal b c) ↔ (b ≡ c)) →
+      (n : ℕ) (m : Machine ℕ B) (k : ℕ) (q : Machine ℕ B) → Runs events In (States n) m → Runs events In (States k) q →
+      (s t : ℕ) → s < n → t < k →
+      (counterexample equal m q events n k s t ≡ none) ↔ SameValues events m q s t
 
 -- For any value set that obeys the laws.
 module _ {B : Type 0} (In : B → Type 0) (meet : B → B → B) (top : B) (laws : MeetSemilattice In meet top) (events : ℕ) where

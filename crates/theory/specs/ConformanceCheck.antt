@@ -1,6 +1,6 @@
 -- Twin of MealyMachine, pinned by theory ConformanceClaim.
--- The first failing word of one table against another, computed.
-use mathlib.Core.{Bool.{Bool, not, _&&_, cond}, List.{List, [], _∷_, reverse}, Option.{Option, none, some}}
+-- The first failing word of one table against another, computed, for any test of two values: at or below; or equal (document 02, F-5).
+use mathlib.Core.{Bool.{Bool, true, false, not, _&&_, cond}, List.{List, [], _∷_, reverse}, Option.{Option, none, some}}
 use Prim.Native.Nat.{ℕ, zero, suc, _*_}
 use lib.Dec.{eqb}
 use Rattle.theory.specs.{MealyMachine.{Machine}, Exploration.{reached, explored}}
@@ -12,6 +12,10 @@ first-found (some w) o = some w
 
 abbrev pub same-pair : ℕ × ℕ → ℕ × ℕ → Bool
 same-pair x y = eqb (x .0) (y .0) && eqb (x .1) (y .1)
+
+abbrev pub is-none : {A : Type 0} → Option A → Bool
+is-none none = true
+is-none (some a) = false
 
 abbrev pub in-play-order : Option (List ℕ) → Option (List ℕ)
 in-play-order none = none
@@ -31,9 +35,9 @@ module _ {S : Type 0} (next : S → ℕ → S) (start : S) (bad : S → ℕ → 
 abbrev pub next-pair : {B : Type 0} → Machine ℕ B → Machine ℕ B → ℕ × ℕ → ℕ → ℕ × ℕ
 next-pair m q x e = (m .next (x .0) e, q .next (x .1) e)
 
-module _ {B : Type 0} (at-or-below : B → B → Bool) (m q : Machine ℕ B) where
+module _ {B : Type 0} (related : B → B → Bool) (m q : Machine ℕ B) where
   abbrev pub bad-pair : ℕ × ℕ → ℕ → Bool
-  bad-pair x e = not (at-or-below (m .value (x .0) e) (q .value (x .1) e))
+  bad-pair x e = not (related (m .value (x .0) e) (q .value (x .1) e))
 
   -- The first word on which a table of n states fails against one of k states.
   abbrev pub counterexample : ℕ → ℕ → ℕ → ℕ → ℕ → Option (List ℕ)

@@ -20,9 +20,13 @@ module _ {B : Type 0} (events : ℕ) (meet : B → B → B) (n : ℕ) (m : Machi
   SimulatedTable s t =
       (R : ℕ → ℕ → Bool) × IsSimulation events meet (States n) m (States k) q (λ x y. T (R x y)) × T (R s t)
 
--- After every sequence (w, then e) the value of s is at or below that of t.
+-- After every sequence (w, then e) the value of s is so related to that of t; at or below it; `SameValues` is the case of equality.
+module _ {B S Q : Type 0} (events : ℕ) (Related : B → B → Type 0) (m : Machine S B) (q : Machine Q B) where
+  abbrev pub RelatedOnWords : S → Q → Type 0
+  RelatedOnWords s t =
+      (w : List ℕ) → Word events w → (e : ℕ) → e < events →
+      Related (m .value (after m s w) e) (q .value (after q t w) e)
+
 module _ {B S Q : Type 0} (events : ℕ) (meet : B → B → B) (m : Machine S B) (q : Machine Q B) where
   abbrev pub BelowOnWords : S → Q → Type 0
-  BelowOnWords s t =
-      (w : List ℕ) → Word events w → (e : ℕ) → e < events →
-      AtOrBelow meet (m .value (after m s w) e) (q .value (after q t w) e)
+  BelowOnWords = RelatedOnWords events (AtOrBelow meet) m q

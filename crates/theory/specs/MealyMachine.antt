@@ -34,6 +34,11 @@ module _ {B S Q : Type 0} (events : ℕ) (meet : B → B → B) (StateS : S → 
   abbrev pub Simulated : S → Q → Type 1
   Simulated s t = (R : S → Q → Type 0) × IsSimulation R × R s t
 
+-- "Every event sequence ends in equal values" (document 02, F-5): w, then e.
+module _ {B S Q : Type 0} (events : ℕ) (m : Machine S B) (q : Machine Q B) where
+  abbrev pub SameValues : S → Q → Type 0
+  SameValues s t = (w : List ℕ) → Word events w → (e : ℕ) → e < events → m .value (after m s w) e ≡ q .value (after q t w) e
+
 -- The order of event sequences (document 01, "Table of a rule"): shortest first, then the smaller at the first difference.
 pub data Before : List ℕ → List ℕ → Type 0 where
   shorter : (v w : List ℕ) → length v < length w → Before v w
