@@ -1,5 +1,7 @@
 -- Places of entries and pairs fit.
 pub mod Places
+-- What a pair of states shows.
+pub mod Pairs
 -- The queue's arrays hold the words of the search.
 pub mod Queues
 -- The words that the arrays link, and how they are written.

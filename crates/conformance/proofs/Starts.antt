@@ -2,17 +2,17 @@
 use mathlib.Core.{Path.{_≡_, refl, sym, _∙_, ap, ap₂, subst, subst⁻¹}, Bool.{Bool, true, false}, List.{List, [], _∷_, reverse}, Option.{Option, none}}
 use Prim.Native.Nat.{ℕ, zero, _+_, _*_, _≤_, _<_}
 use native.Mathlib.{Nat.{mul-le-mul-right, suc-mul}, Omega.{arith}}
-use lib.{ListN.{length, getD, set, replicate, length-set, length-reverse, length-replicate, getD-replicate}, Seq.{getD-set-same, getD-set-other}}
+use lib.{Dec.{eqb}, ListN.{length, getD, set, replicate, length-set, length-reverse, length-replicate, getD-replicate}, Seq.{getD-set-same, getD-set-other}}
 use Rattle.theory.specs.Exploration.{reached, has-state}
-use Rattle.theory.specs.ConformanceCheck.{same-pair, next-pair, counterexample}
+use Rattle.theory.specs.ConformanceCheck.{same-pair, next-pair, is-none, counterexample}
 use Rattle.theory.proofs.Numbers.{digits-equal}
 use Rattle.refusal.specs.Refusal.{put}
 use Rattle.values.specs.declared.ValueKind.{ValueKind}
 use Rattle.machines.specs.TableBytes.{machine-of}
-use Rattle.conformance.specs.declared.{Verdict.{Verdict}, Failure.{Failure}}
+use Rattle.conformance.specs.declared.{Grade.{Grade}, Verdict.{Verdict}, Failure.{Failure}}
 use Rattle.conformance.specs.declared.Verdict.the-variants.{Pass, Fail}
 use Rattle.conformance.specs.declared.Failure.the-variants.{Nowhere, At}
-use Rattle.conformance.specs.TrialAnswer.{outcome, shown}
+use Rattle.conformance.specs.TrialAnswer.{outcome, grade-of, shown}
 use Rattle.conformance.specs.PairQueue.{Queue, queue, Sized, flag, Searchable, Searched, Located, Tried, AnswersSearch, Answered, FailsAt, Empty}
 use Rattle.conformance.proofs.{Queues.{same-pair-self, same-pair-true, or-false}, Words.{short-word, put-last}}
 use Rattle.values.specs.ValueTests.{at-or-below}
@@ -147,22 +147,28 @@ module _ {size events : ℕ} {kind : ValueKind} {k : ℕ} {table : List ℕ} {s 
     abbrev found : Option (List ℕ)
     found = counterexample (at-or-below kind meet) (machine-of kind events device) (machine-of kind events table) events (x .n) k s zero
 
-    located : Located size events found r b
+    abbrev same : Bool
+    same = is-none (counterexample eqb (machine-of kind events device) (machine-of kind events table) events (x .n) k s zero)
+
+    located : Located size events found same r b
     unfolding start-searchable
     located = subst (λ c. Searched c events kind meet k device table started r b) (start-sized .flags-size) h start-searchable
 
-    pub found-nowhere : r ≡ Nowhere → found ≡ none
+    pub found-nowhere : (all-equal : Bool) → r ≡ Nowhere all-equal → (found ≡ none) × (all-equal ≡ same)
     unfolding Located
-    found-nowhere z = subst (λ y. Located size events found y b) z located
+    found-nowhere all-equal z = subst (λ y. Located size events found same y b) z located
 
     pub found-at-place : (i e : ℕ) → r ≡ At i e → FailsAt size events found i e (b .parents) (b .last-events)
     unfolding Located
-    found-at-place i e z = subst (λ y. Located size events found y b) z located
+    found-at-place i e z = subst (λ y. Located size events found same y b) z located
 
 -- The answer where the search finds nothing.
-pub answer-none : (found : Option (List ℕ)) (old : List ℕ) → found ≡ none → AnswersSearch found old Pass old
+pub answer-none :
+    (found : Option (List ℕ)) (same all-equal : Bool) (g : Grade) (old : List ℕ) → (found ≡ none) × (all-equal ≡ same) → g ≡ grade-of all-equal →
+    AnswersSearch found same old (Pass g) old
 unfolding outcome shown
-answer-none found old z = record { answer-is = ap outcome (sym z); later-is = ap (λ o. shown o old) (sym z) }
+answer-none found same all-equal g old (z, e) is =
+    record { answer-is = ap Pass (is ∙ ap grade-of e) ∙ ap (λ o. outcome o same) (sym z); later-is = ap (λ o. shown o old) (sym z) }
 
 -- And where it fails at a place of the queue.
 module _ {size events : ℕ} {found : Option (List ℕ)} {i e : ℕ} {parents last-events : List ℕ} (y : FailsAt size events found i e parents last-events) where
@@ -179,12 +185,12 @@ module _ {size events : ℕ} {found : Option (List ℕ)} {i e : ℕ} {parents la
       )
 
   pub answer-some :
-      (old later : List ℕ) (n : ℕ) → n ≡ length w → size ≤ length old → later ≡ put (reverse w) (set old n e) →
-      AnswersSearch found old (Fail (n + 1)) later
+      (same : Bool) (old later : List ℕ) (n : ℕ) → n ≡ length w → size ≤ length old → later ≡ put (reverse w) (set old n e) →
+      AnswersSearch found same old (Fail (n + 1)) later
   unfolding outcome shown
-  answer-some old later n z room is =
+  answer-some same old later n z room is =
       record {
-        answer-is = ap Fail (omega (arith, length-reverse (e ∷ w))) ∙ ap outcome (sym (y .is-first));
+        answer-is = ap Fail (omega (arith, length-reverse (e ∷ w))) ∙ ap (λ o. outcome o same) (sym (y .is-first));
         later-is =
             is ∙ ap (λ c. put (reverse w) (set old c e)) z ∙ put-last w old e (omega (arith, word-fits n z))
             ∙ ap (λ o. shown o old) (sym (y .is-first));

@@ -21,8 +21,8 @@ use Rattle.machines.proofs.TableRefusals.{none-in-order}
 use Rattle.conformance.specs.declared.Verdict.{Verdict}
 use Rattle.conformance.specs.declared.Verdict.the-variants.{Refused as Rejected}
 use Rattle.conformance.specs.Trial.{TrialInput, input}
-use Rattle.conformance.specs.TrialAnswer.{tables-refusal, trial-refusal, first-failure, answer-unless, buffer-unless, trial-answer}
-use Rattle.conformance.specs.TrialAnswer.{trial-buffer}
+use Rattle.conformance.specs.TrialAnswer.{tables-refusal, trial-refusal, first-failure, ends-same, found-answer, answer-unless, buffer-unless}
+use Rattle.conformance.specs.TrialAnswer.{trial-answer, trial-buffer}
 use Rattle.conformance.specs.PairQueue.{Tried, Answered, Concluded}
 use Rattle.conformance.proofs.Places.{product-bounded}
 
@@ -40,10 +40,10 @@ unfolding or-else
 passed-here a b j e z = ap (λ o. or-else o b) (accepted-here a j e z)
 
 refused-answer :
-    (o : Option Refusal) (f : Option (List ℕ)) (r : Refusal) (buffer : List ℕ) → o ≡ some r →
-    (Rejected r ≡ answer-unless o f) × (buffer ≡ buffer-unless o f buffer)
+    (o : Option Refusal) (v : Verdict) (f : Option (List ℕ)) (r : Refusal) (buffer : List ℕ) → o ≡ some r →
+    (Rejected r ≡ answer-unless o v) × (buffer ≡ buffer-unless o f buffer)
 unfolding answer-unless buffer-unless
-refused-answer o f r buffer e = (sym (ap (λ a. answer-unless a f) e), sym (ap (λ a. buffer-unless a f buffer) e))
+refused-answer o v f r buffer e = (sym (ap (λ a. answer-unless a v) e), sym (ap (λ a. buffer-unless a f buffer) e))
 
 -- The checks of the tables one after the other, each with the judgement that was made.
 module _ (d t events : ℕ) (kind : ValueKind) (states : ℕ) (table : List ℕ) (device-states device-start : ℕ) (device buffer : List ℕ) where
@@ -171,7 +171,7 @@ module _ (events : ℕ) (kind : ValueKind) (meet : List ℕ) (states : ℕ) (tab
     unfolding trial-answer trial-buffer
     tables-refused r z top ok =
         let q = same-answer top ok ∙ judgement-refused tables-answer r (sym e ∙ z) in
-        refused-answer (trial-refusal device-limit table-limit (trial-of top) buffer) (first-failure (trial-of top)) r buffer q
+        refused-answer (trial-refusal device-limit table-limit (trial-of top) buffer) (found-answer (trial-of top)) (first-failure (trial-of top)) r buffer q
 
     -- The search's answer is the trial's, whatever the size of its arrays.
     module _ (z : j ≡ Accepted) (few : events ≤ event-limit) (size : ℕ) (pairs : device-states * states ≤ size) (room : size ≤ device-limit * table-limit) where
@@ -184,11 +184,11 @@ module _ (events : ℕ) (kind : ValueKind) (meet : List ℕ) (states : ℕ) (tab
       pub trial-searched :
           (r : Verdict) (later : List ℕ) → Answered size events kind meet states table device-start device buffer r later →
           Concluded events kind meet states table device-states device-start device buffer r later
-      unfolding to-try tried first-failure trial-answer trial-buffer answer-unless buffer-unless input
+      unfolding to-try tried first-failure ends-same found-answer trial-answer trial-buffer answer-unless buffer-unless input
       trial-searched r later f top ok =
           let a = f to-try in
           let q = same-answer top ok ∙ accepted-here tables-answer j e z in (
-            a .answer-is ∙ ap (λ o. answer-unless o (first-failure (trial-of top))) (sym q),
+            a .answer-is ∙ ap (λ o. answer-unless o (found-answer (trial-of top))) (sym q),
             a .later-is ∙ ap (λ o. buffer-unless o (first-failure (trial-of top)) buffer) (sym q),
           )
 
@@ -198,7 +198,7 @@ pub setup-refused :
     (Rejected r ≡ trial-answer d t x buffer) × (buffer ≡ trial-buffer d t x buffer)
 unfolding trial-refusal or-else trial-answer trial-buffer
 setup-refused d t x buffer r e =
-    refused-answer (trial-refusal d t x buffer) (first-failure x) r buffer
+    refused-answer (trial-refusal d t x buffer) (found-answer x) (first-failure x) r buffer
     (ap
     (λ o. or-else o
     (handed d t (x .set-up .events) (x .set-up .kind) (x .states) (x .table) (x .device-states) (x .device-start) (x .device) buffer))

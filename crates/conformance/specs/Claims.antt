@@ -1,18 +1,24 @@
 -- What is claimed of a trial (document 01, "Trial"), for every limit on the device's and the table's states; proofs/TrialClaims has a
 -- proof of each.
-use mathlib.Core.{Path.{_≡_}, Logic.{_↔_}, List.{List}, Option.{none, some}}
+use mathlib.Core.{Path.{_≡_}, Logic.{_↔_, _⊎_}, List.{List}, Option.{none, some}}
 use Prim.Native.Nat.{ℕ, _*_, _<_, zero}
 use Rattle.theory.specs.{ValueSets.{AtOrBelow}, Formula.{Formula}, FormulaClasses.{WellFormed}, TableSatisfaction.{TableSatisfies}}
 use Rattle.theory.specs.{ReachableStates.{IsTableOf}, MachineRuns.{SimulatedTable}}
 use Rattle.refusal.specs.{declared.Refusal.{Refusal}, Refusal.{Judged}}
 use Rattle.values.specs.Setup.{SetupValue, setup-top}
-use Rattle.conformance.specs.Trial.{TrialInput, meet, device-machine, table-machine, FailsBy, trial-conditions, refusal-of, Passed, word-length}
+use Rattle.conformance.specs.declared.{Grade.the-variants.{Same, Stricter}, Verdict.{Verdict}}
+use Rattle.conformance.specs.Trial.{TrialInput, meet, device-machine, table-machine, Passes, EndsSame, FailsBy, trial-conditions, refusal-of, Passed}
+use Rattle.conformance.specs.Trial.{grade, word-length}
 use Rattle.conformance.specs.TrialAnswer.{trial-refusal, trial-answer, trial-buffer}
 
 -- Definition 1 with decided relations: the same over tables (theory's `TableSimulationClaim`).
 abbrev pub PassesDecided : TrialInput → Type 0
 PassesDecided x =
     SimulatedTable (x .set-up .events) (meet x) (x .device-states) (device-machine x) (x .states) (table-machine x) (x .device-start) zero
+
+-- The two passes together are the old pass (document 02, F-5).
+abbrev pub TwoPassesClaim : Type 0
+TwoPassesClaim = (answer : Verdict) → Passed answer ↔ ((grade answer ≡ some Same) ⊎ (grade answer ≡ some Stricter))
 
 -- A trial is judged as document 01 asks; its conditions stand in the order, 11 once for both tables.
 module _ (device-most table-most : ℕ) where
@@ -36,6 +42,16 @@ module _ (device-most table-most : ℕ) where
         Passed (trial-answer device-most table-most x old) ↔ PassesDecided x
     pub kept :
         (x : TrialInput) (old : List ℕ) → Passed (trial-answer device-most table-most x old) → trial-buffer device-most table-most x old ≡ old
+
+  -- An accepted trial passes as same exactly if every event sequence ends in equal values, and as stricter where it passes otherwise
+  -- (document 02, F-5).
+  pub record GradeClaim : Type 1 where
+    pub same :
+        (x : TrialInput) (old : List ℕ) → trial-refusal device-most table-most x old ≡ none →
+        (grade (trial-answer device-most table-most x old) ≡ some Same) ↔ EndsSame x
+    pub stricter :
+        (x : TrialInput) (old : List ℕ) → trial-refusal device-most table-most x old ≡ none →
+        (grade (trial-answer device-most table-most x old) ≡ some Stricter) ↔ (Passes x × ¬ EndsSame x)
 
   -- A failed trial shows the first word after whose last event the device's value is not at or below the table's, and no other: at least
   -- one event, and no more than there are pairs of states.

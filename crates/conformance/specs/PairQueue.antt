@@ -4,27 +4,45 @@ use mathlib.Core.{Path.{_≡_}, Bool.{Bool, true, false, cond}, List.{List, [], 
 use Prim.Native.Nat.{ℕ, zero, _+_, _*_, _≤_, _<_}
 use lib.{Dec.{eqb}, ListN.{length, getD, set}}
 use Rattle.limits.specs.Limits.{event-limit, device-limit, table-limit}
-use Rattle.theory.specs.{MealyMachine.{Machine}, Exploration.{reached, has-state, add-events}, ConformanceCheck.{same-pair, next-pair, counterexample}}
+use Rattle.theory.specs.{MealyMachine.{Machine}, Exploration.{reached, has-state, add-events}, ConformanceCheck.{same-pair, next-pair, is-none, counterexample}}
 use Rattle.refusal.specs.Refusal.{put}
 use Rattle.machines.specs.TableBytes.{machine-of}
-use Rattle.values.specs.{declared.ValueKind.{ValueKind}, Setup.{setup-of-kind}, SetupTests.{setup-refusal}, ValueTests.{at-or-below}}
+use Rattle.values.specs.{declared.ValueKind.{ValueKind}, declared.Comparison.{Comparison}, Setup.{setup-of-kind}, SetupTests.{setup-refusal}}
+use Rattle.values.specs.ValueTests.{at-or-below, comparison}
 use Rattle.conformance.specs.{declared.Verdict.{Verdict}, declared.Failure.{Failure}, declared.Failure.the-variants.{Nowhere, At}, Trial.{input}}
+use Rattle.conformance.specs.{declared.PairVerdict.{PairVerdict}, declared.PairVerdict.the-variants.{Fails, Passes}}
 use Rattle.conformance.specs.TrialAnswer.{outcome, shown, trial-answer, trial-buffer}
 
 -- The cells of each array where there are few pairs of states.
 abbrev pub small-queue : ℕ
 small-queue = 256
 
--- On an event in a pair of states the device's value is at or below the table's.
-unfoldable pub at-or-below-on : ℕ → ValueKind → List ℕ → List ℕ → List ℕ → ℕ → ℕ → ℕ → Bool
-at-or-below-on events kind meet device table s t e =
-    at-or-below kind meet (machine-of kind events device .value s e) (machine-of kind events table .value t e)
+-- On an event in a pair of states: how the device's value compares with the table's, and the two tests of that.
+module _ (events : ℕ) (kind : ValueKind) (meet device table : List ℕ) (s t : ℕ) where
+  unfoldable pub comparison-on : ℕ → Comparison
+  comparison-on e = comparison kind meet (machine-of kind events device .value s e) (machine-of kind events table .value t e)
 
--- r is the first of the events that is not allowed, or their count.
-pub record FirstBadEvent (events : ℕ) (good : ℕ → Bool) (r : ℕ) : Type 0 where
-  pub at-most : r ≤ events
-  pub before : (e : ℕ) → e < r → good e ≡ true
-  pub bad : r < events → good r ≡ false
+  unfoldable pub below-on : ℕ → Bool
+  below-on e = at-or-below kind meet (machine-of kind events device .value s e) (machine-of kind events table .value t e)
+
+  unfoldable pub equal-on : ℕ → Bool
+  equal-on e = eqb (machine-of kind events device .value s e) (machine-of kind events table .value t e)
+
+-- What a pair of states shows on the events: which is the first that is not allowed; or all are, and whether all values are equal.
+module _ (events : ℕ) (good equal : ℕ → Bool) where
+  pub record FailsOn (r : ℕ) : Type 0 where
+    pub event-in : r < events
+    pub before : (e : ℕ) → e < r → good e ≡ true
+    pub bad : good r ≡ false
+
+  pub record PassesOn (all-equal : Bool) : Type 0 where
+    pub allowed : (e : ℕ) → e < events → good e ≡ true
+    pub same : all-equal ≡ true → (e : ℕ) → e < events → equal e ≡ true
+    pub different : all-equal ≡ false → (e : ℕ) × (e < events) × (equal e ≡ false)
+
+  unfoldable pub Shows : PairVerdict → Type 0
+  Shows (Fails r) = FailsOn r
+  Shows (Passes all-equal) = PassesOn all-equal
 
 -- The arrays: of each pair in the queue its device state, its table state, the place of the pair that it was reached from and the
 -- event; and of each pair of states a flag that it is in the queue.
@@ -171,16 +189,17 @@ pub record FailsAt (size events : ℕ) (first : Option (List ℕ)) (i e : ℕ) (
   pub event-in : e < events
   pub is-first : first ≡ some (reverse (e ∷ getD (reaches .words) i []))
 
-unfoldable pub Located : ℕ → ℕ → Option (List ℕ) → Failure → Queue → Type 0
-Located size events first Nowhere a = first ≡ none
-Located size events first (At i e) a = FailsAt size events first i e (a .parents) (a .last-events)
+unfoldable pub Located : ℕ → ℕ → Option (List ℕ) → Bool → Failure → Queue → Type 0
+Located size events first same (Nowhere all-equal) a = (first ≡ none) × (all-equal ≡ same)
+Located size events first same (At i e) a = FailsAt size events first i e (a .parents) (a .last-events)
 
--- What the search finds is the first counterexample.
+-- What the search finds is the first counterexample; where there is none, it tells whether all values are equal.
 abbrev pub Searched : ℕ → ℕ → ValueKind → List ℕ → ℕ → List ℕ → List ℕ → Queue → Failure → Queue → Type 0
 Searched size events kind meet k device table a r b =
     (x : Searchable size events kind k device table a) →
     Located size events
-    (counterexample (at-or-below kind meet) (machine-of kind events device) (machine-of kind events table) events (x .n) k (x .s) zero) r b
+    (counterexample (at-or-below kind meet) (machine-of kind events device) (machine-of kind events table) events (x .n) k (x .s) zero)
+    (is-none (counterexample eqb (machine-of kind events device) (machine-of kind events table) events (x .n) k (x .s) zero)) r b
 
 -- What the search is given, and the buffer has room for the longest word.
 pub record Tried (size events : ℕ) (kind : ValueKind) (k : ℕ) (table : List ℕ) (s : ℕ) (device buffer : List ℕ) : Type 0 where
@@ -191,8 +210,8 @@ pub record Tried (size events : ℕ) (kind : ValueKind) (k : ℕ) (table : List 
   pub room : size ≤ length buffer
 
 -- The answer and the later buffer are those of the first counterexample.
-pub record AnswersSearch (found : Option (List ℕ)) (old : List ℕ) (answer : Verdict) (later : List ℕ) : Type 0 where
-  pub answer-is : answer ≡ outcome found
+pub record AnswersSearch (found : Option (List ℕ)) (same : Bool) (old : List ℕ) (answer : Verdict) (later : List ℕ) : Type 0 where
+  pub answer-is : answer ≡ outcome found same
   pub later-is : later ≡ shown found old
 
 abbrev pub Answered : ℕ → ℕ → ValueKind → List ℕ → ℕ → List ℕ → ℕ → List ℕ → List ℕ → Verdict → List ℕ → Type 0
@@ -200,6 +219,7 @@ Answered size events kind meet k table s device old answer later =
     (x : Tried size events kind k table s device old) →
     AnswersSearch
     (counterexample (at-or-below kind meet) (machine-of kind events device) (machine-of kind events table) events (x .n) k s zero)
+    (is-none (counterexample eqb (machine-of kind events device) (machine-of kind events table) events (x .n) k s zero))
     old answer later
 
 -- A trial over an accepted set-up, whatever its top.

@@ -2,11 +2,11 @@
 use mathlib.Core.{Path.{_≡_}, Logic.{_⊎_}, Option.{Option, none, some}, List.{List, [], _∷_, _++_}}
 use Prim.Native.Nat.{ℕ, zero, _*_, _≤_, _<_}
 use lib.ListN.{length, take, drop}
-use Rattle.theory.specs.MealyMachine.{Machine, States, Simulated, FirstCounterexample}
+use Rattle.theory.specs.MealyMachine.{Machine, States, Simulated, SameValues, FirstCounterexample}
 use Rattle.refusal.specs.{declared.Refusal.{Refusal}, Refusal.{Condition, plain}}
 use Rattle.values.specs.Setup.{Setup, SetupValue, setup-meet, setup-conditions}
 use Rattle.machines.specs.TableBytes.{entry-width, machine-of, TableInOrder}
-use Rattle.conformance.specs.{declared.Verdict.{Verdict}, declared.Verdict.the-variants.{Pass, Fail, Refused}}
+use Rattle.conformance.specs.{declared.Verdict.{Verdict}, declared.Verdict.the-variants.{Pass, Fail, Refused}, declared.Grade.{Grade}}
 
 -- Handed in beside the word buffer: a set-up, the rule's table, which starts at state 0, with its state count, the device with its own and a start.
 pub record TrialInput : Type 0 where
@@ -35,6 +35,10 @@ table-machine x = machine-of (x .set-up .kind) (x .set-up .events) (x .table)
 abbrev pub Passes : TrialInput → Type 1
 Passes x = Simulated (x .set-up .events) (meet x) (States (x .device-states)) (device-machine x) (States (x .states)) (table-machine x)
     (x .device-start) zero
+
+-- "Same is given exactly if every event sequence ends in equal values" (document 02, F-5), from the start and from state 0.
+abbrev pub EndsSame : TrialInput → Type 0
+EndsSame x = SameValues (x .set-up .events) (device-machine x) (table-machine x) (x .device-start) zero
 
 -- "Otherwise the answer is a word .. after whose last event the device's value is not at or below the table's"; "the first" (document 02, F-1).
 abbrev pub FirstFailure : TrialInput → List ℕ → Type 0
@@ -65,18 +69,23 @@ pub record FailsBy (x : TrialInput) (longest : ℕ) (old new : List ℕ) (n : �
   pub rest-kept : drop n new ≡ drop n old
   pub not-passed : ¬ Passes x
 
--- What each answer says: the refusal, that the device passed, the length of a failed trial's word.
+-- What each answer says: the refusal, that the device passed, as same or as stricter, the length of a failed trial's word.
 abbrev pub refusal-of : Verdict → Option Refusal
-refusal-of Pass = none
+refusal-of (Pass passed-as) = none
 refusal-of (Fail n) = none
 refusal-of (Refused refusal) = some refusal
 
 abbrev pub Passed : Verdict → Type 0
-Passed Pass = Unit {0}
+Passed (Pass passed-as) = Unit {0}
 Passed (Fail n) = ⊥
 Passed (Refused refusal) = ⊥
 
+abbrev pub grade : Verdict → Option Grade
+grade (Pass passed-as) = some passed-as
+grade (Fail n) = none
+grade (Refused refusal) = none
+
 abbrev pub word-length : Verdict → Option ℕ
-word-length Pass = none
+word-length (Pass passed-as) = none
 word-length (Fail n) = some n
 word-length (Refused refusal) = none

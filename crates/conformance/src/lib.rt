@@ -8,9 +8,10 @@ use machines::value_at;
 use refusal::BUFFER_LENGTH;
 use refusal::Judgement;
 use refusal::Refusal;
+use values::Comparison;
 use values::ValueKind;
-use values::at_or_below;
 use values::check_setup;
+use values::compare;
 ghost use mathlib.Core.Path.{_≡_};
 ghost use Prim.Native.Nat.{_≤_, _<_};
 ghost use lib.ListN.{length};
@@ -18,8 +19,8 @@ ghost use lib.Dec.{leb};
 ghost use Rattle.refusal.specs.RefusalAnswers.{or-else, plain-unless, judgement};
 ghost use Rattle.values.specs.Setup.{setup};
 ghost use Rattle.conformance.specs.Trial.{input};
-ghost use Rattle.conformance.specs.TrialAnswer.{tables-refusal, trial-answer, trial-buffer};
-ghost use Rattle.conformance.specs.PairQueue.{small-queue, at-or-below-on, FirstBadEvent, queue, Sized, Pushable, pushed, pushed-count};
+ghost use Rattle.conformance.specs.TrialAnswer.{tables-refusal, grade-of, trial-answer, trial-buffer};
+ghost use Rattle.conformance.specs.PairQueue.{small-queue, comparison-on, below-on, equal-on, Shows, queue, Sized, Pushable, pushed, pushed-count};
 ghost use Rattle.conformance.specs.PairQueue.{Expandable, Expanded, Reaches, Deep, Writable, WrittenWord, Empty, Searchable, Searched, Tried};
 ghost use Rattle.conformance.specs.PairQueue.{Answered, Concluded};
 ghost use Rattle.limits.specs.Limits.{event-limit, device-limit, table-limit, word-limit};
@@ -27,16 +28,29 @@ ghost use Rattle.limits.specs.Limits.{event-limit, device-limit, table-limit, w
 // The cells of each of the search's arrays where there are few pairs of states.
 const SMALL_QUEUE: usize = 256;
 
+// How a device passes (document 02, F-5): with the rule's values on every event sequence, or with some that are strictly below.
+pub enum Grade {
+    Same,
+    Stricter,
+}
+
 // The answer of a trial; a failed one has the word's length.
 pub enum Verdict {
-    Pass,
+    Pass(Grade),
     Fail(usize),
     Refused(Refusal),
 }
 
-// Where the search finds a value that is not at or below: at a place of the queue, on an event.
+// What a pair of states shows: the first event on which the device fails, or that it passes, and whether all its values are equal.
+enum PairVerdict {
+    Fails(usize),
+    Passes(bool),
+}
+
+// Where the search finds a value that is not at or below: nowhere, and whether all values are equal; or at a place of the queue, on an
+// event.
 enum Failure {
-    Nowhere,
+    Nowhere(bool),
     At(usize, usize),
 }
 
@@ -52,8 +66,14 @@ fn wide16(x: u16) -> usize
     x as usize
 }
 
-// Whether in a pair of states the device's value on an event is at or below the table's. Values are compared here only.
-fn at_or_below_on(
+fn grade_of(same: bool) -> Grade
+    ensures { λ r. ⌜ r ≡ grade-of same ⌝ }
+{
+    if same { Grade::Same } else { Grade::Stricter }
+}
+
+// How in a pair of states the device's value on an event compares with the table's. Values are compared here only.
+fn compare_on(
     events: usize,
     kind: ValueKind,
     meet: &[u8],
@@ -62,17 +82,17 @@ fn at_or_below_on(
     s: usize,
     t: usize,
     e: usize,
-) -> bool
+) -> Comparison
     requires { ⌜ (events ≤ event-limit) × (s < 256) × (t < 256) × (e < events) ⌝ }
-    ensures { λ r. ⌜ r ≡ at-or-below-on events kind (now (meet .entry)) (now (device .entry)) (now (table .entry)) s t e ⌝ }
+    ensures { λ r. ⌜ r ≡ comparison-on events kind (now (meet .entry)) (now (device .entry)) (now (table .entry)) s t e ⌝ }
 {
     let b = value_at(kind, device, s * events + e);
     let c = value_at(kind, table, t * events + e);
-    at_or_below(kind, meet, b, c)
+    compare(kind, meet, b, c)
 }
 
-// The first event on which the device fails in a pair of states; the event count where there is none.
-fn bad_event(
+// Judges a pair of states, events rising.
+fn judge_pair(
     events: usize,
     kind: ValueKind,
     meet: &[u8],
@@ -80,18 +100,22 @@ fn bad_event(
     table: &[u8],
     s: usize,
     t: usize,
-) -> usize
+) -> PairVerdict
     requires { ⌜ (events ≤ event-limit) × (s < 256) × (t < 256) ⌝ }
-    ensures { λ r. ⌜ FirstBadEvent events (at-or-below-on events kind (now (meet .entry)) (now (device .entry)) (now (table .entry)) s t) r ⌝ }
+    ensures { λ r. ⌜ Shows events (below-on events kind (now (meet .entry)) (now (device .entry)) (now (table .entry)) s t)
+        (equal-on events kind (now (meet .entry)) (now (device .entry)) (now (table .entry)) s t) r ⌝ }
 {
+    let mut all_equal = true;
     let mut e: usize = 0;
     while e < events {
-        if !at_or_below_on(events, kind, meet, device, table, s, t, e) {
-            return e;
+        match compare_on(events, kind, meet, device, table, s, t, e) {
+            Comparison::NotBelow => return PairVerdict::Fails(e),
+            Comparison::StrictlyBelow => all_equal = false,
+            Comparison::Equal => {}
         }
         e += 1;
     }
-    events
+    PairVerdict::Passes(all_equal)
 }
 
 // Puts a pair of states at the end of the queue, where it is not in it yet; returns how many pairs the queue has then.
@@ -176,7 +200,7 @@ fn push_successors(
     n
 }
 
-// Takes pairs from the queue, the start's first, until one fails or none is left.
+// Takes pairs from the queue, the start's first, until one fails or none is left; then it tells whether all values were equal.
 fn find_failure(
     events: usize,
     kind: ValueKind,
@@ -197,14 +221,15 @@ fn find_failure(
         (queue (now («device_queue» .entry)) (now («table_queue» .entry)) (now (parents .entry)) (now («last_events» .entry)) (now (flags .entry))) r
         (queue (now («device_queue» .exit)) (now («table_queue» .exit)) (now (parents .exit)) (now («last_events» .exit)) (now (flags .exit))) ⌝ }
 {
+    let mut same = true;
     let mut count: usize = 1;
     let mut i: usize = 0;
     while i < count {
         let s = wide(device_queue[i]);
         let t = wide(table_queue[i]);
-        let e = bad_event(events, kind, meet, device, table, s, t);
-        if e < events {
-            return Failure::At(i, e);
+        match judge_pair(events, kind, meet, device, table, s, t) {
+            PairVerdict::Fails(e) => return Failure::At(i, e),
+            PairVerdict::Passes(equal) => same = same & equal,
         }
         count = push_successors(
             events,
@@ -222,7 +247,7 @@ fn find_failure(
         );
         i += 1;
     }
-    Failure::Nowhere
+    Failure::Nowhere(same)
 }
 
 // How many events lead to a place of the queue.
@@ -277,7 +302,7 @@ fn search(
 {
     device_queue[0] = device_start as u8;
     flags[device_start * states] = 1;
-    let failure = find_failure(
+    let found = find_failure(
         events,
         kind,
         meet,
@@ -290,13 +315,15 @@ fn search(
         last_events,
         flags,
     );
-    let Failure::At(i, e) = failure else {
-        return Verdict::Pass;
-    };
-    let n = depth(parents, last_events, i);
-    word[n] = e as u8;
-    write_path(parents, last_events, i, n, word);
-    Verdict::Fail(n + 1)
+    match found {
+        Failure::Nowhere(same) => Verdict::Pass(grade_of(same)),
+        Failure::At(i, e) => {
+            let n = depth(parents, last_events, i);
+            word[n] = e as u8;
+            write_path(parents, last_events, i, n, word);
+            Verdict::Fail(n + 1)
+        }
+    }
 }
 
 // The search over few pairs.
@@ -462,8 +489,9 @@ fn trial_accepted(
     )
 }
 
-// The trial of a device against a rule's table, both in bytes, two an entry. A failed one has the first word on which the device
-// fails written to the front of the buffer; the two tables fix that word and its length (document 02, F-1).
+// The trial of a device against a rule's table, both in bytes, two an entry. It passes as same where every event sequence ends in equal
+// values, and else as stricter (document 02, F-5). A failed one has the first word on which the device fails written to the front of the
+// buffer; the two tables fix that word and its length (F-1).
 pub fn trial(
     events: usize,
     values: usize,

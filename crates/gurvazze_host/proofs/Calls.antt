@@ -20,7 +20,7 @@ use Rattle.text_format.specs.Format.{Outcome}
 use Rattle.channel_file.specs.{ChannelFile.{Contents}, Reading.{read-file}}
 use Rattle.conformance.specs.declared.Verdict.{Verdict}
 use Rattle.conformance.specs.Trial.{TrialInput, input}
-use Rattle.conformance.specs.TrialAnswer.{trial-refusal, trial-answer, trial-buffer, first-failure, answer-unless, buffer-unless}
+use Rattle.conformance.specs.TrialAnswer.{trial-refusal, trial-answer, trial-buffer, first-failure, found-answer, answer-unless, buffer-unless}
 use Rattle.channel_io.specs.declared.FileNumbers.{FileNumbers}
 use Rattle.channel_io.specs.FileConditions.{file-setup}
 use Rattle.channel_io.specs.FileReading.{numbers}
@@ -90,7 +90,7 @@ module _ {t meet old : List ℕ} (wide : meet-limit ≤ length meet) where
         or-some (trial-refusal device-limit table-limit (file-trial c states start device) word) (contents-table-refusal c) r
         (sym (table-fits c meet old wide room) ∙ f) in (
           sym (ap (λ (o : Outcome Contents). verdict-code (file-trial-answer o states start device word)) e
-              ∙ ap (λ (o : Option Refusal). verdict-code (answer-unless o (first-failure (file-trial c states start device)))) a),
+              ∙ ap (λ (o : Option Refusal). verdict-code (answer-unless o (found-answer (file-trial c states start device)))) a),
           sym (ap (λ (o : Outcome Contents). file-trial-buffer o states start device word) e
               ∙ ap (λ (o : Option Refusal). buffer-unless o (first-failure (file-trial c states start device)) word) a),
         )
@@ -179,7 +179,7 @@ module _ {t meet old meet′ new : List ℕ} {n : FileNumbers} {k : ℕ} (w : Ma
       or-none (trial-refusal device-limit table-limit (file-trial c states start device) word) (contents-table-refusal c) (w .passed) in (
         e ∙ ap (λ (z : TrialInput). trial-answer device-limit table-limit z word) x
             ∙ sym (ap (λ (o : Outcome Contents). file-trial-answer o states start device word) (w .reads)
-            ∙ ap (λ (o : Option Refusal). answer-unless o (first-failure (file-trial c states start device))) a),
+            ∙ ap (λ (o : Option Refusal). answer-unless o (found-answer (file-trial c states start device))) a),
         f ∙ ap (λ (z : TrialInput). trial-buffer device-limit table-limit z word) x
             ∙ sym (ap (λ (o : Outcome Contents). file-trial-buffer o states start device word) (w .reads)
             ∙ ap (λ (o : Option Refusal). buffer-unless o (first-failure (file-trial c states start device)) word) a),

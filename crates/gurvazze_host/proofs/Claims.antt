@@ -28,11 +28,12 @@ use Rattle.channel_io.specs.FileRefusals.{pair-table-refusal, file-states, file
 use Rattle.channel_io.specs.FileConditions.{contents-table-conditions}
 use Rattle.conformance.specs.declared.Verdict.{Verdict}
 use Rattle.conformance.specs.declared.Verdict.the-variants.{Pass, Fail, Refused}
+use Rattle.conformance.specs.declared.Grade.the-variants.{Same, Stricter}
 use Rattle.conformance.specs.Trial.{input, refusal-of, Passed, word-length}
-use Rattle.conformance.specs.TrialAnswer.{tables-refusal, trial-refusal, trial-answer, first-failure, answer-unless}
+use Rattle.conformance.specs.TrialAnswer.{tables-refusal, trial-refusal, trial-answer, found-answer, answer-unless}
 use Rattle.conformance.proofs.TrialClaims.{trial-satisfies}
 use Rattle.channel_io.proofs.Claims.{contents-table-claim, file-table-made, file-table-accepted}
-use Rattle.gurvazze_host.specs.Codes.{refusal-code, yield-code, code, counted-code, verdict-code, table-numbers, SmallNumbers}
+use Rattle.gurvazze_host.specs.Codes.{refusal-code, yield-code, code, counted-code, grade-yield, verdict-code, table-numbers, SmallNumbers}
 use Rattle.gurvazze_host.specs.FileCalls.{file-machine, word-refusal, file-replay-refusal, file-trial, file-trial-refusal, file-trial-answer}
 use Rattle.gurvazze_host.specs.Claims.{TellsRefusal, TellsCount, TellsVerdict, TellsNumbers, ListedAnswer, CodeClaim}
 use Rattle.gurvazze_host.specs.Claims.{file-replay-conditions, replay-order}
@@ -104,27 +105,38 @@ counts-told (Uncounted r) l =
     }
 
 verdicts-told :
-    (answer : Verdict) → ListedAnswer (refusal-of answer) → ((n : ℕ) → word-length answer ≡ some n → 1 ≤ n) → TellsVerdict answer (verdict-code answer)
-unfolding verdict-code yield-code
-verdicts-told Pass l w =
+    (answer : Verdict) → ListedAnswer (refusal-of answer) → ((n : ℕ) → word-length answer ≡ some n → (1 ≤ n) × (n ≤ word-limit)) →
+    TellsVerdict answer (verdict-code answer)
+unfolding verdict-code yield-code grade-yield
+verdicts-told (Pass Same) l w =
     record {
       refusal = accepted-told 0 refl;
-      passed = (λ h. refl, λ e. tt);
+      same = (λ h. refl, λ e. refl);
+      stricter = (λ h. let c : _≡_ {A = ℕ} 0 1 = cc in absurd (omega arith), λ e. absurd (omega (arith, e .1)));
       word-length-is = λ n. ((λ e. absurd (Option·some-ne-none n (sym e))), λ h. absurd (omega (arith, h .1, h .2)));
+    }
+verdicts-told (Pass Stricter) l w =
+    record {
+      refusal = accepted-told (65536 * 256) refl;
+      same = (λ h. let c : _≡_ {A = ℕ} 0 1 = cc in absurd (omega arith), λ e. absurd (omega (arith, e)));
+      stricter = (λ h. (refl, refl), λ e. refl);
+      word-length-is = λ n. ((λ e. absurd (Option·some-ne-none n (sym e))), λ h. absurd (omega (arith, h .1, h .3)));
     }
 verdicts-told (Fail k) l w =
     record {
       refusal = accepted-told (k * 256) (omega arith);
-      passed = (λ h. absurd h, λ e. absurd (omega (arith, w k refl, e)));
+      same = (λ h. absurd (Option·some-ne-none Same (sym h)), λ e. absurd (omega (arith, w k refl .0, e)));
+      stricter = (λ h. absurd (Option·some-ne-none Stricter (sym h)), λ e. absurd (omega (arith, w k refl .1, e .1)));
       word-length-is = λ n. (
-        (λ e. let z : k ≡ n = cc in (omega arith, omega arith, omega (arith, w k refl))),
+        (λ e. let z : k ≡ n = cc in (omega arith, omega arith, omega (arith, w k refl .0), omega (arith, w k refl .1))),
         λ h. let z : k ≡ n = omega (arith, h .1) in ap some z,
       );
     }
 verdicts-told (Refused r) l w =
     record {
       refusal = refusal-told r (l r refl);
-      passed = (λ h. absurd h, λ e. absurd (not-accepted r (l r refl) (ap (λ x. x % 256) e)));
+      same = (λ h. absurd (Option·some-ne-none Same (sym h)), λ e. absurd (not-accepted r (l r refl) (ap (λ x. x % 256) e)));
+      stricter = (λ h. absurd (Option·some-ne-none Stricter (sym h)), λ e. absurd (not-accepted r (l r refl) (e .0)));
       word-length-is = λ n. ((λ e. absurd (Option·some-ne-none n (sym e))), λ h. absurd (not-accepted r (l r refl) (h .0)));
     }
 
@@ -242,7 +254,7 @@ file-trial-claim c states start device old e =
     let t = trial-satisfies device-limit table-limit x old (a .1) (made .formula)
     (grammar ℕ node-limit (c .events) (Below (c .values)) (made .formula) (made .code .accepted)) (made .is-table) in
     let q : file-trial-answer (contents c) states start device old ≡ trial-answer device-limit table-limit x old =
-    ap (λ (o : Option Refusal). answer-unless o (first-failure x)) (e ∙ sym (a .1)) in
+    ap (λ (o : Option Refusal). answer-unless o (found-answer x)) (e ∙ sym (a .1)) in
     record {
       rule = made .formula;
       rule-is = made .code;

@@ -2,7 +2,7 @@
 use mathlib.Core.{Path.{_≡_, refl, sym, _∙_, ap, subst, subst₂}, Logic.{_↔_}, Bool.{true}, Option.{Option, none, some, Option·some-ne-none}, List.{List}}
 use Prim.Native.Nat.{ℕ, _/_, _≤_}
 use lib.ListN.{length}
-use Rattle.limits.specs.Limits.{state-limit, node-limit, device-limit, table-limit}
+use Rattle.limits.specs.Limits.{state-limit, node-limit, device-limit, table-limit, word-limit}
 use Rattle.theory.specs.{Formula.{Formula, size}, MachineRuns.{word-values}, TableSatisfaction.{TableSatisfies}}
 use Rattle.refusal.specs.declared.{Refusal.{Refusal}, Refusal.the-variants.{At}, Counted.{Counted}}
 use Rattle.refusal.specs.Refusal.{Condition, First, has-place, part-of, order, condition-numbers, right-places, Judged, counted-refusal, count-of}
@@ -23,9 +23,10 @@ use Rattle.characteristic.specs.RuleWriting.{write-refusal, rule-of, write-answ
 use Rattle.characteristic.proofs.Claims.{write-refusal-claim, written-claim}
 use Rattle.conformance.specs.declared.Verdict.{Verdict}
 use Rattle.conformance.specs.Trial.{TrialInput, refusal-of, Passed, word-length}
-use Rattle.conformance.specs.TrialAnswer.{trial-refusal, first-failure, answer-unless, buffer-unless, trial-answer, trial-buffer}
+use Rattle.conformance.specs.TrialAnswer.{trial-refusal, first-failure, ends-same, found-answer, answer-unless, buffer-unless, trial-answer}
+use Rattle.conformance.specs.TrialAnswer.{trial-buffer}
 use Rattle.conformance.proofs.TrialClaims.{failed-some, refusal-same, trial-refusals, trial-refused, trial-passes, trial-fails}
-use Rattle.conformance.proofs.TrialClaims.{trial-simulated}
+use Rattle.conformance.proofs.TrialClaims.{trial-simulated, trial-grades}
 use Rattle.channel_io.specs.FileConditions.{file-setup, TextConditions, of-contents, no-contents, JudgedText}
 use Rattle.channel_io.specs.FileRefusals.{file-states, file-table, contents-table-refusal, text-refusal}
 use Rattle.channel_io.proofs.{Claims.{file-table-made, file-table-accepted}, TablePairs.{compile-as, setup-passed}}
@@ -194,6 +195,8 @@ trial-made :
 trial-made x old z =
     record {
       passes = trial-simulated device-limit table-limit x old z;
+      same = trial-grades device-limit table-limit .same x old z;
+      stricter = trial-grades device-limit table-limit .stricter x old z;
       kept = trial-passes device-limit table-limit .kept x old;
       fails = trial-fails device-limit table-limit x old;
     }
@@ -216,7 +219,8 @@ module _ (x : TrialInput) (old new : List ℕ) (r : ℕ) (is-code : r ≡ verdic
         of-list = judged-listed _ _ j;
         told =
             subst (TellsVerdict verdict) (sym is-code)
-            (code-claim .verdicts verdict (judged-listed _ _ j) (λ n e. trial-fails device-limit table-limit x old n e .some-events));
+            (code-claim .verdicts verdict (judged-listed _ _ j)
+            (λ n e. let f = trial-fails device-limit table-limit x old n e in (f .some-events, f .few-events)));
         made = λ z. subst (λ (l : List ℕ). TrialMade x old l verdict) (sym is-new) (trial-made x old (sym same-refusal ∙ z));
       }
 
@@ -228,9 +232,10 @@ module _ (t : List ℕ) (states start : ℕ) (device old new : List ℕ) (r : �
   file-refusal c = file-trial-refusal c states start device old
 
   file-same : (x : Outcome Contents) → text-refusal file-refusal x ≡ refusal-of (file-trial-answer x states start device old)
-  unfolding text-refusal file-trial-answer
+  unfolding text-refusal file-trial-answer found-answer
   file-same (refused p) = refl
-  file-same (contents c) = sym (refusal-same (file-refusal c) (first-failure (file-trial c states start device)))
+  file-same (contents c) =
+      sym (refusal-same (file-refusal c) (first-failure (file-trial c states start device)) (ends-same (file-trial c states start device)))
 
   file-kept : (x : Outcome Contents) (q : Refusal) → text-refusal file-refusal x ≡ some q → file-trial-buffer x states start device old ≡ old
   unfolding text-refusal file-trial-buffer buffer-unless
@@ -258,18 +263,20 @@ module _ (t : List ℕ) (states start : ℕ) (device old new : List ℕ) (r : �
 
     same-verdict : file-trial-answer (contents c) states start device old ≡ trial-answer device-limit table-limit x old
     unfolding file-trial-answer trial-answer
-    same-verdict = ap (λ (o : Option Refusal). answer-unless o (first-failure x)) (z ∙ sym inner)
+    same-verdict = ap (λ (o : Option Refusal). answer-unless o (found-answer x)) (z ∙ sym inner)
 
     same-buffer : file-trial-buffer (contents c) states start device old ≡ trial-buffer device-limit table-limit x old
     unfolding file-trial-buffer trial-buffer
     same-buffer = ap (λ (o : Option Refusal). buffer-unless o (first-failure x) old) (z ∙ sym inner)
 
-  file-fails : (y : Outcome Contents) (n : ℕ) → word-length (file-trial-answer y states start device old) ≡ some n → 1 ≤ n
-  unfolding file-trial-answer
+  file-fails : (y : Outcome Contents) (n : ℕ) → word-length (file-trial-answer y states start device old) ≡ some n → (1 ≤ n) × (n ≤ word-limit)
+  unfolding file-trial-answer found-answer
   file-fails (refused p) n e = absurd (Option·some-ne-none n (sym e))
   file-fails (contents c) n e =
-      let z = failed-some (file-refusal c) (first-failure (file-trial c states start device)) n e .0 in
-      trial-fails device-limit table-limit (file-trial c states start device) old n (sym (ap word-length (same-verdict c z)) ∙ e) .some-events
+      let x = file-trial c states start device in
+      let z = failed-some (file-refusal c) (first-failure x) (ends-same x) n e .0 in
+      let f = trial-fails device-limit table-limit x old n (sym (ap word-length (same-verdict c z)) ∙ e) in
+      (f .some-events, f .few-events)
 
   file-made : (y : Outcome Contents) → read-file t ≡ y → text-refusal file-refusal y ≡ none → FileTrialMade t states start device old new file-verdict
   unfolding text-refusal file-trial-refusal

@@ -16,7 +16,7 @@ use Rattle.characteristic.specs.RuleWriting.{output-refusal, rule-of, write-ref
 use Rattle.conformance.specs.declared.Verdict.{Verdict}
 use Rattle.conformance.specs.declared.Verdict.the-variants.{Pass, Fail, Refused}
 use Rattle.conformance.specs.Trial.{TrialInput, word-length}
-use Rattle.conformance.specs.TrialAnswer.{tables-refusal, trial-refusal, trial-answer, first-failure, answer-unless, outcome}
+use Rattle.conformance.specs.TrialAnswer.{tables-refusal, trial-refusal, trial-answer, first-failure, ends-same, found-answer, answer-unless, outcome}
 use Rattle.conformance.proofs.TrialClaims.{trial-fails}
 use Rattle.gurvazze_host.specs.Codes.{SmallCount, SmallVerdict}
 use Rattle.gurvazze_host.proofs.Places.{SmallAnswer, or-small, plain-small, setup-small}
@@ -39,18 +39,20 @@ module _ (x : TrialInput) (old : List ℕ) where
       (plain-small (leb word-limit (length old)) 13))
 
   pub verdict-small : SmallVerdict (trial-answer device-limit table-limit x old)
-  unfolding trial-answer answer-unless outcome
+  unfolding trial-answer found-answer answer-unless outcome
   verdict-small = go (trial-refusal device-limit table-limit x old) (first-failure x) refl refl trial-small
     where
-      failing : (v : Verdict) → trial-answer device-limit table-limit x old ≡ v → (f : Option (List ℕ)) → v ≡ outcome f → SmallVerdict v
-      failing Pass e f i = tt
+      failing : (v : Verdict) → trial-answer device-limit table-limit x old ≡ v → (f : Option (List ℕ)) → v ≡ outcome f (ends-same x) → SmallVerdict v
+      failing (Pass g) e f i = tt
       failing (Fail n) e f i = let w = trial-fails device-limit table-limit x old n (ap word-length e) .few-events in omega arith
       failing (Refused r) e none i = let z : _≡_ {A = ℕ} 0 1 = cc in absurd (omega arith)
       failing (Refused r) e (some w) i = let z : _≡_ {A = ℕ} 0 1 = cc in absurd (omega arith)
 
       go : (o : Option Refusal) (f : Option (List ℕ)) → trial-refusal device-limit table-limit x old ≡ o → first-failure x ≡ f → SmallAnswer o →
-          SmallVerdict (answer-unless o f)
-      go none f e i h = failing (outcome f) (ap (λ (q : Option Refusal). answer-unless q (first-failure x)) e ∙ ap outcome i) f refl
+          SmallVerdict (answer-unless o (outcome f (ends-same x)))
+      go none f e i h =
+          failing (outcome f (ends-same x))
+          (ap (λ (q : Option Refusal). answer-unless q (found-answer x)) e ∙ ap (λ (o : Option (List ℕ)). outcome o (ends-same x)) i) f refl
       go (some r) f e i h = h
 
 -- ---- the rule of a table

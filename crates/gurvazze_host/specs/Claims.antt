@@ -15,7 +15,8 @@ use Rattle.machines.specs.TableBytes.{table-bytes, entry-bytes, machine-of, tab
 use Rattle.values.specs.{declared.ValueKind.the-variants.{Numbered}, Setup.{Setup, setup-meet}}
 use Rattle.synthesis.specs.TableOfRule.{compile-conditions, IsRuleTable}
 use Rattle.characteristic.specs.{RuleOfTable.{write-conditions}, RuleWriting.{write-answer, write-contents}, Claims.{RuleWritten}}
-use Rattle.conformance.specs.{declared.Verdict.{Verdict}, Trial.{TrialInput, input, Passes, trial-conditions, FailsBy, refusal-of, Passed, word-length}}
+use Rattle.conformance.specs.{declared.Verdict.{Verdict}, Trial.{TrialInput, input, Passes, EndsSame, trial-conditions, FailsBy, refusal-of, Passed}}
+use Rattle.conformance.specs.{declared.Grade.the-variants.{Same, Stricter}, Trial.{grade, word-length}}
 use Rattle.conformance.specs.TrialAnswer.{trial-answer, trial-buffer}
 use Rattle.channel_io.specs.FileConditions.{contents-table-conditions, file-setup, TextConditions, JudgedText}
 use Rattle.gurvazze_host.specs.Codes.{code, counted-code, verdict-code, table-numbers, SmallNumbers}
@@ -37,11 +38,13 @@ pub record TellsCount (answer : Counted) (r : ℕ) : Type 0 where
   pub refusal : TellsRefusal (counted-refusal answer) r
   pub count-is : (n : ℕ) → (count-of answer ≡ some n) ↔ ((r % 256 ≡ 0) × (r / 256 ≡ n))
 
--- So does the length of a failing word, which is not 0; 0 alone says that the device passed.
+-- So does the length of a failing word, which is not 0 and no more than the longest; 0 says that the device passed as same, and 65,536
+-- above the low byte that it passed as stricter.
 pub record TellsVerdict (answer : Verdict) (r : ℕ) : Type 0 where
   pub refusal : TellsRefusal (refusal-of answer) r
-  pub passed : Passed answer ↔ (r ≡ 0)
-  pub word-length-is : (n : ℕ) → (word-length answer ≡ some n) ↔ ((r % 256 ≡ 0) × (r / 256 ≡ n) × (1 ≤ n))
+  pub same : (grade answer ≡ some Same) ↔ (r ≡ 0)
+  pub stricter : (grade answer ≡ some Stricter) ↔ ((r % 256 ≡ 0) × (r / 256 ≡ 65536))
+  pub word-length-is : (n : ℕ) → (word-length answer ≡ some n) ↔ ((r % 256 ≡ 0) × (r / 256 ≡ n) × (1 ≤ n) × (n ≤ word-limit))
 
 -- The numbers of a table, from what stands above the low byte.
 pub record TellsNumbers (states events values top x : ℕ) : Type 0 where
@@ -60,7 +63,7 @@ pub record CodeClaim : Type 0 where
   pub yields : (answer : Option Refusal) (yield : ℕ) → answer ≡ none → code answer yield / 256 ≡ yield
   pub counts : (answer : Counted) → ListedAnswer (counted-refusal answer) → TellsCount answer (counted-code answer)
   pub verdicts :
-      (answer : Verdict) → ListedAnswer (refusal-of answer) → ((n : ℕ) → word-length answer ≡ some n → 1 ≤ n) →
+      (answer : Verdict) → ListedAnswer (refusal-of answer) → ((n : ℕ) → word-length answer ≡ some n → (1 ≤ n) × (n ≤ word-limit)) →
       TellsVerdict answer (verdict-code answer)
   pub numbers :
       (states events values top : ℕ) → SmallNumbers states events values top →
@@ -169,9 +172,12 @@ pub record ReplayCall (t word old new : List ℕ) (r : ℕ) : Type 1 where
   pub yields-zero : answer ≡ none → r ≡ 0
   pub made : answer ≡ none → ReplayMade t word old new
 
--- An accepted trial: a device passes exactly if its start is simulated, and then the word buffer is as before; else it shows the word.
+-- An accepted trial: a device passes exactly if its start is simulated, as same or as stricter, and then the word buffer is as before; else
+-- it shows the word.
 pub record TrialMade (x : TrialInput) (old new : List ℕ) (v : Verdict) : Type 1 where
   pub passes : Passed v ↔ Passes x
+  pub same : (grade v ≡ some Same) ↔ EndsSame x
+  pub stricter : (grade v ≡ some Stricter) ↔ (Passes x × ¬ EndsSame x)
   pub kept : Passed v → new ≡ old
   pub fails : (n : ℕ) → word-length v ≡ some n → FailsBy x word-limit old new n
 

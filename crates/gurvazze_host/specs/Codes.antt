@@ -9,6 +9,8 @@ use Rattle.refusal.specs.declared.Counted.{Counted}
 use Rattle.refusal.specs.declared.Counted.the-variants.{Count, Refused as Uncounted}
 use Rattle.conformance.specs.declared.Verdict.{Verdict}
 use Rattle.conformance.specs.declared.Verdict.the-variants.{Pass, Fail, Refused}
+use Rattle.conformance.specs.declared.Grade.{Grade}
+use Rattle.conformance.specs.declared.Grade.the-variants.{Same, Stricter}
 
 -- "Each returns its number (4 and 6 to 9 also a place)".
 unfoldable pub refusal-code : Refusal → ℕ
@@ -28,9 +30,14 @@ unfoldable pub counted-code : Counted → ℕ
 counted-code (Count n) = yield-code n
 counted-code (Uncounted refusal) = refusal-code refusal
 
--- A trial yields the length of the failing word, which has at least one event, and 0 for a pass.
+-- A pass yields 0 as same, and as stricter 65,536, which is no word's length (document 02, F-5).
+unfoldable pub grade-yield : Grade → ℕ
+grade-yield Same = 0
+grade-yield Stricter = 65536
+
+-- A failed trial yields the length of its word, which has at least one event.
 unfoldable pub verdict-code : Verdict → ℕ
-verdict-code Pass = 0
+verdict-code (Pass passed-as) = yield-code (grade-yield passed-as)
 verdict-code (Fail n) = yield-code n
 verdict-code (Refused refusal) = refusal-code refusal
 
@@ -48,7 +55,7 @@ SmallCount (Count n) = n < 2 ^ 32
 SmallCount (Uncounted refusal) = SmallPlace refusal
 
 abbrev pub SmallVerdict : Verdict → Type 0
-SmallVerdict Pass = Unit {0}
+SmallVerdict (Pass passed-as) = Unit {0}
 SmallVerdict (Fail n) = n < 2 ^ 32
 SmallVerdict (Refused refusal) = SmallPlace refusal
 

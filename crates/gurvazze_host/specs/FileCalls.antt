@@ -10,7 +10,7 @@ use Rattle.channel_file.specs.ChannelFile.{Contents}
 use Rattle.values.specs.declared.ValueKind.the-variants.{Numbered}
 use Rattle.machines.specs.TableBytes.{machine-of}
 use Rattle.conformance.specs.{declared.Verdict.{Verdict}, declared.Verdict.the-variants.{Refused}, Trial.{TrialInput, input}}
-use Rattle.conformance.specs.TrialAnswer.{trial-refusal, first-failure, answer-unless, buffer-unless}
+use Rattle.conformance.specs.TrialAnswer.{trial-refusal, first-failure, found-answer, answer-unless, buffer-unless}
 use Rattle.channel_io.specs.{FileConditions.{file-setup}, FileRefusals.{file-states, file-table, contents-table-refusal}}
 use Rattle.gurvazze_host.specs.Codes.{refusal-code, code, table-numbers}
 use Rattle.limits.specs.Limits.{device-limit, event-limit, state-limit, table-limit}
@@ -69,7 +69,7 @@ file-trial-refusal c states start device old =
 unfoldable pub file-trial-answer : Outcome Contents → ℕ → ℕ → List ℕ → List ℕ → Verdict
 file-trial-answer (refused p) states start device old = Refused (At 4 p)
 file-trial-answer (contents c) states start device old =
-    answer-unless (file-trial-refusal c states start device old) (first-failure (file-trial c states start device))
+    answer-unless (file-trial-refusal c states start device old) (found-answer (file-trial c states start device))
 
 unfoldable pub file-trial-buffer : Outcome Contents → ℕ → ℕ → List ℕ → List ℕ → List ℕ
 file-trial-buffer (refused p) states start device old = old

@@ -3,6 +3,7 @@
 use channel_io::FileTable;
 use channel_io::compile_file;
 use characteristic::write_rule;
+use conformance::Grade;
 use conformance::Verdict;
 use conformance::trial;
 use limits::MEET_LIMIT;
@@ -20,8 +21,8 @@ ghost use Rattle.characteristic.specs.RuleWriting.{write-answer, write-contents
 ghost use Rattle.conformance.specs.Trial.{input};
 ghost use Rattle.conformance.specs.TrialAnswer.{trial-answer, trial-buffer};
 ghost use Rattle.channel_file.specs.Reading.{read-file};
-ghost use Rattle.gurvazze_host.specs.Codes.{refusal-code, yield-code, counted-code, verdict-code, table-numbers, SmallPlace, SmallCount, SmallVerdict};
-ghost use Rattle.gurvazze_host.specs.Codes.{SmallNumbers};
+ghost use Rattle.gurvazze_host.specs.Codes.{refusal-code, yield-code, counted-code, grade-yield, verdict-code, table-numbers, SmallPlace};
+ghost use Rattle.gurvazze_host.specs.Codes.{SmallCount, SmallVerdict, SmallNumbers};
 ghost use Rattle.gurvazze_host.specs.FileCalls.{table-code, table-after, replay-code, replay-after, file-trial-answer, file-trial-buffer, number-machine};
 ghost use Rattle.gurvazze_host.specs.FileCalls.{Playable, Runnable, Replays};
 ghost use Rattle.limits.specs.Limits.{node-limit, device-limit, table-limit};
@@ -53,12 +54,21 @@ fn counted_code(counted: Counted) -> u64
     }
 }
 
+fn grade_code(grade: Grade) -> u64
+    ensures { λ r. ⌜ r ≡ yield-code (grade-yield grade) ⌝ }
+{
+    match grade {
+        Grade::Same => 0,
+        Grade::Stricter => 65536 * 256,
+    }
+}
+
 fn verdict_code(verdict: Verdict) -> u64
     requires { ⌜ SmallVerdict verdict ⌝ }
     ensures { λ r. ⌜ r ≡ verdict-code verdict ⌝ }
 {
     match verdict {
-        Verdict::Pass => 0,
+        Verdict::Pass(grade) => grade_code(grade),
         Verdict::Fail(n) => n as u64 * 256,
         Verdict::Refused(refusal) => refusal_code(refusal),
     }

@@ -4,3 +4,5 @@ pub mod ValueKinds
 pub mod ValueBytes
 -- What the tests of a set-up say, and the claims on set-ups.
 pub mod Setups
+-- How values compare.
+pub mod Comparisons

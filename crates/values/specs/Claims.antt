@@ -5,15 +5,24 @@ use lib.ListN.{length, take, drop}
 use Rattle.limits.specs.Limits.{event-limit}
 use Rattle.refusal.specs.Refusal.{Judged}
 use Rattle.theory.specs.ValueSets.{AtOrBelow, four-value-meet}
-use Rattle.values.specs.declared.ValueKind.{ValueKind}
-use Rattle.values.specs.Setup.{ValueIn, meetOf, value-width, value-bytes, value-from, Setup, setup, setup-conditions}
+use Rattle.values.specs.declared.{ValueKind.{ValueKind}, Comparison.{Comparison}}
+use Rattle.values.specs.declared.Comparison.the-variants.{NotBelow}
+use Rattle.values.specs.Setup.{ValueIn, meetOf, ComparesAs, value-width, value-bytes, value-from, Setup, setup, setup-conditions}
+use Rattle.values.specs.Setup.{SetupValue, setup-meet}
 use Rattle.values.specs.SetupInOrder.{SetupLaws}
-use Rattle.values.specs.{ValueTests.{value-fits, at-or-below}, SetupInOrder.{AcceptedSetup}, SetupTests.{setup-refusal}}
+use Rattle.values.specs.{ValueTests.{value-fits, at-or-below, comparison}, SetupInOrder.{AcceptedSetup}, SetupTests.{setup-refusal}}
 
--- The test decides which numbers are values, and the comparison is the order.
+-- The tests decide which numbers are values, and the order.
 pub record ValueKindClaim : Type 0 where
   pub fits : (kind : ValueKind) (v : ℕ) → (value-fits kind v ≡ true) ↔ ValueIn kind v
   pub order : (kind : ValueKind) (table : List ℕ) (b c : ℕ) → (at-or-below kind table b c ≡ true) ↔ AtOrBelow (meetOf kind table) b c
+
+-- The comparison tells how any two numbers compare; of values of an accepted set-up no other answer does (document 02, F-5).
+pub record ComparisonClaim : Type 0 where
+  pub told : (kind : ValueKind) (table : List ℕ) (b c : ℕ) → ComparesAs (comparison kind table b c) (meetOf kind table) b c
+  pub only : (s : Setup) → setup-refusal s ≡ none → (b c : ℕ) → SetupValue s b → (answer : Comparison) → ComparesAs answer (setup-meet s) b c →
+      answer ≡ comparison (s .kind) (s .meet) b c
+  pub not-below : (kind : ValueKind) (table : List ℕ) (b c : ℕ) → (comparison kind table b c ≡ NotBelow) ↔ (¬ AtOrBelow (meetOf kind table) b c)
 
 -- What is read is what was written; and the bytes from a place on are those of what is read, where that is a value or 0.
 pub record ValueBytesClaim : Type 0 where

@@ -2,8 +2,9 @@
 use mathlib.Core.{List.{List, [], _∷_, _++_}, Bool.{cond, _&&_}, Path.{_≡_}}
 use Prim.Native.Nat.{ℕ, _^_, _<_, _+_, _*_, _/_, _%_, _≤_}
 use lib.{Bits.{bitAnd}, Dec.{ltb}, ListN.{getD, length}}
-use Rattle.theory.specs.ValueSets.{Below, meetAt, OfLines, pack, unpack, top-masks, MeetSemilattice}
+use Rattle.theory.specs.ValueSets.{AtOrBelow, Below, meetAt, OfLines, pack, unpack, top-masks, MeetSemilattice}
 use Rattle.values.specs.{declared.ValueKind.{ValueKind}, declared.ValueKind.the-variants.{Numbered, Register}}
+use Rattle.values.specs.{declared.Comparison.{Comparison}, declared.Comparison.the-variants.{Equal, StrictlyBelow, NotBelow}}
 use Rattle.limits.specs.Limits.{event-limit, value-limit, line-limit}
 use Rattle.refusal.specs.Refusal.{Condition, plain}
 
@@ -26,6 +27,12 @@ meetOf (Register lines) table a b = bitAnd a b
 abbrev pub topOf : ValueKind → ℕ → ℕ
 topOf (Numbered n) top = top
 topOf (Register lines) top = pack (top-masks lines)
+
+-- "Comparing two values shall tell equal, strictly below, or not below" (document 02, F-5): what each answer says of b and c.
+abbrev pub ComparesAs : Comparison → (ℕ → ℕ → ℕ) → ℕ → ℕ → Type 0
+ComparesAs Equal meet b c = b ≡ c
+ComparesAs StrictlyBelow meet b c = AtOrBelow meet b c × ¬ (b ≡ c)
+ComparesAs NotBelow meet b c = ¬ AtOrBelow meet b c
 
 -- A value in bytes: one for a number; for a register the low mask, then the high mask, each mask's low byte first.
 abbrev pub value-width : ValueKind → ℕ

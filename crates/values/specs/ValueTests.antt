@@ -1,10 +1,11 @@
 -- Twin of Setup, pinned by values ValueKindClaim.
--- Which numbers are values of a kind, and the order of values, computed: the twins of `ValueIn` and `AtOrBelow`.
-use mathlib.Core.{Bool.{Bool, _&&_}, List.{List}}
+-- Which numbers are values of a kind, and how values compare, computed: the twins of `ValueIn`, `AtOrBelow` and `ComparesAs` (ComparisonClaim).
+use mathlib.Core.{Bool.{Bool, _&&_, cond}, List.{List}}
 use Prim.Native.Nat.{ℕ, _+_, _/_, _%_, _^_}
 use lib.ListN.{getD}
 use lib.Dec.{eqb, ltb}
 use Rattle.values.specs.{declared.ValueKind.{ValueKind}, declared.ValueKind.the-variants.{Numbered, Register}, Setup.{meetOf}}
+use Rattle.values.specs.{declared.Comparison.{Comparison}, declared.Comparison.the-variants.{Equal, StrictlyBelow, NotBelow}}
 use Rattle.values.specs.Setup.{masks-value}
 
 unfoldable pub masks-fit : ℕ → ℕ → Bool
@@ -17,6 +18,10 @@ value-fits (Register lines) v = masks-fit lines v
 -- "b is at or below c when the meet of b and c is b", as a test.
 abbrev pub at-or-below : ValueKind → List ℕ → ℕ → ℕ → Bool
 at-or-below kind table b c = eqb (meetOf kind table b c) b
+
+-- Meet first, so that NotBelow is exactly "not at or below", for all numbers.
+unfoldable pub comparison : ValueKind → List ℕ → ℕ → ℕ → Comparison
+comparison kind table b c = cond (at-or-below kind table b c) (cond (eqb b c) Equal StrictlyBelow) NotBelow
 
 -- The packed masks in four bytes from a place on.
 abbrev pub masks-from : List ℕ → ℕ → ℕ

@@ -1,4 +1,4 @@
-// Document 01, "Value sets": the check of a set-up, the four-value set, values of either kind, their meet and "at or below".
+// Document 01, "Value sets": the check of a set-up, the four-value set, values of either kind, their meet and how they compare.
 use limits::EVENT_LIMIT;
 use limits::VALUE_LIMIT;
 use refusal::Judgement;
@@ -16,12 +16,19 @@ ghost use Rattle.values.specs.Setup.{value-width};
 ghost use Rattle.values.specs.Setup.{masks-value, value-from};
 ghost use Rattle.values.specs.ValueTests.{masks-from};
 ghost use Rattle.values.specs.Setup.{meetOf};
-ghost use Rattle.values.specs.ValueTests.{masks-fit, value-fits, at-or-below};
+ghost use Rattle.values.specs.ValueTests.{masks-fit, value-fits, comparison};
 
 // What the values are: so many numbers with a meet table, or registers of so many lines, whose value is low + 65536 * high.
 pub enum ValueKind {
     Numbered(u32),
     Register(u32),
+}
+
+// What comparing two values tells (document 02, F-5).
+pub enum Comparison {
+    Equal,
+    StrictlyBelow,
+    NotBelow,
 }
 
 const FOUR_VALUE_MEET: [u8; 16] = [0, 0, 0, 0, 0, 1, 0, 1, 0, 0, 2, 2, 0, 1, 2, 3];
@@ -147,11 +154,17 @@ pub fn value_from(kind: ValueKind, bytes: &[u8], at: usize) -> u32
     }
 }
 
-// Whether b is at or below c: the meet of b and c is b.
-pub fn at_or_below(kind: ValueKind, table: &[u8], b: u32, c: u32) -> bool
-    ensures { λ r. ⌜ r ≡ at-or-below kind (now (table .entry)) b c ⌝ }
+// How b compares with c. b is at or below c where the meet of b and c is b; that is looked at first.
+pub fn compare(kind: ValueKind, table: &[u8], b: u32, c: u32) -> Comparison
+    ensures { λ r. ⌜ r ≡ comparison kind (now (table .entry)) b c ⌝ }
 {
-    meet_of(kind, table, b, c) == b
+    if meet_of(kind, table, b, c) != b {
+        return Comparison::NotBelow;
+    }
+    if b == c {
+        return Comparison::Equal;
+    }
+    Comparison::StrictlyBelow
 }
 
 // The meet of two of so many values, in a table that is whole.

@@ -25,25 +25,26 @@ find-failure-requires c κs =
 
 same-length : tie.Need-same-length
 same-length c =
-    let b12 = c .before .before .before .before .before .before .before .before .before .before .before .before in
-    b12 .find-failure .kept .1 .1 .1 .1 .1 .1 .0 ∙ simp length-set
+    let b14 = c .before .before .before .before .before .before .before .before .before .before .before .before .before .before in
+    b14 .find-failure .kept .1 .1 .1 .1 .1 .1 .0 ∙ simp length-set
 
 same-length-5 : tie.Need-same-length-5
 same-length-5 c =
-    let b12 = c .before .before .before .before .before .before .before .before .before .before .before .before in
-    b12 .find-failure .kept .1 .1 .1 .1 .1 .1 .1 .1 .1 .1 .0 ∙ simp length-set
+    let b14 = c .before .before .before .before .before .before .before .before .before .before .before .before .before .before in
+    b14 .find-failure .kept .1 .1 .1 .1 .1 .1 .1 .1 .1 .1 .0 ∙ simp length-set
 
 returns : tie.Need-returns
 returns c =
-    let b12 = c .before .before .before .before .before .before .before .before .before .before .before .before in
-    let b27 = b12 .before .before .before .before .before .before .before .before .before .before .before .before .before .before .before in
-    λ x. answer-none _ _ (found-nowhere x _ (b27 .pre .1) _ _ _ (b12 .find-failure .ensures) (c .enum-told .given .1))
+    let b14 = c .before .before .before .before .before .before .before .before .before .before .before .before .before .before in
+    let b29 = b14 .before .before .before .before .before .before .before .before .before .before .before .before .before .before .before in
+    λ x. answer-none _ _ _ _ _ (found-nowhere x _ (b29 .pre .1) _ _ _ (b14 .find-failure .ensures) _ (c .before .before .found .given .1))
+    (c .grade-of .ensures)
 
 depth-requires : tie.Need-depth-requires
 depth-requires c κs =
     let b15 = c .before .before .before .before .before .before .before .before .before .before .before .before .before .before .before in
     let b30 = b15 .before .before .before .before .before .before .before .before .before .before .before .before .before .before .before in
-    let y = found-at-place (b30 .pre .0) _ (b30 .pre .1) _ _ _ (b15 .find-failure .ensures) _ _ (c .before .before .before .failure .given .1) in
+    let y = found-at-place (b30 .pre .0) _ (b30 .pre .1) _ _ _ (b15 .find-failure .ensures) _ _ (c .before .before .before .found2 .given .1) in
     y .reaches
 
 cast-word : tie.Need-cast-word
@@ -51,7 +52,7 @@ cast-word c =
     let b16 = c .before .before .before .before .before .before .before .before .before .before .before .before .before .before .before .before in
     let b31 = b16 .before .before .before .before .before .before .before .before .before .before .before .before .before .before .before in
     let x = b31 .pre .0 in
-    let y = found-at-place x _ (b31 .pre .1) _ _ _ (b16 .find-failure .ensures) _ _ (c .before .before .before .before .failure .given .1) in
+    let y = found-at-place x _ (b31 .pre .1) _ _ _ (b16 .find-failure .ensures) _ _ (c .before .before .before .before .found2 .given .1) in
     omega (arith, y .event-in, x .ready .few-events)
 
 slice-write-word : tie.Need-slice-write-word
@@ -59,7 +60,7 @@ slice-write-word c =
     let b16 = c .before .before .before .before .before .before .before .before .before .before .before .before .before .before .before .before in
     let b31 = b16 .before .before .before .before .before .before .before .before .before .before .before .before .before .before .before in
     let x = b31 .pre .0 in
-    let y = found-at-place x _ (b31 .pre .1) _ _ _ (b16 .find-failure .ensures) _ _ (c .before .before .before .before .failure .given .1) in
+    let y = found-at-place x _ (b31 .pre .1) _ _ _ (b16 .find-failure .ensures) _ _ (c .before .before .before .before .found2 .given .1) in
     omega (arith, word-fits y _ (c .depth .ensures (y .reaches)), x .room)
 
 write-path-requires : tie.Need-write-path-requires
@@ -68,7 +69,7 @@ write-path-requires c κs =
     let b19 = b7 .before .before .before .before .before .before .before .before .before .before .before .before in
     let b34 = b19 .before .before .before .before .before .before .before .before .before .before .before .before .before .before .before in
     let x = b34 .pre .0 in
-    let y = found-at-place x _ (b34 .pre .1) _ _ _ (b19 .find-failure .ensures) _ _ (b7 .failure .given .1) in
+    let y = found-at-place x _ (b34 .pre .1) _ _ _ (b19 .find-failure .ensures) _ _ (b7 .found2 .given .1) in
     let n = c .before .before .before .depth .ensures (y .reaches) in
     record {
       reaches = y .reaches;
@@ -76,14 +77,14 @@ write-path-requires c κs =
       room = simp length-set (omega (arith, word-fits y _ n, x .room));
     }
 
-add-t20 : tie.Need-add-t20
-add-t20 c =
+add-t48 : tie.Need-add-t48
+add-t48 c =
     let b6 = c .before .before .before .before .before .before in
     let b10 = b6 .before .before .before .before in
     let b22 = b10 .before .before .before .before .before .before .before .before .before .before .before .before in
     let b37 = b22 .before .before .before .before .before .before .before .before .before .before .before .before .before .before .before in
     let x = b37 .pre .0 in
-    let y = found-at-place x _ (b37 .pre .1) _ _ _ (b22 .find-failure .ensures) _ _ (b10 .failure .given .1) in
+    let y = found-at-place x _ (b37 .pre .1) _ _ _ (b22 .find-failure .ensures) _ _ (b10 .found2 .given .1) in
     omega (arith, word-fits y _ (b6 .depth .ensures (y .reaches)), b37 .good .1 .1 .1 .1 .1 .1 .1 .1 .1 .1 .1 .1 .0)
 
 same-length-6 : tie.Need-same-length-6
@@ -108,9 +109,9 @@ returns-2 c =
     let b22 = b10 .before .before .before .before .before .before .before .before .before .before .before .before in
     let b37 = b22 .before .before .before .before .before .before .before .before .before .before .before .before .before .before .before in
     λ x.
-    let y = found-at-place x _ (b37 .pre .1) _ _ _ (b22 .find-failure .ensures) _ _ (b10 .failure .given .1) in
+    let y = found-at-place x _ (b37 .pre .1) _ _ _ (b22 .find-failure .ensures) _ _ (b10 .found2 .given .1) in
     let n = b6 .depth .ensures (y .reaches) in
-    answer-some y _ _ _ n (x .room) (c .before .before .write-path .ensures record {
+    answer-some y _ _ _ _ n (x .room) (c .before .before .write-path .ensures record {
       reaches = y .reaches;
       long = n;
       room = simp length-set (omega (arith, word-fits y _ n, x .room));
@@ -118,6 +119,6 @@ returns-2 c =
 
 pub search-spec : {M : Type 1} → statement M
 search-spec = tie.close (tie.spec (λ c. search needs) slice-write-device-queue mul-flags slice-write-flags find-failure-requires (λ c. search needs)
-    (λ c. search needs) same-length (λ c. search needs) (λ c. search needs) (λ c. search needs) same-length-5 returns depth-requires cast-word
-    slice-write-word write-path-requires add-t20 same-length-6 same-length-7 (λ c. search needs) (λ c. search needs) (λ c. search needs)
-    same-length-11 returns-2)
+    (λ c. search needs) (λ c. search needs) depth-requires cast-word slice-write-word write-path-requires add-t48 same-length (λ c. search needs)
+    (λ c. search needs) (λ c. search needs) same-length-5 returns same-length-6 same-length-7 (λ c. search needs) (λ c. search needs)
+    (λ c. search needs) same-length-11 returns-2)

@@ -1,11 +1,11 @@
 use mathlib.Core.Path.{_∙_, ap₂}
 use native.Mathlib.Omega.{arith}
-use Rattle.values.specs.ValueTests.{at-or-below}
-use Rattle.conformance.specs.PairQueue.{at-or-below-on}
+use Rattle.values.specs.ValueTests.{comparison}
+use Rattle.conformance.specs.PairQueue.{comparison-on}
 use Rattle.conformance.proofs.Places.{entry-place}
 use borrow.Author.Needs.{needs}
-use Rattle.conformance.proofs.at_or_below_on.Statement.{statement}
-use Rattle.conformance.proofs.at_or_below_on.Tie as tie
+use Rattle.conformance.proofs.compare_on.Statement.{statement}
+use Rattle.conformance.proofs.compare_on.Tie as tie
 
 mul-value-at : tie.Need-mul-value-at
 mul-value-at c =
@@ -28,11 +28,11 @@ add-value-at-2 c =
     omega (arith, entry-place (a .t) (a .events) (a .e) (search needs) (search needs) (search needs))
 
 returns : tie.Need-returns
-unfolding at-or-below-on
+unfolding comparison-on
 returns c =
     let a = c .before .before .before .before .before .before .args in
-    c .at-or-below .ensures ∙ ap₂ (at-or-below (a .kind) (a .meet .now)) (c .before .before .value-at .ensures) (c .before .value-at2 .ensures)
+    c .compare .ensures ∙ ap₂ (comparison (a .kind) (a .meet .now)) (c .before .before .value-at .ensures) (c .before .value-at2 .ensures)
 
-pub at-or-below-on-spec : {M : Type 1} → statement M
-at-or-below-on-spec = tie.close (tie.spec mul-value-at add-value-at (λ c κs. search needs) mul-value-at-2 add-value-at-2 (λ c κs. search needs)
+pub compare-on-spec : {M : Type 1} → statement M
+compare-on-spec = tie.close (tie.spec mul-value-at add-value-at (λ c κs. search needs) mul-value-at-2 add-value-at-2 (λ c κs. search needs)
     (λ c κs. search needs) returns)

@@ -1,0 +1,63 @@
+-- What a pair of states shows, event by event.
+use mathlib.Core.{Path.{_≡_, sym, _∙_, subst}, Bool.{Bool, true, false}, List.{List}}
+use Prim.Native.Nat.{ℕ, _+_, _<_}
+use native.Mathlib.Omega.{arith}
+use Rattle.values.specs.declared.{ValueKind.{ValueKind}, Comparison.{Comparison}}
+use Rattle.values.proofs.Comparisons.{TestsOf, tests-of}
+use Rattle.conformance.specs.declared.PairVerdict.{PairVerdict}
+use Rattle.conformance.specs.declared.PairVerdict.the-variants.{Fails, Passes}
+use Rattle.conformance.specs.PairQueue.{comparison-on, below-on, equal-on, FailsOn, PassesOn, Shows}
+use Rattle.conformance.proofs.Places.{one-more}
+
+-- A comparison says what the two tests are.
+pub tests-on :
+    (events : ℕ) (kind : ValueKind) (meet device table : List ℕ) (s t e : ℕ) (answer found : Comparison) →
+    found ≡ comparison-on events kind meet device table s t e → found ≡ answer →
+    TestsOf answer (below-on events kind meet device table s t e) (equal-on events kind meet device table s t e)
+unfolding comparison-on below-on equal-on
+tests-on events kind meet device table s t e answer found is z =
+    subst (λ x. TestsOf x (below-on events kind meet device table s t e) (equal-on events kind meet device table s t e)) (sym is ∙ z) (tests-of kind meet _ _)
+
+module _ (good equal : ℕ → Bool) where
+  pub passes-none : PassesOn 0 good equal true
+  passes-none =
+      record {
+        allowed = λ e h. absurd (omega arith);
+        same = λ z e h. absurd (omega arith);
+        different = λ z. let c : _≡_ {A = ℕ} 0 1 = cc in absurd (omega arith);
+      }
+
+  pub all-judged : (e events : ℕ) (all-equal : Bool) → e ≡ events → PassesOn e good equal all-equal → PassesOn events good equal all-equal
+  all-judged e events all-equal z p = subst (λ n. PassesOn n good equal all-equal) z p
+
+  -- What a verdict says.
+  module _ (events : ℕ) (r : PairVerdict) (shows : Shows events good equal r) where
+    pub shown-fails : (e : ℕ) → r ≡ Fails e → FailsOn events good equal e
+    unfolding Shows
+    shown-fails e z = subst (Shows events good equal) z shows
+
+    pub shown-passes : (all-equal : Bool) → r ≡ Passes all-equal → PassesOn events good equal all-equal
+    unfolding Shows
+    shown-passes all-equal z = subst (Shows events good equal) z shows
+
+  module _ (e : ℕ) (all-equal : Bool) (p : PassesOn e good equal all-equal) where
+    pub fails-here : (events : ℕ) → e < events → good e ≡ false → FailsOn events good equal e
+    fails-here events h z = record { event-in = h; before = p .allowed; bad = z }
+
+    -- One event more, on which the device passes.
+    module _ (passes : good e ≡ true) where
+      pub passes-equal : equal e ≡ true → PassesOn (e + 1) good equal all-equal
+      passes-equal z =
+          record {
+            allowed = one-more good e (p .allowed) passes;
+            same = λ y. one-more equal e (p .same y) z;
+            different = λ y. let d = p .different y in (d .0, omega (arith, d .1), d .2);
+          }
+
+      pub passes-below : equal e ≡ false → PassesOn (e + 1) good equal false
+      passes-below z =
+          record {
+            allowed = one-more good e (p .allowed) passes;
+            same = λ y. let c : _≡_ {A = ℕ} 0 1 = cc in absurd (omega arith);
+            different = λ y. (e, omega arith, z);
+          }
