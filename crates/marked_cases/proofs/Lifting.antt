@@ -1,23 +1,24 @@
 -- What is computed of a case, and the lemma that lifts it to document 01's definitions, a clause for each kind of case.
-use mathlib.Core.{Path.{_≡_, refl, sym, _∙_, ap, subst}, Logic.{_↔_, Iff·trans}, Bool.{Bool, true, false, false≢true}, Option.{none, some}}
+use mathlib.Core.{Path.{_≡_, refl, sym, _∙_, ap, subst}, Logic.{_↔_, Iff·trans}, Bool.{Bool, true, false, false≢true}, Option.{Option, none, some}}
 use mathlib.Core.List.{List, [], _∷_, _++_}
 use Prim.Native.Nat.{ℕ, zero, suc, _≤_, _<_}
 use native.Mathlib.Omega.{arith}
 use borrow.Author.Tests.{leb-true, ltb-true}
-use lib.Dec.{T, leb, ltb}
+use lib.Dec.{T, leb, ltb, eqb, eqb→eq, eqb-refl}
 use Rattle.limits.specs.Limits.{node-limit, state-limit, device-limit}
 use Rattle.theory.specs.ValueSets.{AtOrBelow}
 use Rattle.theory.specs.ValueSetTests.{every}
 use Rattle.theory.specs.Formula.{Formula, size, Answers}
 use Rattle.theory.specs.FormulaClasses.{WellFormed}
 use Rattle.theory.specs.Formula.{Node, nodes}
-use Rattle.theory.specs.MealyMachine.{Machine, Word, after, States}
-use Rattle.theory.specs.MachineRuns.{Runs}
+use Rattle.theory.specs.MealyMachine.{Machine, Word, after, States, Simulated, SameValues}
+use Rattle.theory.specs.MachineRuns.{Runs, BelowOnWords}
 use Rattle.theory.specs.Exploration.{state-count, table-of}
 use Rattle.theory.specs.FormulaWriting.{written as rule-written}
 use Rattle.theory.specs.MealyMachine.{Counterexample, FirstCounterexample}
-use Rattle.theory.specs.ConformanceCheck.{counterexample}
-use Rattle.theory.proofs.Claims.{grammar, answers, table, table-values, characteristic, conformance}
+use Rattle.theory.specs.ConformanceCheck.{is-none, counterexample}
+use Rattle.theory.proofs.Claims.{grammar, answers, simulation, table, table-values, characteristic, conformance, same-values}
+use Rattle.theory.proofs.ConformanceClaims.{passes-iff}
 use Rattle.theory.proofs.{ValueSets.{every-at}, WordOrder.{word-left, word-right}}
 use Rattle.refusal.specs.Refusal.{First}
 use Rattle.values.specs.Setup.{setup-meet, setup-top, SetupValue}
@@ -28,12 +29,12 @@ use Rattle.formulas.specs.RuleConditions.{encode-all, node-width, node-bytes, b
 use Rattle.formulas.specs.RuleRefusal.{rule-refusal, formula-of}
 use Rattle.formulas.specs.Claims.{AcceptedFormula}
 use Rattle.formulas.proofs.{Encoding.{encode-unique}, NodeCodes.{node-code}, RuleClaims.{rule-judged, accepted-formula-of, formula-of-only}}
-use Rattle.machines.specs.{TableBytes.{machine-of}, TableRefusal.{table-refusal}}
+use Rattle.machines.specs.{TableBytes.{machine-of}, TableRefusal.{table-refusal}, Claims.{AcceptedTable}}
 use Rattle.machines.proofs.TableRefusals.{accepted-table}
 use Rattle.table_report.specs.{PrintedTable.{Prints}, Report.{report-text}}
 use Rattle.table_report.proofs.ReportClaims.{report-claim}
-use Rattle.marked_cases.specs.MarkedCases.{Case, tabled, printed, repeated, refused, written, failing, passing, times, s, IsRule, TableOf, rows-of}
-use Rattle.marked_cases.specs.MarkedCases.{device, Holds, AllHold}
+use Rattle.marked_cases.specs.MarkedCases.{Case, tabled, printed, repeated, refused, written, failing, passing, passing-same, passing-stricter, times}
+use Rattle.marked_cases.specs.MarkedCases.{s, IsRule, TableOf, rows-of, device, both, Holds, AllHold}
 
 -- ---- what is computed: a rule's bytes, its formula, and a formula's count of states and table
 abbrev bytes : List (Node ℕ) → List ℕ
@@ -50,6 +51,16 @@ made φ = table-of node-limit (setup-meet s) (setup-top s) φ (s .events) state-
 
 abbrev below : ℕ → ℕ → Bool
 below = at-or-below (s .kind) (s .meet)
+
+-- A device in order, an accepted rule with a table; and what a test of two values finds between them.
+unfoldable pub Tried : ℕ → List ℕ → List (Node ℕ) → Type 0
+Tried k rows rule =
+    (rule-refusal (s .events) (s .kind) (bytes rule) ≡ none)
+    × (leb (states (formula rule)) state-limit ≡ true)
+    × (table-refusal device-limit (s .events) (s .kind) k 0 rows ≡ none)
+
+abbrev on-trial : (ℕ → ℕ → Bool) → ℕ → List ℕ → List (Node ℕ) → Option (List ℕ)
+on-trial related k rows rule = counterexample related (device rows) (made (formula rule)) (s .events) k (states (formula rule)) 0 0
 
 -- Of a case; of an event repeated, that it leads from state 0 to a state l, and from there nowhere else.
 unfoldable pub Checked : Case → Type 0
@@ -68,12 +79,10 @@ Checked (written n rows count) =
     (table-refusal state-limit (s .events) (s .kind) n 0 rows ≡ none)
     × (size φ ≡ count) × (leb count node-limit ≡ true)
     × (states φ ≡ n) × (leb n state-limit ≡ true) × (rows-of (made φ) n ≡ rows)
-Checked (failing v rule word) =
-    (rule-refusal (s .events) (s .kind) (bytes rule) ≡ none)
-    × (leb (states (formula rule)) state-limit ≡ true)
-    × (table-refusal device-limit (s .events) (s .kind) 1 0 (v ∷ 0 ∷ v ∷ 0 ∷ []) ≡ none)
-    × (counterexample below (device v) (made (formula rule)) (s .events) 1 (states (formula rule)) 0 0 ≡ some word)
+Checked (failing k rows rule word) = Tried k rows rule × (on-trial below k rows rule ≡ some word)
 Checked (passing v) = every 4 (λ b. below v b) ≡ true
+Checked (passing-same k rows rule) = Tried k rows rule × (on-trial eqb k rows rule ≡ none)
+Checked (passing-stricter k rows rule) = Tried k rows rule × (on-trial below k rows rule ≡ none) × (is-none (on-trial eqb k rows rule) ≡ false)
 
 -- ---- the set-up
 laws : SetupLaws s
@@ -147,12 +156,12 @@ times-word e h zero = tt
 times-word e h (suc k) = (h, times-word e h k)
 
 -- ---- failing words: the same against tables with the same values
-abbrev SameValues : Machine ℕ ℕ → Machine ℕ ℕ → Type 0
-SameValues t u = (w : List ℕ) → Word (s .events) w → (e : ℕ) → e < s .events → t .value (after t 0 w) e ≡ u .value (after u 0 w) e
+abbrev Alike : Machine ℕ ℕ → Machine ℕ ℕ → Type 0
+Alike t u = SameValues (s .events) t u 0 0
 
 module _ (m : Machine ℕ ℕ) where
   fails-as :
-      (t u : Machine ℕ ℕ) → SameValues t u → (word : List ℕ) → Counterexample (s .events) (setup-meet s) m t 0 0 word →
+      (t u : Machine ℕ ℕ) → Alike t u → (word : List ℕ) → Counterexample (s .events) (setup-meet s) m t 0 0 word →
       Counterexample (s .events) (setup-meet s) m u 0 0 word
   fails-as t u same word c =
       let v : Word (s .events) (c .before ++ (c .last ∷ [])) = subst (Word (s .events)) (c .ends) (c .events-of) in
@@ -166,7 +175,7 @@ module _ (m : Machine ℕ ℕ) where
       }
 
   first-as :
-      (t u : Machine ℕ ℕ) → SameValues t u → (word : List ℕ) → FirstCounterexample (s .events) (setup-meet s) m t 0 0 word →
+      (t u : Machine ℕ ℕ) → Alike t u → (word : List ℕ) → FirstCounterexample (s .events) (setup-meet s) m t 0 0 word →
       FirstCounterexample (s .events) (setup-meet s) m u 0 0 word
   first-as t u same word c =
       record {
@@ -175,18 +184,79 @@ module _ (m : Machine ℕ ℕ) where
       }
 
 -- So have all tables of one formula.
-same-values : (φ : Formula ℕ) → Well φ → (n k : ℕ) (t u : Machine ℕ ℕ) → TableOf φ n t → TableOf φ k u → SameValues t u
-same-values φ good n k t u x y w v e h =
+tables-alike : (φ : Formula ℕ) → Well φ → (n k : ℕ) (t u : Machine ℕ ℕ) → TableOf φ n t → TableOf φ k u → Alike t u
+tables-alike φ good n k t u x y w v e h =
     let only = answers (SetupValue s) (setup-meet s) (setup-top s) (s .events) φ good w e in
     only (t .value (after t 0 w) e) .0 (table-has φ good n t x .2 w v e h)
     ∙ sym (only (u .value (after u 0 w) e) .0 (table-has φ good k u y .2 w v e h))
 
 -- ---- a device of one state
-device-value : (v l e : ℕ) → l < 1 → e < s .events → device v .value l e ≡ v
+device-value : (v l e : ℕ) → l < 1 → e < s .events → device (both v) .value l e ≡ v
 device-value v zero zero hl he = refl
 device-value v zero (suc zero) hl he = refl
 device-value v zero (suc (suc e)) hl he = absurd (omega arith)
 device-value v (suc l) e hl he = absurd (omega arith)
+
+-- ---- a device against a rule
+equal-iff : (b c : ℕ) → T (eqb b c) ↔ (b ≡ c)
+equal-iff b c = (eqb→eq b c, λ e. subst (λ y. T (eqb b y)) e (eqb-refl b))
+
+module _ (k : ℕ) (rows : List ℕ) (rule : List (Node ℕ)) (h : Tried k rows rule) where
+  abbrev m : Machine ℕ ℕ
+  m = device rows
+
+  abbrev φ : Formula ℕ
+  φ = formula rule
+
+  tried-rule : rule-refusal (s .events) (s .kind) (bytes rule) ≡ none
+  unfolding Tried
+  tried-rule = h .0
+
+  made-table : TableOf φ (states φ) (made φ)
+  unfolding Tried
+  made-table = made-is φ (well rule tried-rule) (code rule tried-rule .accepted .within) (h .1)
+
+  device-ok : AcceptedTable (s .events) (s .kind) k 0 rows
+  unfolding Tried
+  device-ok = accepted-table device-limit (s .events) (s .kind) k 0 rows (h .2)
+
+  abbrev has : (0 < states φ) × Runs (s .events) (SetupValue s) (States (states φ)) (made φ)
+      × ((w : List ℕ) → Word (s .events) w → (e : ℕ) → e < s .events → Answers (setup-meet s) (setup-top s) φ w e (made φ .value (after (made φ) 0 w) e))
+  has = table-has φ (well rule tried-rule) (states φ) (made φ) made-table
+
+  -- Any table of the rule has the values of the one that is made.
+  as-made : (n : ℕ) (t : Machine ℕ ℕ) → TableOf φ n t → Alike (made φ) t
+  as-made n t y = tables-alike φ (well rule tried-rule) (states φ) n (made φ) t made-table y
+
+  fails-first : (word : List ℕ) → on-trial below k rows rule ≡ some word → FirstCounterexample (s .events) (setup-meet s) m (made φ) 0 0 word
+  fails-first word found =
+      conformance (SetupValue s) (setup-meet s) (setup-top s) (s .events) below decides k m (states φ) (made φ) (device-ok .runs) (has .1) 0 0
+      (device-ok .start-in) (has .0) .1 word found .0
+
+  same-iff : (on-trial eqb k rows rule ≡ none) ↔ Alike m (made φ)
+  same-iff =
+      same-values (SetupValue s) (setup-meet s) (setup-top s) (s .events) eqb equal-iff k m (states φ) (made φ) (device-ok .runs) (has .1) 0 0
+      (device-ok .start-in) (has .0)
+
+  passes-below : on-trial below k rows rule ≡ none → BelowOnWords (s .events) (setup-meet s) m (made φ) 0 0
+  passes-below e =
+      passes-iff (SetupValue s) (setup-meet s) below decides (s .events) k m (states φ) (made φ) (device-ok .runs) (has .1) 0 0
+      (device-ok .start-in) (has .0) .0 e
+
+  module _ (n : ℕ) (t : Machine ℕ ℕ) (y : TableOf φ n t) where
+    alike-any : on-trial eqb k rows rule ≡ none → Alike m t
+    alike-any e w v a l = same-iff .0 e w v a l ∙ as-made n t y w v a l
+
+    simulated-any : on-trial below k rows rule ≡ none → Simulated (s .events) (setup-meet s) (States k) m (States n) t 0 0
+    simulated-any e =
+        let in-t = table-has φ (well rule tried-rule) n t y in
+        simulation (SetupValue s) (setup-meet s) (setup-top s) (s .events) ℕ ℕ (States k) m (States n) t (device-ok .runs) (in-t .1) 0 0
+        (device-ok .start-in) (in-t .0) .1
+        (λ w v a l. subst (AtOrBelow (setup-meet s) (m .value (after m 0 w) a)) (as-made n t y w v a l) (passes-below e w v a l))
+
+    not-alike-any : is-none (on-trial eqb k rows rule) ≡ false → ¬ Alike m t
+    not-alike-any e f =
+        false≢true (sym e ∙ ap is-none (same-iff .1 (λ w v a l. f w v a l ∙ sym (as-made n t y w v a l))))
 
 -- ---- the lemma
 lifted : (c : Case) → Checked c → Holds c
@@ -217,21 +287,21 @@ lifted (written n rows count) (in-order, nodes-are, small, states-are, few, same
     let within : size φ ≤ node-limit = subst (λ k. k ≤ node-limit) (sym nodes-are) (leb-true count node-limit small) in
     let good : Well φ = grammar ℕ node-limit (s .events) (SetupValue s) φ (record { within = within; closed = w .2; position = w .3; fits = w .4 }) in
     record { lower = (φ, w .0, nodes-are, (made φ, table-of-states φ good within n states-are few, same)) }
-lifted (failing v rule word) (ok, few, in-order, found) =
-    let φ = formula rule in
-    let x = made-is φ (well rule ok) (code rule ok .accepted .within) few in
-    let has = table-has φ (well rule ok) (states φ) (made φ) x in
-    let runs = accepted-table device-limit (s .events) (s .kind) 1 0 (v ∷ 0 ∷ v ∷ 0 ∷ []) in-order .runs in
-    let first =
-    conformance (SetupValue s) (setup-meet s) (setup-top s) (s .events) below decides 1 (device v) (states φ) (made φ) runs (has .1) 0 0
-    (omega arith) (has .0) .1 word found .0 in
+lifted (failing k rows rule word) (h, found) =
     record {
       lower = (
-        φ,
-        is-rule rule ok,
-        λ n t y. first-as (device v) (made φ) t (same-values φ (well rule ok) (states φ) n (made φ) t x y) word first,
+        formula rule,
+        is-rule rule (tried-rule k rows rule h),
+        λ n t y. first-as (device rows) (made (formula rule)) t (as-made k rows rule h n t y) word (fails-first k rows rule h word found),
       );
     }
+lifted (passing-same k rows rule) (h, found) =
+    record { lower = (formula rule, is-rule rule (tried-rule k rows rule h), λ n t y. alike-any k rows rule h n t y found) }
+lifted (passing-stricter k rows rule) (h, passed, differs) = (
+  formula rule,
+  record { lower = is-rule rule (tried-rule k rows rule h) },
+  λ n t y. (simulated-any k rows rule h n t y passed, not-alike-any k rows rule h n t y differs),
+)
 lifted (passing v) low = λ rule φ r n t x.
     let runs = table-has φ (rule-well rule φ r) n t x .1 in (
       (λ l k. Unit {0}),

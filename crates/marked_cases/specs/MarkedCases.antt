@@ -5,7 +5,8 @@ use Prim.Native.Nat.{ℕ, zero, suc}
 use Rattle.theory.specs.ValueSets.{four-value-meet}
 use Rattle.theory.specs.Formula.{Formula, size, Answers, Node, truth-node, variable-node, transition-node, output-node, conjunction-node, greatest-node}
 use Rattle.theory.specs.Formula.{nodes}
-use Rattle.theory.specs.{ReachableStates.{IsTableOf}, MealyMachine.{Machine, States, Simulated, FirstCounterexample}, CharacteristicFormula.{Writes}}
+use Rattle.theory.specs.{ReachableStates.{IsTableOf}, CharacteristicFormula.{Writes}}
+use Rattle.theory.specs.MealyMachine.{Machine, States, Simulated, SameValues, FirstCounterexample}
 use Rattle.refusal.specs.{declared.Refusal.{Refusal}, declared.Refusal.the-variants.{At}, Refusal.{First}}
 use Rattle.values.specs.Setup.{Setup, setup, setup-meet, setup-top}
 use Rattle.formulas.specs.RuleConditions.{encode-all, node-bytes, byte-conditions}
@@ -44,10 +45,13 @@ pub data Case : Type 0 where
   refused : List (Node ℕ) → Refusal → Case
   -- the rule of these rows of so many states from state 0 has so many nodes, and that rule's table is these rows
   written : ℕ → List ℕ → ℕ → Case
-  -- a device of one state with this value on both events fails against the rule's table, with this word first
-  failing : ℕ → List (Node ℕ) → List ℕ → Case
+  -- a device of these rows of so many states from state 0 fails against the rule's table, with this word first
+  failing : ℕ → List ℕ → List (Node ℕ) → List ℕ → Case
   -- a device of one state with this value on both events passes every rule
   passing : ℕ → Case
+  -- a device of these rows of so many states from state 0 passes against the rule's table as same; as stricter (document 02, F-5)
+  passing-same : ℕ → List ℕ → List (Node ℕ) → Case
+  passing-stricter : ℕ → List ℕ → List (Node ℕ) → Case
 
 -- An event so many times.
 abbrev pub times : ℕ → ℕ → List ℕ
@@ -70,8 +74,12 @@ TableOf φ n t = IsTableOf (setup-meet s) (setup-top s) (s .events) φ n t
 abbrev pub rows-of : Machine ℕ ℕ → ℕ → List ℕ
 rows-of t n = table-bytes (entry-bytes (s .kind)) (s .events) t n
 
-abbrev pub device : ℕ → Machine ℕ ℕ
-device v = machine-of (s .kind) (s .events) (v ∷ 0 ∷ v ∷ 0 ∷ [])
+-- The device of these rows; the rows of one state with this value on both events.
+abbrev pub device : List ℕ → Machine ℕ ℕ
+device rows = machine-of (s .kind) (s .events) rows
+
+abbrev pub both : ℕ → List ℕ
+both v = v ∷ 0 ∷ v ∷ 0 ∷ []
 
 unfoldable pub Holds : Case → Type 1
 Holds (tabled rule n rows) =
@@ -86,13 +94,19 @@ Holds (written n rows count) =
     Lift {0, 1}
     ((φ : Formula ℕ) × Writes (machine-of (s .kind) (s .events) rows) (s .events) [] 0 φ × (size φ ≡ count)
     × ((t : Machine ℕ ℕ) × TableOf φ n t × (rows-of t n ≡ rows)))
-Holds (failing v rule word) =
+Holds (failing k rows rule word) =
     Lift {0, 1}
     ((φ : Formula ℕ) × IsRule rule φ × ((n : ℕ) (t : Machine ℕ ℕ) → TableOf φ n t →
-    FirstCounterexample (s .events) (setup-meet s) (device v) t 0 0 word))
+    FirstCounterexample (s .events) (setup-meet s) (device rows) t 0 0 word))
 Holds (passing v) =
     (rule : List (Node ℕ)) (φ : Formula ℕ) → IsRule rule φ → (n : ℕ) (t : Machine ℕ ℕ) → TableOf φ n t →
-    Simulated (s .events) (setup-meet s) (States 1) (device v) (States n) t 0 0
+    Simulated (s .events) (setup-meet s) (States 1) (device (both v)) (States n) t 0 0
+Holds (passing-same k rows rule) =
+    Lift {0, 1}
+    ((φ : Formula ℕ) × IsRule rule φ × ((n : ℕ) (t : Machine ℕ ℕ) → TableOf φ n t → SameValues (s .events) (device rows) t 0 0))
+Holds (passing-stricter k rows rule) =
+    (φ : Formula ℕ) × Lift {0, 1} (IsRule rule φ) × ((n : ℕ) (t : Machine ℕ ℕ) → TableOf φ n t →
+    Simulated (s .events) (setup-meet s) (States k) (device rows) (States n) t 0 0 × ¬ SameValues (s .events) (device rows) t 0 0)
 
 abbrev pub cases : List Case
 cases =
@@ -117,7 +131,7 @@ cases =
     -- 11. 19 nodes, and the same rows
     ∷ written 2 (1 ∷ 0 ∷ 2 ∷ 1 ∷ 2 ∷ 1 ∷ 1 ∷ 1 ∷ []) 19
     -- 12. both values 3, against case 3: fails, word 0; both values 0: passes every rule
-    ∷ failing 3 (A ∷ O 0 1 ∷ O 0 2 ∷ []) (0 ∷ [])
+    ∷ failing 1 (both 3) (A ∷ O 0 1 ∷ O 0 2 ∷ []) (0 ∷ [])
     ∷ passing 0
     ∷ []
 
@@ -125,9 +139,16 @@ cases =
 abbrev pub request-cases : List Case
 request-cases =
     -- F-1. the first word: the smaller event; the smaller at the first difference; the shortest
-    failing 3 (A ∷ O 0 1 ∷ O 1 1 ∷ []) (0 ∷ [])
-    ∷ failing 3 (A ∷ G 0 ∷ O 1 1 ∷ G 1 ∷ O 0 1 ∷ []) (0 ∷ 1 ∷ [])
-    ∷ failing 3 (A ∷ G 1 ∷ O 0 1 ∷ G 0 ∷ G 0 ∷ O 0 1 ∷ []) (1 ∷ 0 ∷ [])
+    failing 1 (both 3) (A ∷ O 0 1 ∷ O 1 1 ∷ []) (0 ∷ [])
+    ∷ failing 1 (both 3) (A ∷ G 0 ∷ O 1 1 ∷ G 1 ∷ O 0 1 ∷ []) (0 ∷ 1 ∷ [])
+    ∷ failing 1 (both 3) (A ∷ G 1 ∷ O 0 1 ∷ G 0 ∷ G 0 ∷ O 0 1 ∷ []) (1 ∷ 0 ∷ [])
+    -- F-5. T has both values 3; both 0 are stricter; the table of A O0.1 O0.2 is stricter than O0.1, the table of O0.1 fails against the other;
+    -- the table of A O1.1 V G1 X0, of three states, has the values of O1.1
+    ∷ passing-same 1 (both 3) (T ∷ [])
+    ∷ passing-stricter 1 (both 0) (T ∷ [])
+    ∷ passing-stricter 2 (0 ∷ 1 ∷ 3 ∷ 1 ∷ 3 ∷ 1 ∷ 3 ∷ 1 ∷ []) (O 0 1 ∷ [])
+    ∷ failing 2 (1 ∷ 1 ∷ 3 ∷ 1 ∷ 3 ∷ 1 ∷ 3 ∷ 1 ∷ []) (A ∷ O 0 1 ∷ O 0 2 ∷ []) (0 ∷ [])
+    ∷ passing-same 3 (3 ∷ 1 ∷ 1 ∷ 2 ∷ 3 ∷ 1 ∷ 3 ∷ 1 ∷ 3 ∷ 1 ∷ 3 ∷ 2 ∷ []) (O 1 1 ∷ [])
     ∷ []
 
 unfoldable pub AllHold : List Case → Type 1
