@@ -1,3 +1,4 @@
 pub mod Compiled
 pub mod Demands
+pub mod Requests
 pub mod Extras

@@ -1,0 +1,19 @@
+-- A proof of each request.
+use mathlib.Core.Path.{sym, _∙_}
+use Rattle.limits.specs.Limits.{device-limit, table-limit}
+use Rattle.values.proofs.Comparisons.{comparisons}
+use Rattle.conformance.proofs.TrialClaims.{trial-refused, trial-grades, two-passes}
+use Rattle.product_claims.specs.Requests.{SameOrStricter, Requests}
+
+same-or-stricter : SameOrStricter
+same-or-stricter =
+    record {
+      comparing = comparisons .told;
+      one-comparison = comparisons .only;
+      same = λ x old z. trial-grades device-limit table-limit .same x old (sym (trial-refused device-limit table-limit .answer x old) ∙ z);
+      stricter = λ x old z. trial-grades device-limit table-limit .stricter x old (sym (trial-refused device-limit table-limit .answer x old) ∙ z);
+      together = two-passes;
+    }
+
+pub requests : Requests
+requests = record { same-or-stricter = same-or-stricter }
