@@ -293,8 +293,8 @@ impl Generator {
         RawTable { states, start: 0, bytes }
     }
 
-    /// A device made from a table: states doubled, values lowered, so that it passes against that table; and often one value
-    /// set anew, so that it may fail.
+    /// A device made from a table: states doubled, and the values of none, one or half of its entries lowered, so that it passes
+    /// against that table as same or as stricter; and often one value set anew, so that it may fail.
     pub fn device_near(&mut self, set_up: &SetUp, table: &Table) -> RawTable {
         let copies = if table.states() * 2 <= MAX_STATES { self.between(1, 2) } else { 1 };
         let states = copies * table.states();
@@ -302,13 +302,20 @@ impl Generator {
         for state in 0..states {
             for event in 0..set_up.events() {
                 let Entry { value, next } = table.entry(state / copies, event);
-                let value = if self.once_in(2) { set_up.meet(value, self.below(set_up.values()) as u8) } else { value };
                 bytes.extend_from_slice(&[value, next * copies as u8 + self.below(copies) as u8]);
             }
         }
+        let entries = states * set_up.events();
+        let lowered: Vec<usize> = match self.below(3) {
+            0 => Vec::new(),
+            1 => vec![self.below(entries)],
+            _ => (0..entries).filter(|_| self.once_in(2)).collect(),
+        };
+        for entry in lowered {
+            bytes[2 * entry] = set_up.meet(bytes[2 * entry], self.below(set_up.values()) as u8);
+        }
         if self.once_in(2) {
-            let at = 2 * self.below(bytes.len() / 2);
-            bytes[at] = self.below(set_up.values()) as u8;
+            bytes[2 * self.below(entries)] = self.below(set_up.values()) as u8;
         }
         RawTable { states, start: self.below(copies), bytes }
     }

@@ -1,19 +1,30 @@
-//! Trial: does a device do what a rule asks? By simulation, with the first failing word, and by the set definition.
+//! Trial: does a device do what a rule asks? By simulation, with the grade of a pass and the first failing word, and by the set
+//! definition.
 
 use crate::formula::{Node, Rule};
 use crate::refusal::room;
 use crate::table::{Lent, Table, MAX_STATES};
-use crate::values::{RawSetUp, SetUp};
+use crate::values::{Comparison, RawSetUp, SetUp};
 use crate::Refusal;
 
 /// "a word of 1 to 4,096 events"; "The word buffer has at least 4,096 bytes".
 pub const WORD_BYTES: usize = 4096;
 
+/// How a device passes: "passes as same, passes as stricter" (document 02, F-5).
+#[derive(Clone, Copy, Debug, PartialEq, Eq, Hash)]
+pub enum Grade {
+    /// "Same is given exactly if every event sequence ends in equal values."
+    Same,
+    /// Some event sequence ends in a value strictly below the table's.
+    Stricter,
+}
+
 /// The answer of a trial.
 #[derive(Clone, Debug, PartialEq, Eq)]
 pub enum Verdict {
-    /// "The device passes when the start is simulated (definition 1) by state 0 of the rule's table."
-    Passes,
+    /// "The device passes when the start is simulated (definition 1) by state 0 of the rule's table." "The two passes together
+    /// are the old pass" (document 02, F-5).
+    Passes(Grade),
     /// "a word of 1 to 4,096 events after whose last event the device's value is not at or below the table's": "the first: shortest, and
     /// among those the one with the smaller event at the first difference" (document 02, F-1).
     Fails(Vec<u8>),
@@ -23,7 +34,7 @@ pub enum Verdict {
 #[derive(Clone, Copy, Debug, PartialEq, Eq)]
 pub enum Outcome {
     /// The device passes; the word buffer keeps its contents.
-    Passes,
+    Passes(Grade),
     /// The device fails; the first word is that long.
     Fails(usize),
 }
@@ -38,9 +49,21 @@ struct Pair {
 
 /// Trial of a device from a start against a table from its own start; both tables are of this set-up.
 ///
+/// Two values are equal exactly when each is at or below the other. So a device that passes has equal values on every event sequence
+/// exactly when the table, as a device, passes against it too.
+pub fn trial(set_up: &SetUp, device: (&Table, usize), table: (&Table, usize)) -> Verdict {
+    match failing_word(set_up, device, table) {
+        Some(word) => Verdict::Fails(word),
+        None if failing_word(set_up, table, device).is_none() => Verdict::Passes(Grade::Same),
+        None => Verdict::Passes(Grade::Stricter),
+    }
+}
+
+/// The first word on which a device fails; none where its start is simulated by the table's.
+///
 /// The pairs of states that one word reaches together are the least that a simulation of the two starts must contain. They are
 /// taken in the order of their shortest, then smallest word, so the failing word is the shortest and then the smallest one.
-pub fn trial(set_up: &SetUp, device: (&Table, usize), table: (&Table, usize)) -> Verdict {
+pub fn failing_word(set_up: &SetUp, device: (&Table, usize), table: (&Table, usize)) -> Option<Vec<u8>> {
     let (device, device_start) = device;
     let (table, table_start) = table;
     // For each state of the device, the states of the table met with it.
@@ -52,7 +75,7 @@ pub fn trial(set_up: &SetUp, device: (&Table, usize), table: (&Table, usize)) ->
         let (s, t) = (usize::from(pairs[taken].device), usize::from(pairs[taken].table));
         for event in 0..set_up.events() {
             if !set_up.at_or_below(device.entry(s, event).value, table.entry(t, event).value) {
-                return Verdict::Fails(word_to(&pairs, taken, event as u8));
+                return Some(word_to(&pairs, taken, event as u8));
             }
         }
         for event in 0..set_up.events() {
@@ -65,7 +88,7 @@ pub fn trial(set_up: &SetUp, device: (&Table, usize), table: (&Table, usize)) ->
         }
         taken += 1;
     }
-    Verdict::Passes
+    None
 }
 
 /// The word that first reached a pair, and one event more.
@@ -80,7 +103,7 @@ fn word_to(pairs: &[Pair], mut pair: usize, last: u8) -> Vec<u8> {
 }
 
 /// The first word on which a device fails, by distances: from the start, each time the smallest event that leads one nearer to a
-/// failure. The same word as that of `trial`, found from the other end.
+/// failure. The same word as `failing_word`, found from the other end.
 pub fn first_word(set_up: &SetUp, device: (&Table, usize), table: (&Table, usize)) -> Option<Vec<u8>> {
     let ((device, mut s), (table, mut t)) = (device, table);
     let away = distances(set_up, device, table);
@@ -103,7 +126,7 @@ fn distances(set_up: &SetUp, device: &Table, table: &Table) -> Vec<Vec<Option<us
     let mut away = vec![vec![None; table.states()]; device.states()];
     for length in 1.. {
         let mut found = false;
-        for (s, t) in (0..device.states()).flat_map(|s| (0..table.states()).map(move |t| (s, t))) {
+        for (s, t) in all_pairs(device, table) {
             let near = |event: usize| match length {
                 1 => fails_on(set_up, device, table, (s, t), event),
                 _ => away_after(&away, device, table, (s, t), event) == Some(length - 1),
@@ -120,6 +143,11 @@ fn distances(set_up: &SetUp, device: &Table, table: &Table) -> Vec<Vec<Option<us
     away
 }
 
+fn all_pairs(device: &Table, table: &Table) -> impl Iterator<Item = (usize, usize)> {
+    let states = table.states();
+    (0..device.states()).flat_map(move |s| (0..states).map(move |t| (s, t)))
+}
+
 fn fails_on(set_up: &SetUp, device: &Table, table: &Table, (s, t): (usize, usize), event: usize) -> bool {
     !set_up.at_or_below(device.entry(s, event).value, table.entry(t, event).value)
 }
@@ -132,6 +160,31 @@ fn away_after(
     event: usize,
 ) -> Option<usize> {
     away[usize::from(device.entry(s, event).next)][usize::from(table.entry(t, event).next)]
+}
+
+/// Whether every event sequence ends in equal values, by the greatest relation between the states of both whose related states have
+/// equal values and related successors on every event: it starts with all pairs and falls until nothing changes. What `trial` calls
+/// same, by equality itself and found from the other end.
+pub fn same_values(set_up: &SetUp, device: (&Table, usize), table: (&Table, usize)) -> bool {
+    let ((device, device_start), (table, table_start)) = (device, table);
+    let mut related = vec![vec![true; table.states()]; device.states()];
+    loop {
+        let mut fell = false;
+        for (s, t) in all_pairs(device, table) {
+            let agree = |event: usize| {
+                let (ours, theirs) = (device.entry(s, event), table.entry(t, event));
+                set_up.compare(ours.value, theirs.value) == Comparison::Equal
+                    && related[usize::from(ours.next)][usize::from(theirs.next)]
+            };
+            if related[s][t] && !(0..set_up.events()).all(agree) {
+                related[s][t] = false;
+                fell = true;
+            }
+        }
+        if !fell {
+            return related[device_start][table_start];
+        }
+    }
 }
 
 /// Trial against a rule's table that is handed in too, its states and its entries; it starts at state 0: refusals 1 to 3, 11, 13.
@@ -161,7 +214,7 @@ pub fn trial_of_rule(set_up: &RawSetUp, device: Lent<'_>, rule: &[u8], word: &mu
 fn judge(set_up: &SetUp, device: (&Table, usize), table: &Table, lent: &mut [u8]) -> Result<Outcome, Refusal> {
     room(lent, WORD_BYTES)?;
     match trial(set_up, device, (table, 0)) {
-        Verdict::Passes => Ok(Outcome::Passes),
+        Verdict::Passes(grade) => Ok(Outcome::Passes(grade)),
         Verdict::Fails(word) => {
             lent[..word.len()].copy_from_slice(&word);
             Ok(Outcome::Fails(word.len()))

@@ -1,4 +1,4 @@
-//! Value sets: set-ups, their refusals 1 to 3, meet, and the order it gives.
+//! Value sets: set-ups, their refusals 1 to 3, meet, and how two values compare.
 
 use crate::Refusal;
 
@@ -65,6 +65,17 @@ impl RawSetUp {
     }
 }
 
+/// What comparing two values tells (document 02, F-5).
+#[derive(Clone, Copy, Debug, PartialEq, Eq, Hash)]
+pub enum Comparison {
+    /// Both are the same value.
+    Equal,
+    /// The first is at or below the second and is not the second.
+    StrictlyBelow,
+    /// The first is not at or below the second.
+    NotBelow,
+}
+
 /// A set-up that 1 to 3 do not refuse.
 #[derive(Clone, Debug, PartialEq, Eq, Hash)]
 pub struct SetUp(RawSetUp);
@@ -96,9 +107,21 @@ impl SetUp {
         self.0.meet[usize::from(b) * self.0.values + usize::from(c)]
     }
 
-    /// "b is at or below c when the meet of b and c is b."
+    /// "Comparing two values shall tell equal, strictly below, or not below" (document 02, F-5), where "b is at or below c when
+    /// the meet of b and c is b". A value is at or below itself, since meet is idempotent.
+    pub fn compare(&self, b: u8, c: u8) -> Comparison {
+        if b == c {
+            Comparison::Equal
+        } else if self.meet(b, c) == b {
+            Comparison::StrictlyBelow
+        } else {
+            Comparison::NotBelow
+        }
+    }
+
+    /// Whether b is at or below c.
     pub fn at_or_below(&self, b: u8, c: u8) -> bool {
-        self.meet(b, c) == b
+        self.compare(b, c) != Comparison::NotBelow
     }
 
     /// The same set-up as plain data.

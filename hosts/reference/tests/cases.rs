@@ -1,11 +1,11 @@
-//! The marked cases of document 01, and those it has run only.
+//! The marked cases of document 01, those it has run only, and cases for document 02.
 
 mod common;
 
 use common::{bytes, file, four, rule, table};
 use gurvazze_reference::formula::{Formulas, Rule};
 use gurvazze_reference::table::{Lent, Table};
-use gurvazze_reference::trial::{satisfies, trial, Verdict};
+use gurvazze_reference::trial::{same_values, satisfies, trial, Grade, Verdict};
 use gurvazze_reference::{channel_file, characteristic, generate::Generator, render, Refusal};
 
 const PRINTED: &str = "events=2\nstates=3\nrow=0 0 3 1\nrow=0 1 1 2\nrow=1 0 3 1\nrow=1 1 3 1\nrow=2 0 3 1\nrow=2 1 3 2\n";
@@ -84,7 +84,7 @@ fn case_12_trials() {
         let any = Generator::new(seed).rule(&set_up);
         assert!(satisfies(&set_up, &any, &closed, 0));
         if let Ok(of_rule) = Table::of_rule(&set_up, &any) {
-            assert_eq!(trial(&set_up, (&closed, 0), (&of_rule, 0)), Verdict::Passes);
+            assert!(matches!(trial(&set_up, (&closed, 0), (&of_rule, 0)), Verdict::Passes(_)));
         }
     }
 }
@@ -97,6 +97,46 @@ fn the_first_failing_word() {
     for (items, word) in [("A O0.1 O1.1", vec![0]), ("A G0 O1.1 G1 O0.1", vec![0, 1]), ("A G1 O0.1 G0 G0 O0.1", vec![1, 0])] {
         let of_rule = table(&set_up, items).unwrap();
         assert_eq!(trial(&set_up, (&open, 0), (&of_rule, 0)), Verdict::Fails(word), "{items}");
+    }
+}
+
+/// Document 02, F-5: same exactly if every event sequence ends in equal values. The last two are strictly below on one word alone.
+#[test]
+fn same_or_only_stricter() {
+    let set_up = four(2);
+    let one_state = |value: u8| Lent { states: 1, start: 0, bytes: &[value, 0, value, 0] }.table(&set_up).unwrap();
+    let of_rule = |items: &str| table(&set_up, items).unwrap();
+    for (device, items, verdict) in [
+        (one_state(3), "T", Verdict::Passes(Grade::Same)),
+        (one_state(0), "T", Verdict::Passes(Grade::Stricter)),
+        (of_rule("O0.1"), "A O0.1 O0.2", Verdict::Fails(vec![0])),
+        (of_rule("A O1.1 V G1 X0"), "O1.1", Verdict::Passes(Grade::Same)),
+        (of_rule("A O0.1 O0.2"), "O0.1", Verdict::Passes(Grade::Stricter)),
+        (of_rule("A G0 O0.1 G0 G0 O0.1"), "G0 O0.1", Verdict::Passes(Grade::Stricter)),
+    ] {
+        let table = of_rule(items);
+        let (ours, theirs) = ((&device, 0), (&table, 0));
+        assert_eq!(same_values(&set_up, ours, theirs), verdict == Verdict::Passes(Grade::Same), "{items}");
+        assert_eq!(trial(&set_up, ours, theirs), verdict, "{items}");
+    }
+}
+
+/// Document 02, F-5: the second state has other values, which count only where it is reached.
+#[test]
+fn unreached_states_have_no_grade() {
+    let set_up = four(2);
+    let of_bytes = |bytes: &[u8]| Lent { states: 2, start: 0, bytes }.table(&set_up).unwrap();
+    let (apart, joined) = (of_bytes(&[3, 0, 3, 0, 0, 1, 1, 1]), of_bytes(&[3, 0, 3, 1, 0, 1, 1, 1]));
+    let open = table(&set_up, "T").unwrap();
+    for (device, table, grade) in [
+        ((&apart, 0), (&open, 0), Grade::Same),
+        ((&joined, 0), (&open, 0), Grade::Stricter),
+        ((&apart, 1), (&open, 0), Grade::Stricter),
+        ((&open, 0), (&apart, 0), Grade::Same),
+        ((&joined, 1), (&apart, 1), Grade::Same),
+    ] {
+        assert_eq!(same_values(&set_up, device, table), grade == Grade::Same);
+        assert_eq!(trial(&set_up, device, table), Verdict::Passes(grade));
     }
 }
 

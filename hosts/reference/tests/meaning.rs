@@ -1,4 +1,4 @@
-//! Random rules, words and devices: the definitions of document 01 held against each other.
+//! Random rules, words and devices: the definitions of documents 01 and 02 held against each other.
 
 mod common;
 
@@ -9,8 +9,8 @@ use common::{bytes, four, seeds};
 use gurvazze_reference::formula::{Formulas, Id, Node, Rule};
 use gurvazze_reference::generate::Generator;
 use gurvazze_reference::table::Table;
-use gurvazze_reference::trial::{first_word, satisfies, satisfying, trial, Verdict};
-use gurvazze_reference::values::SetUp;
+use gurvazze_reference::trial::{first_word, same_values, satisfies, satisfying, trial, Grade, Verdict};
+use gurvazze_reference::values::{Comparison, SetUp};
 use gurvazze_reference::{characteristic, Refusal};
 
 /// All words up to a length, shorter ones first, then the smaller at the first difference.
@@ -317,8 +317,8 @@ fn a_written_rule_has_the_values_of_its_state() {
             assert_eq!(again.run(0, &word).0, values, "seed {seed}");
             assert_eq!(formulas.values(root, &word), values, "seed {seed}");
         }
-        assert_eq!(trial(&set_up, (&table, raw.start), (&again, 0)), Verdict::Passes);
-        assert_eq!(trial(&set_up, (&again, 0), (&table, raw.start)), Verdict::Passes);
+        assert_eq!(trial(&set_up, (&table, raw.start), (&again, 0)), Verdict::Passes(Grade::Same));
+        assert_eq!(trial(&set_up, (&again, 0), (&table, raw.start)), Verdict::Passes(Grade::Same));
         assert!(satisfies(&set_up, &rule, &table, raw.start));
     }
     assert!(rules > 300 && over > 20, "{rules} rules, {over} over 256 nodes");
@@ -364,18 +364,19 @@ fn trial_is_simulation_and_satisfaction() {
         let device = raw.lent().table(&set_up).unwrap();
         let (ours, theirs) = ((&device, raw.start), (&table, 0));
         let verdict = trial(&set_up, ours, theirs);
+        let passed = matches!(verdict, Verdict::Passes(_));
         if device.states() * table.states() <= 400 {
             let related = simulation(&set_up, &device, &table);
-            assert_eq!(related.contains(&(raw.start, 0)), verdict == Verdict::Passes, "seed {seed}");
+            assert_eq!(related.contains(&(raw.start, 0)), passed, "seed {seed}");
             for state in 0..device.states() {
                 let expected = related.contains(&(state, 0));
                 assert_eq!(satisfies(&set_up, &rule, &device, state), expected, "seed {seed}, state {state}");
             }
         }
-        assert_eq!(satisfies(&set_up, &rule, &device, raw.start), verdict == Verdict::Passes, "seed {seed}");
+        assert_eq!(satisfies(&set_up, &rule, &device, raw.start), passed, "seed {seed}");
         let by_distances = first_word(&set_up, ours, theirs);
         match verdict {
-            Verdict::Passes => {
+            Verdict::Passes(_) => {
                 passes += 1;
                 assert_eq!(by_distances, None, "seed {seed}");
                 let word = g.word(&set_up, 60);
@@ -398,6 +399,75 @@ fn trial_is_simulation_and_satisfaction() {
         }
     }
     assert!(passes > 300 && fails > 300 && longest > 5, "{passes} pass, {fails} fail, longest {longest}");
+}
+
+#[test]
+fn comparing_values_is_by_meet_and_equality() {
+    for seed in seeds(300) {
+        let set_up = Generator::new(seed).set_up();
+        let values = 0..set_up.values() as u8;
+        for (b, c) in values.clone().flat_map(|b| values.clone().map(move |c| (b, c))) {
+            let comparison = set_up.compare(b, c);
+            assert_eq!(comparison == Comparison::NotBelow, set_up.meet(b, c) != b, "seed {seed}");
+            assert_eq!(comparison == Comparison::Equal, b == c, "seed {seed}");
+            // Each at or below the other: equal.
+            assert_eq!(set_up.at_or_below(b, c) && set_up.at_or_below(c, b), b == c, "seed {seed}");
+        }
+    }
+}
+
+/// Whether all words up to a length have equal values. Where they are as long as there are states, all longer words have too.
+fn same_on_words(device: (&Table, usize), table: (&Table, usize), length: usize) -> bool {
+    words(device.0.events(), length).iter().all(|word| device.0.run(device.1, word).0 == table.0.run(table.1, word).0)
+}
+
+/// A rule's table, or any from its state 0.
+fn some_table(g: &mut Generator, set_up: &SetUp) -> Option<Table> {
+    if g.once_in(2) {
+        let rule = g.rule(set_up);
+        return Table::of_rule(set_up, &rule).ok();
+    }
+    g.table(set_up).lent().table(set_up).ok()
+}
+
+#[test]
+fn same_is_given_exactly_for_equal_values() {
+    let (mut same, mut stricter, mut fails, mut decided) = (0, 0, 0, 0);
+    for seed in seeds(3000) {
+        let mut g = Generator::new(seed);
+        let set_up = g.set_up();
+        let Some(table) = some_table(&mut g, &set_up) else { continue };
+        let raw = if g.once_in(6) { g.table(&set_up) } else { g.device_near(&set_up, &table) };
+        let device = raw.lent().table(&set_up).unwrap();
+        let (ours, theirs) = ((&device, raw.start), (&table, 0));
+        let verdict = trial(&set_up, ours, theirs);
+        let is_same = verdict == Verdict::Passes(Grade::Same);
+        assert_eq!(same_values(&set_up, ours, theirs), is_same, "seed {seed}");
+        let length = length_for(set_up.events());
+        let on_words = same_on_words(ours, theirs, length);
+        if device.states() + table.states() <= length {
+            assert_eq!(on_words, is_same, "seed {seed}");
+            decided += 1;
+        }
+        match verdict {
+            Verdict::Passes(Grade::Same) => {
+                same += 1;
+                assert!(on_words, "seed {seed}");
+                let word = g.word(&set_up, 60);
+                assert_eq!(device.run(raw.start, &word).0, table.run(0, &word).0, "seed {seed}");
+            }
+            Verdict::Passes(Grade::Stricter) => {
+                stricter += 1;
+                // The first word on which the table is not at or below the device shows it.
+                let word = first_word(&set_up, theirs, ours).expect("the table is above the device somewhere");
+                let (value, limit) = (device.run(raw.start, &word).0.pop(), table.run(0, &word).0.pop());
+                assert_eq!(set_up.compare(value.unwrap(), limit.unwrap()), Comparison::StrictlyBelow, "seed {seed}");
+            }
+            Verdict::Fails(_) => fails += 1,
+        }
+    }
+    let counts = [same, stricter, fails, decided];
+    assert!(counts.iter().all(|&count| count > 500), "same, stricter, fails, decided by words: {counts:?}");
 }
 
 /// The set definition to the letter: V by trying all sets of states.
@@ -456,7 +526,7 @@ fn conflict_is_no_refusal_and_trial_is_no_equality() {
     for (value, passes) in [(0, true), (1, true), (2, false), (3, false)] {
         let rows = [value, 0, 2, 0];
         let device = gurvazze_reference::table::Lent { states: 1, start: 0, bytes: &rows }.table(&set_up).unwrap();
-        assert_eq!(trial(&set_up, (&device, 0), (&table, 0)) == Verdict::Passes, passes);
+        assert_eq!(trial(&set_up, (&device, 0), (&table, 0)) == Verdict::Passes(Grade::Stricter), passes);
         assert_eq!(satisfies(&set_up, &rule, &device, 0), passes);
     }
 }

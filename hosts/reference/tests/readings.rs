@@ -7,8 +7,8 @@ use gurvazze_reference::channel_file::{self, lines, read, tokens};
 use gurvazze_reference::formula::{Formulas, Rule};
 use gurvazze_reference::table::{compile, Entry, Lent, Table};
 use gurvazze_reference::tool::{Call, Channel, Log, Tool};
-use gurvazze_reference::trial::{satisfying, trial, trial_of_rule, trial_of_table, Outcome, Verdict, WORD_BYTES};
-use gurvazze_reference::values::{RawSetUp, SetUp};
+use gurvazze_reference::trial::{satisfying, trial, trial_of_rule, trial_of_table, Grade, Outcome, Verdict, WORD_BYTES};
+use gurvazze_reference::values::{Comparison, RawSetUp, SetUp};
 use gurvazze_reference::{characteristic, render, Refusal};
 
 fn refused(number: u8) -> Refusal {
@@ -133,9 +133,12 @@ fn set_ups() {
 #[test]
 fn the_four_value_set() {
     let set_up = four(2);
-    let below: Vec<(u8, u8)> =
-        (0..4).flat_map(|b| (0..4).map(move |c| (b, c))).filter(|&(b, c)| set_up.at_or_below(b, c)).collect();
-    assert_eq!(below, [(0, 0), (0, 1), (0, 2), (0, 3), (1, 1), (1, 3), (2, 2), (2, 3), (3, 3)]);
+    let compared = |wanted: Comparison| -> Vec<(u8, u8)> {
+        (0..4).flat_map(|b| (0..4).map(move |c| (b, c))).filter(|&(b, c)| set_up.compare(b, c) == wanted).collect()
+    };
+    assert_eq!(compared(Comparison::Equal), [(0, 0), (1, 1), (2, 2), (3, 3)]);
+    assert_eq!(compared(Comparison::StrictlyBelow), [(0, 1), (0, 2), (0, 3), (1, 3), (2, 3)]);
+    assert_eq!(compared(Comparison::NotBelow), [(1, 0), (1, 2), (2, 0), (2, 1), (3, 0), (3, 1), (3, 2)]);
 }
 
 #[test]
@@ -277,7 +280,7 @@ fn thirteen_is_last() {
     assert_eq!(trial_of_table(&raw, closed, 2, closed.bytes, &mut word), Err(refused(11)));
     assert!(word.iter().all(|&byte| byte == 7));
     let mut word = [7; WORD_BYTES + 1];
-    assert_eq!(trial_of_rule(&raw, closed, &bytes("T"), &mut word), Ok(Outcome::Passes));
+    assert_eq!(trial_of_rule(&raw, closed, &bytes("T"), &mut word), Ok(Outcome::Passes(Grade::Stricter)));
     assert!(word.iter().all(|&byte| byte == 7));
     let open = Lent { states: 1, start: 0, bytes: &[3, 0, 3, 0] };
     assert_eq!(trial_of_rule(&raw, open, &bytes("A O0.1 O0.2"), &mut word), Ok(Outcome::Fails(1)));
@@ -460,7 +463,7 @@ fn deep_and_wide_rules_stay_cheap() {
         match Table::of_rule(&set_up, &rule) {
             Ok(table) => {
                 assert_eq!(loaded, Ok(None), "{items}");
-                assert_eq!(trial(&set_up, (&device, 0), (&table, 0)), Verdict::Passes);
+                assert_eq!(trial(&set_up, (&device, 0), (&table, 0)), Verdict::Passes(Grade::Same));
             }
             Err(refusal) => assert_eq!((loaded, refusal), (Err(refusal), refused(10)), "{items}"),
         }

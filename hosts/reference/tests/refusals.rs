@@ -398,25 +398,20 @@ fn refusals_leave_lent_memory() {
             characteristic::write_rule(&raw, device.lent(), lent).map(|nodes| assert_eq!(3 * nodes, needed))
         }));
 
-        let judge = |device: &Table, start: usize, table: &Table| {
-            let verdict = trial(set_up.as_ref().unwrap(), (device, start), (table, 0));
-            match verdict {
-                Verdict::Passes => Vec::new(),
-                Verdict::Fails(word) => word,
-            }
-        };
-        let outcome = |result: Outcome, word: usize| match result {
-            Outcome::Passes => assert_eq!(word, 0),
-            Outcome::Fails(length) => assert_eq!(length, word),
-        };
+        let judge =
+            |device: &Table, start: usize, table: &Table| match trial(set_up.as_ref().unwrap(), (device, start), (table, 0)) {
+                Verdict::Passes(grade) => (Outcome::Passes(grade), Vec::new()),
+                Verdict::Fails(word) => (Outcome::Fails(word.len()), word),
+            };
         let expected = compiled.and_then(|table| {
             let device_table = device_table.clone()?;
             Ok(judge(&device_table, device.start, &table))
         });
-        let word = expected.as_ref().map_or(0, Vec::len);
+        let outcome = expected.clone().map(|(outcome, _)| outcome);
+        let word = expected.map(|(_, word)| word);
         let lent = buffer(&mut g, WORD_BYTES);
-        tallies[3].add(&on_lent(lent, expected, WORD_BYTES, |lent| {
-            trial_of_rule(&raw, device.lent(), &rule, lent).map(|result| outcome(result, word))
+        tallies[3].add(&on_lent(lent, word, WORD_BYTES, |lent| {
+            trial_of_rule(&raw, device.lent(), &rule, lent).map(|found| assert_eq!(Ok(found), outcome))
         }));
 
         let other = if g.once_in(4) { g.damaged_table(&good) } else { g.table(&good) };
@@ -425,10 +420,11 @@ fn refusals_leave_lent_memory() {
             let device_table = device_table?;
             Ok(judge(&device_table, device.start, &table))
         });
-        let word = expected.as_ref().map_or(0, Vec::len);
+        let outcome = expected.clone().map(|(outcome, _)| outcome);
+        let word = expected.map(|(_, word)| word);
         let lent = buffer(&mut g, WORD_BYTES);
-        tallies[4].add(&on_lent(lent, expected, WORD_BYTES, |lent| {
-            trial_of_table(&raw, device.lent(), other.states, &other.bytes, lent).map(|result| outcome(result, word))
+        tallies[4].add(&on_lent(lent, word, WORD_BYTES, |lent| {
+            trial_of_table(&raw, device.lent(), other.states, &other.bytes, lent).map(|found| assert_eq!(Ok(found), outcome))
         }));
     }
     tallies[0].has(&[0, 1, 2, 3, 5, 6, 7, 8, 9, 10, 13]);
