@@ -452,6 +452,12 @@ fn limits() -> Vec<Vec<u8>> {
         commands.push(device_of(states, |state| (if state + 1 == states { 3 } else { 1 }, (state + 1) % states)));
         commands.push(format!("trial V {}A O0.1 G0 X0", "G0 ".repeat(others - 1)));
     }
+    // Passes of such loops: as same, and as stricter by the device's first or last state alone.
+    for low in [None, Some(0), Some(63)] {
+        commands.push(device_of(64, |state| (if Some(state) == low { 1 } else { 3 }, (state + 1) % 64)));
+        commands.push(format!("trial V {}X0", "G0 ".repeat(63)));
+        commands.push("trial T".to_string());
+    }
     commands.into_iter().map(String::into_bytes).collect()
 }
 

@@ -6,7 +6,7 @@ use gurvazze_reference::formula::{Rule, MAX_NODES, NODE_BYTES};
 use gurvazze_reference::generate::RawTable;
 use gurvazze_reference::table::Table;
 use gurvazze_reference::tool::{Tool, CHANNELS};
-use gurvazze_reference::trial::{trial_of_rule, Outcome, WORD_BYTES};
+use gurvazze_reference::trial::{trial_of_rule, Grade, Outcome, WORD_BYTES};
 use gurvazze_reference::values::{RawSetUp, SetUp};
 use gurvazze_reference::{channel_file, characteristic, render, Refusal};
 
@@ -228,7 +228,8 @@ impl Ready {
         let rule = self.rule(line.rest(1))?;
         let mut word = [0; WORD_BYTES];
         Ok(match trial_of_rule(self.set_up.raw(), device.lent(), &rule, &mut word)? {
-            Outcome::Passes => "pass\n".to_string(),
+            Outcome::Passes(Grade::Same) => "pass=same\n".to_string(),
+            Outcome::Passes(Grade::Stricter) => "pass=stricter\n".to_string(),
             Outcome::Fails(length) => list("fail=", &word[..length]),
         })
     }

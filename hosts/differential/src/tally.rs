@@ -21,7 +21,7 @@ const EXPECTED: [(&str, &str); 19] = [
     ("clear", "ok refused=14 error=setup error=arguments error=number"),
     ("show", "empty states refused=14 error=setup error=arguments error=number"),
     ("device", "ok error=arguments error=number"),
-    ("trial", "pass fail refused=5 refused=6 refused=7 refused=8 refused=9 refused=10 refused=11"),
+    ("trial", "pass=same pass=stricter fail refused=5 refused=6 refused=7 refused=8 refused=9 refused=10 refused=11"),
     ("trial", "error=setup error=device error=tokens"),
     ("write", "rule refused=11 refused=12 error=setup error=arguments error=device"),
     ("help", "help"),
@@ -64,13 +64,13 @@ impl Tally {
     }
 }
 
-/// `refused=` and `error=` with what follows, up to a place; of other answers the first word or key.
+/// `pass=`, `refused=` and `error=` with what follows, up to a place; of other answers the first word or key.
 fn kind(answer: &Answer) -> String {
     if answer.command == "help" {
         return "help".to_string();
     }
-    let ends: &[char] =
-        if answer.text.starts_with("refused=") || answer.text.starts_with("error=") { &[' ', '\n'] } else { &[' ', '\n', '='] };
+    let is_told_apart = ["pass=", "refused=", "error="].iter().any(|key| answer.text.starts_with(key));
+    let ends: &[char] = if is_told_apart { &[' ', '\n'] } else { &[' ', '\n', '='] };
     let end = answer.text.find(ends).expect("an answer ends a line");
     answer.text[..end].to_string()
 }

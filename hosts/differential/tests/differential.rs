@@ -10,7 +10,7 @@ use gurvazze_reference::channel_file::{self, ChannelFile};
 use gurvazze_reference::formula::Rule;
 use gurvazze_reference::generate::{Generator, RawTable};
 use gurvazze_reference::table::Table;
-use gurvazze_reference::trial::first_word;
+use gurvazze_reference::trial::{first_word, same_values, Grade, Outcome};
 use gurvazze_reference::values::{RawSetUp, SetUp};
 
 /// So many seeds, times the number in the environment's SEEDS_TIMES where there is one.
@@ -164,16 +164,48 @@ fn is_counterexample(set_up: &SetUp, device: &RawTable, table: &Table, word: &[u
     below.pop() == Some(false) && below.iter().all(|&holds| holds)
 }
 
-/// It is the first such word by distances (document 02, F-1); nothing where there is none.
-fn is_first(set_up: &SetUp, device: &RawTable, table: &Table, word: &[u8]) -> bool {
-    let typed = device.lent().table(set_up).unwrap();
-    first_word(set_up, (&typed, device.start), (table, 0)).unwrap_or_default() == word
+/// How often trials passed as same, passed as stricter and failed.
+#[derive(Debug, Default)]
+struct Verdicts {
+    same: usize,
+    stricter: usize,
+    fails: usize,
+}
+
+impl Verdicts {
+    /// Counts what the library said of a device, and holds it against what the reference finds from the other end: the first failing word
+    /// by distances (document 02, F-1), and same values by the greatest relation (F-5).
+    fn judge(&mut self, set_up: &SetUp, device: &RawTable, table: &Table, outcome: Outcome, word: &[u8]) {
+        let typed = device.lent().table(set_up).unwrap();
+        let (ours, theirs) = ((&typed, device.start), (table, 0));
+        let what = || format!("{set_up:?} {device:?} {table:?}");
+        assert_eq!(same_values(set_up, ours, theirs), outcome == Outcome::Passes(Grade::Same), "{}", what());
+        let first = first_word(set_up, ours, theirs);
+        match outcome {
+            Outcome::Passes(_) => assert_eq!(first, None, "{}", what()),
+            Outcome::Fails(length) => {
+                assert_eq!(first.as_deref(), Some(&word[..length]), "{}", what());
+                assert!(is_counterexample(set_up, device, table, &word[..length]), "{}", what());
+            }
+        }
+        match outcome {
+            Outcome::Passes(Grade::Same) => self.same += 1,
+            Outcome::Passes(Grade::Stricter) => self.stricter += 1,
+            Outcome::Fails(_) => self.fails += 1,
+        }
+    }
+
+    /// Each arose often enough to mean something.
+    fn are_many(&self) {
+        assert!(self.same > 1000 && self.stricter > 1000 && self.fails > 1000, "{self:?}");
+        println!("{self:?}");
+    }
 }
 
 #[test]
 fn trials() {
     let mut tally = Tally::default();
-    let (mut passes, mut fails) = (0, 0);
+    let mut verdicts = Verdicts::default();
     for seed in seeds(50_000) {
         let mut generator = Generator::new(seed);
         let text = if generator.once_in(4) { text(&mut generator) } else { generator.file() };
@@ -183,26 +215,21 @@ fn trials() {
         let device = device(&mut generator, &set_up, of_rule.as_ref());
         let old = word_buffer(&mut generator);
         let library = trial::library(&text, &device, &old);
-        if let (Ok(length), Some(table)) = (library.0, &of_rule) {
-            assert!(is_first(&set_up, &device, table, &library.1[..length]), "seed {seed}");
-            if length == 0 {
-                passes += 1;
-            } else {
-                fails += 1;
-                assert!(is_counterexample(&set_up, &device, table, &library.1[..length]), "seed {seed}");
-            }
+        if let (Ok(outcome), Some(table)) = (library.0, &of_rule) {
+            verdicts.judge(&set_up, &device, table, outcome, &library.1);
         }
         tally.compare(library, trial::reference(&text, &device, &old), &old, || {
             format!("seed {seed}: {} {device:?}", shown(&text))
         });
     }
     tally.has(&[0, 1, 2, 3, 4, 5, 6, 7, 8, 9, 10, 11, 13]);
-    assert!(passes > 1000 && fails > 1000, "{passes} passes, {fails} fails");
+    verdicts.are_many();
 }
 
 #[test]
 fn trials_of_tables() {
     let mut tally = Tally::default();
+    let mut verdicts = Verdicts::default();
     for seed in seeds(50_000) {
         let mut generator = Generator::new(seed);
         let set_up = generator.set_up();
@@ -213,15 +240,16 @@ fn trials_of_tables() {
         let old = word_buffer(&mut generator);
         let library = trial_table::library(&raw, &table, &device, &old);
         // A damaged set-up may be another good one.
-        if let (Ok(length), Ok(set_up)) = (library.0, SetUp::new(raw.clone())) {
+        if let (Ok(outcome), Ok(set_up)) = (library.0, SetUp::new(raw.clone())) {
             let typed = RawTable { start: 0, ..table.clone() }.lent().table(&set_up).unwrap();
-            assert!(is_first(&set_up, &device, &typed, &library.1[..length]), "seed {seed}");
+            verdicts.judge(&set_up, &device, &typed, outcome, &library.1);
         }
         tally.compare(library, trial_table::reference(&raw, &table, &device, &old), &old, || {
             format!("seed {seed}: {raw:?} {table:?} {device:?}")
         });
     }
     tally.has(&[0, 1, 2, 3, 11, 13]);
+    verdicts.are_many();
 }
 
 #[test]
@@ -257,6 +285,30 @@ fn written_rules_are_rules() {
         let of_rule = Table::of_rule(&set_up, &rule).expect("and has one state for each V");
         let word = generator.word(&set_up, 50);
         assert_eq!(of_rule.run(0, &word).0, table.lent().table(&set_up).unwrap().run(table.start, &word).0, "seed {seed}");
+    }
+}
+
+/// A loop of states on one event, top but for a low one.
+fn ring(states: usize, low: usize) -> RawTable {
+    let bytes = (0..states).flat_map(|state| [if state == low { 1 } else { 3 }, ((state + 1) % states) as u8]).collect();
+    RawTable { states, start: 0, bytes }
+}
+
+/// Loops that pass: as same, and as stricter by the device's first or last state alone.
+#[test]
+fn grades_of_loops() {
+    let mut tally = Tally::default();
+    let one = RawSetUp::four_values(1);
+    for (low, grade) in [(usize::MAX, Grade::Same), (0, Grade::Stricter), (63, Grade::Stricter)] {
+        for others in [1, 63, 64] {
+            let (device, table) = (ring(64, low), ring(others, usize::MAX));
+            let old = vec![170; 4096];
+            let library = trial_table::library(&one, &table, &device, &old);
+            assert_eq!(library.0, Ok(Outcome::Passes(grade)));
+            tally.compare(library, trial_table::reference(&one, &table, &device, &old), &old, || {
+                format!("{device:?} {table:?}")
+            });
+        }
     }
 }
 
@@ -300,11 +352,6 @@ fn limits() {
         }
     }
     // A device loop of 64 states against a rule loop of 63: the failing word has 64 × 63 events.
-    let ring = |states: usize, low: usize| RawTable {
-        states,
-        start: 0,
-        bytes: (0..states).flat_map(|state| [if state == low { 1 } else { 3 }, ((state + 1) % states) as u8]).collect(),
-    };
     for (device, table) in [(64, 63), (63, 64), (64, 64), (61, 59)] {
         let mut device = ring(device, usize::MAX);
         device.bytes.iter_mut().step_by(2).for_each(|value| *value = 1);
@@ -315,7 +362,7 @@ fn limits() {
             let old = vec![170; length];
             let library = trial_table::library(&one, &table, &device, &old);
             if (device.states, table.states, length) == (64, 63, 4096) {
-                assert_eq!(library.0, Ok(64 * 63));
+                assert_eq!(library.0, Ok(Outcome::Fails(64 * 63)));
             }
             tally.compare(library, trial_table::reference(&one, &table, &device, &old), &old, || {
                 format!("{device:?} {table:?}")

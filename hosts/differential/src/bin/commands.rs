@@ -6,8 +6,9 @@ use std::fs;
 use std::process::ExitCode;
 
 use gurvazze_differential::script::Script;
+use gurvazze_differential::session::Session;
 
-const USAGE: &str = "usage: commands SEED LINES SCRIPT ANSWERS, or commands SEED LINES BYTE";
+const USAGE: &str = "usage: commands SEED LINES SCRIPT ANSWERS, or commands SEED LINES BYTE, or commands SCRIPT ANSWERS";
 
 fn main() -> ExitCode {
     let arguments: Vec<String> = env::args().skip(1).collect();
@@ -15,6 +16,7 @@ fn main() -> ExitCode {
     let done = match arguments[..] {
         [seed, lines, script, answers] => write(seed, lines, script, answers),
         [seed, lines, byte] => show(seed, lines, byte),
+        [script, answers] => answer(script, answers),
         _ => Err(USAGE.into()),
     };
     match done {
@@ -46,5 +48,14 @@ fn show(seed: &str, lines: &str, byte: &str) -> Result<(), Box<dyn Error>> {
         Some((number, line)) => println!("line {number}: {}", line.escape_ascii()),
         None => println!("that is behind the answer to the last line"),
     }
+    Ok(())
+}
+
+/// Writes the answers to a script that is there.
+fn answer(script: &str, answers: &str) -> Result<(), Box<dyn Error>> {
+    let mut session = Session::default();
+    let script = fs::read(script)?;
+    let said = script.split(|&byte| byte == b'\n').filter_map(|line| session.answer(line));
+    fs::write(answers, said.map(|answer| answer.text).collect::<String>())?;
     Ok(())
 }

@@ -5,7 +5,7 @@
 use gurvazze_reference::channel_file::{self, ChannelFile};
 use gurvazze_reference::generate::RawTable;
 use gurvazze_reference::table::Table;
-use gurvazze_reference::trial::{trial_of_rule, trial_of_table, Outcome};
+use gurvazze_reference::trial::{trial_of_rule, trial_of_table, Grade, Outcome};
 use gurvazze_reference::values::RawSetUp;
 use gurvazze_reference::{characteristic, Refusal};
 
@@ -31,18 +31,12 @@ fn lent(table: &RawTable) -> gurvazze::Table<'_> {
     gurvazze::Table { states: table.states, start: table.start, bytes: &table.bytes }
 }
 
-/// 0 for a pass, and else the length of the failing word.
-fn length(verdict: gurvazze::Verdict) -> usize {
+/// The library's verdict in the reference's words.
+fn outcome(verdict: gurvazze::Verdict) -> Outcome {
     match verdict {
-        gurvazze::Verdict::Pass => 0,
-        gurvazze::Verdict::Fail(length) => length,
-    }
-}
-
-fn reference_length(outcome: Outcome) -> usize {
-    match outcome {
-        Outcome::Passes => 0,
-        Outcome::Fails(length) => length,
+        gurvazze::Verdict::Pass(gurvazze::Grade::Same) => Outcome::Passes(Grade::Same),
+        gurvazze::Verdict::Pass(gurvazze::Grade::Stricter) => Outcome::Passes(Grade::Stricter),
+        gurvazze::Verdict::Fail(length) => Outcome::Fails(length),
     }
 }
 
@@ -107,17 +101,16 @@ pub mod trial {
     use super::*;
 
     /// By the proved library.
-    pub fn library(text: &[u8], device: &RawTable, old: &[u8]) -> Called<usize> {
+    pub fn library(text: &[u8], device: &RawTable, old: &[u8]) -> Called<Outcome> {
         let mut word = old.to_vec();
-        (proved(gurvazze::trial(text, lent(device), &mut word).map(length)), word)
+        (proved(gurvazze::trial(text, lent(device), &mut word).map(outcome)), word)
     }
 
     /// By the reference.
-    pub fn reference(text: &[u8], device: &RawTable, old: &[u8]) -> Called<usize> {
+    pub fn reference(text: &[u8], device: &RawTable, old: &[u8]) -> Called<Outcome> {
         let mut word = old.to_vec();
-        let answer = channel_file::read(text).and_then(|file| {
-            trial_of_rule(file.set_up.raw(), device.lent(), &file.rule.to_bytes(), &mut word).map(reference_length)
-        });
+        let answer = channel_file::read(text)
+            .and_then(|file| trial_of_rule(file.set_up.raw(), device.lent(), &file.rule.to_bytes(), &mut word));
         (plain(answer), word)
     }
 }
@@ -127,17 +120,17 @@ pub mod trial_table {
     use super::*;
 
     /// By the proved library.
-    pub fn library(raw: &RawSetUp, table: &RawTable, device: &RawTable, old: &[u8]) -> Called<usize> {
+    pub fn library(raw: &RawSetUp, table: &RawTable, device: &RawTable, old: &[u8]) -> Called<Outcome> {
         let mut word = old.to_vec();
         let answer = gurvazze::trial_of_table(set_up(raw), table.states, &table.bytes, lent(device), &mut word);
-        (proved(answer.map(length)), word)
+        (proved(answer.map(outcome)), word)
     }
 
     /// By the reference.
-    pub fn reference(raw: &RawSetUp, table: &RawTable, device: &RawTable, old: &[u8]) -> Called<usize> {
+    pub fn reference(raw: &RawSetUp, table: &RawTable, device: &RawTable, old: &[u8]) -> Called<Outcome> {
         let mut word = old.to_vec();
         let answer = trial_of_table(raw, device.lent(), table.states, &table.bytes, &mut word);
-        (plain(answer.map(reference_length)), word)
+        (plain(answer), word)
     }
 }
 
