@@ -20,6 +20,7 @@ use command_line::Listed;
 use command_line::front;
 use command_line::read_numbers;
 use command_line::rest;
+use conformance::Grade;
 use conformance::Verdict;
 use limits::FILE_LIMIT;
 use limits::NODE_LIMIT;
@@ -89,7 +90,10 @@ fn try_table(
         &mut word,
     );
     match verdict {
-        Verdict::Pass => say(b"pass\n"),
+        Verdict::Pass(grade) => match grade {
+            Grade::Same => say(b"pass=same\n"),
+            Grade::Stricter => say(b"pass=stricter\n"),
+        },
         Verdict::Fail(n) => say_list(b"fail=", front(&word, n)),
         Verdict::Refused(refusal) => say_refusal(refusal),
     }
