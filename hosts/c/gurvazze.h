@@ -13,20 +13,33 @@
  *     #include <stdio.h>
  *     #include "gurvazze.h"
  *
+ *     static void say_trial(uint64_t answer, const uint8_t *word)
+ *     {
+ *         if (gurvazze_refusal(answer) != 0)
+ *             printf("refused=%u\n", gurvazze_refusal(answer));
+ *         else if (gurvazze_yield(answer) == GURVAZZE_SAME)
+ *             printf("same\n");
+ *         else if (gurvazze_yield(answer) == GURVAZZE_STRICTER)
+ *             printf("stricter\n");
+ *         else
+ *             printf("word of %llu: %u\n", (unsigned long long)gurvazze_yield(answer), word[0]);
+ *     }
+ *
  *     int main(void)
  *     {
  *         static const uint8_t file[] =
  *             "events=2\nvalues=4\ntop=3\nmeet=0 0 0 0 0 1 0 1 0 0 2 2 0 1 2 3\nrule=A O1.1 V G1 X0\n";
  *         static const uint8_t events[] = {1, 1, 0};
- *         static const uint8_t device[] = {3, 0, 3, 0};
+ *         static const uint8_t always_open[] = {3, 0, 3, 0}, always_low[] = {1, 0, 1, 0};
  *         static uint8_t table[GURVAZZE_TABLE_BYTES], values[3], word[GURVAZZE_WORD_BYTES];
  *
  *         uint64_t answer = gurvazze_table(file, sizeof file - 1, table, sizeof table);
  *         printf("states=%u value=%u\n", gurvazze_states(answer), table[2]);
  *         answer = gurvazze_replay(file, sizeof file - 1, events, sizeof events, values, sizeof values);
  *         printf("values=%u %u %u\n", values[0], values[1], values[2]);
- *         answer = gurvazze_trial(file, sizeof file - 1, 1, 0, device, sizeof device, word, sizeof word);
- *         printf("word of %llu: %u\n", (unsigned long long)gurvazze_yield(answer), word[0]);
+ *         say_trial(gurvazze_trial(file, sizeof file - 1, 1, 0, always_open, sizeof always_open, word, sizeof word), word);
+ *         say_trial(gurvazze_trial(file, sizeof file - 1, 1, 0, always_low, sizeof always_low, word, sizeof word), word);
+ *         say_trial(gurvazze_trial(file, sizeof file - 1, 3, 0, table, 3 * 2 * 2, word, sizeof word), word);
  *         answer = gurvazze_table(file, 8, table, sizeof table);
  *         printf("refused=%u %llu\n", gurvazze_refusal(answer), (unsigned long long)gurvazze_place(answer));
  *         return 0;
@@ -37,6 +50,8 @@
  *     states=3 value=1
  *     values=1 3 3
  *     word of 1: 1
+ *     stricter
+ *     same
  *     refused=4 8
  */
 #ifndef GURVAZZE_H
@@ -54,6 +69,11 @@ extern "C" {
 #define GURVAZZE_RULE_BYTES 768
 #define GURVAZZE_WORD_BYTES 4096
 
+/* What a trial yields for a pass: every event sequence ends in equal values, or some ends in one strictly below the rule's. The length of
+ * a failing word is neither. */
+#define GURVAZZE_SAME 0
+#define GURVAZZE_STRICTER 65536
+
 /* The table of a channel file's rule, value and next state, one byte each, by state and then event. Yields its numbers.
  * Refusals 4, 1 to 3, 5 to 10, 13. */
 uint64_t gurvazze_table(const uint8_t *text, size_t text_length, uint8_t *to, size_t to_length);
@@ -62,14 +82,16 @@ uint64_t gurvazze_table(const uint8_t *text, size_t text_length, uint8_t *to, si
 uint64_t gurvazze_replay(const uint8_t *text, size_t text_length, const uint8_t *events, size_t events_length, uint8_t *to,
                          size_t to_length);
 
-/* Trial of a device against a channel file's rule. Yields 0 for a pass, and else the length of the failing word, which stands at the
- * front of the word buffer: the first word after whose last event the device's value is not at or below the rule's, the shortest, and
- * among those the one with the smaller event at the first difference. Word and length are fixed by the two tables.
+/* Trial of a device against a channel file's rule. Yields GURVAZZE_SAME, 0, for a pass with equal values on every event sequence,
+ * GURVAZZE_STRICTER, 65,536, for any other pass, and else the length of the failing word, 1 to 4,096. The word stands at the front of the
+ * word buffer: the first word after whose last event the device's value is not at or below the rule's, the shortest, and among those the
+ * one with the smaller event at the first difference. Word and length are fixed by the two tables.
  * Refusals 4, 1 to 3, 5 to 10, 11, 13. */
 uint64_t gurvazze_trial(const uint8_t *text, size_t text_length, size_t device_states, size_t device_start, const uint8_t *device,
                         size_t device_length, uint8_t *word, size_t word_length);
 
-/* The same against a rule's table, from its state 0; a failing word is the first here too. Refusals 1 to 3, 11, 13. */
+/* The same against a rule's table, from its state 0: a pass yields GURVAZZE_SAME or GURVAZZE_STRICTER, and a failing word is the first
+ * here too. Refusals 1 to 3, 11, 13. */
 uint64_t gurvazze_trial_table(size_t events, size_t values, size_t top, const uint8_t *meet, size_t meet_length, size_t states,
                               const uint8_t *table, size_t table_length, size_t device_states, size_t device_start,
                               const uint8_t *device, size_t device_length, uint8_t *word, size_t word_length);

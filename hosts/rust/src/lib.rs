@@ -47,11 +47,20 @@ pub struct TableNumbers {
     pub top: usize,
 }
 
+/// How a device passes.
+#[derive(Clone, Copy, Debug, PartialEq, Eq, Hash)]
+pub enum Grade {
+    /// Every event sequence ends in equal values.
+    Same,
+    /// Some event sequence ends in a value strictly below the rule's.
+    Stricter,
+}
+
 /// The answer of a trial.
 #[derive(Clone, Copy, Debug, PartialEq, Eq)]
 pub enum Verdict {
-    /// The device does what the rule asks.
-    Pass,
+    /// The device does what the rule asks. The word buffer keeps its contents.
+    Pass(Grade),
     /// It does not. The word that shows it is that long and stands at the front of the word buffer; it is the first: the shortest, and
     /// among those the one with the smaller event at the first difference. Word and length are fixed by the two tables.
     Fail(usize),
@@ -124,7 +133,7 @@ pub fn replay(text: &[u8], events: &[u8], to: &mut [u8]) -> Result<(), Refusal> 
 /// Trial of a device against a channel file's rule. Refusals 4, 1 to 3, 5 to 10, 11, 13.
 ///
 /// ```
-/// use gurvazze::{Table, Verdict};
+/// use gurvazze::{Grade, Table, Verdict};
 ///
 /// let file = b"events=2\nvalues=4\ntop=3\nmeet=0 0 0 0 0 1 0 1 0 0 2 2 0 1 2 3\nrule=A O0.1 O0.2\n";
 /// let mut word = [0; gurvazze::WORD_BYTES];
@@ -135,7 +144,9 @@ pub fn replay(text: &[u8], events: &[u8], to: &mut [u8]) -> Result<(), Refusal> 
 /// assert_eq!(gurvazze::trial(late, open, &mut word)?, Verdict::Fail(2));
 /// assert_eq!(word[..2], [0, 1]);
 /// let conflict = Table { states: 1, start: 0, bytes: &[0, 0, 0, 0] };
-/// assert_eq!(gurvazze::trial(file, conflict, &mut word)?, Verdict::Pass);
+/// assert_eq!(gurvazze::trial(file, conflict, &mut word)?, Verdict::Pass(Grade::Stricter));
+/// let conflict_once = Table { states: 2, start: 0, bytes: &[0, 1, 3, 1, 3, 1, 3, 1] };
+/// assert_eq!(gurvazze::trial(file, conflict_once, &mut word)?, Verdict::Pass(Grade::Same));
 /// # Ok::<(), gurvazze::Refusal>(())
 /// ```
 pub fn trial(text: &[u8], device: Table<'_>, word: &mut [u8]) -> Result<Verdict, Refusal> {
@@ -158,12 +169,16 @@ pub fn trial(text: &[u8], device: Table<'_>, word: &mut [u8]) -> Result<Verdict,
 /// Trial of a device against a rule's table. Refusals 1 to 3, 11, 13.
 ///
 /// ```
-/// use gurvazze::{SetUp, Table, Verdict};
+/// use gurvazze::{Grade, SetUp, Table, Verdict};
 ///
 /// let set_up = SetUp { events: 1, values: 2, top: 1, meet: &[0, 0, 0, 1] };
 /// let mut word = [0; gurvazze::WORD_BYTES];
 /// let device = Table { states: 2, start: 0, bytes: &[0, 1, 1, 1] };
 /// assert_eq!(gurvazze::trial_of_table(set_up, 1, &[0, 0], device, &mut word)?, Verdict::Fail(2));
+/// assert_eq!(gurvazze::trial_of_table(set_up, 1, &[1, 0], device, &mut word)?, Verdict::Pass(Grade::Stricter));
+/// // Its other state is 1 for ever, and its first is not reached from there.
+/// let other = Table { start: 1, ..device };
+/// assert_eq!(gurvazze::trial_of_table(set_up, 1, &[1, 0], other, &mut word)?, Verdict::Pass(Grade::Same));
 /// # Ok::<(), gurvazze::Refusal>(())
 /// ```
 pub fn trial_of_table(
@@ -227,8 +242,13 @@ pub fn rule(set_up: SetUp<'_>, table: Table<'_>, to: &mut [u8]) -> Result<usize,
     yielded(code).map(|count| count as usize)
 }
 
+/// A trial yields 0 for a pass as same, 65,536 for a pass as stricter, and else the length of the failing word, 1 to 4,096.
 fn verdict(code: u64) -> Result<Verdict, Refusal> {
-    yielded(code).map(|length| if length == 0 { Verdict::Pass } else { Verdict::Fail(length as usize) })
+    yielded(code).map(|number| match number {
+        0 => Verdict::Pass(Grade::Same),
+        65536 => Verdict::Pass(Grade::Stricter),
+        length => Verdict::Fail(length as usize),
+    })
 }
 
 /// The low byte of an answer is the refusal's number, 0 where there is none; above it stands the place or what was yielded.
