@@ -10,7 +10,7 @@ use gurvazze_reference::formula::{Node, Rule};
 use gurvazze_reference::generate::{Generator, RawTable};
 use gurvazze_reference::table::{Entry, Table};
 use gurvazze_reference::tool::Tool;
-use gurvazze_reference::trial::{trial_of_rule, trial_of_table, Outcome};
+use gurvazze_reference::trial::{failing_word, trial_of_rule, trial_of_table, Grade, Outcome, WORD_BYTES};
 use gurvazze_reference::values::{RawSetUp, SetUp};
 use gurvazze_reference::{characteristic, Refusal};
 
@@ -104,6 +104,20 @@ fn rust_table(text: &[u8], to: &mut [u8]) -> Result<usize, Refusal> {
 fn rust_trial(text: &[u8], device: &RawTable, word: &mut [u8]) -> Result<Outcome, Refusal> {
     let file = channel_file::read(text)?;
     trial_of_rule(file.set_up.raw(), device.lent(), &file.rule.to_bytes(), word)
+}
+
+/// Trial against a table with the library's checks, 1 to 3, 11 and 13, and one search as the library's. The reference would make a second
+/// one for the grade of a pass.
+fn rust_trial_of_table(set_up: &SetUp, table: &RawTable, device: &RawTable, word: &mut [u8]) -> Result<usize, Refusal> {
+    let set_up = SetUp::new(set_up.raw().clone())?;
+    let of_device = device.lent().table(&set_up)?;
+    let of_rule = table.lent().table(&set_up)?;
+    if word.len() < WORD_BYTES {
+        return Err(Refusal::new(13));
+    }
+    let failing = failing_word(&set_up, (&of_device, device.start), (&of_rule, table.start)).unwrap_or_default();
+    word[..failing.len()].copy_from_slice(&failing);
+    Ok(failing.len())
 }
 
 /// Replay with the library's checks: the file's, 16 and 13.
@@ -307,19 +321,26 @@ fn line_trial(case: &str, set_up: &SetUp, table: &RawTable, device: &RawTable) {
     let mut word = [0; 4096];
     let mut other = [0; 4096];
     let verdict = gurvazze::trial_of_table(raw(set_up), table.states, &table.bytes, lent(device), &mut word).expect("accepted");
-    let length = match verdict {
-        gurvazze::Verdict::Pass => 0,
-        gurvazze::Verdict::Fail(length) => length,
-    };
     let reference = trial_of_table(set_up.raw(), device.lent(), table.states, &table.bytes, &mut other).expect("accepted");
-    assert_eq!(reference, if length == 0 { Outcome::Passes } else { Outcome::Fails(length) });
+    assert_eq!(verdict, in_library_words(reference));
     assert!(word == other);
-    let said = if length == 0 { "passes".to_string() } else { format!("word of {length}") };
+    let said = match verdict {
+        gurvazze::Verdict::Pass(_) => "passes".to_string(),
+        gurvazze::Verdict::Fail(length) => format!("word of {length}"),
+    };
     compare(
         &format!("  {case}, {said}"),
         || gurvazze::trial_of_table(raw(set_up), table.states, &table.bytes, lent(device), &mut word),
-        || trial_of_table(set_up.raw(), device.lent(), table.states, &table.bytes, &mut other),
+        || rust_trial_of_table(set_up, table, device, &mut other),
     );
+}
+
+fn in_library_words(outcome: Outcome) -> gurvazze::Verdict {
+    match outcome {
+        Outcome::Passes(Grade::Same) => gurvazze::Verdict::Pass(gurvazze::Grade::Same),
+        Outcome::Passes(Grade::Stricter) => gurvazze::Verdict::Pass(gurvazze::Grade::Stricter),
+        Outcome::Fails(length) => gurvazze::Verdict::Fail(length),
+    }
 }
 
 /// A loop of states on event 0, to which other events return; with these values.
@@ -439,8 +460,8 @@ fn calls() {
     let word = Generator::new(1).word(&four(2), DIGITS);
     let digits: Vec<u8> = word.iter().map(|&event| b'0' + event).collect();
     let rule = [
-        5, 0, 0, 4, 0, 0, 4, 0, 0, 3, 0, 1, 2, 0, 0, 1, 0, 0, 2, 1, 0, 5, 0, 0, 4, 0, 0, 4, 0, 0, 3, 1, 2, 2, 1, 0, 1, 0, 0, 2, 0,
-        0, 1, 1, 0,
+        5, 0, 0, 4, 0, 0, 4, 0, 0, 3, 0, 1, 2, 0, 0, 1, 0, 0, 2, 1, 0, 5, 0, 0, 4, 0, 0, 4, 0, 0, 3, 1, 2, 2, 1, 0, 1, 0, 0, 2,
+        0, 0, 1, 1, 0,
     ];
     let mut best = [f64::INFINITY; 2];
     let mut sums = [0; 2];
