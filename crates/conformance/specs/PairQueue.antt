@@ -8,7 +8,7 @@ use Rattle.theory.specs.{MealyMachine.{Machine}, Exploration.{reached, has-stat
 use Rattle.refusal.specs.Refusal.{put}
 use Rattle.machines.specs.TableBytes.{machine-of}
 use Rattle.values.specs.{declared.ValueKind.{ValueKind}, declared.Comparison.{Comparison}, Setup.{setup-of-kind}, SetupTests.{setup-refusal}}
-use Rattle.values.specs.ValueTests.{at-or-below, comparison}
+use Rattle.values.specs.{declared.Comparison.the-variants.{Equal, StrictlyBelow, NotBelow}, ValueTests.{at-or-below, comparison}}
 use Rattle.conformance.specs.{declared.Verdict.{Verdict}, declared.Failure.{Failure}, declared.Failure.the-variants.{Nowhere, At}, Trial.{input}}
 use Rattle.conformance.specs.{declared.PairVerdict.{PairVerdict}, declared.PairVerdict.the-variants.{Fails, Passes}}
 use Rattle.conformance.specs.TrialAnswer.{outcome, shown, trial-answer, trial-buffer}
@@ -16,6 +16,17 @@ use Rattle.conformance.specs.TrialAnswer.{outcome, shown, trial-answer, 
 -- The cells of each array where there are few pairs of states.
 abbrev pub small-queue : ℕ
 small-queue = 256
+
+-- The tests of a comparison.
+unfoldable pub is-not-below : Comparison → Bool
+is-not-below Equal = false
+is-not-below StrictlyBelow = false
+is-not-below NotBelow = true
+
+unfoldable pub is-different : Comparison → Bool
+is-different Equal = false
+is-different StrictlyBelow = true
+is-different NotBelow = true
 
 -- On an event in a pair of states: how the device's value compares with the table's, and the two tests of that.
 module _ (events : ℕ) (kind : ValueKind) (meet device table : List ℕ) (s t : ℕ) where

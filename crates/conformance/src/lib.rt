@@ -20,7 +20,8 @@ ghost use Rattle.refusal.specs.RefusalAnswers.{or-else, plain-unless, judgement
 ghost use Rattle.values.specs.Setup.{setup};
 ghost use Rattle.conformance.specs.Trial.{input};
 ghost use Rattle.conformance.specs.TrialAnswer.{tables-refusal, grade-of, trial-answer, trial-buffer};
-ghost use Rattle.conformance.specs.PairQueue.{small-queue, comparison-on, below-on, equal-on, Shows, queue, Sized, Pushable, pushed, pushed-count};
+ghost use Rattle.conformance.specs.PairQueue.{small-queue, is-not-below, is-different, comparison-on, below-on, equal-on, Shows};
+ghost use Rattle.conformance.specs.PairQueue.{queue, Sized, Pushable, pushed, pushed-count};
 ghost use Rattle.conformance.specs.PairQueue.{Expandable, Expanded, Reaches, Deep, Writable, WrittenWord, Empty, Searchable, Searched, Tried};
 ghost use Rattle.conformance.specs.PairQueue.{Answered, Concluded};
 ghost use Rattle.limits.specs.Limits.{event-limit, device-limit, table-limit, word-limit};
@@ -72,6 +73,27 @@ fn grade_of(same: bool) -> Grade
     if same { Grade::Same } else { Grade::Stricter }
 }
 
+// The two tests of a comparison. A flag set by the second is faster than one set in an arm of a match.
+fn is_not_below(compared: Comparison) -> bool
+    ensures { λ r. ⌜ r ≡ is-not-below compared ⌝ }
+{
+    match compared {
+        Comparison::Equal => false,
+        Comparison::StrictlyBelow => false,
+        Comparison::NotBelow => true,
+    }
+}
+
+fn is_different(compared: Comparison) -> bool
+    ensures { λ r. ⌜ r ≡ is-different compared ⌝ }
+{
+    match compared {
+        Comparison::Equal => false,
+        Comparison::StrictlyBelow => true,
+        Comparison::NotBelow => true,
+    }
+}
+
 // How in a pair of states the device's value on an event compares with the table's. Values are compared here only.
 fn compare_on(
     events: usize,
@@ -108,11 +130,11 @@ fn judge_pair(
     let mut all_equal = true;
     let mut e: usize = 0;
     while e < events {
-        match compare_on(events, kind, meet, device, table, s, t, e) {
-            Comparison::NotBelow => return PairVerdict::Fails(e),
-            Comparison::StrictlyBelow => all_equal = false,
-            Comparison::Equal => {}
+        let compared = compare_on(events, kind, meet, device, table, s, t, e);
+        if is_not_below(compared) {
+            return PairVerdict::Fails(e);
         }
+        all_equal = all_equal & !is_different(compared);
         e += 1;
     }
     PairVerdict::Passes(all_equal)
