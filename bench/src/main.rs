@@ -101,21 +101,27 @@ fn rust_table(text: &[u8], to: &mut [u8]) -> Result<usize, Refusal> {
     Table::of_rule(&file.set_up, &file.rule)?.write_bytes(to)
 }
 
-fn rust_trial(text: &[u8], device: &RawTable, word: &mut [u8]) -> Result<Outcome, Refusal> {
+/// Trial against a file, which is read once.
+fn rust_trial(text: &[u8], device: &RawTable, word: &mut [u8]) -> Result<usize, Refusal> {
     let file = channel_file::read(text)?;
-    trial_of_rule(file.set_up.raw(), device.lent(), &file.rule.to_bytes(), word)
+    let table = Table::of_rule(&file.set_up, &file.rule)?;
+    rust_search(&file.set_up, &table, device, word)
 }
 
-/// Trial against a table with the library's checks, 1 to 3, 11 and 13, and one search as the library's. The reference would make a second
-/// one for the grade of a pass.
+/// Trial against a table with the library's checks, 1 to 3, 11 and 13.
 fn rust_trial_of_table(set_up: &SetUp, table: &RawTable, device: &RawTable, word: &mut [u8]) -> Result<usize, Refusal> {
     let set_up = SetUp::new(set_up.raw().clone())?;
-    let of_device = device.lent().table(&set_up)?;
-    let of_rule = table.lent().table(&set_up)?;
+    let table = table.lent().table(&set_up)?;
+    rust_search(&set_up, &table, device, word)
+}
+
+/// One search, as the library's; the reference itself makes a second one for the grade of a pass.
+fn rust_search(set_up: &SetUp, table: &Table, device: &RawTable, word: &mut [u8]) -> Result<usize, Refusal> {
+    let of_device = device.lent().table(set_up)?;
     if word.len() < WORD_BYTES {
         return Err(Refusal::new(13));
     }
-    let failing = failing_word(&set_up, (&of_device, device.start), (&of_rule, table.start)).unwrap_or_default();
+    let failing = failing_word(set_up, (&of_device, device.start), (table, 0)).unwrap_or_default();
     word[..failing.len()].copy_from_slice(&failing);
     Ok(failing.len())
 }
@@ -371,6 +377,10 @@ fn trials() {
         let device = loop_table(&set_up, states, |_| 1);
         let mut word = [0; 4096];
         let mut other = [0; 4096];
+        let read = channel_file::read(&text).expect("accepted");
+        let reference = trial_of_rule(read.set_up.raw(), device.lent(), &read.rule.to_bytes(), &mut other).expect("accepted");
+        assert_eq!(gurvazze::trial(&text, lent(&device), &mut word).expect("accepted"), in_library_words(reference));
+        assert!(word == other);
         compare(
             &format!("  {states} states"),
             || gurvazze::trial(&text, lent(&device), &mut word),
