@@ -11,7 +11,7 @@ use Rattle.theory.specs.ConformanceCheck.{same-pair, next-pair, bad-event, firs
 use Rattle.theory.proofs.{Exploration.{Grows, explore-grows}, Conformance.{same-pair-iff, few-pairs}}
 use Rattle.values.specs.declared.ValueKind.{ValueKind}
 use Rattle.machines.specs.TableBytes.{machine-of}
-use Rattle.conformance.specs.PairQueue.{Queue, Sized, HoldsPairs, below-on, equal-on, FailsOn, PassesOn, successors, Expandable, Expanded, FailsAt}
+use Rattle.conformance.specs.PairQueue.{Queue, Sized, HoldsPairs, below-on, equal-on, BadOn, GoodOn, successors, Expandable, Expanded, FailsAt}
 use Rattle.conformance.specs.PairQueue.{Searchable}
 use Rattle.conformance.proofs.{Places.{product-bounded}, Successors.{part-grows}}
 use Rattle.values.specs.ValueTests.{at-or-below}
@@ -248,7 +248,7 @@ module _ {size events : ℕ} {kind : ValueKind} {k : ℕ} {device table : List �
         abbrev equal : ℕ → Bool
         equal = equal-on events kind meet device table s t
 
-        module _ (e : ℕ) (judged : FailsOn events good equal e) where
+        module _ (e : ℕ) (judged : BadOn events good equal e) where
           -- The pair fails.
           pub found-at :
               Sized size a →
@@ -274,10 +274,10 @@ module _ {size events : ℕ} {kind : ValueKind} {k : ℕ} {device table : List �
                     (omega (arith, judged .event-in)) (λ c u v. bad-is below c true (judged .before c v))));
               }
 
-        module _ (all-equal : Bool) (judged : PassesOn events good equal all-equal) where
+        module _ (all-equal : Bool) (judged : GoodOn events good equal all-equal) where
           equal-here : is-none (on-pair eqb) ≡ all-equal
           unfolding equal-on
-          equal-here = go all-equal (judged .same) (judged .different)
+          equal-here = go all-equal (judged .all-same) (judged .some-differ)
             where
               go :
                   (b : Bool) → (b ≡ true → (c : ℕ) → c < events → equal c ≡ true) → (b ≡ false → (c : ℕ) × (c < events) × (equal c ≡ false)) →

@@ -10,7 +10,7 @@ use Rattle.machines.specs.TableBytes.{machine-of}
 use Rattle.values.specs.{declared.ValueKind.{ValueKind}, declared.Comparison.{Comparison}, Setup.{setup-of-kind}, SetupTests.{setup-refusal}}
 use Rattle.values.specs.{declared.Comparison.the-variants.{Equal, StrictlyBelow, NotBelow}, ValueTests.{at-or-below, comparison}}
 use Rattle.conformance.specs.{declared.Verdict.{Verdict}, declared.Failure.{Failure}, declared.Failure.the-variants.{Nowhere, At}, Trial.{input}}
-use Rattle.conformance.specs.{declared.PairVerdict.{PairVerdict}, declared.PairVerdict.the-variants.{Fails, Passes}}
+use Rattle.conformance.specs.{declared.PairVerdict.{PairVerdict}, declared.PairVerdict.the-variants.{Bad, Good}}
 use Rattle.conformance.specs.TrialAnswer.{outcome, shown, trial-answer, trial-buffer}
 
 -- The cells of each array where there are few pairs of states.
@@ -41,19 +41,19 @@ module _ (events : ℕ) (kind : ValueKind) (meet device table : List ℕ) (s t :
 
 -- What a pair of states shows on the events: which is the first that is not allowed; or all are, and whether all values are equal.
 module _ (events : ℕ) (good equal : ℕ → Bool) where
-  pub record FailsOn (r : ℕ) : Type 0 where
+  pub record BadOn (r : ℕ) : Type 0 where
     pub event-in : r < events
     pub before : (e : ℕ) → e < r → good e ≡ true
     pub bad : good r ≡ false
 
-  pub record PassesOn (all-equal : Bool) : Type 0 where
+  pub record GoodOn (all-equal : Bool) : Type 0 where
     pub allowed : (e : ℕ) → e < events → good e ≡ true
-    pub same : all-equal ≡ true → (e : ℕ) → e < events → equal e ≡ true
-    pub different : all-equal ≡ false → (e : ℕ) × (e < events) × (equal e ≡ false)
+    pub all-same : all-equal ≡ true → (e : ℕ) → e < events → equal e ≡ true
+    pub some-differ : all-equal ≡ false → (e : ℕ) × (e < events) × (equal e ≡ false)
 
-  unfoldable pub Shows : PairVerdict → Type 0
-  Shows (Fails r) = FailsOn r
-  Shows (Passes all-equal) = PassesOn all-equal
+  unfoldable pub JudgedPair : PairVerdict → Type 0
+  JudgedPair (Bad r) = BadOn r
+  JudgedPair (Good all-equal) = GoodOn all-equal
 
 -- The arrays: of each pair in the queue its device state, its table state, the place of the pair that it was reached from and the
 -- event; and of each pair of states a flag that it is in the queue.

@@ -20,7 +20,7 @@ ghost use Rattle.refusal.specs.RefusalAnswers.{or-else, plain-unless, judgement
 ghost use Rattle.values.specs.Setup.{setup};
 ghost use Rattle.conformance.specs.Trial.{input};
 ghost use Rattle.conformance.specs.TrialAnswer.{tables-refusal, grade-of, trial-answer, trial-buffer};
-ghost use Rattle.conformance.specs.PairQueue.{small-queue, is-not-below, is-different, comparison-on, below-on, equal-on, Shows};
+ghost use Rattle.conformance.specs.PairQueue.{small-queue, is-not-below, is-different, comparison-on, below-on, equal-on, JudgedPair};
 ghost use Rattle.conformance.specs.PairQueue.{queue, Sized, Pushable, pushed, pushed-count};
 ghost use Rattle.conformance.specs.PairQueue.{Expandable, Expanded, Reaches, Deep, Writable, WrittenWord, Empty, Searchable, Searched, Tried};
 ghost use Rattle.conformance.specs.PairQueue.{Answered, Concluded};
@@ -44,8 +44,8 @@ pub enum Verdict {
 
 // What a pair of states shows: the first event on which the device fails, or that it passes, and whether all its values are equal.
 enum PairVerdict {
-    Fails(usize),
-    Passes(bool),
+    Bad(usize),
+    Good(bool),
 }
 
 // Where the search finds a value that is not at or below: nowhere, and whether all values are equal; or at a place of the queue, on an
@@ -124,7 +124,7 @@ fn judge_pair(
     t: usize,
 ) -> PairVerdict
     requires { ⌜ (events ≤ event-limit) × (s < 256) × (t < 256) ⌝ }
-    ensures { λ r. ⌜ Shows events (below-on events kind (now (meet .entry)) (now (device .entry)) (now (table .entry)) s t)
+    ensures { λ r. ⌜ JudgedPair events (below-on events kind (now (meet .entry)) (now (device .entry)) (now (table .entry)) s t)
         (equal-on events kind (now (meet .entry)) (now (device .entry)) (now (table .entry)) s t) r ⌝ }
 {
     let mut all_equal = true;
@@ -132,12 +132,12 @@ fn judge_pair(
     while e < events {
         let compared = compare_on(events, kind, meet, device, table, s, t, e);
         if is_not_below(compared) {
-            return PairVerdict::Fails(e);
+            return PairVerdict::Bad(e);
         }
         all_equal = all_equal & !is_different(compared);
         e += 1;
     }
-    PairVerdict::Passes(all_equal)
+    PairVerdict::Good(all_equal)
 }
 
 // Puts a pair of states at the end of the queue, where it is not in it yet; returns how many pairs the queue has then.
@@ -250,8 +250,8 @@ fn find_failure(
         let s = wide(device_queue[i]);
         let t = wide(table_queue[i]);
         match judge_pair(events, kind, meet, device, table, s, t) {
-            PairVerdict::Fails(e) => return Failure::At(i, e),
-            PairVerdict::Passes(equal) => same = same & equal,
+            PairVerdict::Bad(e) => return Failure::At(i, e),
+            PairVerdict::Good(equal) => same = same & equal,
         }
         count = push_successors(
             events,

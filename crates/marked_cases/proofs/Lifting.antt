@@ -53,8 +53,8 @@ abbrev below : ℕ → ℕ → Bool
 below = at-or-below (s .kind) (s .meet)
 
 -- A device in order, an accepted rule with a table; and what a test of two values finds between them.
-unfoldable pub Tried : ℕ → List ℕ → List (Node ℕ) → Type 0
-Tried k rows rule =
+unfoldable pub Comparable : ℕ → List ℕ → List (Node ℕ) → Type 0
+Comparable k rows rule =
     (rule-refusal (s .events) (s .kind) (bytes rule) ≡ none)
     × (leb (states (formula rule)) state-limit ≡ true)
     × (table-refusal device-limit (s .events) (s .kind) k 0 rows ≡ none)
@@ -79,10 +79,10 @@ Checked (written n rows count) =
     (table-refusal state-limit (s .events) (s .kind) n 0 rows ≡ none)
     × (size φ ≡ count) × (leb count node-limit ≡ true)
     × (states φ ≡ n) × (leb n state-limit ≡ true) × (rows-of (made φ) n ≡ rows)
-Checked (failing k rows rule word) = Tried k rows rule × (on-trial below k rows rule ≡ some word)
+Checked (failing k rows rule word) = Comparable k rows rule × (on-trial below k rows rule ≡ some word)
 Checked (passing v) = every 4 (λ b. below v b) ≡ true
-Checked (passing-same k rows rule) = Tried k rows rule × (on-trial eqb k rows rule ≡ none)
-Checked (passing-stricter k rows rule) = Tried k rows rule × (on-trial below k rows rule ≡ none) × (is-none (on-trial eqb k rows rule) ≡ false)
+Checked (passing-same k rows rule) = Comparable k rows rule × (on-trial eqb k rows rule ≡ none)
+Checked (passing-stricter k rows rule) = Comparable k rows rule × (on-trial below k rows rule ≡ none) × (is-none (on-trial eqb k rows rule) ≡ false)
 
 -- ---- the set-up
 laws : SetupLaws s
@@ -201,7 +201,7 @@ device-value v (suc l) e hl he = absurd (omega arith)
 equal-iff : (b c : ℕ) → T (eqb b c) ↔ (b ≡ c)
 equal-iff b c = (eqb→eq b c, λ e. subst (λ y. T (eqb b y)) e (eqb-refl b))
 
-module _ (k : ℕ) (rows : List ℕ) (rule : List (Node ℕ)) (h : Tried k rows rule) where
+module _ (k : ℕ) (rows : List ℕ) (rule : List (Node ℕ)) (h : Comparable k rows rule) where
   abbrev m : Machine ℕ ℕ
   m = device rows
 
@@ -209,15 +209,15 @@ module _ (k : ℕ) (rows : List ℕ) (rule : List (Node ℕ)) (h : Tried k rows 
   φ = formula rule
 
   tried-rule : rule-refusal (s .events) (s .kind) (bytes rule) ≡ none
-  unfolding Tried
+  unfolding Comparable
   tried-rule = h .0
 
   made-table : TableOf φ (states φ) (made φ)
-  unfolding Tried
+  unfolding Comparable
   made-table = made-is φ (well rule tried-rule) (code rule tried-rule .accepted .within) (h .1)
 
   device-ok : AcceptedTable (s .events) (s .kind) k 0 rows
-  unfolding Tried
+  unfolding Comparable
   device-ok = accepted-table device-limit (s .events) (s .kind) k 0 rows (h .2)
 
   abbrev has : (0 < states φ) × Runs (s .events) (SetupValue s) (States (states φ)) (made φ)

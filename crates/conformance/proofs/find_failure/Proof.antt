@@ -4,7 +4,7 @@ use Prim.Native.Nat.{_-_}
 use native.Mathlib.Omega.{arith}
 use lib.ListN.{length}
 use Rattle.conformance.specs.PairQueue.{queue, Sized, Searchable, Located}
-use Rattle.conformance.proofs.{Pairs.{shown-fails, shown-passes}, Queues.{same-size}}
+use Rattle.conformance.proofs.{Pairs.{judged-bad, judged-good}, Queues.{same-size}}
 use Rattle.conformance.proofs.Progress.{Progress, progress-start, taken-small, taken-few, s-small, t-small, own-expandable, found-at}
 use Rattle.conformance.proofs.Progress.{found-none, progress-next}
 use borrow.Author.Needs.{needs}
@@ -54,7 +54,7 @@ returns c =
     let v = b8 .before .loop .inv in
     λ x.
     found-at _ x _ _ _ _ (v .1 x) (b8 .loop-test .taken) _ _ (b6 .wide .ensures) (b4 .wide2 .ensures) _
-    (shown-fails _ _ _ _ (b3 .judge-pair .ensures) _ (c .before .e .given .1)) (v .0)
+    (judged-bad _ _ _ _ (b3 .judge-pair .ensures) _ (c .before .e .given .1)) (v .0)
 
 push-successors-requires : tie.Need-push-successors-requires Inv-loop μ-loop
 push-successors-requires c κs =
@@ -96,7 +96,7 @@ loop-again c =
     let v = b24 .before .loop .inv in (
       same-size (v .0) (b10 .push-successors .ensures .0),
       λ x. progress-next _ x _ _ _ _ (v .1 x) (b24 .loop-test .taken) _ _ (b22 .wide .ensures) (b20 .wide2 .ensures) _
-          (shown-passes _ _ _ _ (b19 .judge-pair .ensures) _ (b17 .equal .given .1)) (v .0) _ _ (b10 .push-successors .ensures .1),
+          (judged-good _ _ _ _ (b19 .judge-pair .ensures) _ (b17 .equal .given .1)) (v .0) _ _ (b10 .push-successors .ensures .1),
     )
 
 returns-2 : tie.Need-returns-2 Inv-loop μ-loop

@@ -3,38 +3,38 @@ use mathlib.Core.Path.{_≡_, sym, _∙_}
 use Prim.Native.Nat.{_≤_, _-_}
 use native.Mathlib.Omega.{arith}
 use borrow.Author.Needs.{needs}
-use Rattle.conformance.specs.PairQueue.{below-on, equal-on, PassesOn, Shows}
-use Rattle.conformance.proofs.Pairs.{tests-on, passes-none, fails-here, passes-here, all-judged}
+use Rattle.conformance.specs.PairQueue.{below-on, equal-on, GoodOn, JudgedPair}
+use Rattle.conformance.proofs.Pairs.{tests-on, good-none, bad-here, good-here, all-judged}
 use Rattle.conformance.proofs.judge_pair.Statement.{statement}
 use Rattle.conformance.proofs.judge_pair.Tie as tie
 
 abbrev Inv-loop : tie.InvT-loop
 Inv-loop events kind meet device table s t all-equal₀ e₀ all-equal e =
-    (e ≤ events) × PassesOn e (below-on events kind meet device table s t) (equal-on events kind meet device table s t) all-equal
+    (e ≤ events) × GoodOn e (below-on events kind meet device table s t) (equal-on events kind meet device table s t) all-equal
 
 abbrev μ-loop : tie.MeasureT-loop
 μ-loop events kind meet device table s t all-equal₀ e₀ all-equal e = events - e
 
 loop-holds : tie.Need-loop-holds Inv-loop μ-loop
-loop-holds c = (search needs, passes-none _ _)
+loop-holds c = (search needs, good-none _ _)
 
 returns : tie.Need-returns Inv-loop μ-loop
-unfolding Shows
+unfolding JudgedPair
 returns c =
     let b2 = c .before .before in
-    fails-here _ _ _ _ (b2 .before .before .loop .inv .1) _ _ (b2 .before .loop-test .taken) (tests-on _ _ _ _ _ _ _ _ _ (b2 .compare-on .ensures))
+    bad-here _ _ _ _ (b2 .before .before .loop .inv .1) _ _ (b2 .before .loop-test .taken) (tests-on _ _ _ _ _ _ _ _ _ (b2 .compare-on .ensures))
     (sym (c .before .is-not-below .ensures) ∙ c .if1 .taken)
 
 loop-again : tie.Need-loop-again Inv-loop μ-loop
 loop-again c =
     let b3 = c .before .before .before in (
       search needs,
-      passes-here _ _ _ _ (b3 .before .before .loop .inv .1) _ _ (tests-on _ _ _ _ _ _ _ _ _ (b3 .compare-on .ensures))
+      good-here _ _ _ _ (b3 .before .before .loop .inv .1) _ _ (tests-on _ _ _ _ _ _ _ _ _ (b3 .compare-on .ensures))
           (sym (c .before .before .is-not-below .ensures) ∙ c .before .if1 .left) (c .is-different .ensures),
     )
 
 returns-2 : tie.Need-returns-2 Inv-loop μ-loop
-unfolding Shows
+unfolding JudgedPair
 returns-2 c =
     let e : c .before .loop .e ≡ c .before .before .before .before .before .args .events = omega (arith, c .before .loop .inv .0) in
     all-judged _ _ _ _ _ e (c .before .loop .inv .1)
