@@ -9,7 +9,7 @@ use Rattle.theory.specs.MealyMachine.{Machine, Word, after, States, Satisfies}
 use Rattle.theory.specs.MachineRuns.{Runs}
 use Rattle.theory.specs.TableSatisfaction.{TableSatisfies}
 use Rattle.theory.specs.ReachableStates.{IsTableOf}
-use Rattle.theory.proofs.Claims.{grammar, answers, table-satisfaction}
+use Rattle.theory.proofs.Claims.{grammar, answers, table-values, table-satisfaction}
 use Rattle.refusal.specs.{declared.Refusal.{Refusal}, RefusalAnswers.{or-else, plain-unless}}
 use Rattle.refusal.specs.Refusal.{put, First, JudgedCall, counted-refusal, count-of}
 use Rattle.refusal.specs.RefusalAnswers.{put-unless}
@@ -29,9 +29,10 @@ use Rattle.synthesis.proofs.{CompiledTable.{few-states, is-table, table-runs}, 
 use Rattle.synthesis.proofs.CompileClaims.{table-agrees, compile-refusal-claim, compile-claim, made-table, printed-table}
 use Rattle.characteristic.specs.{RuleOfTable.{write-conditions, IsWritten}, RuleWriting.{write-refusal, write-answer, write-contents}, Claims.{Written}}
 use Rattle.characteristic.proofs.Claims.{write-refusal-claim, written-claim}
-use Rattle.conformance.specs.{Trial.{input, DeviceInOrder, Passed}, TrialAnswer.{tables-refusal, trial-refusal, trial-answer}}
-use Rattle.conformance.proofs.TrialClaims.{trial-satisfies}
-use Rattle.product_claims.specs.Demands.{rule-trial-input, Recompiled}
+use Rattle.conformance.specs.{Trial.{input, DeviceInOrder, EndsSame, Passed, grade}, TrialAnswer.{tables-refusal, trial-refusal, trial-answer}}
+use Rattle.conformance.specs.declared.Grade.the-variants.{Same}
+use Rattle.conformance.proofs.TrialClaims.{trial-satisfies, trial-grades}
+use Rattle.product_claims.specs.{Demands.{rule-trial-input, Recompiled}, Requests.{MatchesRule}}
 
 -- Where no earlier condition refuses, the next decides.
 passed : (a b : Option Refusal) → a ≡ none → b ≡ none → or-else a b ≡ none
@@ -150,6 +151,32 @@ module _ (s : Setup) (rule old : List ℕ) (accepted : compile-refusal state-lim
         (accepted-table device-limit (s .events) (s .kind) states start device whole .start-in) in
         ((λ p. exact .0 (by-sets .0 p)), λ q. by-sets .1 (exact .1 q))
 
+    -- The device has the table's values exactly if it has the formula's, since the table has them and the formula no others.
+    ends-same-iff :
+        EndsSame (rule-trial-input s rule old n states start device) ↔ MatchesRule s φ₀ (machine-of (s .kind) (s .events) device) start
+    unfolding input
+    ends-same-iff =
+        let says = table-values (SetupValue s) meet top (s .events) obeys φ₀ well n (machine-of (s .kind) (s .events) (compiled-bytes)) its-table .2 in (
+          (λ same w v e l. subst⁻¹ (Answers meet top φ₀ w e) (same w v e l) (says w v e l)),
+          λ h w v e l.
+              let only = answers (SetupValue s) meet top (s .events) φ₀ well w e in
+              only _ .0 (h w v e l) ∙ sym (only _ .0 (says w v e l)),
+        )
+
+    by-values :
+        (grade (trial-answer device-limit table-limit (rule-trial-input s rule old n states start device) buffer) ≡ some Same)
+        ↔ MatchesRule s φ₀ (machine-of (s .kind) (s .events) device) start
+    by-values = Iff·trans (trial-grades device-limit table-limit .same (rule-trial-input s rule old n states start device) buffer none-met) ends-same-iff
+
+-- What holds of the state count and the formula that are computed holds of those that are handed in.
+for-rule {κ} :
+    (s : Setup) (rule to : List ℕ) (n : ℕ) → count-of (compile-answer state-limit s rule to) ≡ some n →
+    (φ : Formula ℕ) → rule ≡ encode-formula (node-bytes (s .kind)) φ → (P : ℕ → Formula ℕ → Type κ) →
+    (compile-refusal state-limit s rule to ≡ none → P (setup-states state-limit s rule) (formula-of (s .kind) rule)) → P n φ
+for-rule s rule to n h φ code P f =
+    let p = count-of-counted (compile-refusal state-limit s rule to) (setup-states state-limit s rule) n h in
+    subst (λ k. P k φ) (p .1) (subst (P (setup-states state-limit s rule)) (sym (formula-of-only (s .kind) rule φ code)) (f (p .0)))
+
 pub rule-trial :
     (s : Setup) (rule to : List ℕ) (n : ℕ) → count-of (compile-answer state-limit s rule to) ≡ some n →
     (states start : ℕ) (device word : List ℕ) →
@@ -159,16 +186,24 @@ pub rule-trial :
     ↔ Satisfies (setup-meet s) (States states) (machine-of (s .kind) (s .events) device) φ start
 unfolding input
 rule-trial s rule to n h states start device word whole long φ code =
-    let p = count-of-counted (compile-refusal state-limit s rule to) (setup-states state-limit s rule) n h in
-    subst
-    (λ k. Passed (trial-answer device-limit table-limit (rule-trial-input s rule to k states start device) word)
-    ↔ Satisfies (setup-meet s) (States states) (machine-of (s .kind) (s .events) device) φ start)
-    (p .1)
-    (subst
-    (λ χ. Passed (trial-answer device-limit table-limit (rule-trial-input s rule to (setup-states state-limit s rule) states start device) word)
+    for-rule s rule to n h φ code
+    (λ k χ. Passed (trial-answer device-limit table-limit (rule-trial-input s rule to k states start device) word)
     ↔ Satisfies (setup-meet s) (States states) (machine-of (s .kind) (s .events) device) χ start)
-    (sym (formula-of-only (s .kind) rule φ code))
-    (by-definition s rule to (p .0) states start device (in-order-none device-limit (s .events) (s .kind) states start device whole) word long))
+    (λ p. by-definition s rule to p states start device (in-order-none device-limit (s .events) (s .kind) states start device whole) word long)
+
+pub rule-grade :
+    (s : Setup) (rule to : List ℕ) (n : ℕ) → count-of (compile-answer state-limit s rule to) ≡ some n →
+    (states start : ℕ) (device word : List ℕ) →
+    DeviceInOrder device-limit table-limit (rule-trial-input s rule to n states start device) word → word-limit ≤ length word →
+    (φ : Formula ℕ) → rule ≡ encode-formula (node-bytes (s .kind)) φ →
+    (grade (trial-answer device-limit table-limit (rule-trial-input s rule to n states start device) word) ≡ some Same)
+    ↔ MatchesRule s φ (machine-of (s .kind) (s .events) device) start
+unfolding input
+rule-grade s rule to n h states start device word whole long φ code =
+    for-rule s rule to n h φ code
+    (λ k χ. (grade (trial-answer device-limit table-limit (rule-trial-input s rule to k states start device) word) ≡ some Same)
+    ↔ MatchesRule s χ (machine-of (s .kind) (s .events) device) start)
+    (λ p. by-values s rule to p states start device (in-order-none device-limit (s .events) (s .kind) states start device whole) word long)
 
 -- The rule of an accepted table, compiled.
 module _ (s : Setup) (states start : ℕ) (table buffer : List ℕ)

@@ -4,6 +4,7 @@ use Rattle.limits.specs.Limits.{device-limit, table-limit}
 use Rattle.values.proofs.Comparisons.{comparisons}
 use Rattle.conformance.proofs.TrialClaims.{trial-refused, trial-grades, two-passes}
 use Rattle.product_claims.specs.Requests.{SameOrStricter, Requests}
+use Rattle.product_claims.proofs.Compiled.{rule-grade}
 
 same-or-stricter : SameOrStricter
 same-or-stricter =
@@ -12,6 +13,7 @@ same-or-stricter =
       one-comparison = comparisons .only;
       same = λ x old z. trial-grades device-limit table-limit .same x old (sym (trial-refused device-limit table-limit .answer x old) ∙ z);
       stricter = λ x old z. trial-grades device-limit table-limit .stricter x old (sym (trial-refused device-limit table-limit .answer x old) ∙ z);
+      same-as-the-rule = rule-grade;
       together = two-passes;
     }
 
