@@ -5,13 +5,13 @@ use mathlib.Core.{List.{List, [], _∷_, _++_}, Option.{Option, none, some}}
 use Prim.Native.Nat.{ℕ, zero, _*_, _≤_, _<_}
 use native.Mathlib.Omega.{arith}
 use borrow.Author.Tests.{leb-true, leb-false}
-use lib.{Dec.{T, leb, eqb, eqb→eq, eqb-refl}, ListN.{length, take, drop}, Seq.{take-append-seam, drop-append-seam}}
+use lib.{Dec.{T, leb, eqb}, ListN.{length, take, drop}, Seq.{take-append-seam, drop-append-seam}}
 use Rattle.theory.specs.ValueSets.{AtOrBelow}
 use Rattle.theory.specs.MachineRuns.{Runs}
 use Rattle.theory.specs.MealyMachine.{States, after}
 use Rattle.theory.specs.ConformanceCheck.{counterexample}
 use Rattle.theory.proofs.{ConformanceClaims.{table-simulation-claim, conformance-claim, one-first-word-claim, same-values-claim}}
-use Rattle.theory.proofs.{ReachableStates.{after-in}, ConformanceClaims.{is-none-iff, passes-iff}, Trial.{trial-claim}}
+use Rattle.theory.proofs.{Numbers.{eqb-iff}, ReachableStates.{after-in}, ConformanceClaims.{is-none-iff, passes-iff}, Trial.{trial-claim}}
 use Rattle.refusal.specs.declared.Refusal.{Refusal}
 use Rattle.refusal.specs.Refusal.{plain, First, has-place, condition-numbers, right-places, part-of, order}
 use Rattle.refusal.specs.RefusalAnswers.{or-else}
@@ -243,15 +243,12 @@ module _ (d t : ℕ) where
 
   -- As same exactly if every event sequence ends in equal values.
   module _ (x : TrialInput) (old : List ℕ) (z : trial-refusal d t x old ≡ none) where
-    equal-iff : (b c : ℕ) → T (eqb b c) ↔ (b ≡ c)
-    equal-iff b c = (eqb→eq b c, λ e. subst (λ y. T (eqb b y)) e (eqb-refl b))
-
     ends-iff : (ends-same x ≡ true) ↔ EndsSame x
     unfolding ends-same
     ends-iff =
         Iff·trans (Iff·symm (true-iff (ends-same x)))
         (Iff·trans (is-none-iff _)
-        (same-values-claim (SetupValue (x .set-up)) (meet x) (setup-top (x .set-up)) (x .set-up .events) eqb equal-iff
+        (same-values-claim (SetupValue (x .set-up)) (meet x) (setup-top (x .set-up)) (x .set-up .events) eqb eqb-iff
         (x .device-states) (device-machine x) (x .states) (table-machine x) (device-runs x old z) (table-runs x old z) (x .device-start) zero
         (ok x old z .tables .device-ok .start-in) (ok x old z .tables .table-ok .some-states)))
 

@@ -1,5 +1,5 @@
 -- Twin of Trial, pinned by product_claims DemandThree.
--- A trial, computed: its refusal, its answer, and what the word buffer holds afterwards.
+-- A trial, computed: its refusal, its answer (how it passes: product_claims Requests), and what the word buffer holds afterwards.
 use mathlib.Core.{Bool.{Bool, true, false}, Option.{Option, none, some}, List.{List}}
 use Prim.Native.Nat.{ℕ, zero, _*_}
 use lib.{Dec.{eqb, leb}, ListN.{length}}

@@ -4,7 +4,7 @@ use mathlib.Core.List.{List, [], _∷_, _++_}
 use Prim.Native.Nat.{ℕ, zero, suc, _≤_, _<_}
 use native.Mathlib.Omega.{arith}
 use borrow.Author.Tests.{leb-true, ltb-true}
-use lib.Dec.{T, leb, ltb, eqb, eqb→eq, eqb-refl}
+use lib.Dec.{T, leb, ltb, eqb}
 use Rattle.limits.specs.Limits.{node-limit, state-limit, device-limit}
 use Rattle.theory.specs.ValueSets.{AtOrBelow}
 use Rattle.theory.specs.ValueSetTests.{every}
@@ -19,7 +19,7 @@ use Rattle.theory.specs.MealyMachine.{Counterexample, FirstCounterexample}
 use Rattle.theory.specs.ConformanceCheck.{is-none, counterexample}
 use Rattle.theory.proofs.Claims.{grammar, answers, simulation, table, table-values, characteristic, conformance, same-values}
 use Rattle.theory.proofs.ConformanceClaims.{passes-iff}
-use Rattle.theory.proofs.{ValueSets.{every-at}, WordOrder.{word-left, word-right}}
+use Rattle.theory.proofs.{Numbers.{eqb-iff}, ValueSets.{every-at}, WordOrder.{word-left, word-right}}
 use Rattle.refusal.specs.Refusal.{First}
 use Rattle.values.specs.Setup.{setup-meet, setup-top, SetupValue}
 use Rattle.values.specs.SetupInOrder.{SetupLaws}
@@ -198,9 +198,6 @@ device-value v zero (suc (suc e)) hl he = absurd (omega arith)
 device-value v (suc l) e hl he = absurd (omega arith)
 
 -- ---- a device against a rule
-equal-iff : (b c : ℕ) → T (eqb b c) ↔ (b ≡ c)
-equal-iff b c = (eqb→eq b c, λ e. subst (λ y. T (eqb b y)) e (eqb-refl b))
-
 module _ (k : ℕ) (rows : List ℕ) (rule : List (Node ℕ)) (h : Comparable k rows rule) where
   abbrev m : Machine ℕ ℕ
   m = device rows
@@ -235,7 +232,7 @@ module _ (k : ℕ) (rows : List ℕ) (rule : List (Node ℕ)) (h : Comparable k 
 
   same-iff : (on-trial eqb k rows rule ≡ none) ↔ Alike m (made φ)
   same-iff =
-      same-values (SetupValue s) (setup-meet s) (setup-top s) (s .events) eqb equal-iff k m (states φ) (made φ) (device-ok .runs) (has .1) 0 0
+      same-values (SetupValue s) (setup-meet s) (setup-top s) (s .events) eqb eqb-iff k m (states φ) (made φ) (device-ok .runs) (has .1) 0 0
       (device-ok .start-in) (has .0)
 
   passes-below : on-trial below k rows rule ≡ none → BelowOnWords (s .events) (setup-meet s) m (made φ) 0 0

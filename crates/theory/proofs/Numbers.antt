@@ -1,9 +1,13 @@
 -- Facts on numbers: of two, one is smaller or they are equal; digits of a base; and no more different numbers below n than n.
-use mathlib.Core.{Path.{_≡_, refl, sym, _∙_, ap}, Bool.{Bool, true, false, cond}}
+use mathlib.Core.{Path.{_≡_, refl, sym, _∙_, ap, subst}, Bool.{Bool, true, false, cond}, Logic.{_↔_}}
 use Prim.Native.Nat.{ℕ, zero, suc, _+_, _*_, _≤_, _<_, zero-le, suc-le-suc}
 use native.Mathlib.{Nat.{mul-le-mul-right, suc-mul}, Decide.{decLt}, Omega.{arith}}
-use lib.Dec.{eqb}
+use lib.Dec.{T, eqb, eqb→eq, eqb-refl}
 use borrow.Author.Tests.{eqb-true, eqb-false}
+
+-- The test of equality decides it.
+pub eqb-iff : (a b : ℕ) → T (eqb a b) ↔ (a ≡ b)
+eqb-iff a b = (eqb→eq a b, λ e. subst (λ x. T (eqb a x)) e (eqb-refl a))
 
 -- How two numbers compare.
 pub data Trichotomy (a b : ℕ) : Type 0 where
