@@ -5,8 +5,7 @@ use native.Mathlib.Omega.{arith}
 use lib.ListN.{length}
 use Rattle.limits.specs.Limits.{event-limit, table-limit, node-limit}
 use Rattle.theory.specs.Formula.{size}
-use Rattle.theory.specs.MachineRuns.{Runs}
-use Rattle.theory.specs.MealyMachine.{States}
+use Rattle.theory.specs.MealyMachine.{States, Runs}
 use Rattle.theory.proofs.CharacteristicFormula.{written-writes}
 use Rattle.refusal.specs.declared.{Refusal.{Refusal}, Counted.{Counted}}
 use Rattle.refusal.specs.declared.Judgement.the-variants.{Accepted, Refused}

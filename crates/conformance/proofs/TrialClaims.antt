@@ -7,8 +7,7 @@ use native.Mathlib.Omega.{arith}
 use borrow.Author.Tests.{leb-true, leb-false}
 use lib.{Dec.{T, leb, eqb}, ListN.{length, take, drop}, Seq.{take-append-seam, drop-append-seam}}
 use Rattle.theory.specs.ValueSets.{AtOrBelow}
-use Rattle.theory.specs.MachineRuns.{Runs}
-use Rattle.theory.specs.MealyMachine.{States, after}
+use Rattle.theory.specs.MealyMachine.{States, Runs, after}
 use Rattle.theory.specs.ConformanceCheck.{counterexample}
 use Rattle.theory.proofs.{ConformanceClaims.{table-simulation-claim, conformance-claim, one-first-word-claim, same-values-claim}}
 use Rattle.theory.proofs.{Numbers.{eqb-iff}, ReachableStates.{after-in}, ConformanceClaims.{is-none-iff, passes-iff}, Trial.{trial-claim}}

@@ -81,7 +81,7 @@ unfolding condition-numbers right-places part-of order has-place
 rule-judged events kind bytes = judged (byte-conditions events kind bytes) (rule-refusal events kind bytes) (first-of-rule events kind bytes) refl refl
 
 module _ (kind : ValueKind) (bytes : List ℕ) (φ : Formula ℕ) (written : bytes ≡ encode-formula (node-bytes kind) φ) where
-  count-is : length bytes / node-width kind ≡ size φ
+  pub count-is : length bytes / node-width kind ≡ size φ
   count-is = ap (λ n. n / node-width kind) (ap length written ∙ formula-length (node-width kind) (node-bytes kind) (node-code kind) φ) ∙ mul-div-cancel
       (size φ) (omega (arith, width-positive kind))
 

@@ -3,7 +3,7 @@
 use mathlib.Core.{Path.{_≡_}, Option.{none}, List.{List, [], _∷_}}
 use Prim.Native.Nat.{ℕ, _*_, _/_, _%_, _≤_, _<_}
 use lib.ListN.{length, getD}
-use Rattle.theory.specs.{MealyMachine.{Machine, States}, MachineRuns.{Runs}}
+use Rattle.theory.specs.MealyMachine.{Machine, States, Runs}
 use Rattle.values.specs.{declared.ValueKind.{ValueKind}, declared.ValueKind.the-variants.{Numbered, Register}, Setup.{ValueIn}}
 use Rattle.refusal.specs.Refusal.{Judged}
 use Rattle.machines.specs.{TableBytes.{table-bytes, entry-width, entry-bytes, machine-of, table-condition}, TableRefusal.{entry-value, table-refusal}}

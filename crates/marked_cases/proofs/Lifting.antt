@@ -1,6 +1,6 @@
 -- What is computed of a case, and the lemma that lifts it to document 01's definitions, a clause for each kind of case.
-use mathlib.Core.{Path.{_≡_, refl, sym, _∙_, ap, subst}, Logic.{_↔_, Iff·trans}, Bool.{Bool, true, false, false≢true}, Option.{Option, none, some}}
-use mathlib.Core.List.{List, [], _∷_, _++_}
+use mathlib.Core.{Path.{_≡_, refl, sym, _∙_, ap, subst}, Logic.{_↔_, Iff·trans}, Bool.{Bool, true, false, false≢true}}
+use mathlib.Core.{List.{List, [], _∷_, _++_}, Option.{Option, none, some, Option·some-ne-none}}
 use Prim.Native.Nat.{ℕ, zero, suc, _≤_, _<_}
 use native.Mathlib.Omega.{arith}
 use borrow.Author.Tests.{leb-true, ltb-true}
@@ -11,13 +11,14 @@ use Rattle.theory.specs.ValueSetTests.{every}
 use Rattle.theory.specs.Formula.{Formula, size, Answers}
 use Rattle.theory.specs.FormulaClasses.{WellFormed}
 use Rattle.theory.specs.Formula.{Node, nodes}
-use Rattle.theory.specs.MealyMachine.{Machine, Word, after, States, Simulated, SameValues}
-use Rattle.theory.specs.MachineRuns.{Runs, BelowOnWords}
+use Rattle.theory.specs.MealyMachine.{Machine, Word, after, States, Runs, Simulated, SameValues, Implies}
+use Rattle.theory.specs.MachineRuns.{BelowOnWords}
 use Rattle.theory.specs.Exploration.{state-count, table-of}
 use Rattle.theory.specs.FormulaWriting.{written as rule-written}
 use Rattle.theory.specs.MealyMachine.{Counterexample, FirstCounterexample}
 use Rattle.theory.specs.ConformanceCheck.{is-none, counterexample}
-use Rattle.theory.proofs.Claims.{grammar, answers, simulation, table, table-values, characteristic, conformance, same-values}
+use Rattle.theory.proofs.Claims.{grammar, answers, simulation, table, table-values, table-satisfaction, characteristic, conformance, same-values, trial}
+use Rattle.theory.proofs.Claims.{implication}
 use Rattle.theory.proofs.ConformanceClaims.{passes-iff}
 use Rattle.theory.proofs.{Numbers.{eqb-iff}, ValueSets.{every-at}, WordOrder.{word-left, word-right}}
 use Rattle.refusal.specs.Refusal.{First}
@@ -33,8 +34,8 @@ use Rattle.machines.specs.{TableBytes.{machine-of}, TableRefusal.{table-refusal
 use Rattle.machines.proofs.TableRefusals.{accepted-table}
 use Rattle.table_report.specs.{PrintedTable.{Prints}, Report.{report-text}}
 use Rattle.table_report.proofs.ReportClaims.{report-claim}
-use Rattle.marked_cases.specs.MarkedCases.{Case, tabled, printed, repeated, refused, written, failing, passing, passing-same, passing-stricter, times}
-use Rattle.marked_cases.specs.MarkedCases.{s, IsRule, TableOf, rows-of, device, both, Holds, AllHold}
+use Rattle.marked_cases.specs.MarkedCases.{Case, tabled, printed, repeated, refused, written, failing, passing, passing-same, passing-stricter}
+use Rattle.marked_cases.specs.MarkedCases.{implying, not-implying, times, s, IsRule, TableOf, rows-of, device, both, Holds, AllHold}
 
 -- ---- what is computed: a rule's bytes, its formula, and a formula's count of states and table
 abbrev bytes : List (Node ℕ) → List ℕ
@@ -62,6 +63,16 @@ Comparable k rows rule =
 abbrev on-trial : (ℕ → ℕ → Bool) → ℕ → List ℕ → List (Node ℕ) → Option (List ℕ)
 on-trial related k rows rule = counterexample related (device rows) (made (formula rule)) (s .events) k (states (formula rule)) 0 0
 
+-- Two accepted rules with tables; and what the trial of the first's table against the second's finds.
+unfoldable pub Coverable : List (Node ℕ) → List (Node ℕ) → Type 0
+Coverable first second =
+    (rule-refusal (s .events) (s .kind) (bytes first) ≡ none) × (leb (states (formula first)) state-limit ≡ true)
+    × (rule-refusal (s .events) (s .kind) (bytes second) ≡ none) × (leb (states (formula second)) state-limit ≡ true)
+
+abbrev on-cover : List (Node ℕ) → List (Node ℕ) → Option (List ℕ)
+on-cover first second =
+    counterexample below (made (formula first)) (made (formula second)) (s .events) (states (formula first)) (states (formula second)) 0 0
+
 -- Of a case; of an event repeated, that it leads from state 0 to a state l, and from there nowhere else.
 unfoldable pub Checked : Case → Type 0
 Checked (tabled rule n rows) =
@@ -83,6 +94,8 @@ Checked (failing k rows rule word) = Comparable k rows rule × (on-trial below k
 Checked (passing v) = every 4 (λ b. below v b) ≡ true
 Checked (passing-same k rows rule) = Comparable k rows rule × (on-trial eqb k rows rule ≡ none)
 Checked (passing-stricter k rows rule) = Comparable k rows rule × (on-trial below k rows rule ≡ none) × (is-none (on-trial eqb k rows rule) ≡ false)
+Checked (implying first second) = Coverable first second × (on-cover first second ≡ none)
+Checked (not-implying first second word) = Coverable first second × (on-cover first second ≡ some word)
 
 -- ---- the set-up
 laws : SetupLaws s
@@ -155,33 +168,42 @@ times-word : (e : ℕ) → e < s .events → (k : ℕ) → Word (s .events) (tim
 times-word e h zero = tt
 times-word e h (suc k) = (h, times-word e h k)
 
--- ---- failing words: the same against tables with the same values
+-- ---- failing words: the same between machines with the same values
 abbrev Alike : Machine ℕ ℕ → Machine ℕ ℕ → Type 0
 Alike t u = SameValues (s .events) t u 0 0
 
-module _ (m : Machine ℕ ℕ) where
-  fails-as :
-      (t u : Machine ℕ ℕ) → Alike t u → (word : List ℕ) → Counterexample (s .events) (setup-meet s) m t 0 0 word →
-      Counterexample (s .events) (setup-meet s) m u 0 0 word
-  fails-as t u same word c =
-      let v : Word (s .events) (c .before ++ (c .last ∷ [])) = subst (Word (s .events)) (c .ends) (c .events-of) in
-      let e = same (c .before) (word-left (s .events) (c .before) (c .last ∷ []) v) (c .last) (word-right (s .events) (c .before) (c .last ∷ []) v .0) in
-      record {
-        events-of = c .events-of;
-        before = c .before;
-        last = c .last;
-        ends = c .ends;
-        not-below = λ b. c .not-below (subst (AtOrBelow (setup-meet s) (m .value (after m 0 (c .before)) (c .last))) (sym e) b);
-      }
+alike-refl : (m : Machine ℕ ℕ) → Alike m m
+alike-refl m w v e h = refl
 
-  first-as :
-      (t u : Machine ℕ ℕ) → Alike t u → (word : List ℕ) → FirstCounterexample (s .events) (setup-meet s) m t 0 0 word →
-      FirstCounterexample (s .events) (setup-meet s) m u 0 0 word
-  first-as t u same word c =
-      record {
-        fails = fails-as t u same word (c .fails);
-        first = λ other x. c .first other (fails-as u t (λ w v e h. sym (same w v e h)) other x);
-      }
+alike-sym : (m q : Machine ℕ ℕ) → Alike m q → Alike q m
+alike-sym m q same w v e h = sym (same w v e h)
+
+fails-as :
+    (m q t u : Machine ℕ ℕ) → Alike m q → Alike t u → (word : List ℕ) → Counterexample (s .events) (setup-meet s) m t 0 0 word →
+    Counterexample (s .events) (setup-meet s) q u 0 0 word
+fails-as m q t u alike same word c =
+    let v : Word (s .events) (c .before ++ (c .last ∷ [])) = subst (Word (s .events)) (c .ends) (c .events-of) in
+    let before : Word (s .events) (c .before) = word-left (s .events) (c .before) (c .last ∷ []) v in
+    let last : c .last < s .events = word-right (s .events) (c .before) (c .last ∷ []) v .0 in
+    record {
+      events-of = c .events-of;
+      before = c .before;
+      last = c .last;
+      ends = c .ends;
+      not-below = λ b.
+          c .not-below
+          (subst (λ x. AtOrBelow (setup-meet s) x (t .value (after t 0 (c .before)) (c .last))) (sym (alike (c .before) before (c .last) last))
+          (subst (AtOrBelow (setup-meet s) (q .value (after q 0 (c .before)) (c .last))) (sym (same (c .before) before (c .last) last)) b));
+    }
+
+first-as :
+    (m q t u : Machine ℕ ℕ) → Alike m q → Alike t u → (word : List ℕ) → FirstCounterexample (s .events) (setup-meet s) m t 0 0 word →
+    FirstCounterexample (s .events) (setup-meet s) q u 0 0 word
+first-as m q t u alike same word c =
+    record {
+      fails = fails-as m q t u alike same word (c .fails);
+      first = λ other x. c .first other (fails-as q m u t (alike-sym m q alike) (alike-sym t u same) other x);
+    }
 
 -- So have all tables of one formula.
 tables-alike : (φ : Formula ℕ) → Well φ → (n k : ℕ) (t u : Machine ℕ ℕ) → TableOf φ n t → TableOf φ k u → Alike t u
@@ -255,6 +277,48 @@ module _ (k : ℕ) (rows : List ℕ) (rule : List (Node ℕ)) (h : Comparable k 
     not-alike-any e f =
         false≢true (sym e ∙ ap is-none (same-iff .1 (λ w v a l. f w v a l ∙ sym (as-made n t y w v a l))))
 
+-- ---- a rule against a rule
+module _ (first second : List (Node ℕ)) (h : Coverable first second) where
+  first-ok : rule-refusal (s .events) (s .kind) (bytes first) ≡ none
+  unfolding Coverable
+  first-ok = h .0
+
+  second-ok : rule-refusal (s .events) (s .kind) (bytes second) ≡ none
+  unfolding Coverable
+  second-ok = h .2
+
+  first-table : TableOf (formula first) (states (formula first)) (made (formula first))
+  unfolding Coverable
+  first-table = made-is (formula first) (well first first-ok) (code first first-ok .accepted .within) (h .1)
+
+  second-table : TableOf (formula second) (states (formula second)) (made (formula second))
+  unfolding Coverable
+  second-table = made-is (formula second) (well second second-ok) (code second second-ok .accepted .within) (h .3)
+
+  implies-iff : (on-cover first second ≡ none) ↔ Implies (s .events) (SetupValue s) (setup-meet s) (formula first) (formula second)
+  implies-iff =
+      let x = table-has (formula first) (well first first-ok) (states (formula first)) (made (formula first)) first-table in
+      Iff·trans
+      (trial (SetupValue s) (setup-meet s) (setup-top s) (s .events) laws below decides (formula second) (well second second-ok)
+      (states (formula second)) (made (formula second)) second-table (states (formula first)) (made (formula first)) (x .1) 0 (x .0))
+      (Iff·trans
+      (table-satisfaction (SetupValue s) (setup-meet s) (setup-top s) (s .events) laws below decides (states (formula first)) (made (formula first)) (x .1)
+      (formula second) (well second second-ok) 0 (x .0))
+      (implication (SetupValue s) (setup-meet s) (setup-top s) (s .events) laws (formula first) (formula second) (well first first-ok)
+      (well second second-ok) (states (formula first)) (made (formula first)) first-table))
+
+  cover-fails :
+      (word : List ℕ) → on-cover first second ≡ some word → (n : ℕ) (m : Machine ℕ ℕ) → TableOf (formula first) n m →
+      (k : ℕ) (t : Machine ℕ ℕ) → TableOf (formula second) k t → FirstCounterexample (s .events) (setup-meet s) m t 0 0 word
+  cover-fails word found n m a k t b =
+      let x = table-has (formula first) (well first first-ok) (states (formula first)) (made (formula first)) first-table in
+      let y = table-has (formula second) (well second second-ok) (states (formula second)) (made (formula second)) second-table in
+      first-as (made (formula first)) m (made (formula second)) t
+      (tables-alike (formula first) (well first first-ok) (states (formula first)) n (made (formula first)) m first-table a)
+      (tables-alike (formula second) (well second second-ok) (states (formula second)) k (made (formula second)) t second-table b) word
+      (conformance (SetupValue s) (setup-meet s) (setup-top s) (s .events) below decides (states (formula first)) (made (formula first))
+      (states (formula second)) (made (formula second)) (x .1) (y .1) 0 0 (x .0) (y .0) .1 word found .0)
+
 -- ---- the lemma
 lifted : (c : Case) → Checked c → Holds c
 unfolding Checked Holds
@@ -289,7 +353,9 @@ lifted (failing k rows rule word) (h, found) =
       lower = (
         formula rule,
         is-rule rule (tried-rule k rows rule h),
-        λ n t y. first-as (device rows) (made (formula rule)) t (as-made k rows rule h n t y) word (fails-first k rows rule h word found),
+        λ n t y.
+            first-as (device rows) (device rows) (made (formula rule)) t (alike-refl (device rows)) (as-made k rows rule h n t y) word
+            (fails-first k rows rule h word found),
       );
     }
 lifted (passing-same k rows rule) (h, found) =
@@ -298,6 +364,21 @@ lifted (passing-stricter k rows rule) (h, passed, differs) = (
   formula rule,
   record { lower = is-rule rule (tried-rule k rows rule h) },
   λ n t y. (simulated-any k rows rule h n t y passed, not-alike-any k rows rule h n t y differs),
+)
+lifted (implying first second) (h, found) = (
+  formula first,
+  formula second,
+  record { lower = is-rule first (first-ok first second h) },
+  record { lower = is-rule second (second-ok first second h) },
+  implies-iff first second h .0 found,
+)
+lifted (not-implying first second word) (h, found) = (
+  formula first,
+  formula second,
+  record { lower = is-rule first (first-ok first second h) },
+  record { lower = is-rule second (second-ok first second h) },
+  (λ i. Option·some-ne-none word (sym found ∙ implies-iff first second h .1 i)),
+  λ n m a k t b. record { lower = cover-fails first second h word found n m a k t b },
 )
 lifted (passing v) low = λ rule φ r n t x.
     let runs = table-has φ (rule-well rule φ r) n t x .1 in (

@@ -15,11 +15,11 @@ use Rattle.table_rows.specs.TableText.{row-line, table-text}
 use Rattle.channel_io.specs.FileRefusals.{pair-table-refusal}
 use Rattle.table_report.specs.Report.{answer-text, outcome-text}
 use Rattle.marked_cases.specs.MarkedCases.{cases, MarkedCasesClaim, request-cases, RequestCasesClaim}
-use Rattle.marked_cases.proofs.Lifting.{Comparable, Checked, AllChecked, all-lifted}
+use Rattle.marked_cases.proofs.Lifting.{Comparable, Coverable, Checked, AllChecked, all-lifted}
 
 -- All of them, one computation each. The state of case 4 to which event 1 leads, and where it stays, is 2.
 all-checked : AllChecked cases × AllChecked request-cases
-unfolding AllChecked Checked Comparable rule-refusal formula-of or-else plain-unless at-found count-fits nodes-refusal misfit-place structure-refusal
+unfolding AllChecked Checked Comparable Coverable rule-refusal formula-of or-else plain-unless at-found count-fits nodes-refusal misfit-place structure-refusal
     variables-refusal lowest-from kind-of fields-fit awaited end-fault first-of node-of nodes-from with-parts formulas first-formula formula-read
     lowest-variable unbound-below closed-there meetOf meetAt four-value-meet empty only union table-refusal table-test entry-test every
     closed-test idempotent-test commutative-test associative-test neutral-test lawful events-test values-test entries-test meet-test kind-refusal
@@ -79,7 +79,22 @@ all-checked = (
               ((refl, refl, refl), refl, refl),
               (
                 ((refl, refl, refl), refl),
-                (((refl, refl, refl), refl), tt),
+                (
+                  ((refl, refl, refl), refl),
+                  (
+                    ((refl, refl, refl, refl), refl),
+                    (
+                      ((refl, refl, refl, refl), refl),
+                      (
+                        ((refl, refl, refl, refl), refl),
+                        (
+                          ((refl, refl, refl, refl), refl),
+                          (((refl, refl, refl, refl), refl), tt),
+                        ),
+                      ),
+                    ),
+                  ),
+                ),
               ),
             ),
           ),

@@ -6,9 +6,9 @@ use Rattle.theory.specs.ValueSets.{four-value-meet}
 use Rattle.theory.specs.Formula.{Formula, size, Answers, Node, truth-node, variable-node, transition-node, output-node, conjunction-node, greatest-node}
 use Rattle.theory.specs.Formula.{nodes}
 use Rattle.theory.specs.{ReachableStates.{IsTableOf}, CharacteristicFormula.{Writes}}
-use Rattle.theory.specs.MealyMachine.{Machine, States, Simulated, SameValues, FirstCounterexample}
+use Rattle.theory.specs.MealyMachine.{Machine, States, Simulated, SameValues, FirstCounterexample, Implies}
 use Rattle.refusal.specs.{declared.Refusal.{Refusal}, declared.Refusal.the-variants.{At}, Refusal.{First}}
-use Rattle.values.specs.Setup.{Setup, setup, setup-meet, setup-top}
+use Rattle.values.specs.Setup.{Setup, setup, SetupValue, setup-meet, setup-top}
 use Rattle.formulas.specs.RuleConditions.{encode-all, node-bytes, byte-conditions}
 use Rattle.machines.specs.TableBytes.{table-bytes, entry-bytes, machine-of}
 use Rattle.text_format.specs.Texts.{ascii}
@@ -52,6 +52,9 @@ pub data Case : Type 0 where
   -- a device of these rows of so many states from state 0 passes against the rule's table as same; as stricter (document 02, F-5)
   passing-same : ℕ → List ℕ → List (Node ℕ) → Case
   passing-stricter : ℕ → List ℕ → List (Node ℕ) → Case
+  -- the first rule implies the second; it does not, and its table as a device fails against the second with this word first (document 02, F-14)
+  implying : List (Node ℕ) → List (Node ℕ) → Case
+  not-implying : List (Node ℕ) → List (Node ℕ) → List ℕ → Case
 
 -- An event so many times.
 abbrev pub times : ℕ → ℕ → List ℕ
@@ -107,6 +110,13 @@ Holds (passing-same k rows rule) =
 Holds (passing-stricter k rows rule) =
     (φ : Formula ℕ) × Lift {0, 1} (IsRule rule φ) × ((n : ℕ) (t : Machine ℕ ℕ) → TableOf φ n t →
     Simulated (s .events) (setup-meet s) (States k) (device rows) (States n) t 0 0 × ¬ SameValues (s .events) (device rows) t 0 0)
+Holds (implying first second) =
+    (φ : Formula ℕ) × (χ : Formula ℕ) × Lift {0, 1} (IsRule first φ) × Lift {0, 1} (IsRule second χ) × Implies (s .events) (SetupValue s) (setup-meet s) φ χ
+Holds (not-implying first second word) =
+    (φ : Formula ℕ) × (χ : Formula ℕ) × Lift {0, 1} (IsRule first φ) × Lift {0, 1} (IsRule second χ)
+    × (¬ Implies (s .events) (SetupValue s) (setup-meet s) φ χ)
+    × ((n : ℕ) (m : Machine ℕ ℕ) → TableOf φ n m → (k : ℕ) (t : Machine ℕ ℕ) → TableOf χ k t →
+    Lift {0, 1} (FirstCounterexample (s .events) (setup-meet s) m t 0 0 word))
 
 abbrev pub cases : List Case
 cases =
@@ -149,6 +159,12 @@ request-cases =
     ∷ passing-stricter 2 (0 ∷ 1 ∷ 3 ∷ 1 ∷ 3 ∷ 1 ∷ 3 ∷ 1 ∷ []) (O 0 1 ∷ [])
     ∷ failing 2 (1 ∷ 1 ∷ 3 ∷ 1 ∷ 3 ∷ 1 ∷ 3 ∷ 1 ∷ []) (A ∷ O 0 1 ∷ O 0 2 ∷ []) (0 ∷ [])
     ∷ passing-same 3 (3 ∷ 1 ∷ 1 ∷ 2 ∷ 3 ∷ 1 ∷ 3 ∷ 1 ∷ 3 ∷ 1 ∷ 3 ∷ 2 ∷ []) (O 1 1 ∷ [])
+    -- F-14. O0.0 and A O0.1 O0.2 imply each other; "for ever" implies "now and then", not the reverse; what is open implies no more than top
+    ∷ implying (O 0 0 ∷ []) (A ∷ O 0 1 ∷ O 0 2 ∷ [])
+    ∷ implying (A ∷ O 0 1 ∷ O 0 2 ∷ []) (O 0 0 ∷ [])
+    ∷ implying («V» ∷ A ∷ O 0 1 ∷ G 0 ∷ X 0 ∷ []) (A ∷ O 0 1 ∷ G 0 ∷ O 0 1 ∷ [])
+    ∷ not-implying (A ∷ O 0 1 ∷ G 0 ∷ O 0 1 ∷ []) («V» ∷ A ∷ O 0 1 ∷ G 0 ∷ X 0 ∷ []) (0 ∷ 0 ∷ 0 ∷ [])
+    ∷ implying (T ∷ []) (O 0 3 ∷ [])
     ∷ []
 
 unfoldable pub AllHold : List Case → Type 1

@@ -5,8 +5,7 @@ use Prim.Native.Nat.{ℕ, zero, _*_, _≤_, _<_}
 use borrow.Author.Tests.{le-leb}
 use lib.{Dec.{T, leb}, ListN.{length, take, drop}, Seq.{take-append-seam}}
 use Rattle.theory.specs.{ValueSets.{MeetSemilattice, AtOrBelow}, Formula.{Formula, size, Answers}, FormulaClasses.{WellFormed}}
-use Rattle.theory.specs.MealyMachine.{Machine, Word, after, States, Satisfies}
-use Rattle.theory.specs.MachineRuns.{Runs}
+use Rattle.theory.specs.MealyMachine.{Machine, Word, States, Runs, Satisfies}
 use Rattle.theory.specs.TableSatisfaction.{TableSatisfies}
 use Rattle.theory.specs.ReachableStates.{IsTableOf}
 use Rattle.theory.proofs.Claims.{grammar, answers, table-values, table-satisfaction}
@@ -32,7 +31,7 @@ use Rattle.characteristic.proofs.Claims.{write-refusal-claim, written-claim}
 use Rattle.conformance.specs.{Trial.{input, DeviceInOrder, EndsSame, Passed, grade}, TrialAnswer.{tables-refusal, trial-refusal, trial-answer}}
 use Rattle.conformance.specs.declared.Grade.the-variants.{Same}
 use Rattle.conformance.proofs.TrialClaims.{trial-satisfies, trial-grades}
-use Rattle.product_claims.specs.{Demands.{rule-trial-input, Recompiled}, Requests.{MatchesRule}}
+use Rattle.product_claims.specs.{Demands.{rule-trial-input, Recompiled}, Requests.{MatchesRule, stored-value}}
 
 -- Where no earlier condition refuses, the next decides.
 passed : (a b : Option Refusal) → a ≡ none → b ≡ none → or-else a b ≡ none
@@ -42,6 +41,11 @@ passed a b p q = ap (λ o. or-else o b) p ∙ q
 unless-true : (b : Bool) (n : ℕ) → b ≡ true → plain-unless b n ≡ none
 unfolding plain-unless
 unless-true b n e = ap (λ c. plain-unless c n) e
+
+pub unless-is : (b : Bool) (n : ℕ) (r : Refusal) → plain-unless b n ≡ some r → r ≡ Plain n
+unfolding plain-unless
+unless-is true n r e = absurd (Option·some-ne-none r (sym e))
+unless-is false n r e = cc
 
 true-iff : (b : Bool) → T b ↔ (b ≡ true)
 true-iff true = ((λ h. refl), λ e. tt)
@@ -83,13 +87,13 @@ module _ (s : Setup) (rule old : List ℕ) (accepted : compile-refusal state-lim
   abbrev φ₀ : Formula ℕ
   φ₀ = formula-of (s .kind) rule
 
-  there : AcceptedFormula (s .events) (s .kind) rule φ₀
+  pub there : AcceptedFormula (s .events) (s .kind) rule φ₀
   there = accepted-formula-of (s .events) (s .kind) rule rule-fine
 
-  well : WellFormed (s .events) (SetupValue s) φ₀
+  pub well : WellFormed (s .events) (SetupValue s) φ₀
   well = grammar ℕ node-limit (s .events) (SetupValue s) φ₀ (there .accepted)
 
-  obeys : MeetSemilattice (SetupValue s) meet (setup-top s)
+  pub obeys : MeetSemilattice (SetupValue s) meet (setup-top s)
   obeys = laws s (none-of .0)
 
   little : n ≤ state-limit
@@ -109,12 +113,13 @@ module _ (s : Setup) (rule old : List ℕ) (accepted : compile-refusal state-lim
   runs : (0 < n) × Runs (s .events) (SetupValue s) (States n) t
   runs = let r = table-runs (SetupValue s) meet (setup-top s) obeys (s .events) state-limit φ₀ well (there .accepted .within) little in (r .0, r .1)
 
-  in-order : table-refusal table-limit (s .events) (s .kind) n zero (compiled-bytes) ≡ none
-  in-order =
-      ap (table-refusal table-limit (s .events) (s .kind) n zero) front
-      ∙ table-accepted table-limit (s .events) (s .kind) n zero t (runs .1) little (runs .0)
+  -- In order, at every limit that it does not exceed.
+  pub in-order : (limit : ℕ) → n ≤ limit → table-refusal limit (s .events) (s .kind) n zero (compiled-bytes) ≡ none
+  in-order limit within =
+      ap (table-refusal limit (s .events) (s .kind) n zero) front
+      ∙ table-accepted limit (s .events) (s .kind) n zero t (runs .1) within (runs .0)
 
-  its-table : IsTableOf meet (setup-top s) (s .events) φ₀ n (machine-of (s .kind) (s .events) (compiled-bytes))
+  pub its-table : IsTableOf meet (setup-top s) (s .events) φ₀ n (machine-of (s .kind) (s .events) (compiled-bytes))
   its-table =
       subst (λ l. IsTableOf meet (setup-top s) (s .events) φ₀ n (machine-of (s .kind) (s .events) l)) (sym front)
       (table-agrees meet (setup-top s) (s .events) φ₀ n t (machine-of (s .kind) (s .events) output) (read-back (s .kind) (s .events) n t)
@@ -122,12 +127,12 @@ module _ (s : Setup) (rule old : List ℕ) (accepted : compile-refusal state-lim
 
   module _ (states start : ℕ) (device : List ℕ) (whole : table-refusal device-limit (s .events) (s .kind) states start device ≡ none)
       (buffer : List ℕ) (long : word-limit ≤ length buffer) where
-    none-met : trial-refusal device-limit table-limit (rule-trial-input s rule old n states start device) buffer ≡ none
+    pub none-met : trial-refusal device-limit table-limit (rule-trial-input s rule old n states start device) buffer ≡ none
     unfolding trial-refusal tables-refusal input
     none-met =
         passed (setup-refusal s) _ (none-of .0)
         (passed _ _
-        (passed (table-refusal device-limit (s .events) (s .kind) states start device) _ whole in-order)
+        (passed (table-refusal device-limit (s .events) (s .kind) states start device) _ whole (in-order table-limit little))
         (unless-true (leb word-limit (length buffer)) 13 (le-leb word-limit (length buffer) long)))
 
     abbrev device-runs : Runs (s .events) (SetupValue s) (States states) (machine-of (s .kind) (s .events) device)
@@ -142,7 +147,7 @@ module _ (s : Setup) (rule old : List ℕ) (accepted : compile-refusal state-lim
     unfolding input
     by-sets = trial-satisfies device-limit table-limit (rule-trial-input s rule old n states start device) buffer none-met φ₀ well its-table
 
-    by-definition :
+    pub by-definition :
         Passed (trial-answer device-limit table-limit (rule-trial-input s rule old n states start device) buffer)
         ↔ Satisfies meet (States states) (machine-of (s .kind) (s .events) device) φ₀ start
     by-definition =
@@ -168,8 +173,17 @@ module _ (s : Setup) (rule old : List ℕ) (accepted : compile-refusal state-lim
         ↔ MatchesRule s φ₀ (machine-of (s .kind) (s .events) device) start
     by-values = Iff·trans (trial-grades device-limit table-limit .same (rule-trial-input s rule old n states start device) buffer none-met) ends-same-iff
 
+-- The table that `compile` stores has the formula's values.
+pub stored-answers :
+    (s : Setup) (rule to : List ℕ) → compile-refusal state-limit s rule to ≡ none → (φ : Formula ℕ) → rule ≡ encode-formula (node-bytes (s .kind)) φ →
+    (w : List ℕ) → Word (s .events) w → (e : ℕ) → e < s .events → Answers (setup-meet s) (setup-top s) φ w e (stored-value s rule to w e)
+stored-answers s rule to accepted φ code w hw e he =
+    let stored : CompiledBytes state-limit s rule to (setup-states state-limit s rule) (compile-contents state-limit s rule to)
+    = compile-claim .accepted state-limit s rule to accepted in
+    subst (λ χ. Answers (setup-meet s) (setup-top s) χ w e (stored-value s rule to w e)) (sym (stored .table .only φ code)) (stored .table .answers w hw e he)
+
 -- What holds of the state count and the formula that are computed holds of those that are handed in.
-for-rule {κ} :
+pub for-rule {κ} :
     (s : Setup) (rule to : List ℕ) (n : ℕ) → count-of (compile-answer state-limit s rule to) ≡ some n →
     (φ : Formula ℕ) → rule ≡ encode-formula (node-bytes (s .kind)) φ → (P : ℕ → Formula ℕ → Type κ) →
     (compile-refusal state-limit s rule to ≡ none → P (setup-states state-limit s rule) (formula-of (s .kind) rule)) → P n φ
@@ -253,33 +267,14 @@ module _ (s : Setup) (states start : ℕ) (table buffer : List ℕ)
         (passed (rule-refusal (s .events) (s .kind) bytes) _ (made .rule-written .accepted-bytes)
         (unless-true (leb count state-limit) 10 (le-leb count state-limit bounded)))
 
-    room-13 : (b : Bool) (r : Refusal) → plain-unless b 13 ≡ some r → r ≡ Plain 13
-    unfolding plain-unless
-    room-13 true r e = absurd (Option·some-ne-none r (sym e))
-    room-13 false r e = cc
-
-    module _ (compiles : compile-refusal state-limit s bytes to ≡ none) where
-      stored : CompiledBytes state-limit s bytes to count (compile-contents state-limit s bytes to)
-      stored = compile-claim .accepted state-limit s bytes to compiles
-
-      abbrev machine : Machine ℕ ℕ
-      machine = machine-of (s .kind) (s .events) (compile-contents state-limit s bytes to)
-
-      answered :
-          (w : List ℕ) → Word (s .events) w → (e : ℕ) → e < s .events →
-          Answers (setup-meet s) (setup-top s) ψ w e (machine .value (after machine zero w) e)
-      answered w hw e he =
-          subst (λ χ. Answers (setup-meet s) (setup-top s) χ w e (machine .value (after machine zero w) e))
-          (sym (stored .table .only ψ refl)) (stored .table .answers w hw e he)
-
     recompiled : Recompiled s start table bytes to
     recompiled =
         let read-back = counted-refusal-is (compile-refusal state-limit s bytes to) count in
         record {
-          only-13 = λ r h. room-13 (leb (count * s .events * entry-width (s .kind)) (length to)) r (sym for-room ∙ sym read-back ∙ h);
+          only-13 = λ r h. unless-is (leb (count * s .events * entry-width (s .kind)) (length to)) 13 r (sym for-room ∙ sym read-back ∙ h);
           same-values = λ h w hw e he.
               let one = answers (SetupValue s) (setup-meet s) (setup-top s) (s .events) ψ sound w e in
-              one _ .0 (answered (sym read-back ∙ h) w hw e he) ∙ sym (one _ .0 (made .rule-written .same-values w hw e he));
+              one _ .0 (stored-answers s bytes to (sym read-back ∙ h) ψ refl w hw e he) ∙ sym (one _ .0 (made .rule-written .same-values w hw e he));
         }
 
 -- What an accepted `write_rule` writes.

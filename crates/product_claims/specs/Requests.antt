@@ -1,18 +1,18 @@
 -- Document 02's requests, each as one record over the definitions of both documents and the functions that contracts state; proved in
 -- proofs/Requests. F-1 stands in DemandThree (`fails`).
-use mathlib.Core.{Path.{_≡_}, Logic.{_↔_, _⊎_}, List.{List}, Option.{none, some}}
-use Prim.Native.Nat.{ℕ, _≤_, _<_}
-use lib.ListN.{length}
+use mathlib.Core.{Path.{_≡_}, Logic.{_↔_, _⊎_}, List.{List, _++_}, Option.{none, some}}
+use Prim.Native.Nat.{ℕ, zero, _*_, _≤_, _<_}
+use lib.ListN.{length, take}
 use Rattle.limits.specs.Limits.{state-limit, device-limit, table-limit, word-limit}
-use Rattle.theory.specs.{Formula.{Formula, Answers}, MealyMachine.{Machine, Word, after}}
-use Rattle.refusal.specs.Refusal.{count-of}
+use Rattle.theory.specs.{Formula.{Formula, conjunction, conjunction-node, Answers}, MealyMachine.{Machine, Word, after, Implies}}
+use Rattle.refusal.specs.{declared.Refusal.{Refusal}, declared.Refusal.the-variants.{Plain}, Refusal.{First, counted-refusal, count-of}}
 use Rattle.values.specs.declared.{ValueKind.{ValueKind}, Comparison.{Comparison}}
 use Rattle.values.specs.{Setup.{Setup, SetupValue, setup-meet, setup-top, meetOf, ComparesAs}, SetupTests.{setup-refusal}, ValueTests.{comparison}}
 use Rattle.conformance.specs.declared.{Grade.the-variants.{Same, Stricter}, Verdict.{Verdict}}
 use Rattle.conformance.specs.{Trial.{TrialInput, DeviceInOrder, Passes, EndsSame, refusal-of, Passed, grade}, TrialAnswer.{trial-answer}}
-use Rattle.machines.specs.TableBytes.{machine-of}
-use Rattle.formulas.specs.RuleConditions.{encode-formula, node-bytes}
-use Rattle.synthesis.specs.Compilation.{compile-answer}
+use Rattle.machines.specs.TableBytes.{entry-width, machine-of}
+use Rattle.formulas.specs.RuleConditions.{encode-formula, node-bytes, byte-conditions}
+use Rattle.synthesis.specs.Compilation.{compile-answer, compile-contents}
 use Rattle.product_claims.specs.Demands.{rule-trial-input}
 
 -- From a state the machine gives the rule's value (source 000, section 3) on every event sequence.
@@ -41,5 +41,52 @@ pub record SameOrStricter : Type 1 where
   -- "The two passes together are the old pass", which DemandThree (`passes`) says in the words it had
   pub together : (answer : Verdict) → Passed answer ↔ ((grade answer ≡ some Same) ⊎ (grade answer ≡ some Stricter))
 
+-- The trial of the first rule's table, of n states, as a device from state 0 against the second's, of k states; `compile` stored both.
+abbrev pub cover-trial-input : Setup → List ℕ → List ℕ → ℕ → List ℕ → List ℕ → ℕ → TrialInput
+cover-trial-input s first to n second to′ k =
+    rule-trial-input s second to′ k n zero (take (n * s .events * entry-width (s .kind)) (compile-contents state-limit s first to))
+
+-- A rule's bytes; 5 to 9 let bytes through; two rules joined by A: its node, then theirs.
+abbrev pub rule-bytes : Setup → Formula ℕ → List ℕ
+rule-bytes s φ = encode-formula (node-bytes (s .kind)) φ
+
+abbrev pub LetThrough : Setup → List ℕ → Type 0
+LetThrough s rule = First (byte-conditions (s .events) (s .kind) rule) none
+
+abbrev pub joined : Setup → List ℕ → List ℕ → List ℕ
+joined s first second = node-bytes (s .kind) conjunction-node ++ (first ++ second)
+
+-- After w, on e, the rule has this value (source 000, section 3) and no other; and the value of the table that `compile` stored for a rule.
+abbrev pub HasValue : Setup → Formula ℕ → List ℕ → ℕ → ℕ → Type 0
+HasValue s φ w e b = (v : ℕ) → Answers (setup-meet s) (setup-top s) φ w e v ↔ (v ≡ b)
+
+abbrev pub stored-value : Setup → List ℕ → List ℕ → List ℕ → ℕ → ℕ
+stored-value s rule to w e =
+    let m = machine-of (s .kind) (s .events) (compile-contents state-limit s rule to) in m .value (after m zero w) e
+
+-- F-14: when one rule covers another, and rules joined by A.
+pub record Covering : Type 1 where
+  -- "a rule whose table has at most 64 states implies a second, itself within 10's limit, exactly when its table, taken as a device from
+  -- state 0, passes against the second"; such a trial is not refused
+  pub covers : (s : Setup) (first to second to′ : List ℕ) (n k : ℕ) → count-of (compile-answer state-limit s first to) ≡ some n → n ≤ device-limit →
+      count-of (compile-answer state-limit s second to′) ≡ some k → (word : List ℕ) → word-limit ≤ length word →
+      (φ χ : Formula ℕ) → first ≡ rule-bytes s φ → second ≡ rule-bytes s χ →
+      (refusal-of (trial-answer device-limit table-limit (cover-trial-input s first to n second to′ k) word) ≡ none)
+      × (Passed (trial-answer device-limit table-limit (cover-trial-input s first to n second to′ k) word)
+      ↔ Implies (s .events) (SetupValue s) (setup-meet s) φ χ)
+  -- "joining two rules by A gives, on each event sequence, the meet of their two values": also where 5 or 10 refuses the joined rule
+  pub joined-values : (s : Setup) (φ χ : Formula ℕ) → LetThrough s (rule-bytes s φ) → LetThrough s (rule-bytes s χ) → (w : List ℕ) (e : ℕ) →
+      (b : ℕ) × (c : ℕ) × HasValue s φ w e b × HasValue s χ w e c × HasValue s (conjunction φ χ) w e (setup-meet s b c)
+  -- the same in bytes, where `compile` accepts all three; of the joined bytes 5, 10 and 13 alone are to be met
+  pub joined-bytes : (s : Setup) (φ χ : Formula ℕ) → joined s (rule-bytes s φ) (rule-bytes s χ) ≡ rule-bytes s (conjunction φ χ)
+  pub joined-tables : (s : Setup) (first to second to′ to″ : List ℕ) (n k l : ℕ) → count-of (compile-answer state-limit s first to) ≡ some n →
+      count-of (compile-answer state-limit s second to′) ≡ some k → count-of (compile-answer state-limit s (joined s first second) to″) ≡ some l →
+      (w : List ℕ) → Word (s .events) w → (e : ℕ) → e < s .events →
+      stored-value s (joined s first second) to″ w e ≡ setup-meet s (stored-value s first to w e) (stored-value s second to′ w e)
+  pub joined-refused : (s : Setup) (first second to : List ℕ) → setup-refusal s ≡ none → LetThrough s first → LetThrough s second →
+      (r : Refusal) → counted-refusal (compile-answer state-limit s (joined s first second) to) ≡ some r →
+      (r ≡ Plain 5) ⊎ ((r ≡ Plain 10) ⊎ (r ≡ Plain 13))
+
 pub record Requests : Type 1 where
   pub same-or-stricter : SameOrStricter
+  pub covering : Covering

@@ -5,8 +5,7 @@ use native.Mathlib.Nat.{mod-eq-of-lt}
 use borrow.Author.Tests.{ltb-true}
 use lib.Dec.{ltb}
 use Rattle.limits.specs.Limits.{state-limit, entry-limit}
-use Rattle.theory.specs.MachineRuns.{Runs}
-use Rattle.theory.specs.MealyMachine.{States}
+use Rattle.theory.specs.MealyMachine.{States, Runs}
 use Rattle.refusal.specs.declared.Refusal.{Refusal}
 use Rattle.refusal.specs.declared.Counted.the-variants.{Count, Refused}
 use Rattle.refusal.specs.RefusalAnswers.{or-else, plain-unless, counted}

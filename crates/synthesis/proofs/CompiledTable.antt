@@ -6,8 +6,7 @@ use Rattle.theory.specs.ValueSets.{MeetSemilattice}
 use Rattle.theory.specs.Formula.{Formula, size}
 use Rattle.theory.specs.FormulaClasses.{WellFormed}
 use Rattle.theory.specs.Formula.{Answers}
-use Rattle.theory.specs.MealyMachine.{Word, after, States}
-use Rattle.theory.specs.MachineRuns.{Runs}
+use Rattle.theory.specs.MealyMachine.{Word, after, States, Runs}
 use Rattle.theory.specs.ReachableStates.{IsTableOf, StatesAtMost}
 use Rattle.theory.proofs.Claims.{table, table-values}
 use Rattle.synthesis.specs.FormulaTable.{formula-states, formula-table}

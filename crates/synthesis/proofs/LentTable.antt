@@ -6,8 +6,7 @@ use borrow.Author.Tests.{leb-true}
 use lib.{Dec.{leb}, ListN.{length, getD}}
 use Rattle.theory.specs.Formula.{size}
 use Rattle.theory.specs.FormulaClasses.{WellFormed}
-use Rattle.theory.specs.MachineRuns.{Runs}
-use Rattle.theory.specs.MealyMachine.{States}
+use Rattle.theory.specs.MealyMachine.{States, Runs}
 use Rattle.theory.proofs.Claims.{grammar}
 use Rattle.refusal.specs.declared.{Refusal.{Refusal}, Counted.{Counted}}
 use Rattle.refusal.specs.declared.Refusal.the-variants.{Plain}

@@ -5,8 +5,7 @@ use native.Mathlib.{Omega.{arith}, Nat.{div-add-mod', mod-lt, div-lt-iff-lt-mul,
 use lib.ListN.{length, getD, length-append}
 use Rattle.limits.specs.Limits.{value-limit}
 use Rattle.theory.specs.ValueSets.{Below}
-use Rattle.theory.specs.MealyMachine.{Machine, States}
-use Rattle.theory.specs.MachineRuns.{Runs}
+use Rattle.theory.specs.MealyMachine.{Machine, States, Runs}
 use Rattle.values.specs.declared.ValueKind.the-variants.{Numbered}
 use Rattle.text_format.specs.Texts.{ascii}
 use Rattle.text_format.specs.Texts.{numeral, each}

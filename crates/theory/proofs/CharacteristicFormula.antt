@@ -9,8 +9,7 @@ use borrow.Author.Tests.{eqb-true, eqb-false}
 use Rattle.theory.specs.Formula.{Formula, truth, variable, transition, output, conjunction, greatest, size}
 use Rattle.theory.specs.FormulaClasses.{binders, FreeBelow, OpenPosition}
 use Rattle.theory.specs.FormulaClasses.{ClosedPosition, Fits, WellFormed, Accepted}
-use Rattle.theory.specs.MealyMachine.{Machine, States}
-use Rattle.theory.specs.MachineRuns.{Runs}
+use Rattle.theory.specs.MealyMachine.{Machine, States, Runs}
 use Rattle.theory.specs.CharacteristicFormula.{OpenAt, here, above, Writes, already-open, opened, Rows, last-row, row}
 use Rattle.theory.specs.FormulaWriting.{one-more, open-at, variable-or}
 use Rattle.theory.specs.FormulaWriting.{rows, write, written}

@@ -7,8 +7,7 @@ use borrow.Author.Tests.{eq-eqb, ne-eqb}
 use Rattle.theory.specs.ValueSets.{MeetSemilattice}
 use Rattle.theory.specs.Formula.{Formula, truth, transition, output, conjunction, greatest, unfolded}
 use Rattle.theory.specs.FormulaClasses.{WellFormed}
-use Rattle.theory.specs.MealyMachine.{Machine, Word, after, States}
-use Rattle.theory.specs.MachineRuns.{Runs}
+use Rattle.theory.specs.MealyMachine.{Machine, Word, after, States, Runs}
 use Rattle.theory.specs.CharacteristicFormula.{OpenAt, here, above, Writes}
 use Rattle.theory.specs.Evaluation.{value, follower, formulas}
 use Rattle.theory.proofs.{Order.{top-meet, top-top}, Substitution.{open-position-guarded, closed-position-guarded}}

@@ -7,8 +7,8 @@ use native.Mathlib.{Nat.{mul-le-mul-right, suc-mul}, Omega.{arith}}
 use lib.{Dec.{T, eqb, eqb→eq, eqb-refl, T-not, not-T}, ListN.{length, length-reverse}}
 use mir.Facts.{and-yes, yes-and}
 use Rattle.theory.specs.ValueSets.{AtOrBelow}
-use Rattle.theory.specs.MealyMachine.{Machine, Word, after, States}
-use Rattle.theory.specs.MachineRuns.{Runs, RelatedOnWords}
+use Rattle.theory.specs.MealyMachine.{Machine, Word, after, States, Runs}
+use Rattle.theory.specs.MachineRuns.{RelatedOnWords}
 use Rattle.theory.specs.MealyMachine.{NoLater}
 use Rattle.theory.specs.Exploration.{reached, explored}
 use Rattle.theory.specs.MealyMachine.{FirstCounterexample}

@@ -5,8 +5,8 @@ use Prim.Native.Nat.{ℕ, _<_}
 use native.Mathlib.Omega.{arith}
 use lib.Dec.{T}
 use Rattle.theory.specs.ValueSets.{AtOrBelow}
-use Rattle.theory.specs.MealyMachine.{Machine, States}
-use Rattle.theory.specs.MachineRuns.{Runs, SimulatedTable, BelowOnWords}
+use Rattle.theory.specs.MealyMachine.{Machine, States, Runs}
+use Rattle.theory.specs.MachineRuns.{SimulatedTable, BelowOnWords}
 use Rattle.theory.specs.ConformanceCheck.{is-none, counterexample}
 use Rattle.theory.specs.Claims.{TableSimulationClaim, ConformanceClaim, OneFirstWordClaim, SameValuesClaim}
 use Rattle.theory.proofs.{Simulation.{simulation-below}, Conformance.{none-iff-related, first-shown}, WordOrder.{no-later-antisymmetric}}

@@ -30,6 +30,7 @@ pub mod FirstBad
 pub mod Conformance
 pub mod ConformanceClaims
 pub mod Trial
+pub mod Implication
 pub mod DistinctLists
 pub mod CharacteristicFormula
 pub mod CharacteristicValues

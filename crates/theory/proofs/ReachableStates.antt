@@ -5,8 +5,7 @@ use mathlib.Core.List.{List, [], _∷_, _++_, reverse, reverse-cons, reverse-rev
 use Prim.Native.Nat.{ℕ, zero, suc, _≤_, _<_, zero-le}
 use native.Mathlib.Omega.{arith}
 use lib.{ListN.{length, getD}, Seq.{ext-getD}}
-use Rattle.theory.specs.MealyMachine.{Machine, Word, after, States}
-use Rattle.theory.specs.MachineRuns.{Runs}
+use Rattle.theory.specs.MealyMachine.{Machine, Word, after, States, Runs}
 use Rattle.theory.specs.MealyMachine.{Before, NoLater}
 use Rattle.theory.specs.{ReachableStates.{state-at, Numbering, IsTable}, Exploration.{reached}}
 use Rattle.theory.proofs.Numbers.{Trichotomy, less, equal, greater, trichotomy}

@@ -6,8 +6,8 @@ use lib.ListN.{length}
 use Rattle.theory.specs.ValueSets.{MeetSemilattice}
 use Rattle.theory.specs.Formula.{Formula, truth, variable, transition, output, conjunction, greatest}
 use Rattle.theory.specs.FormulaClasses.{FreeBelow, GuardedIn, Guarded, Fits, WellFormed}
-use Rattle.theory.specs.MealyMachine.{Machine}
-use Rattle.theory.specs.MachineRuns.{Runs, BelowOnWords}
+use Rattle.theory.specs.MealyMachine.{Machine, Runs}
+use Rattle.theory.specs.MachineRuns.{BelowOnWords}
 use Rattle.theory.specs.MealyMachine.{extend, SatisfiesIn}
 use Rattle.theory.specs.Evaluation.{formulas}
 use Rattle.theory.specs.Claims.{SatisfactionClaim}

@@ -6,8 +6,7 @@ use borrow.Author.Tests.{eqb-true, eq-eqb}
 use Rattle.theory.specs.ValueSets.{MeetSemilattice, AtOrBelow}
 use Rattle.theory.specs.Formula.{Formula, truth, transition, output, conjunction, greatest, unfolded}
 use Rattle.theory.specs.FormulaClasses.{WellFormed}
-use Rattle.theory.specs.MealyMachine.{Machine}
-use Rattle.theory.specs.MachineRuns.{Runs}
+use Rattle.theory.specs.MealyMachine.{Machine, Runs}
 use Rattle.theory.specs.Evaluation.{value, follower, formulas}
 use Rattle.theory.proofs.Order.{below-top, below-meet, below-meet-iff}
 use Rattle.theory.proofs.Equations.{step-truth, step-transition, step-output, step-conjunction, step-greatest, follower-well-formed, value-in}

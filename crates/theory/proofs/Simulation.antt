@@ -3,8 +3,8 @@ use mathlib.Core.{Logic.{_↔_}, List.{List, [], _∷_}}
 use Prim.Native.Nat.{ℕ, zero, suc, _<_}
 use lib.ListN.{length}
 use Rattle.theory.specs.ValueSets.{AtOrBelow}
-use Rattle.theory.specs.MealyMachine.{Machine, Word, after, IsSimulation}
-use Rattle.theory.specs.MachineRuns.{Runs, BelowOnWords}
+use Rattle.theory.specs.MealyMachine.{Machine, Word, after, IsSimulation, Runs}
+use Rattle.theory.specs.MachineRuns.{BelowOnWords}
 use Rattle.theory.specs.Claims.{SimulationClaim}
 
 -- A simulation that holds of two states has the first at or below the second on every word.

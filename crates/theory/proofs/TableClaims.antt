@@ -5,10 +5,10 @@ use Rattle.theory.specs.ValueSets.{MeetSemilattice}
 use Rattle.theory.specs.Formula.{Formula, size}
 use Rattle.theory.specs.FormulaClasses.{WellFormed}
 use Rattle.theory.specs.Formula.{Answers}
-use Rattle.theory.specs.MachineRuns.{Runs}
 use Rattle.theory.specs.{DemandSets.{set-machine, first-set}, ReachableStates.{ReachesAtMost, IsTable}}
 use Rattle.theory.specs.Exploration.{same-bits, bit-machine, first-bits, state-count, table-of}
 use Rattle.theory.specs.Claims.{NumberingClaim, TableClaim, TableValuesClaim}
+use Rattle.theory.specs.MealyMachine.{Runs}
 use Rattle.theory.proofs.{NodeSets.{shown-in}, Demands.{shown-is-value}, SetMachine.{table-of-iff, states-at-most-iff}}
 use Rattle.theory.proofs.DemandClaims.{set-answers}
 use Rattle.theory.proofs.ReachableStates.{numbering-unique, table-unique, table-nonempty, table-runs, table-values}

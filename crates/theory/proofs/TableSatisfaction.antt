@@ -8,8 +8,7 @@ use mir.Facts.{and-yes, yes-and}
 use Rattle.theory.specs.ValueSets.{MeetSemilattice, AtOrBelow}
 use Rattle.theory.specs.Formula.{Formula, truth, variable, transition, output, conjunction, greatest}
 use Rattle.theory.specs.FormulaClasses.{Fits}
-use Rattle.theory.specs.MealyMachine.{Machine, States}
-use Rattle.theory.specs.MachineRuns.{Runs}
+use Rattle.theory.specs.MealyMachine.{Machine, States, Runs}
 use Rattle.theory.specs.MealyMachine.{extend, SatisfiesIn}
 use Rattle.theory.specs.TableSatisfaction.{TableSatisfiesIn}
 use Rattle.theory.specs.Claims.{TableSatisfactionClaim}

@@ -14,7 +14,7 @@ use Rattle.theory.proofs.{TableClaims.{table-values-claim}, Conformance
 
 module _ {B : Type 0} (In : B → Type 0) (meet : B → B → B) (top : B) (laws : MeetSemilattice In meet top) (events : ℕ) where
   -- Being at or below the table on every word is being so for the formula.
-  below-table-iff :
+  pub below-table-iff :
       (φ : Formula B) → WellFormed events In φ → (k : ℕ) (q : Machine ℕ B) → IsTableOf meet top events φ k q →
       (m : Machine ℕ B) (s : ℕ) → BelowOnWords events meet m q s zero ↔ BelowOnWords events meet m (formulas meet top) s φ
   below-table-iff φ g k q h m s = (

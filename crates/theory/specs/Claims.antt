@@ -4,8 +4,8 @@ use Prim.Native.Nat.{ℕ, zero, suc, _+_, _*_, _≤_, _<_}
 use lib.{Dec.{T}, ListN.{length}}
 use Rattle.theory.specs.{ValueSets.{MeetSemilattice, AtOrBelow}, Formula.{Formula, transition, output, conjunction, size, Steps, Answers, Stands}}
 use Rattle.theory.specs.FormulaClasses.{binders, Closed, ClosedPosition, Fits, WellFormed, Accepted}
-use Rattle.theory.specs.MealyMachine.{Machine, Word, after, States, Simulated, SameValues, FirstCounterexample, Satisfies}
-use Rattle.theory.specs.{MachineRuns.{Runs, SimulatedTable, BelowOnWords}, TableSatisfaction.{TableSatisfies}}
+use Rattle.theory.specs.MealyMachine.{Machine, Word, after, States, Runs, Simulated, SameValues, FirstCounterexample, Satisfies, Implies}
+use Rattle.theory.specs.{MachineRuns.{SimulatedTable, BelowOnWords}, TableSatisfaction.{TableSatisfies}}
 use Rattle.theory.specs.{ReachableStates.{NodeSet, IsSetMachine, Numbering, IsTable, IsTableOf, StatesAtMost}, CharacteristicFormula.{Writes}}
 use Rattle.theory.specs.{FormulaWriting.{written}, ConformanceCheck.{counterexample}, Evaluation.{value, follower, formulas}}
 use Rattle.theory.specs.{DemandSets.{set-machine, first-set}, Exploration.{state-count, table-of}}
@@ -161,3 +161,9 @@ module _ {B : Type 0} (In : B → Type 0) (meet : B → B → B) (top : B) (laws
       (φ : Formula B) → WellFormed events In φ → (k : ℕ) (q : Machine ℕ B) → IsTableOf meet top events φ k q →
       (n : ℕ) (m : Machine ℕ B) → Runs events In (States n) m → (s : ℕ) → s < n →
       (counterexample at-or-below m q events n k s zero ≡ none) ↔ TableSatisfies meet n m φ s
+
+  -- A formula with a table implies another, which may have none, exactly if its table from state 0 satisfies the other (document 02, F-14).
+  abbrev pub ImplicationClaim : Type 1
+  ImplicationClaim =
+      (φ χ : Formula B) → WellFormed events In φ → WellFormed events In χ → (n : ℕ) (m : Machine ℕ B) → IsTableOf meet top events φ n m →
+      Satisfies meet (States n) m χ zero ↔ Implies events In meet φ χ

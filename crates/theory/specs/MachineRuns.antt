@@ -1,4 +1,4 @@
--- What is proved with of machines: runs on words, states that events do not leave, and definition 1 said of words and by decided relations.
+-- What is proved with of machines: runs on words, and definition 1 said of words and by decided relations.
 use mathlib.Core.{Bool.{Bool}, List.{List, [], _∷_}}
 use Prim.Native.Nat.{ℕ, _<_}
 use lib.Dec.{T}
@@ -8,11 +8,6 @@ use Rattle.theory.specs.{ValueSets.{AtOrBelow}, MealyMachine.{Machine, W
 abbrev pub word-values : {S B : Type 0} → Machine S B → S → List ℕ → List B
 word-values m s [] = []
 word-values m s (e ∷ w) = m .value s e ∷ word-values m (m .next s e) w
-
--- The states are those of `State`: from each of them every event gives a value of the set and leads to one of them.
-pub record Runs {S B : Type 0} (events : ℕ) (In : B → Type 0) (State : S → Type 0) (m : Machine S B) : Type 0 where
-  pub value-in : (s : S) → State s → (e : ℕ) → e < events → In (m .value s e)
-  pub next-in : (s : S) → State s → (e : ℕ) → e < events → State (m .next s e)
 
 -- Definition 1 between tables of n and k states, with decided relations: the same, and it can stand in a contract.
 module _ {B : Type 0} (events : ℕ) (meet : B → B → B) (n : ℕ) (m : Machine ℕ B) (k : ℕ) (q : Machine ℕ B) where

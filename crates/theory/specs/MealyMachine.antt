@@ -24,6 +24,11 @@ after m s (e ∷ w) = after m (m .next s e) w
 abbrev pub States : ℕ → ℕ → Type 0
 States n s = s < n
 
+-- The states of the machine are those of `State`: from each of them every event gives a value of the set and leads to one of them.
+pub record Runs {S B : Type 0} (events : ℕ) (In : B → Type 0) (State : S → Type 0) (m : Machine S B) : Type 0 where
+  pub value-in : (s : S) → State s → (e : ℕ) → e < events → In (m .value s e)
+  pub next-in : (s : S) → State s → (e : ℕ) → e < events → State (m .next s e)
+
 -- Definition 1, between the states `StateS` of m and the states `StateQ` of q.
 module _ {B S Q : Type 0} (events : ℕ) (meet : B → B → B) (StateS : S → Type 0) (m : Machine S B) (StateQ : Q → Type 0) (q : Machine Q B) where
   abbrev pub IsSimulation : (S → Q → Type 0) → Type 0
@@ -83,3 +88,10 @@ module _ {B S : Type 0} (meet : B → B → B) (State : S → Type 0) (m : Machi
   -- A closed formula, with the empty valuation.
   abbrev pub Satisfies : Formula B → S → Type 1
   Satisfies φ s = SatisfiesIn (λ n t. ⊥) φ s
+
+-- "Implies means that every finite device satisfying the first satisfies the second, also one larger than a trial takes" (document 02,
+-- F-14): a device of any number n of states, from any of them.
+module _ {B : Type 0} (events : ℕ) (In : B → Type 0) (meet : B → B → B) where
+  abbrev pub Implies : Formula B → Formula B → Type 1
+  Implies φ χ = (n : ℕ) (m : Machine ℕ B) → Runs events In (States n) m → (start : ℕ) → start < n →
+      Satisfies meet (States n) m φ start → Satisfies meet (States n) m χ start
