@@ -1,6 +1,7 @@
--- Words, numbers and names, then the claims.
+-- Words, numbers, names and parts, then the claims.
 pub mod Words
 pub mod Writes
 pub mod Numbers
 pub mod Names
 pub mod Claims
+pub mod Parts

@@ -6,6 +6,7 @@ use mathlib.Core.Option.{Option, some}
 use lib.ListN.{drop}
 use Rattle.command_line.specs.declared.Command.{Command}
 use Rattle.command_line.specs.Words.{Words, words, rest}
+use Rattle.command_line.specs.Parts.{divider, Divided, first-part, second-part}
 use Rattle.command_line.specs.Numbers.{IsNumber, number-of}
 use Rattle.command_line.specs.Lists.{Numbers, numbers-from}
 use Rattle.command_line.specs.Names.{names, named}
@@ -24,6 +25,12 @@ pub record RestClaim : Type 0 where
   pub an-end : (n : ℕ) (line : List ℕ) → EndOf (rest n line) line
   pub its-words : (n : ℕ) (line : List ℕ) → words (rest n line) ≡ drop n (words line)
   pub no-space : (n : ℕ) (line s : List ℕ) → rest n line ≡ 32 ∷ s → ⊥
+
+-- A text with a divider is divided in one way: by the computed parts. A text without has a first part alone.
+pub record PartsClaim : Type 0 where
+  pub its-parts : (text before behind : List ℕ) → text ≡ before ++ (divider ++ behind) → Divided text (first-part text) (second-part text)
+  pub only : (text first second : List ℕ) → Divided text first second → (first ≡ first-part text) × (second ≡ second-part text)
+  pub undivided : (text : List ℕ) → ((before behind : List ℕ) → text ≡ before ++ (divider ++ behind) → ⊥) → (first-part text ≡ text) × (second-part text ≡ [])
 
 -- A word has one answer: the computed one.
 pub record NumberClaim : Type 0 where

@@ -17,6 +17,7 @@ names =
     ∷ (ascii "show", Command.Show)
     ∷ (ascii "device", Command.Device)
     ∷ (ascii "trial", Command.Trial)
+    ∷ (ascii "covers", Command.Covers)
     ∷ (ascii "write", Command.Write)
     ∷ (ascii "dot", Command.Dot)
     ∷ (ascii "help", Command.Help)

@@ -1,10 +1,11 @@
 // A line of commands: its words, its numbers and the command that it names.
 ghost use mathlib.Core.Path.{_≡_};
 ghost use Prim.Native.Nat.{_+_, _-_, _*_, _≤_, _<_};
-ghost use lib.ListN.{length, take};
+ghost use lib.ListN.{length, take, drop};
 ghost use Rattle.text_format.specs.Decimal.{is-digit};
 ghost use Rattle.channel_file.specs.Bytes.{clamp};
 ghost use Rattle.command_line.specs.Words.{words, rest, word};
+ghost use Rattle.command_line.specs.Parts.{at-divider, before-divider, first-part, second-part};
 ghost use Rattle.command_line.specs.Numbers.{number-of, capped, number-answer};
 ghost use Rattle.command_line.specs.Lists.{numbers-of, Lists};
 ghost use Rattle.command_line.specs.Names.{equal, named};
@@ -38,6 +39,7 @@ pub enum Command {
     Show,
     Device,
     Trial,
+    Covers,
     Write,
     Dot,
     Help,
@@ -127,6 +129,16 @@ pub fn front(bytes: &[u8], n: usize) -> &[u8]
         return &bytes[..n];
     }
     bytes
+}
+
+// All but the first n bytes; none where there are fewer.
+fn behind(bytes: &[u8], n: usize) -> &[u8]
+    ensures { λ r. ⌜ now r ≡ drop n (now (bytes .entry)) ⌝ }
+{
+    if bytes.len() < n {
+        return &bytes[bytes.len()..];
+    }
+    &bytes[n..]
 }
 
 // The number behind the digits of v and one digit more.
@@ -233,6 +245,41 @@ pub fn equal(a: &[u8], b: &[u8]) -> bool
     true
 }
 
+// Whether a text begins with ` / `.
+fn starts_divider(text: &[u8]) -> bool
+    ensures { λ r. ⌜ r ≡ at-divider (now (text .entry)) ⌝ }
+{
+    equal(front(text, 3), b" / ")
+}
+
+// The offset of the first ` / ` of a text; its length where there is none.
+fn find_divider(text: &[u8]) -> usize
+    ensures { λ r. ⌜ r ≡ before-divider (now (text .entry)) ⌝ }
+{
+    let mut i: usize = 0;
+    while i < text.len() {
+        if starts_divider(&text[i..]) {
+            return i;
+        }
+        i += 1;
+    }
+    i
+}
+
+// What stands before the first ` / ` of a text; all of it where there is none.
+pub fn first_part(text: &[u8]) -> &[u8]
+    ensures { λ r. ⌜ now r ≡ first-part (now (text .entry)) ⌝ }
+{
+    front(text, find_divider(text))
+}
+
+// What stands behind the first ` / ` of a text; nothing where there is none.
+pub fn second_part(text: &[u8]) -> &[u8]
+    ensures { λ r. ⌜ now r ≡ second-part (now (text .entry)) ⌝ }
+{
+    behind(behind(text, find_divider(text)), 3)
+}
+
 // The place of a word among the words of a line; their count where it is none of them.
 fn place_of(w: &[u8], line: &[u8]) -> usize
     ensures { λ r. ⌜ r ≡ place (now (w .entry)) (words (now (line .entry))) ⌝ }
@@ -265,11 +312,12 @@ fn command_at(place: usize) -> Command
         Command::Show,
         Command::Device,
         Command::Trial,
+        Command::Covers,
         Command::Write,
         Command::Dot,
         Command::Help,
     ];
-    if place < 13 {
+    if place < 14 {
         return commands[place];
     }
     Command::Unknown
@@ -281,7 +329,7 @@ pub fn read_command(word: &[u8]) -> Command
 {
     let place = place_of(
         word,
-        b"setup table load event events restart clear show device trial write dot help",
+        b"setup table load event events restart clear show device trial covers write dot help",
     );
     command_at(place)
 }

@@ -74,6 +74,7 @@ pub fn say_help() {
     say(b"show C                            what channel C holds\n");
     say(b"device STATES START V N V N...    a device to keep; judged when it is used\n");
     say(b"trial TOKENS                      the device against a rule\n");
+    say(b"covers TOKENS / TOKENS            whether the first rule implies the second\n");
     say(b"write                             the rule of the device\n");
     say(b"dot TOKENS                        the table of a rule as a Graphviz digraph\n");
     say(b"help                              this list\n");

@@ -68,16 +68,16 @@ pub fn keep(old: Device, line: &[u8], entries: &mut [u8]) -> Device {
 }
 
 // The trial of a device against a rule's table.
-fn try_table(
+pub fn judge(
     setup: Setup,
     meet: &[u8],
     states: usize,
     table: &[u8],
     device: Device,
     entries: &[u8],
-) {
-    let mut word = [0u8; WORD_LIMIT];
-    let verdict = conformance::trial(
+    word: &mut [u8],
+) -> Verdict {
+    conformance::trial(
         setup.events,
         setup.values,
         setup.top,
@@ -87,8 +87,20 @@ fn try_table(
         device.states,
         device.start,
         entries,
-        &mut word,
-    );
+        word,
+    )
+}
+
+fn try_table(
+    setup: Setup,
+    meet: &[u8],
+    states: usize,
+    table: &[u8],
+    device: Device,
+    entries: &[u8],
+) {
+    let mut word = [0u8; WORD_LIMIT];
+    let verdict = judge(setup, meet, states, table, device, entries, &mut word);
     match verdict {
         Verdict::Pass(grade) => match grade {
             Grade::Same => say(b"pass=same\n"),

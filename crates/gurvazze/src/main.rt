@@ -2,6 +2,7 @@
 // Every judgement is a library's; what this program adds are the answers `error=`, for lines that are no commands.
 mod answers;
 mod calls;
+mod covers;
 mod devices;
 mod lines;
 mod rules;
@@ -94,6 +95,7 @@ fn ask(command: Command, session: Session, line: &[u8], entries: &[u8]) {
         Command::Dot => rules::dot(tool, line),
         Command::Show => calls::show(tool, line),
         Command::Trial => devices::trial(tool, device, line, entries),
+        Command::Covers => covers::covers(tool, line),
         Command::Write => devices::write(tool, device, line, entries),
         _ => {}
     }

@@ -113,7 +113,7 @@ pub enum Made {
 }
 
 // The table of a rule.
-fn compile_rule(setup: Setup, meet: &[u8], rule: &[u8], table: &mut [u8]) -> Made {
+pub fn compile_rule(setup: Setup, meet: &[u8], rule: &[u8], table: &mut [u8]) -> Made {
     let compiled = compile(setup.events, setup.values, setup.top, meet, rule, table);
     match compiled {
         Counted::Count(states) => Made::States(states),

@@ -1,0 +1,104 @@
+// When one rule covers another: its table, as a device from state 0, is tried against the table of the other.
+use crate::answers::say;
+use crate::answers::say_error;
+use crate::answers::say_list;
+use crate::answers::say_refusal;
+use crate::devices::Device;
+use crate::devices::judge;
+use crate::rules::Made;
+use crate::rules::NODE_ROOM;
+use crate::rules::Nodes;
+use crate::rules::Setup;
+use crate::rules::compile_rule;
+use crate::rules::entries_of;
+use crate::rules::make_table;
+use crate::rules::meet_of;
+use crate::rules::read_rule;
+use crate::rules::say_unmade;
+use crate::rules::setup_of;
+use command_line::first_part;
+use command_line::front;
+use command_line::rest;
+use command_line::second_part;
+use conformance::Verdict;
+use limits::TABLE_BYTES;
+use limits::WORD_LIMIT;
+use recorder::Tool;
+
+// A rule's table as a device from state 0.
+fn as_device(states: usize, entries: &[u8]) -> Device {
+    Device {
+        kept: true,
+        states,
+        start: 0,
+        size: entries.len(),
+    }
+}
+
+// The table of the first rule against that of the second.
+fn cover_table(
+    setup: Setup,
+    meet: &[u8],
+    first_states: usize,
+    first: &[u8],
+    second_states: usize,
+    second: &[u8],
+) {
+    let mut word = [0u8; WORD_LIMIT];
+    let verdict = judge(
+        setup,
+        meet,
+        second_states,
+        second,
+        as_device(first_states, first),
+        first,
+        &mut word,
+    );
+    match verdict {
+        Verdict::Pass(_) => say(b"yes\n"),
+        Verdict::Fail(n) => say_list(b"no=", front(&word, n)),
+        Verdict::Refused(refusal) => say_refusal(refusal),
+    }
+}
+
+// The table of the first rule against the nodes of the second.
+fn cover_rule(setup: Setup, meet: &[u8], states: usize, first: &[u8], second: &[u8]) {
+    let mut table = [0u8; TABLE_BYTES];
+    let made = compile_rule(setup, meet, second, &mut table);
+    let Made::States(n) = made else {
+        say_unmade(made);
+        return;
+    };
+    let entries = entries_of(&table, n, setup.events);
+    cover_table(setup, meet, states, first, n, entries);
+}
+
+// Both rules are read before either is judged, and the first is judged before the second.
+fn cover(setup: Setup, meet: &[u8], first: &[u8], second: &[u8]) {
+    let mut nodes = [0u8; NODE_ROOM];
+    let read = read_rule(setup, meet, second, &mut nodes);
+    let Nodes::Bytes(n) = read else {
+        say_error(b"tokens");
+        return;
+    };
+    let mut table = [0u8; TABLE_BYTES];
+    let made = make_table(setup, meet, first, &mut table);
+    let Made::States(states) = made else {
+        say_unmade(made);
+        return;
+    };
+    let entries = entries_of(&table, states, setup.events);
+    cover_rule(setup, meet, states, entries, front(&nodes, n));
+}
+
+// covers TOKENS / TOKENS
+pub fn covers(tool: Tool, line: &[u8]) {
+    let setup = setup_of(tool.setup.events, tool.setup.values, tool.setup.top);
+    let rules = rest(line, 1);
+    cover(
+        setup,
+        meet_of(&tool.setup.meet, setup.values),
+        first_part(rules),
+        second_part(rules),
+    );
+}
