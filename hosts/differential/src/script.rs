@@ -26,7 +26,7 @@ impl Script {
         let mut writer = Writer(Generator::new(seed));
         let mut script = Script { commands: Vec::new(), answers: Vec::new(), tally: Tally::default(), ends: Vec::new() };
         let mut session = Session::default();
-        for _ in 0..lines / 40 {
+        for _ in 0..lines / 32 {
             script.add(&mut session, &[writer.before_set_up()]);
         }
         script.add(&mut session, &[SET_UP.into()]);
@@ -93,7 +93,10 @@ const NO_NUMBERS: [&str; 10] = ["x", "-1", "+1", "1x", "0x1", "1.0", "1,", "al",
 const LARGE: [&str; 10] =
     ["17", "64", "255", "256", "257", "65535", "65536", "4294967296", "18446744073709551616", "99999999999999999999999"];
 
-const CALLS: [&str; 11] = [
+/// What may stand between two rules and leaves no two.
+const NO_DIVIDERS: [&str; 10] = ["", " ", "/", " /", "/ ", "  / ", " /  ", " // ", " / / ", "\t/ "];
+
+const CALLS: [&str; 12] = [
     "table T",
     "dot T",
     "load 0 T",
@@ -104,6 +107,7 @@ const CALLS: [&str; 11] = [
     "clear 0",
     "show 0",
     "trial T",
+    "covers T / T",
     "write",
 ];
 
@@ -120,7 +124,11 @@ impl Writer {
                 .into(),
             2..=5 => {
                 let set_up = self.set_up();
-                self.call(&set_up)
+                if self.0.once_in(12) {
+                    self.covers(&set_up)
+                } else {
+                    self.call(&set_up)
+                }
             }
             _ => self.0.one_of(&CALLS).into(),
         }
@@ -148,6 +156,7 @@ impl Writer {
             12..=15 => vec![self.no_command()],
             16..=21 => self.device_and_trials(set_up),
             22..=26 => self.device_and_rule(set_up),
+            27..=32 => vec![self.covers(set_up)],
             _ => vec![self.call(set_up)],
         };
         if self.0.once_in(25) {
@@ -214,12 +223,12 @@ impl Writer {
             0..=7 => self.tokens("table", set_up),
             8..=15 => self.tokens("dot", set_up),
             16..=27 => self.load(&channel, set_up),
-            28..=47 => {
+            28..=46 => {
                 let event = if self.0.once_in(10) { self.large_event(set_up) } else { self.event(set_up) };
                 self.spaced(&["event".to_string(), channel, event])
             }
-            48..=59 => self.events(channel, set_up),
-            60..=63 => self.spaced(&["restart".to_string(), channel]),
+            47..=58 => self.events(channel, set_up),
+            59..=63 => self.spaced(&["restart".to_string(), channel]),
             64 => self.spaced(&["restart".to_string(), "all".to_string()]),
             65..=69 => self.spaced(&["clear".to_string(), channel]),
             70..=77 => self.spaced(&["show".to_string(), channel]),
@@ -280,9 +289,32 @@ impl Writer {
         format!("{head} {}", self.0.good_tokens(set_up)).into()
     }
 
+    /// Two rules, often related, or tokens of any kind for one or both of them.
+    fn covers(&mut self, set_up: &SetUp) -> Vec<u8> {
+        let (first, second) = self.0.pair_of_tokens(set_up);
+        let (first, second) = match self.0.below(36) {
+            0..=10 => (self.any_tokens(set_up), second.into()),
+            11..=21 => (first.into(), self.any_tokens(set_up)),
+            22..=26 => (self.any_tokens(set_up), self.any_tokens(set_up)),
+            27 => (self.long_tokens(set_up), self.long_tokens(set_up)),
+            _ => (first.into(), second.into()),
+        };
+        let between = if self.0.once_in(12) { self.0.one_of(&NO_DIVIDERS) } else { " / " };
+        let spaces = " ".repeat(if self.0.once_in(12) { self.0.between(1, 3) } else { 1 });
+        ["covers".as_bytes(), spaces.as_bytes(), &first, between.as_bytes(), &second].concat()
+    }
+
+    fn any_tokens(&mut self, set_up: &SetUp) -> Vec<u8> {
+        if self.0.once_in(60) {
+            self.long_tokens(set_up)
+        } else {
+            self.0.tokens(set_up)
+        }
+    }
+
     /// A command with tokens of any kind.
     fn tokens(&mut self, head: &str, set_up: &SetUp) -> Vec<u8> {
-        let tokens = if self.0.once_in(60) { self.long_tokens(set_up) } else { self.0.tokens(set_up) };
+        let tokens = self.any_tokens(set_up);
         let spaces = if self.0.once_in(12) { self.0.between(1, 3) } else { 1 };
         let mut line = head.as_bytes().to_vec();
         line.resize(head.len() + spaces, b' ');
@@ -451,6 +483,17 @@ fn limits() -> Vec<Vec<u8>> {
     for (states, others) in [(64, 63), (63, 64), (64, 64), (61, 59)] {
         commands.push(device_of(states, |state| (if state + 1 == states { 3 } else { 1 }, (state + 1) % states)));
         commands.push(format!("trial V {}A O0.1 G0 X0", "G0 ".repeat(others - 1)));
+    }
+    // The same with the table of a rule's loop as the device.
+    for (states, others) in [(64, 63), (63, 64), (64, 64), (61, 59)] {
+        let first = format!("V {}G0 X0", "A O0.1 G0 ".repeat(states - 1));
+        let second = format!("V {}A O0.1 G0 X0", "G0 ".repeat(others - 1));
+        commands.push(format!("covers {first} / {second}"));
+        commands.push(format!("covers {second} / {first}"));
+    }
+    for (first, second) in [(63, 63), (63, 64), (64, 63), (255, 255), (255, 256), (256, 255)] {
+        commands.push(format!("covers {}T / {}T", "G0 ".repeat(first), "G0 ".repeat(second)));
+        commands.push(format!("covers {}T / {}T", "V ".repeat(first), "V ".repeat(second)));
     }
     // Passes of such loops: as same, and as stricter by the device's first or last state alone.
     for low in [None, Some(0), Some(63)] {

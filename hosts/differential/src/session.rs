@@ -6,7 +6,7 @@ use gurvazze_reference::formula::{Rule, MAX_NODES, NODE_BYTES};
 use gurvazze_reference::generate::RawTable;
 use gurvazze_reference::table::Table;
 use gurvazze_reference::tool::{Tool, CHANNELS};
-use gurvazze_reference::trial::{trial_of_rule, Grade, Outcome, WORD_BYTES};
+use gurvazze_reference::trial::{covers, trial_of_rule, Grade, Outcome, WORD_BYTES};
 use gurvazze_reference::values::{RawSetUp, SetUp};
 use gurvazze_reference::{channel_file, characteristic, render, Refusal};
 
@@ -25,6 +25,7 @@ clear C                           channel C empty
 show C                            what channel C holds
 device STATES START V N V N...    a device to keep; judged when it is used
 trial TOKENS                      the device against a rule
+covers TOKENS / TOKENS            whether the first rule implies the second
 write                             the rule of the device
 dot TOKENS                        the table of a rule as a Graphviz digraph
 help                              this list
@@ -114,6 +115,7 @@ impl Session {
             "clear" => ready.clear(line),
             "show" => ready.show(line),
             "trial" => ready.trial(device, line),
+            "covers" => ready.covers(line),
             _ => ready.write(device, line),
         }
     }
@@ -234,6 +236,16 @@ impl Ready {
         })
     }
 
+    /// Both rules' tokens come before any refusal.
+    fn covers(&self, line: &Line) -> Reply {
+        let (first, second) = two_parts(line.rest(1));
+        let (first, second) = (self.rule(first)?, self.rule(second)?);
+        Ok(match covers(self.set_up.raw(), &first, &second)? {
+            None => "yes\n".to_string(),
+            Some(word) => list("no=", &word),
+        })
+    }
+
     fn write(&self, device: Option<&RawTable>, line: &Line) -> Reply {
         line.exactly(1)?;
         let device = device.ok_or(Problem::Error("device"))?;
@@ -306,10 +318,21 @@ fn without_spaces(text: &[u8]) -> &[u8] {
     &text[text.iter().position(|&byte| byte != b' ').unwrap_or(text.len())..]
 }
 
+/// What stands before and behind the first ` / ` of a text; all of it and nothing where there is none.
+fn two_parts(text: &[u8]) -> (&[u8], &[u8]) {
+    const BETWEEN: &[u8] = b" / ";
+    match text.windows(BETWEEN.len()).position(|window| window == BETWEEN) {
+        Some(at) => (&text[..at], &text[at + BETWEEN.len()..]),
+        None => (text, &[]),
+    }
+}
+
 /// The name of a command, `unknown` where there is none.
 fn name(word: &[u8]) -> &'static str {
-    const NAMES: [&str; 13] =
-        ["setup", "table", "load", "event", "events", "restart", "clear", "show", "device", "trial", "write", "dot", "help"];
+    const NAMES: [&str; 14] = [
+        "setup", "table", "load", "event", "events", "restart", "clear", "show", "device", "trial", "covers", "write", "dot",
+        "help",
+    ];
     NAMES.into_iter().find(|name| name.as_bytes() == word).unwrap_or("unknown")
 }
 

@@ -8,7 +8,7 @@ use crate::session::Answer;
 const ENOUGH: usize = 20;
 
 /// Every answer that each command can have.
-const EXPECTED: [(&str, &str); 19] = [
+const EXPECTED: [(&str, &str); 20] = [
     ("setup", "ok refused=1 refused=2 refused=3 error=arguments error=number"),
     ("table", "states refused=5 refused=6 refused=7 refused=8 refused=9 refused=10 error=setup error=tokens"),
     ("dot", "digraph refused=5 refused=6 refused=7 refused=8 refused=9 refused=10 error=setup error=tokens"),
@@ -23,6 +23,7 @@ const EXPECTED: [(&str, &str); 19] = [
     ("device", "ok error=arguments error=number"),
     ("trial", "pass=same pass=stricter fail refused=5 refused=6 refused=7 refused=8 refused=9 refused=10 refused=11"),
     ("trial", "error=setup error=device error=tokens"),
+    ("covers", "yes no refused=5 refused=6 refused=7 refused=8 refused=9 refused=10 error=setup error=tokens"),
     ("write", "rule refused=11 refused=12 error=setup error=arguments error=device"),
     ("help", "help"),
     ("unknown", "error=command"),

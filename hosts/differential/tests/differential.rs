@@ -5,9 +5,9 @@ mod both;
 use std::collections::BTreeMap;
 use std::fmt::Debug;
 
-use both::{replay, rule, table, trial, trial_table, Called};
+use both::{covers, replay, rule, table, trial, trial_table, Called};
 use gurvazze_reference::channel_file::{self, ChannelFile};
-use gurvazze_reference::formula::Rule;
+use gurvazze_reference::formula::{joined, Rule};
 use gurvazze_reference::generate::{Generator, RawTable};
 use gurvazze_reference::table::Table;
 use gurvazze_reference::trial::{first_word, same_values, Grade, Outcome};
@@ -250,6 +250,51 @@ fn trials_of_tables() {
     }
     tally.has(&[0, 1, 2, 3, 11, 13]);
     verdicts.are_many();
+}
+
+/// Document 02, F-14: one rule implies another exactly if its table, as a device, passes.
+#[test]
+fn covering() {
+    let (mut yes, mut no, mut refused, mut longest) = (0, 0, 0, 0);
+    for seed in seeds(30_000) {
+        let mut generator = Generator::new(seed);
+        let set_up = generator.set_up();
+        let (first, second) = generator.pair_of_rules(&set_up);
+        let [first, second] = [first, second].map(|rule| channel_file::to_text(&set_up, &rule).into_bytes());
+        let answer = covers::library(&first, &second);
+        assert_eq!(answer, covers::reference(&first, &second), "seed {seed}: {} {}", shown(&first), shown(&second));
+        match answer {
+            Ok(None) => yes += 1,
+            Ok(Some(word)) => {
+                no += 1;
+                longest = longest.max(word.len());
+            }
+            Err(_) => refused += 1,
+        }
+    }
+    println!("{yes} yes, {no} no, {refused} refused, longest word {longest}");
+    assert!(yes > 5000 && no > 5000 && refused > 500 && longest > 20);
+}
+
+/// Document 02, F-14: two rules joined by A have the meet of both values.
+#[test]
+fn joining() {
+    let mut words = 0;
+    for seed in seeds(20_000) {
+        let mut generator = Generator::new(seed);
+        let set_up = generator.set_up();
+        let (first, second) = generator.pair_of_rules(&set_up);
+        let Ok(both) = Rule::from_bytes(&set_up, &joined(&first.to_bytes(), &second.to_bytes())) else { continue };
+        let word = generator.word(&set_up, 50);
+        let values = |rule: &Rule| replay::library(channel_file::to_text(&set_up, rule).as_bytes(), &word, &[0; 50]);
+        let ((Ok(()), both), (Ok(()), first), (Ok(()), second)) = (values(&both), values(&first), values(&second)) else {
+            continue;
+        };
+        let meets: Vec<u8> = first.iter().zip(&second).map(|(&b, &c)| set_up.meet(b, c)).collect();
+        assert_eq!(both, meets, "seed {seed}");
+        words += 1;
+    }
+    assert!(words > 10_000, "{words}");
 }
 
 #[test]

@@ -1,10 +1,10 @@
 //! Seeded random inputs, good and damaged, for property tests and for comparing two versions. Equal seeds give equal inputs.
 
-use crate::channel_file;
-use crate::formula::{Node, Rule, MAX_NODES};
+use crate::formula::{joined, Node, Rule, MAX_NODES};
 use crate::table::{Entry, Table, MAX_STATES};
 use crate::tool::Call;
 use crate::values::{RawSetUp, SetUp, MAX_VALUES};
+use crate::{channel_file, characteristic};
 
 /// A xorshift generator.
 #[derive(Clone, Debug)]
@@ -205,6 +205,40 @@ impl Generator {
         }
         let bytes: Vec<u8> = nodes.iter().flat_map(|node| node.to_bytes()).collect();
         Rule::from_bytes(set_up, &bytes).expect("no refusal holds of the rule")
+    }
+
+    /// Two rules, often such that the first implies the second (document 02, F-14) or nearly does.
+    pub fn pair_of_rules(&mut self, set_up: &SetUp) -> (Rule, Rule) {
+        let draw = |g: &mut Generator| if g.once_in(4) { g.rule_of_loops(set_up) } else { g.rule(set_up) };
+        let (one, any) = (draw(self), draw(self));
+        let other = match self.below(8) {
+            // Both of the two, where that is a rule.
+            0 => Rule::from_bytes(set_up, &joined(&one.to_bytes(), &any.to_bytes())).unwrap_or(any),
+            1 => Rule::from_bytes(set_up, &joined(&any.to_bytes(), &one.to_bytes())).unwrap_or(any),
+            2..=4 => self.with_other_leaf(set_up, &one),
+            // The rule of its table, which has the same values, where that is a rule.
+            5 => Table::of_rule(set_up, &one).and_then(|table| characteristic::rule_of(&table, 0)).unwrap_or(any),
+            _ => any,
+        };
+        if self.once_in(3) {
+            (one, other)
+        } else {
+            (other, one)
+        }
+    }
+
+    /// The rule with one leaf changed: a value lowered or set anew, or T.
+    fn with_other_leaf(&mut self, set_up: &SetUp, rule: &Rule) -> Rule {
+        let mut nodes = rule.nodes().to_vec();
+        let leaves: Vec<usize> = (0..nodes.len()).filter(|&number| nodes[number].parts() == 0).collect();
+        let leaf = self.one_of(&leaves);
+        let any = self.below(set_up.values()) as u8;
+        nodes[leaf] = match (nodes[leaf], self.below(4)) {
+            (Node::Output(event, value), 0 | 1) => Node::Output(event, set_up.meet(value, any)),
+            (Node::Output(event, _), 2) => Node::Output(event, any),
+            _ => Node::True,
+        };
+        Rule::from_nodes(nodes).expect("T and O may stand everywhere")
     }
 
     /// A rule in bytes, damaged in one way. The refusal is for the caller to find, since damage may by chance be harmless.
@@ -530,6 +564,12 @@ impl Generator {
     pub fn good_tokens(&mut self, set_up: &SetUp) -> String {
         let rule = if self.once_in(4) { self.rule_of_loops(set_up) } else { self.rule(set_up) };
         tokens_of(rule.nodes())
+    }
+
+    /// The tokens of two rules, often such that the first implies the second or nearly does.
+    pub fn pair_of_tokens(&mut self, set_up: &SetUp) -> (String, String) {
+        let (first, second) = self.pair_of_rules(set_up);
+        (tokens_of(first.nodes()), tokens_of(second.nodes()))
     }
 
     /// Tokens of any kind: good, in the form with 5 to 10 among them, or damaged in their bytes.

@@ -1,5 +1,5 @@
 //! Trial: does a device do what a rule asks? By simulation, with the grade of a pass and the first failing word, and by the set
-//! definition.
+//! definition. And whether one rule implies another.
 
 use crate::formula::{Node, Rule};
 use crate::refusal::room;
@@ -220,6 +220,20 @@ fn judge(set_up: &SetUp, device: (&Table, usize), table: &Table, lent: &mut [u8]
             Ok(Outcome::Fails(word.len()))
         }
     }
+}
+
+/// Whether the first rule implies the second: "every finite device satisfying the first satisfies the second, also one larger than a
+/// trial takes" (document 02, F-14). Nothing where it does, else the first failing word of its table against the second's.
+///
+/// Refusals 1 to 3, 5 to 10 of the first rule, 5 to 10 of the second, then 11 where the first's table has more states than a device
+/// may have. Today both have at most 64, so 11 does not arise.
+pub fn covers(set_up: &RawSetUp, first: &[u8], second: &[u8]) -> Result<Option<Vec<u8>>, Refusal> {
+    let set_up = SetUp::new(set_up.clone())?;
+    let first = Table::of_rule(&set_up, &Rule::from_bytes(&set_up, first)?)?;
+    let second = Table::of_rule(&set_up, &Rule::from_bytes(&set_up, second)?)?;
+    // "exactly when its table, taken as a device from state 0, passes against the second"
+    let device = Lent { states: first.states(), start: 0, bytes: &first.to_bytes() }.table(&set_up)?;
+    Ok(failing_word(&set_up, (&device, 0), (&second, 0)))
 }
 
 /// "The start satisfies the rule when it is in the root's set."

@@ -3,9 +3,10 @@
 mod common;
 
 use common::{bytes, file, four, rule, table};
-use gurvazze_reference::formula::{Formulas, Rule};
+use gurvazze_reference::formula::{joined, Formulas, Rule};
 use gurvazze_reference::table::{Lent, Table};
-use gurvazze_reference::trial::{same_values, satisfies, trial, Grade, Verdict};
+use gurvazze_reference::trial::{covers, same_values, satisfies, trial, Grade, Verdict};
+use gurvazze_reference::values::RawSetUp;
 use gurvazze_reference::{channel_file, characteristic, generate::Generator, render, Refusal};
 
 const PRINTED: &str = "events=2\nstates=3\nrow=0 0 3 1\nrow=0 1 1 2\nrow=1 0 3 1\nrow=1 1 3 1\nrow=2 0 3 1\nrow=2 1 3 2\n";
@@ -138,6 +139,63 @@ fn unreached_states_have_no_grade() {
         assert_eq!(same_values(&set_up, device, table), grade == Grade::Same);
         assert_eq!(trial(&set_up, device, table), Verdict::Passes(grade));
     }
+}
+
+/// Document 02, F-14: whether the first rule implies the second, or the word on which its table fails.
+#[test]
+fn one_rule_covers_another() {
+    let set_up = four(2);
+    let answer = |first: &str, second: &str| covers(set_up.raw(), &bytes(first), &bytes(second));
+    for (first, second, word) in [
+        ("O0.0", "A O0.1 O0.2", None),
+        ("A O0.1 O0.2", "O0.0", None),
+        ("V A O0.1 G0 X0", "A O0.1 G0 O0.1", None),
+        ("A O0.1 G0 O0.1", "V A O0.1 G0 X0", Some(vec![0, 0, 0])),
+        ("T", "O0.3", None),
+        ("O0.3", "T", None),
+        ("T", "O1.2", Some(vec![1])),
+        ("O0.1", "A O0.1 O0.2", Some(vec![0])),
+    ] {
+        assert_eq!(answer(first, second), Ok(word), "{first} / {second}");
+    }
+    // A device loop of 64 states against a rule loop of 63.
+    let (first, second) = (format!("V {}G0 X0", "A O0.1 G0 ".repeat(63)), format!("V {}A O0.1 G0 X0", "G0 ".repeat(62)));
+    assert_eq!(covers(four(1).raw(), &bytes(&first), &bytes(&second)), Ok(Some(vec![0; 64 * 63])));
+}
+
+/// Document 02, F-14: 1 to 3, then 5 to 10 of the first rule, then of the second.
+#[test]
+fn refusals_of_covering() {
+    let set_up = four(2);
+    let over = "G0 ".repeat(64) + "T";
+    for (first, second, refusal) in [
+        ("V X0", "X0", Refusal::at(9, 1)),
+        ("X0", "V X0", Refusal::at(8, 0)),
+        ("T", "A G0 T X0", Refusal::at(8, 3)),
+        ("A T", "", Refusal::at(7, 2)),
+        ("T", "", Refusal::new(5)),
+        ("", "O2.0", Refusal::new(5)),
+        ("T", "O2.0", Refusal::at(6, 0)),
+        (&over, "T T", Refusal::new(10)),
+        ("T", &over, Refusal::new(10)),
+    ] {
+        assert_eq!(covers(set_up.raw(), &bytes(first), &bytes(second)), Err(refusal), "{first} / {second}");
+        let damaged = RawSetUp { top: 4, ..set_up.raw().clone() };
+        assert_eq!(covers(&damaged, &bytes(first), &bytes(second)), Err(Refusal::new(2)));
+    }
+    let most = "G0 ".repeat(63) + "T";
+    assert_eq!(covers(set_up.raw(), &bytes(&most), &bytes(&most)), Ok(None));
+}
+
+/// Document 02, F-14: an A node, then the two rules; its values are the meets.
+#[test]
+fn two_rules_joined() {
+    let set_up = four(2);
+    let both = joined(&bytes("O0.1"), &bytes("V A O0.2 G1 X0"));
+    assert_eq!(both, bytes("A O0.1 V A O0.2 G1 X0"));
+    let table = Table::of_rule(&set_up, &Rule::from_bytes(&set_up, &both).unwrap()).unwrap();
+    assert_eq!(table.run(0, &[0, 0]).0, [0, 3]);
+    assert_eq!(table.run(0, &[1, 1, 0]).0, [3, 3, 2]);
 }
 
 #[test]

@@ -6,10 +6,10 @@ use std::collections::{BTreeSet, HashMap};
 use std::rc::Rc;
 
 use common::{bytes, four, seeds};
-use gurvazze_reference::formula::{Formulas, Id, Node, Rule};
+use gurvazze_reference::formula::{joined, Formulas, Id, Node, Rule};
 use gurvazze_reference::generate::Generator;
 use gurvazze_reference::table::Table;
-use gurvazze_reference::trial::{first_word, same_values, satisfies, satisfying, trial, Grade, Verdict};
+use gurvazze_reference::trial::{covers, first_word, same_values, satisfies, satisfying, trial, Grade, Verdict};
 use gurvazze_reference::values::{Comparison, SetUp};
 use gurvazze_reference::{characteristic, Refusal};
 
@@ -529,4 +529,186 @@ fn conflict_is_no_refusal_and_trial_is_no_equality() {
         assert_eq!(trial(&set_up, (&device, 0), (&table, 0)) == Verdict::Passes(Grade::Stricter), passes);
         assert_eq!(satisfies(&set_up, &rule, &device, 0), passes);
     }
+}
+
+/// A device with any number of states, by state, then event: value and next state.
+struct Device {
+    events: usize,
+    entries: Vec<(u8, usize)>,
+}
+
+impl Device {
+    /// Any device.
+    fn any(g: &mut Generator, set_up: &SetUp, states: usize) -> Device {
+        let (events, values) = (set_up.events(), set_up.values());
+        let entries = (0..states * events).map(|_| (g.below(values) as u8, g.below(states))).collect();
+        Device { events, entries }
+    }
+
+    /// At least so many states: copies of a table, where each next state is that of the table in any of the copies.
+    fn copies(g: &mut Generator, table: &Table, states: usize) -> Device {
+        let copies = states.div_ceil(table.states());
+        let copy = |g: &mut Generator| table.states() * g.below(copies);
+        let entries = table.entries().repeat(copies);
+        let entries = entries.iter().map(|entry| (entry.value, copy(g) + usize::from(entry.next))).collect();
+        Device { events: table.events(), entries }
+    }
+
+    /// One in so many values lowered.
+    fn lower(&mut self, g: &mut Generator, set_up: &SetUp, times: usize) {
+        for entry in &mut self.entries {
+            if g.once_in(times) {
+                entry.0 = set_up.meet(entry.0, g.below(set_up.values()) as u8);
+            }
+        }
+    }
+
+    fn states(&self) -> usize {
+        self.entries.len() / self.events
+    }
+
+    /// The root's set by the set definition, for each state whether it is in it. All sets start full and fall until nothing changes.
+    fn satisfying(&self, set_up: &SetUp, rule: &Rule) -> Vec<bool> {
+        let entry = |state: usize, event: u8| self.entries[state * self.events + usize::from(event)];
+        let mut sets = vec![vec![true; self.states()]; rule.nodes().len()];
+        loop {
+            let before = sets.clone();
+            for (number, node) in rule.nodes().iter().enumerate().rev() {
+                for state in 0..self.states() {
+                    sets[number][state] = match *node {
+                        Node::True => true,
+                        Node::Variable(_) => sets[rule.binder(number)][state],
+                        Node::After(event) => sets[number + 1][entry(state, event).1],
+                        Node::Output(event, value) => set_up.at_or_below(entry(state, event).0, value),
+                        Node::Both => sets[number + 1][state] && sets[rule.second(number)][state],
+                        Node::Greatest => sets[number + 1][state],
+                    };
+                }
+            }
+            if sets == before {
+                return sets.swap_remove(0);
+            }
+        }
+    }
+}
+
+/// Two rules and their tables, each of at most 64 states.
+fn pair(g: &mut Generator) -> Option<(SetUp, [(Rule, Table); 2])> {
+    let set_up = g.set_up();
+    let (first, second) = g.pair_of_rules(&set_up);
+    let tables = (Table::of_rule(&set_up, &first).ok()?, Table::of_rule(&set_up, &second).ok()?);
+    Some((set_up, [(first, tables.0), (second, tables.1)]))
+}
+
+fn covering(set_up: &SetUp, first: &Rule, second: &Rule) -> Option<Vec<u8>> {
+    covers(set_up.raw(), &first.to_bytes(), &second.to_bytes()).expect("both rules have tables")
+}
+
+#[test]
+fn sets_of_any_device_are_those_of_a_small_one() {
+    for seed in seeds(500) {
+        let mut g = Generator::new(seed);
+        let Some((set_up, pair)) = pair(&mut g) else { continue };
+        for (table, rule) in pair.iter().flat_map(|(_, table)| pair.iter().map(move |(rule, _)| (table, rule))) {
+            let expected = satisfying(&set_up, rule, table);
+            let found = Device::copies(&mut g, table, 1).satisfying(&set_up, rule);
+            assert!((0..table.states()).all(|state| found[state] == (expected >> state & 1 == 1)), "seed {seed}");
+        }
+    }
+}
+
+/// Document 02, F-14: "every finite device satisfying the first satisfies the second, also one larger than a trial takes".
+#[test]
+fn a_rule_that_covers_another_binds_every_device() {
+    let (mut pairs, mut satisfied, mut large, mut telling) = (0, 0, 0, 0);
+    for seed in seeds(1500) {
+        let mut g = Generator::new(seed);
+        let Some((set_up, [(first, table), (second, _)])) = pair(&mut g) else { continue };
+        if covering(&set_up, &first, &second).is_some() {
+            continue;
+        }
+        pairs += 1;
+        for _ in 0..4 {
+            let states = g.between(1, 150);
+            let mut device = match g.below(4) {
+                0 => Device::any(&mut g, &set_up, states),
+                _ => Device::copies(&mut g, &table, states),
+            };
+            if !g.once_in(3) {
+                let times = g.between(1, 4);
+                device.lower(&mut g, &set_up, times);
+            }
+            if g.once_in(2) {
+                let at = g.below(device.entries.len());
+                device.entries[at].0 = g.below(set_up.values()) as u8;
+            }
+            let (by_first, by_second) = (device.satisfying(&set_up, &first), device.satisfying(&set_up, &second));
+            let binds = |state: usize| by_second[state] || !by_first[state];
+            assert!((0..device.states()).all(binds), "seed {seed}: {:?} {:?}", first.nodes(), second.nodes());
+            satisfied += usize::from(by_first[0]);
+            large += usize::from(by_first[0] && device.states() > 64);
+            telling += usize::from(by_first[0] && by_second.contains(&false));
+        }
+    }
+    let counts = [pairs, satisfied, large, telling];
+    assert!(counts.iter().all(|&count| count > 500), "pairs, satisfied, large, not satisfied everywhere: {counts:?}");
+}
+
+/// Document 02, F-14: its own table satisfies a rule; it does not satisfy one that the rule does not cover, nor do copies of it.
+#[test]
+fn a_rule_that_covers_no_other_has_a_device_that_shows_it() {
+    let (mut pairs, mut longest) = (0, 0);
+    for seed in seeds(1500) {
+        let mut g = Generator::new(seed);
+        let Some((set_up, [(first, table), (second, other)])) = pair(&mut g) else { continue };
+        let Some(word) = covering(&set_up, &first, &second) else { continue };
+        pairs += 1;
+        longest = longest.max(word.len());
+        assert!(satisfies(&set_up, &first, &table, 0), "seed {seed}");
+        assert!(!satisfies(&set_up, &second, &table, 0), "seed {seed}");
+        let below = below_on(&set_up, (&table, 0), (&other, 0), &word);
+        assert_eq!(below.iter().position(|below| !below), Some(word.len() - 1), "seed {seed}");
+        assert_eq!(first_word(&set_up, (&table, 0), (&other, 0)), Some(word), "seed {seed}");
+        let device = Device::copies(&mut g, &table, 65);
+        assert!(device.satisfying(&set_up, &first)[0] && !device.satisfying(&set_up, &second)[0], "seed {seed}");
+    }
+    assert!(pairs > 300 && longest > 5, "{pairs} pairs, longest word {longest}");
+}
+
+/// The meets of the values of two tables on a word.
+fn meets(set_up: &SetUp, [first, second]: [&[u8]; 2]) -> Vec<u8> {
+    first.iter().zip(second).map(|(&b, &c)| set_up.meet(b, c)).collect()
+}
+
+/// Document 02, F-14: "joining two rules by A gives, on each event sequence, the meet of their two values". So it has the first's values
+/// exactly if they are at or below the second's, where the first covers the second.
+#[test]
+fn joined_rules_have_the_meet_of_both_values() {
+    let (mut covered, mut uncovered, mut over) = (0, 0, 0);
+    for seed in seeds(1500) {
+        let mut g = Generator::new(seed);
+        let Some((set_up, [(first, table), (second, other)])) = pair(&mut g) else { continue };
+        let both = joined(&first.to_bytes(), &second.to_bytes());
+        assert_eq!(both.len(), 3 + 3 * first.nodes().len() + 3 * second.nodes().len());
+        let Ok(both) = Rule::from_bytes(&set_up, &both) else { continue };
+        let mut formulas = Formulas::new(set_up.clone());
+        let roots = [&both, &first, &second].map(|rule| formulas.of_rule(rule));
+        for _ in 0..4 {
+            let word = g.word(&set_up, 40);
+            let [joined, first, second] = roots.map(|root| formulas.values(root, &word));
+            assert_eq!(joined, meets(&set_up, [&first, &second]), "seed {seed}");
+        }
+        let Ok(of_both) = Table::of_rule(&set_up, &both) else {
+            over += 1;
+            continue;
+        };
+        for word in words(set_up.events(), length_for(set_up.events())) {
+            let expected = meets(&set_up, [&table.run(0, &word).0, &other.run(0, &word).0]);
+            assert_eq!(of_both.run(0, &word).0, expected, "seed {seed}");
+        }
+        let is_covered = covering(&set_up, &first, &second).is_none();
+        assert_eq!(same_values(&set_up, (&of_both, 0), (&table, 0)), is_covered, "seed {seed}");
+        *if is_covered { &mut covered } else { &mut uncovered } += 1;
+    }
+    assert!(covered > 300 && uncovered > 300 && over > 5, "{covered} covered, {uncovered} not, {over} over 64 states");
 }

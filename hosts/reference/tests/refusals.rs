@@ -9,7 +9,7 @@ use gurvazze_reference::channel_file::{self, lines, read, tokens};
 use gurvazze_reference::formula::Rule;
 use gurvazze_reference::generate::Generator;
 use gurvazze_reference::table::{compile, Entry, Lent, Table};
-use gurvazze_reference::trial::{trial, trial_of_rule, trial_of_table, Outcome, Verdict, WORD_BYTES};
+use gurvazze_reference::trial::{covers, trial, trial_of_rule, trial_of_table, Outcome, Verdict, WORD_BYTES};
 use gurvazze_reference::values::{RawSetUp, SetUp};
 use gurvazze_reference::{characteristic, render, Refusal};
 
@@ -432,6 +432,27 @@ fn refusals_leave_lent_memory() {
     tallies[2].has(&[0, 1, 2, 3, 11, 12, 13]);
     tallies[3].has(&[0, 1, 2, 3, 5, 6, 7, 8, 9, 10, 11, 13]);
     tallies[4].has(&[0, 1, 2, 3, 11, 13]);
+}
+
+/// Document 02, F-14: covering meets what compiling the first rule meets, then what compiling the second meets.
+#[test]
+fn covering_is_refused_by_the_first_rule_then_by_the_second() {
+    let (mut of_first, mut of_second) = (Tally::default(), Tally::default());
+    for seed in seeds(2500) {
+        let mut g = Generator::new(seed);
+        let (raw, good, first) = inputs(&mut g);
+        let second = match g.below(4) {
+            0 => g.rule(&good).to_bytes(),
+            1 => g.rule_of_loops(&good).to_bytes(),
+            _ => g.damaged_rule(&good),
+        };
+        let compiled = |rule: &[u8]| compile(&raw, rule, &mut [0; 2048]);
+        let answer = covers(&raw, &first, &second);
+        assert_eq!(answer.as_ref().err(), compiled(&first).and(compiled(&second)).as_ref().err(), "seed {seed}");
+        if compiled(&first).is_err() { &mut of_first } else { &mut of_second }.add(&answer);
+    }
+    of_first.has(&[1, 2, 3, 5, 6, 7, 8, 9, 10]);
+    of_second.has(&[0, 5, 6, 7, 8, 9, 10]);
 }
 
 #[test]

@@ -134,6 +134,36 @@ pub mod trial_table {
     }
 }
 
+/// Whether one channel file's rule implies another's, both of one set-up; else the failing word.
+pub mod covers {
+    use super::*;
+
+    /// By the proved library: its table of the first rule, as a device from state 0, tried against the second rule.
+    pub fn library(first: &[u8], second: &[u8]) -> Result<Option<Vec<u8>>, (u8, Option<usize>)> {
+        let (made, mut bytes) = table::library(first, &[0; gurvazze::TABLE_BYTES]);
+        let (states, events, _, _) = made?;
+        bytes.truncate(2 * states * events);
+        let device = RawTable { states, start: 0, bytes };
+        let (answer, mut word) = trial::library(second, &device, &[0; gurvazze::WORD_BYTES]);
+        Ok(match answer? {
+            Outcome::Passes(_) => None,
+            Outcome::Fails(length) => {
+                word.truncate(length);
+                Some(word)
+            }
+        })
+    }
+
+    /// By the reference.
+    pub fn reference(first: &[u8], second: &[u8]) -> Result<Option<Vec<u8>>, (u8, Option<usize>)> {
+        let answer = channel_file::read(first).and_then(|first| {
+            let second = channel_file::lines(second)?.rule;
+            gurvazze_reference::trial::covers(first.set_up.raw(), &first.rule.to_bytes(), &second)
+        });
+        plain(answer)
+    }
+}
+
 /// The rule of a table.
 pub mod rule {
     use super::*;

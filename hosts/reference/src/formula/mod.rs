@@ -141,6 +141,11 @@ impl Rule {
     }
 }
 
+/// "joining two rules by A" (document 02, F-14), in bytes: an A node, then its two parts. It may have over 256 nodes.
+pub fn joined(first: &[u8], second: &[u8]) -> Vec<u8> {
+    [&Node::Both.to_bytes(), first, second].concat()
+}
+
 /// 7: "nodes run out (place = node count) or are left over (place = first of them)".
 fn check_count(nodes: &[Node]) -> Result<(), Refusal> {
     let mut wanted = 1;
