@@ -86,6 +86,8 @@ uint64_t gurvazze_replay(const uint8_t *text, size_t text_length, const uint8_t 
  * GURVAZZE_STRICTER, 65,536, for any other pass, and else the length of the failing word, 1 to 4,096. The word stands at the front of the
  * word buffer: the first word after whose last event the device's value is not at or below the rule's, the shortest, and among those the
  * one with the smaller event at the first difference. Word and length are fixed by the two tables.
+ * A rule covers another of the same set-up, so that every device that satisfies it satisfies the other, exactly if its gurvazze_table, as
+ * a device from state 0, passes against the other.
  * Refusals 4, 1 to 3, 5 to 10, 11, 13. */
 uint64_t gurvazze_trial(const uint8_t *text, size_t text_length, size_t device_states, size_t device_start, const uint8_t *device,
                         size_t device_length, uint8_t *word, size_t word_length);

@@ -149,6 +149,24 @@ pub fn replay(text: &[u8], events: &[u8], to: &mut [u8]) -> Result<(), Refusal> 
 /// assert_eq!(gurvazze::trial(file, conflict_once, &mut word)?, Verdict::Pass(Grade::Same));
 /// # Ok::<(), gurvazze::Refusal>(())
 /// ```
+///
+/// A rule covers another of the same set-up, so that the other may be dropped, exactly if its table, as a device from state 0, passes.
+///
+/// ```
+/// use gurvazze::{Grade, Table, Verdict};
+///
+/// let always = b"events=2\nvalues=4\ntop=3\nmeet=0 0 0 0 0 1 0 1 0 0 2 2 0 1 2 3\nrule=V A O0.1 G0 X0\n";
+/// let twice = b"events=2\nvalues=4\ntop=3\nmeet=0 0 0 0 0 1 0 1 0 0 2 2 0 1 2 3\nrule=A O0.1 G0 O0.1\n";
+/// let (mut table, mut word) = ([0; gurvazze::TABLE_BYTES], [0; gurvazze::WORD_BYTES]);
+/// let of = gurvazze::table(always, &mut table)?;
+/// let device = Table { states: of.states, start: 0, bytes: &table[..of.states * of.events * 2] };
+/// assert_eq!(gurvazze::trial(twice, device, &mut word)?, Verdict::Pass(Grade::Stricter));
+/// let of = gurvazze::table(twice, &mut table)?;
+/// let device = Table { states: of.states, start: 0, bytes: &table[..of.states * of.events * 2] };
+/// assert_eq!(gurvazze::trial(always, device, &mut word)?, Verdict::Fail(3));
+/// assert_eq!(word[..3], [0, 0, 0]);
+/// # Ok::<(), gurvazze::Refusal>(())
+/// ```
 pub fn trial(text: &[u8], device: Table<'_>, word: &mut [u8]) -> Result<Verdict, Refusal> {
     // SAFETY: as in `table`.
     let code = unsafe {
