@@ -159,7 +159,8 @@ request-cases =
     ∷ passing-stricter 2 (0 ∷ 1 ∷ 3 ∷ 1 ∷ 3 ∷ 1 ∷ 3 ∷ 1 ∷ []) (O 0 1 ∷ [])
     ∷ failing 2 (1 ∷ 1 ∷ 3 ∷ 1 ∷ 3 ∷ 1 ∷ 3 ∷ 1 ∷ []) (A ∷ O 0 1 ∷ O 0 2 ∷ []) (0 ∷ [])
     ∷ passing-same 3 (3 ∷ 1 ∷ 1 ∷ 2 ∷ 3 ∷ 1 ∷ 3 ∷ 1 ∷ 3 ∷ 1 ∷ 3 ∷ 2 ∷ []) (O 1 1 ∷ [])
-    -- F-14. O0.0 and A O0.1 O0.2 imply each other; "for ever" implies "now and then", not the reverse; what is open implies no more than top
+    -- F-14. O0.0 and A O0.1 O0.2 imply each other; value 1 as long as event 0 repeats implies value 1 on the first two, not the reverse;
+    -- T implies O0.3, since 3 is top
     ∷ implying (O 0 0 ∷ []) (A ∷ O 0 1 ∷ O 0 2 ∷ [])
     ∷ implying (A ∷ O 0 1 ∷ O 0 2 ∷ []) (O 0 0 ∷ [])
     ∷ implying («V» ∷ A ∷ O 0 1 ∷ G 0 ∷ X 0 ∷ []) (A ∷ O 0 1 ∷ G 0 ∷ O 0 1 ∷ [])
