@@ -13,8 +13,8 @@ use Rattle.refusal.specs.Refusal.{Condition, plain, at-lowest, Gives, First}
 use Rattle.refusal.specs.RefusalAnswers.{or-else, plain-unless, at-found}
 use Rattle.refusal.specs.RefusalClaims.{NoneMet}
 use Rattle.refusal.specs.declared.Refusal.{Refusal}
-use Rattle.refusal.specs.declared.Refusal.the-variants.{Plain, At}
-use Rattle.refusal.proofs.Refusals.{only-place, first-one, first-cons, or-else-none, plain-none}
+use Rattle.refusal.specs.declared.Refusal.the-variants.{At}
+use Rattle.refusal.proofs.Refusals.{only-place, first-one, first-cons, or-else-none, plain-none, plain-some}
 use Rattle.formulas.specs.NodeCode.{NodeCode}
 use Rattle.formulas.specs.RuleConditions.{encode-all, encode-formula}
 use Rattle.formulas.specs.RuleConditions.{Unbound, InClosedPosition, closed-to-variable, NodeFits, node-count, node-at, CountAtFault, NodeAtFault, RunOut}
@@ -28,12 +28,7 @@ use Rattle.formulas.proofs.Encoding.{All, all-append, all-left, all-rig
 use Rattle.formulas.proofs.Variables.{Answered, unbound-answered, closed-answered, unbound-fault, fault-unbound, closed-fault, fault-closed, free-below}
 use Rattle.formulas.proofs.Variables.{below-free, may-stand, stand-may}
 
--- The answers of the two kinds of condition.
-plain-met : (t : Bool) (n : ℕ) (r : Refusal) → plain-unless t n ≡ some r → (t ≡ false) × (r ≡ Plain n)
-unfolding plain-unless
-plain-met true n r e = absurd (Option·some-ne-none r (sym e))
-plain-met false n r e = let d : Plain n ≡ r = cc in (refl, sym d)
-
+-- The answer of a condition with a place.
 answered-met : (P : ℕ → Type 0) (n : ℕ) (o : Option ℕ) → Answered P o → (r : Refusal) → at-found o n ≡ some r → Gives (at-lowest n P) r
 unfolding at-found
 answered-met P n none w r e = absurd (Option·some-ne-none r (sym e))
@@ -352,7 +347,7 @@ module _ {B : Type 0} (width : ℕ) (encode : Node B → List ℕ) (code : NodeC
         (plain-unless (count-fits width limit (length bytes)) 5)
         (or-else (at-found misfits 6) (or-else (at-found (end-fault kind 1 count 0) 7) (variables-refusal read)))
         (λ r e.
-        let w = plain-met (count-fits width limit (length bytes)) 5 r e in
+        let w = plain-some (count-fits width limit (length bytes)) 5 r e in
         (λ f. clash (sym (w .0) ∙ count-true width limit (length bytes) (record { whole = f .0; some-node = f .1; within = f .2 })), w .1))
         (λ e r m. let f = count-facts width limit (length bytes) (plain-none (count-fits width limit (length bytes)) 5 e) in m .0
         (f .whole, f .some-node, f .within))

@@ -1,6 +1,6 @@
 -- What `compile` stores, as input of a trial; and the rule of a table as input of `compile`.
 use mathlib.Core.{Path.{_≡_, refl, sym, _∙_, ap, subst, subst⁻¹}, Bool.{Bool, true, false}, Logic.{_↔_, Iff·trans}, List.{List, _++_}}
-use mathlib.Core.Option.{Option, none, some, Option·some-ne-none}
+use mathlib.Core.Option.{Option, none, some}
 use Prim.Native.Nat.{ℕ, zero, _*_, _≤_, _<_}
 use borrow.Author.Tests.{le-leb}
 use lib.{Dec.{T, leb}, ListN.{length, take, drop}, Seq.{take-append-seam}}
@@ -12,8 +12,7 @@ use Rattle.theory.proofs.Claims.{grammar, answers, table-values, table-satisfac
 use Rattle.refusal.specs.{declared.Refusal.{Refusal}, RefusalAnswers.{or-else, plain-unless}}
 use Rattle.refusal.specs.Refusal.{put, First, JudgedCall, counted-refusal, count-of}
 use Rattle.refusal.specs.RefusalAnswers.{put-unless}
-use Rattle.refusal.specs.declared.Refusal.the-variants.{Plain}
-use Rattle.refusal.proofs.{Refusals.{or-else-none}, Answers.{counted-refusal-is, count-of-counted, counted-judged, counted-put}}
+use Rattle.refusal.proofs.{Refusals.{or-else-none, plain-some}, Answers.{counted-refusal-is, count-of-counted, counted-judged, counted-put}}
 use Rattle.limits.specs.Limits.{node-limit, state-limit, device-limit, table-limit, word-limit}
 use Rattle.values.specs.{Setup.{Setup, SetupValue, setup-meet, setup-top}, ValueTests.{at-or-below}, SetupTests.{setup-refusal}}
 use Rattle.values.proofs.ValueKinds.{value-kinds}
@@ -41,11 +40,6 @@ passed a b p q = ap (λ o. or-else o b) p ∙ q
 unless-true : (b : Bool) (n : ℕ) → b ≡ true → plain-unless b n ≡ none
 unfolding plain-unless
 unless-true b n e = ap (λ c. plain-unless c n) e
-
-pub unless-is : (b : Bool) (n : ℕ) (r : Refusal) → plain-unless b n ≡ some r → r ≡ Plain n
-unfolding plain-unless
-unless-is true n r e = absurd (Option·some-ne-none r (sym e))
-unless-is false n r e = cc
 
 true-iff : (b : Bool) → T b ↔ (b ≡ true)
 true-iff true = ((λ h. refl), λ e. tt)
@@ -271,7 +265,7 @@ module _ (s : Setup) (states start : ℕ) (table buffer : List ℕ)
     recompiled =
         let read-back = counted-refusal-is (compile-refusal state-limit s bytes to) count in
         record {
-          only-13 = λ r h. unless-is (leb (count * s .events * entry-width (s .kind)) (length to)) 13 r (sym for-room ∙ sym read-back ∙ h);
+          only-13 = λ r h. plain-some (leb (count * s .events * entry-width (s .kind)) (length to)) 13 r (sym for-room ∙ sym read-back ∙ h) .1;
           same-values = λ h w hw e he.
               let one = answers (SetupValue s) (setup-meet s) (setup-top s) (s .events) ψ sound w e in
               one _ .0 (stored-answers s bytes to (sym read-back ∙ h) ψ refl w hw e he) ∙ sym (one _ .0 (made .rule-written .same-values w hw e he));

@@ -10,7 +10,7 @@ use Rattle.theory.specs.{MealyMachine.{Word, after, Implies}, Evaluation.{value
 use Rattle.theory.proofs.{Claims.{grammar, answers, conjunction as conjunction-answers, implication}, Equations.{well-formed-conjunction}}
 use Rattle.refusal.specs.{declared.Refusal.{Refusal}, declared.Refusal.the-variants.{Plain}, RefusalAnswers.{or-else, plain-unless}}
 use Rattle.refusal.specs.Refusal.{First, counted-refusal, count-of}
-use Rattle.refusal.proofs.Answers.{counted-refusal-is, count-of-counted}
+use Rattle.refusal.proofs.{Refusals.{or-else-some, plain-some}, Answers.{counted-refusal-is, count-of-counted}}
 use Rattle.limits.specs.Limits.{node-limit, state-limit, device-limit, table-limit, word-limit}
 use Rattle.values.specs.{declared.ValueKind.{ValueKind}, Setup.{Setup, SetupValue, ValueIn, setup-meet, setup-top}, SetupTests.{setup-refusal}}
 use Rattle.machines.specs.TableBytes.{entry-width}
@@ -22,7 +22,7 @@ use Rattle.synthesis.specs.Compilation.{rule-table-refusal, setup-states, compi
 use Rattle.conformance.specs.{Trial.{refusal-of, Passed}, TrialAnswer.{trial-answer}}
 use Rattle.conformance.proofs.TrialClaims.{trial-refused}
 use Rattle.product_claims.specs.Requests.{cover-trial-input, rule-bytes, LetThrough, joined, HasValue, stored-value, Covering}
-use Rattle.product_claims.proofs.Compiled.{for-rule, in-order, well, there, obeys, its-table, none-met, by-definition, stored-answers, unless-is}
+use Rattle.product_claims.proofs.Compiled.{for-rule, in-order, well, there, obeys, its-table, none-met, by-definition, stored-answers}
 
 -- ---- covering
 pub covers :
@@ -125,11 +125,6 @@ module _ (s : Setup) where
       (met .3 _ .0 (stored-answers s second to′ b _ (y .written) w hw e he)))
 
 -- ---- what refuses joined rules
-or-else-some : (a b : Option Refusal) (r : Refusal) → or-else a b ≡ some r → (a ≡ some r) ⊎ (b ≡ some r)
-unfolding or-else
-or-else-some none b r e = inr e
-or-else-some (some q) b r e = inl e
-
 -- Of a formula in order but for its size, 5 alone can be met.
 only-5 :
     (events : ℕ) (kind : ValueKind) (bytes : List ℕ) (φ : Formula ℕ) → bytes ≡ encode-formula (node-bytes kind) φ →
@@ -197,11 +192,11 @@ joined-refused s first second to fine h h′ r met =
         (rule-refusal (s .events) (s .kind) rule ≡ some r) ⊎ (plain-unless (leb n state-limit) 10 ≡ some r) →
         (r ≡ Plain 5) ⊎ ((r ≡ Plain 10) ⊎ (r ≡ Plain 13))
     inner (inl e) = inl (only-5 (s .events) (s .kind) rule whole code sound r e)
-    inner (inr e) = inr (inl (unless-is (leb n state-limit) 10 r e))
+    inner (inr e) = inr (inl (plain-some (leb n state-limit) 10 r e .1))
 
     middle : (from-rule ≡ some r) ⊎ (room ≡ some r) → (r ≡ Plain 5) ⊎ ((r ≡ Plain 10) ⊎ (r ≡ Plain 13))
     middle (inl e) = inner (or-else-some (rule-refusal (s .events) (s .kind) rule) (plain-unless (leb n state-limit) 10) r e)
-    middle (inr e) = inr (inr (unless-is (leb (n * s .events * entry-width (s .kind)) (length to)) 13 r e))
+    middle (inr e) = inr (inr (plain-some (leb (n * s .events * entry-width (s .kind)) (length to)) 13 r e .1))
 
     outer : (setup-refusal s ≡ some r) ⊎ (or-else from-rule room ≡ some r) → (r ≡ Plain 5) ⊎ ((r ≡ Plain 10) ⊎ (r ≡ Plain 13))
     outer (inl e) = absurd (Option·some-ne-none r (sym e ∙ fine))

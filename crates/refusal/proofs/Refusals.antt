@@ -1,5 +1,5 @@
 -- There is one first refusal and one lowest refusal-place; the computing twins yield them.
-use mathlib.Core.{Path.{_≡_, refl, sym, _∙_, ap, subst}, Logic.{inl, inr}, Bool.{Bool, true, false, cond, not, _&&_}}
+use mathlib.Core.{Path.{_≡_, refl, sym, _∙_, ap, subst}, Logic.{_⊎_, inl, inr}, Bool.{Bool, true, false, cond, not, _&&_}}
 use mathlib.Core.{Option.{Option, none, some, Option·some-ne-none}, List.{List, [], _∷_, _++_}}
 use Prim.Native.Nat.{ℕ, _≤_, _<_}
 use native.Mathlib.Omega.{arith}
@@ -93,6 +93,17 @@ pub plain-none : (test : Bool) (n : ℕ) → plain-unless test n ≡ none → te
 unfolding plain-unless
 plain-none true n e = refl
 plain-none false n e = absurd (Option·some-ne-none (Plain n) e)
+
+-- A refusal is that of a part.
+pub or-else-some : (a b : Option Refusal) (r : Refusal) → or-else a b ≡ some r → (a ≡ some r) ⊎ (b ≡ some r)
+unfolding or-else
+or-else-some none b r e = inr e
+or-else-some (some q) b r e = inl e
+
+pub plain-some : (test : Bool) (n : ℕ) (r : Refusal) → plain-unless test n ≡ some r → (test ≡ false) × (r ≡ Plain n)
+unfolding plain-unless
+plain-some true n r e = absurd (Option·some-ne-none r (sym e))
+plain-some false n r e = let d : Plain n ≡ r = cc in (refl, sym d)
 
 -- Lists of conditions, one after the other: the second is judged where the first gives no refusal.
 pub first-then :
