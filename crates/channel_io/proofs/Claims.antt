@@ -4,8 +4,8 @@ use mathlib.Core.{Path.{_≡_, refl, subst}, Logic.{⊎-elim}, List.{List, [], _
 use native.Mathlib.{Omega.{arith}, Nat.{mul-le-mul}}
 use lib.{Dec.{leb}, ListN.{length}}
 use borrow.Author.Tests.{leb-true, leb-false}
-use Rattle.limits.specs.Limits.{node-limit, state-limit, table-limit}
-use Rattle.theory.proofs.{Claims.{grammar, table-values}, ValueSets.{and-left, and-right, and-cases}}
+use Rattle.limits.specs.Limits.{state-limit, table-limit}
+use Rattle.theory.proofs.{Claims.{table-values}, ValueSets.{and-left, and-right, and-cases}}
 use Rattle.refusal.specs.declared.Refusal.{Refusal}
 use Rattle.refusal.specs.declared.Refusal.the-variants.{Plain}
 use Rattle.refusal.specs.Refusal.{Condition, plain, at-lowest, First, has-place, part-of, order, condition-numbers, right-places, Judged}
@@ -168,7 +168,7 @@ file-table-accepted c passed =
     let w = setup-passed (file-setup c) (rule-numbers c) passed in
     let runs =
     table-values (SetupValue (file-setup c)) (setup-meet (file-setup c)) (setup-top (file-setup c)) (c .events) (w .laws) (t .formula)
-    (grammar ℕ node-limit (c .events) (SetupValue (file-setup c)) (t .formula) (t .code .accepted)) _ _ (t .is-table) in
+    (t .code .accepted .well-formed) _ _ (t .is-table) in
     in-order-none table-limit (c .events) (Numbered (c .values)) (file-states c) 0 (file-table c)
     record {
       some-states = runs .0;

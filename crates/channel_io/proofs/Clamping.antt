@@ -21,10 +21,10 @@ use Rattle.values.specs.Setup.{setup}
 use Rattle.values.specs.SetupInOrder.{AcceptedSetup}
 use Rattle.values.specs.SetupTests.{events-test, values-test, entries-test, meet-test, kind-refusal, setup-refusal}
 use Rattle.values.proofs.Setups.{values-small, setup-accepted}
-use Rattle.formulas.specs.RuleConditions.{node-bytes, encode-formula, Position, open-to-variable, closed-to-variable}
+use Rattle.formulas.specs.RuleConditions.{node-bytes, encode-formula}
 use Rattle.formulas.specs.RuleReading.{Kind, kind-T, kind-X, kind-G, kind-O, kind-A, kind-V, unknown-kind, kind-of, fields-fit}
 use Rattle.formulas.specs.RuleReading.{end-fault, awaited, first-of, node-of, nodes-from, with-parts, formulas, first-formula, formula-read}
-use Rattle.formulas.specs.RuleReading.{lowest-variable, unbound-below, closed-there, lowest-unbound, lowest-closed}
+use Rattle.formulas.specs.RuleReading.{lowest-variable, unbound-below, bound-near, lowest-unbound, lowest-unprotected}
 use Rattle.formulas.specs.RuleRefusal.{count-fits, variables-refusal, structure-refusal, misfit-place, nodes-refusal, kind-at, first-at, value-at}
 use Rattle.formulas.specs.RuleRefusal.{rule-refusal, formula-of}
 use Rattle.formulas.proofs.{Search.{lowest-same}, Prefix.{length-from}, Decoding.{CountFits, count-facts}, RuleClaims.{accepted-formula-of}}
@@ -218,35 +218,34 @@ size-same (output e v) = refl
 size-same (conjunction φ χ) = ap₂ (λ (x y : ℕ). suc (x + y)) (size-same φ) (size-same χ)
 size-same (greatest φ) = ap suc (size-same φ)
 
--- 8: within 256 nodes fewer than 256 binders stand above a variable
-unbound-same : (d i : ℕ) (φ : Formula ℕ) → d + size φ ≤ node-limit → lowest-unbound d i (clamp-formula φ) ≡ lowest-unbound d i φ
-unfolding lowest-variable unbound-below
-unbound-same d i truth h = refl
-unbound-same d i (variable n) h = ap (λ (b : Bool). cond (not b) (some i) none) (clamp-below n d (omega arith))
-unbound-same d i (transition e φ) h = unbound-same d (suc i) φ (omega arith)
-unbound-same d i (output e v) h = refl
-unbound-same d i (conjunction φ χ) h =
-    ap₂ (λ (x y : Option ℕ). first-of x y) (unbound-same d (suc i) φ (omega arith))
-    (ap (λ (n : ℕ). lowest-unbound d (suc i + n) (clamp-formula χ)) (size-same φ) ∙ unbound-same d (suc i + size φ) χ (omega arith))
-unbound-same d i (greatest φ) h = unbound-same (suc d) (suc i) φ (omega arith)
+-- 8 and 9: within 256 nodes fewer than 256 binders stand above a variable
+module _ (faulty : ℕ → ℕ → Bool) (below : ℕ → ℕ) (falls : (d : ℕ) → below d ≤ d) (alike : (d n : ℕ) → d ≤ 255 → faulty d (clamp n) ≡ faulty d n) where
+  abbrev lowest : ℕ → ℕ → Formula ℕ → Option ℕ
+  lowest = lowest-variable faulty below suc
 
--- 9 looks at no number
-closed-same : (p : Position) (i : ℕ) (φ : Formula ℕ) → lowest-closed p i (clamp-formula φ) ≡ lowest-closed p i φ
-unfolding lowest-variable closed-there
-closed-same p i truth = refl
-closed-same open-to-variable i (variable n) = refl
-closed-same closed-to-variable i (variable n) = refl
-closed-same p i (transition e φ) = closed-same open-to-variable (suc i) φ
-closed-same p i (output e v) = refl
-closed-same p i (conjunction φ χ) =
-    ap₂ (λ (x y : Option ℕ). first-of x y) (closed-same p (suc i) φ)
-    (ap (λ (n : ℕ). lowest-closed p (suc i + n) (clamp-formula χ)) (size-same φ) ∙ closed-same p (suc i + size φ) χ)
-closed-same p i (greatest φ) = closed-same closed-to-variable (suc i) φ
+  variable-same : (d i : ℕ) (φ : Formula ℕ) → d + size φ ≤ node-limit → lowest d i (clamp-formula φ) ≡ lowest d i φ
+  unfolding lowest-variable
+  variable-same d i truth h = refl
+  variable-same d i (variable n) h = ap (λ (b : Bool). cond b (some i) none) (alike d n (omega arith))
+  variable-same d i (transition e φ) h = variable-same (below d) (suc i) φ (omega (arith, falls d))
+  variable-same d i (output e v) h = refl
+  variable-same d i (conjunction φ χ) h =
+      ap₂ (λ (x y : Option ℕ). first-of x y) (variable-same d (suc i) φ (omega arith))
+      (ap (λ (n : ℕ). lowest d (suc i + n) (clamp-formula χ)) (size-same φ) ∙ variable-same d (suc i + size φ) χ (omega arith))
+  variable-same d i (greatest φ) h = variable-same (suc d) (suc i) φ (omega arith)
+
+unbound-same : (φ : Formula ℕ) → size φ ≤ node-limit → lowest-unbound 0 0 (clamp-formula φ) ≡ lowest-unbound 0 0 φ
+unfolding unbound-below
+unbound-same φ h = variable-same unbound-below (λ d. d) (λ d. omega arith) (λ d n l. ap not (clamp-below n d l)) 0 0 φ (omega (arith, h))
+
+unprotected-same : (φ : Formula ℕ) → size φ ≤ node-limit → lowest-unprotected 0 0 (clamp-formula φ) ≡ lowest-unprotected 0 0 φ
+unfolding bound-near
+unprotected-same φ h = variable-same bound-near (λ d. zero) (λ d. omega arith) (λ d n l. clamp-below n d l) 0 0 φ (omega (arith, h))
 
 variables-same : (φ : Formula ℕ) → size φ ≤ node-limit → variables-refusal (clamp-formula φ) ≡ variables-refusal φ
 unfolding variables-refusal
 variables-same φ h =
-    ap₂ (λ (x y : Option ℕ). or-else (at-found x 8) (at-found y 9)) (unbound-same 0 0 φ (omega arith)) (closed-same closed-to-variable 0 φ)
+    ap₂ (λ (x y : Option ℕ). or-else (at-found x 8) (at-found y 9)) (unbound-same φ h) (unprotected-same φ h)
 
 -- ---- nodes reached through accessors
 
@@ -365,11 +364,11 @@ pub rule-kept : (events values : ℕ) (rule : List ℕ) → events ≤ 255 → v
 rule-kept events values rule he hv e =
     let w = accepted-formula-of events (Numbered values) rule e in
     let v = accepted-formula-of events (Numbered values) (map clamp rule) (rule-same values rule events he hv ∙ e) in
-    let a = w .accepted in
-    let s : size (formula-of (Numbered values) rule) ≤ node-limit = a .within in
+    let f = w .accepted .well-formed in
+    let s : size (formula-of (Numbered values) rule) ≤ node-limit = w .accepted .within in
     v .written
     ∙ ap (encode-formula (node-bytes (Numbered values)))
-    (formula-same values rule ∙ formula-kept events values 0 he hv (formula-of (Numbered values) rule) (omega arith) (a .closed) (a .fits))
+    (formula-same values rule ∙ formula-kept events values 0 he hv (formula-of (Numbered values) rule) (omega arith) (f .closed) (f .fits))
     ∙ sym (w .written)
 
 -- ---- a file

@@ -11,9 +11,9 @@ use Rattle.refusal.specs.declared.Refusal.{Refusal}
 use Rattle.refusal.specs.declared.Refusal.the-variants.{Plain, At}
 use Rattle.refusal.specs.declared.Judgement.the-variants.{Refused}
 use Rattle.refusal.proofs.Refusals.{or-else-assoc, or-else-none, judgement-refused}
-use Rattle.formulas.specs.{RuleConditions.{closed-to-variable}, NodeReading.{Reads}}
+use Rattle.formulas.specs.NodeReading.{Reads}
 use Rattle.formulas.specs.RuleReading.{first-of, kind-of, fields-fit, awaited, end-fault, node-of, nodes-from, formulas, first-formula, formula-read}
-use Rattle.formulas.specs.RuleReading.{lowest-unbound, lowest-closed}
+use Rattle.formulas.specs.RuleReading.{lowest-unbound, lowest-unprotected}
 use Rattle.formulas.specs.RuleRefusal.{variables-refusal, structure-refusal, misfit-place, tree-refusal, nodes-refusal, fields-refusal}
 use Rattle.formulas.specs.NodeWalks.{Noted, Keeps}
 use Rattle.formulas.proofs.{KindFacts.{fit-known}, Search.{lowest-clear, lowest-same}, Prefix.{no-fault}, Reading.{whole-read}}
@@ -51,11 +51,11 @@ later-answer o n later e = ap (λ x. or-else (at-found x n) later) e
 module _ (φ : Formula ℕ) where
   pub answer-unbound : (p : ℕ) → lowest-unbound 0 0 φ ≡ some p → variables-refusal φ ≡ some (At 8 p)
   unfolding variables-refusal
-  answer-unbound p e = first-answer (lowest-unbound 0 0 φ) 8 p (at-found (lowest-closed closed-to-variable 0 φ) 9) e
+  answer-unbound p e = first-answer (lowest-unbound 0 0 φ) 8 p (at-found (lowest-unprotected 0 0 φ) 9) e
 
-  pub answer-closed : lowest-unbound 0 0 φ ≡ none → variables-refusal φ ≡ at-found (lowest-closed closed-to-variable 0 φ) 9
+  pub answer-unprotected : lowest-unbound 0 0 φ ≡ none → variables-refusal φ ≡ at-found (lowest-unprotected 0 0 φ) 9
   unfolding variables-refusal
-  answer-closed e = later-answer (lowest-unbound 0 0 φ) 8 (at-found (lowest-closed closed-to-variable 0 φ) 9) e
+  answer-unprotected e = later-answer (lowest-unbound 0 0 φ) 8 (at-found (lowest-unprotected 0 0 φ) 9) e
 
 module _ (kind first value : ℕ → ℕ) (count : ℕ) where
   -- Where every kind is known and 7 is not met, the formula reads from node 0 on to the last node.

@@ -7,7 +7,7 @@ use native.Mathlib.{Nat.{div-add-mod', add-zero, zero-mul, mul-div-cancel, mul-m
 use lib.{Dec.{leb}, ListN.{length, take, drop}}
 use borrow.Author.Tests.{eq-eqb, lt-ltb, le-leb, not-true, not-false}
 use Rattle.theory.specs.Formula.{Formula, truth, variable, transition, output, conjunction, greatest, size}
-use Rattle.theory.specs.FormulaClasses.{Fits, Accepted}
+use Rattle.theory.specs.FormulaClasses.{Fits, WellFormed, Accepted}
 use Rattle.theory.specs.Formula.{Node, nodes}
 use Rattle.refusal.specs.Refusal.{Condition, plain, at-lowest, Gives, First}
 use Rattle.refusal.specs.RefusalAnswers.{or-else, plain-unless, at-found}
@@ -17,16 +17,16 @@ use Rattle.refusal.specs.declared.Refusal.the-variants.{At}
 use Rattle.refusal.proofs.Refusals.{only-place, first-one, first-cons, or-else-none, plain-none, plain-some}
 use Rattle.formulas.specs.NodeCode.{NodeCode}
 use Rattle.formulas.specs.RuleConditions.{encode-all, encode-formula}
-use Rattle.formulas.specs.RuleConditions.{Unbound, InClosedPosition, closed-to-variable, NodeFits, node-count, node-at, CountAtFault, NodeAtFault, RunOut}
+use Rattle.formulas.specs.RuleConditions.{Unbound, Unprotected, NodeFits, node-count, node-at, CountAtFault, NodeAtFault, RunOut}
 use Rattle.formulas.specs.RuleConditions.{LeftOver, OfFormula, rule-conditions}
-use Rattle.formulas.specs.RuleReading.{lowest-from, kind-of, end-fault, node-of, nodes-from, formula-read, lowest-unbound, lowest-closed}
+use Rattle.formulas.specs.RuleReading.{lowest-from, kind-of, end-fault, node-of, nodes-from, formula-read, lowest-unbound, lowest-unprotected}
 use Rattle.formulas.specs.RuleRefusal.{count-fits, variables-refusal}
 use Rattle.formulas.proofs.{Search.{FoundFrom, lowest-clear, lowest-found}, Walking.{size-positive}}
 use Rattle.formulas.proofs.{Prefix.{length-nodes, Outcome, whole, over, short, outcome, length-from, no-fault}, Answers.{place-unmet}}
 use Rattle.formulas.proofs.Decoding.{CountFits, count-facts}
 use Rattle.formulas.proofs.Encoding.{All, all-append, all-left, all-right, encode-append, formula-unique, formula-length, every-node, bytes-from}
-use Rattle.formulas.proofs.Variables.{Answered, unbound-answered, closed-answered, unbound-fault, fault-unbound, closed-fault, fault-closed, free-below}
-use Rattle.formulas.proofs.Variables.{below-free, may-stand, stand-may}
+use Rattle.formulas.proofs.Variables.{Answered, answered-as, unbound-answered, unprotected-answered, unbound-fault, fault-unbound}
+use Rattle.formulas.proofs.Variables.{unprotected-fault, fault-unprotected, free-below, below-free, near-guarded, guarded-near}
 
 -- The answer of a condition with a place.
 answered-met : (P : ℕ → Type 0) (n : ℕ) (o : Option ℕ) → Answered P o → (r : Refusal) → at-found o n ≡ some r → Gives (at-lowest n P) r
@@ -38,11 +38,6 @@ answered-unmet : (P : ℕ → Type 0) (n : ℕ) (o : Option ℕ) → Answered P 
 unfolding at-found
 answered-unmet P n none w e r (p, l, d) = w p (l .holds)
 answered-unmet P n (some p) w e r l = Option·some-ne-none (At n p) e
-
--- Places of two sentences that say the same.
-answered-same : (P Q : ℕ → Type 0) → ((i : ℕ) → P i → Q i) → ((i : ℕ) → Q i → P i) → (o : Option ℕ) → Answered P o → Answered Q o
-answered-same P Q f g none w = λ j q. w j (g j q)
-answered-same P Q f g (some p) w = record { holds = f p (w .holds); least = λ i h q. w .least i h (g i q) }
 
 -- 5's test.
 pub count-true : (width limit n : ℕ) → CountFits width limit n → count-fits width limit n ≡ true
@@ -124,8 +119,8 @@ module _ {B : Type 0} (width : ℕ) (encode : Node B → List ℕ) (code : NodeC
   one-end p q (inr (φ, n, ns, e, x)) (inr (χ, m, ms, d, y)) =
       y ∙ ap size (formula-unique width encode code χ φ (m ∷ ms) (n ∷ ns) (sym d ∙ e) .0) ∙ sym x
 
-  -- A formula that is accepted, in bytes: none of the conditions is met.
-  module _ (φ : Formula B) (written : bytes ≡ encode-formula encode φ) (accepted : Accepted limit events In φ) where
+  -- A formula in bytes, within the limit of nodes: none of the conditions is met where no node is at fault.
+  module _ (φ : Formula B) (written : bytes ≡ encode-formula encode φ) (within : size φ ≤ limit) where
     positive : 0 < width
     positive = omega (arith, code .two)
 
@@ -140,37 +135,23 @@ module _ {B : Type 0} (width : ℕ) (encode : Node B → List ℕ) (code : NodeC
         record {
           whole = ap (λ x. x % width) length-there ∙ mul-mod-left (size φ) width;
           some-node = subst (λ x. 0 < x) (sym count-there) (size-positive φ);
-          within = subst (λ x. x ≤ limit) (sym count-there) (accepted .within);
+          within = subst (λ x. x ≤ limit) (sym count-there) within;
         }
 
-    not-misfit : (i : ℕ) → ¬ NodeAtFault width encode bytes events In i
-    not-misfit i (h, w) =
-        let v =
-        every-node width encode code bytes (NodeFits events In) (nodes φ) 0 (nodes-fit events In φ (accepted .fits))
-        (ap (λ x. drop x bytes) (zero-mul width) ∙ written)
-        i
-        (subst (λ x. i < x) (count-there ∙ sym (length-nodes φ)) h) in
-        let z : 0 + i ≡ i = omega arith in
-        w (v .0) (ap (λ x. take width (drop (x * width) bytes)) (sym z) ∙ v .1) (v .2)
-
-    not-unbound : (j : ℕ) → ¬ Unbound φ j
-    not-unbound j u = below-free φ 0 0 (accepted .closed) j (unbound-fault φ j u)
-
-    not-closed : (j : ℕ) → ¬ InClosedPosition φ j
-    not-closed j u = stand-may φ closed-to-variable 0 (accepted .position) j (closed-fault φ j u)
-
-    pub none-met : NoneMet (rule-conditions width encode limit events In bytes)
+    pub none-met :
+        ((i : ℕ) → ¬ NodeAtFault width encode bytes events In i) → ((i : ℕ) → ¬ Unbound φ i) → ((i : ℕ) → ¬ Unprotected φ i)
+        → NoneMet (rule-conditions width encode limit events In bytes)
     unfolding NoneMet
-    none-met = (
+    none-met fit bound protected = (
       λ r m. m .0 (counted .whole, counted .some-node, counted .within),
       (
-        λ r m. not-misfit (m .0) (m .1 .holds),
+        λ r m. fit (m .0) (m .1 .holds),
         (
           λ r m. end-unmet (m .0) (m .1 .holds),
           (
-            λ r m. not-unbound (m .0) (of-formula φ written (λ ψ. Unbound ψ (m .0)) (m .1 .holds)),
+            λ r m. bound (m .0) (of-formula φ written (λ ψ. Unbound ψ (m .0)) (m .1 .holds)),
             (
-              λ r m. not-closed (m .0) (of-formula φ written (λ ψ. InClosedPosition ψ (m .0)) (m .1 .holds)),
+              λ r m. protected (m .0) (of-formula φ written (λ ψ. Unprotected ψ (m .0)) (m .1 .holds)),
               tt,
             ),
           ),
@@ -181,6 +162,27 @@ module _ {B : Type 0} (width : ℕ) (encode : Node B → List ℕ) (code : NodeC
         end-unmet : (p : ℕ) → ¬ EndFault p
         end-unmet p (inl x) = not-run-out φ written p x
         end-unmet p (inr x) = not-left-over φ written p x
+
+    -- No node of a well-formed formula is at fault.
+    module _ (w : WellFormed events In φ) where
+      not-misfit : (i : ℕ) → ¬ NodeAtFault width encode bytes events In i
+      not-misfit i (h, u) =
+          let v =
+          every-node width encode code bytes (NodeFits events In) (nodes φ) 0 (nodes-fit events In φ (w .fits))
+          (ap (λ x. drop x bytes) (zero-mul width) ∙ written)
+          i
+          (subst (λ x. i < x) (count-there ∙ sym (length-nodes φ)) h) in
+          let z : 0 + i ≡ i = omega arith in
+          u (v .0) (ap (λ x. take width (drop (x * width) bytes)) (sym z) ∙ v .1) (v .2)
+
+      not-unbound : (j : ℕ) → ¬ Unbound φ j
+      not-unbound j u = below-free φ 0 0 (w .closed) j (unbound-fault φ j u)
+
+      pub not-unprotected : (j : ℕ) → ¬ Unprotected φ j
+      not-unprotected j u = guarded-near φ 0 0 (w .guarded, λ k l. absurd (omega (arith, l))) j (unprotected-fault φ not-unbound j u)
+
+      pub accepted-unmet : NoneMet (rule-conditions width encode limit events In bytes)
+      accepted-unmet = none-met not-misfit not-unbound not-unprotected
 
   -- Accessors for the nodes, and a test that decides which nodes are in order.
   module _
@@ -288,55 +290,58 @@ module _ {B : Type 0} (width : ℕ) (encode : Node B → List ℕ) (code : NodeC
         pub formula-there : bytes ≡ encode-formula encode read
         formula-there = nodes-there ∙ ap (encode-all encode) (no-fault kind first value count ended)
 
-        unbound-there : Answered (λ i. OfFormula encode bytes (λ φ. Unbound φ i)) (lowest-unbound 0 0 read)
-        unbound-there =
-            answered-same (Unbound read) (λ i. OfFormula encode bytes (λ φ. Unbound φ i)) (λ i u. (read, formula-there, u))
-            (λ i. of-formula read formula-there (λ φ. Unbound φ i)) (lowest-unbound 0 0 read) (unbound-answered read)
+        -- What is said of the formula read is said of the bytes' formula.
+        there : (Met : Formula B → ℕ → Type 0) (o : Option ℕ) → Answered (Met read) o → Answered (λ i. OfFormula encode bytes (λ φ. Met φ i)) o
+        there Met =
+            answered-as (Met read) (λ i. OfFormula encode bytes (λ φ. Met φ i)) (λ i u. (read, formula-there, u))
+            (λ i. of-formula read formula-there (λ φ. Met φ i))
 
-        closed-there : Answered (λ i. OfFormula encode bytes (λ φ. InClosedPosition φ i)) (lowest-closed closed-to-variable 0 read)
-        closed-there =
-            answered-same (InClosedPosition read) (λ i. OfFormula encode bytes (λ φ. InClosedPosition φ i)) (λ i u. (read, formula-there, u))
-            (λ i. of-formula read formula-there (λ φ. InClosedPosition φ i)) (lowest-closed closed-to-variable 0 read) (closed-answered read)
+        nowhere : (P : ℕ → Type 0) (o : Option ℕ) → Answered P o → o ≡ none → (j : ℕ) → ¬ P j
+        nowhere P none w e = w
+        nowhere P (some p) w e = absurd (Option·some-ne-none p e)
+
+        all-bound : at-found (lowest-unbound 0 0 read) 8 ≡ none → (j : ℕ) → ¬ Unbound read j
+        all-bound e = nowhere (Unbound read) (lowest-unbound 0 0 read) (unbound-answered read) (place-unmet (lowest-unbound 0 0 read) 8 e)
 
         first-variables :
             First
-            (at-lowest 8 (λ i. OfFormula encode bytes (λ φ. Unbound φ i)) ∷ at-lowest 9 (λ i. OfFormula encode bytes (λ φ. InClosedPosition φ i)) ∷ [])
+            (at-lowest 8 (λ i. OfFormula encode bytes (λ φ. Unbound φ i)) ∷ at-lowest 9 (λ i. OfFormula encode bytes (λ φ. Unprotected φ i)) ∷ [])
             (variables-refusal read)
         unfolding variables-refusal
         first-variables =
-            first-cons _ _ (at-found (lowest-unbound 0 0 read) 8) (at-found (lowest-closed closed-to-variable 0 read) 9)
-            (answered-met _ 8 (lowest-unbound 0 0 read) unbound-there)
-            (answered-unmet _ 8 (lowest-unbound 0 0 read) unbound-there)
+            let unbound = there Unbound (lowest-unbound 0 0 read) (unbound-answered read) in
+            first-cons _ _ (at-found (lowest-unbound 0 0 read) 8) (at-found (lowest-unprotected 0 0 read) 9)
+            (answered-met _ 8 (lowest-unbound 0 0 read) unbound)
+            (answered-unmet _ 8 (lowest-unbound 0 0 read) unbound)
             (λ e.
-            first-one _ (at-found (lowest-closed closed-to-variable 0 read) 9)
-            (answered-met _ 9 (lowest-closed closed-to-variable 0 read) closed-there)
-            (answered-unmet _ 9 (lowest-closed closed-to-variable 0 read) closed-there))
+            let unprotected = there Unprotected (lowest-unprotected 0 0 read) (unprotected-answered read (all-bound e)) in
+            first-one _ (at-found (lowest-unprotected 0 0 read) 9)
+            (answered-met _ 9 (lowest-unprotected 0 0 read) unprotected)
+            (answered-unmet _ 9 (lowest-unprotected 0 0 read) unprotected))
 
         -- What is accepted.
         pub accepted-there : variables-refusal read ≡ none → Accepted limit events In read
         unfolding variables-refusal
         accepted-there e =
-            let w = or-else-none (at-found (lowest-unbound 0 0 read) 8) (at-found (lowest-closed closed-to-variable 0 read) 9) e in
+            let w = or-else-none (at-found (lowest-unbound 0 0 read) 8) (at-found (lowest-unprotected 0 0 read) 9) e in
+            let bound = all-bound (w .0) in
             let s : size read ≡ count = sym (length-nodes read) ∙ ap length (sym (no-fault kind first value count ended)) ∙ length-from kind first value
             count 0 in
+            let protected =
+            nowhere (Unprotected read) (lowest-unprotected 0 0 read) (unprotected-answered read bound)
+            (place-unmet (lowest-unprotected 0 0 read) 9 (w .1)) in
             record {
               within = subst (λ x. x ≤ limit) (sym s) (counted .within);
-              closed =
-                  free-below read 0 0 (λ j f. nowhere (Unbound read) (lowest-unbound 0 0 read) (unbound-answered read)
-                  (place-unmet (lowest-unbound 0 0 read) 8 (w .0)) j (fault-unbound read j f));
-              position =
-                  may-stand read closed-to-variable 0
-                  (λ j f. nowhere (InClosedPosition read) (lowest-closed closed-to-variable 0 read) (closed-answered read)
-                  (place-unmet (lowest-closed closed-to-variable 0 read) 9 (w .1)) j (fault-closed read j f));
-              fits =
-                  fit-nodes events In read
-                  (subst (All (NodeFits events In)) (no-fault kind first value count ended)
-                  (nodes-in count 0 (λ j l u. fits-there j (omega (arith, u))) (omega arith)));
+              well-formed =
+                  record {
+                    closed = free-below read 0 0 (λ j f. bound j (fault-unbound read j f));
+                    guarded = near-guarded read 0 0 (λ j f. protected j (fault-unprotected read j f)) .0;
+                    fits =
+                        fit-nodes events In read
+                        (subst (All (NodeFits events In)) (no-fault kind first value count ended)
+                        (nodes-in count 0 (λ j l u. fits-there j (omega (arith, u))) (omega arith)));
+                  };
             }
-          where
-            nowhere : (P : ℕ → Type 0) (o : Option ℕ) → Answered P o → o ≡ none → (j : ℕ) → ¬ P j
-            nowhere P none w e = w
-            nowhere P (some p) w e = absurd (Option·some-ne-none p e)
 
     -- The answer is the first refusal that is met.
     pub first-refusal : First (rule-conditions width encode limit events In bytes) answer
@@ -358,7 +363,7 @@ module _ {B : Type 0} (width : ℕ) (encode : Node B → List ℕ) (code : NodeC
 
         last-two : List Condition
         last-two =
-            at-lowest 8 (λ i. OfFormula encode bytes (λ φ. Unbound φ i)) ∷ at-lowest 9 (λ i. OfFormula encode bytes (λ φ. InClosedPosition φ i)) ∷ []
+            at-lowest 8 (λ i. OfFormula encode bytes (λ φ. Unbound φ i)) ∷ at-lowest 9 (λ i. OfFormula encode bytes (λ φ. Unprotected φ i)) ∷ []
 
         later : List Condition
         later = at-lowest 6 (NodeAtFault width encode bytes events In) ∷ at-lowest 7 EndFault ∷ last-two

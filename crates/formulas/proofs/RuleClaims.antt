@@ -13,17 +13,18 @@ use Rattle.values.specs.ValueTests.{value-fits}
 use Rattle.values.proofs.ValueKinds.{fits-value, value-fitting}
 use Rattle.refusal.specs.Refusal.{First, has-place, part-of, order, condition-numbers, right-places}
 use Rattle.refusal.proofs.Refusals.{judged, accepted-exactly}
-use Rattle.formulas.specs.RuleConditions.{encode-all, encode-formula, node-width, node-bytes, NodeFits, node-at, NodeAtFault}
+use Rattle.formulas.specs.RuleConditions.{encode-all, encode-formula, node-width, node-bytes, NodeFits, node-at, NodeAtFault, Unprotected}
 use Rattle.formulas.specs.{NodeReading.{Reads}, RuleReading.{kind-of, fields-fit, node-of, nodes-from, formulas, first-formula, formula-read}}
 use Rattle.formulas.specs.RuleRefusal.{structure-refusal, misfit-place, nodes-refusal, kind-at, first-at, value-at, rule-refusal, formula-of}
 use Rattle.formulas.specs.{NodeWalks.{field}, NodeArrays.{padded, decoded-count, decoded}}
 use Rattle.formulas.specs.RuleConditions.{byte-conditions}
-use Rattle.formulas.specs.Claims.{RuleRefusalClaim, AcceptedClaim, FormulaOfClaim, AcceptedFormulaClaim, DecodedClaim}
+use Rattle.formulas.specs.Claims.{RuleRefusalClaim, AcceptedClaim, ProtectedClaim, FormulaOfClaim, AcceptedFormulaClaim, DecodedClaim}
 use Rattle.formulas.specs.Claims.{DecodedRefusalClaim, ReadsClaim, ReadsBackClaim, ReadsUniqueClaim}
 use Rattle.formulas.proofs.{Padding.{padded-field}, Answers.{from-same}, Prefix.{length-nodes, first-is}}
 use Rattle.formulas.proofs.{Reading.{reads-nodes, reads-unique, whole-read}, Decoding.{decoded-refusal}}
 use Rattle.formulas.proofs.Encoding.{formula-length, read-back, known-back, bytes-from}
-use Rattle.formulas.proofs.{Conditions.{none-met, first-refusal, accepted-formula}, NodeFields.{fields-sound, fields-full, field-value}}
+use Rattle.formulas.proofs.Conditions.{none-met, not-unprotected, accepted-unmet, first-refusal, accepted-formula}
+use Rattle.formulas.proofs.NodeFields.{fields-sound, fields-full, field-value}
 use Rattle.formulas.proofs.NodeCodes.{node-code, width-positive, fields-bytes, bytes-fields, output-value}
 
 module _ (events : ℕ) (kind : ValueKind) (bytes : List ℕ) where
@@ -184,11 +185,24 @@ reads-one B kind first value φ χ i d e = reads-unique kind first value φ χ i
 pub accepted-formula-of : AcceptedFormulaClaim
 accepted-formula-of events kind bytes e = let w = formula-accepted events kind bytes e in record { written = w .0; accepted = w .1 }
 
--- Accepted bytes are the prefix code of exactly one closed formula of the grammar.
+-- Accepted bytes are the prefix code of exactly one closed and guarded formula.
 pub accepted-claim : AcceptedClaim
 accepted-claim events kind bytes = (
   (λ e. (formula-of kind bytes, accepted-formula-of events kind bytes e)),
   λ w.
       accepted-exactly (byte-conditions events kind bytes) (rule-refusal events kind bytes) (first-of-rule events kind bytes) .1
-      (none-met (node-width kind) (node-bytes kind) (node-code kind) node-limit events (ValueIn kind) bytes (w .0) (w .1 .written) (w .1 .accepted)),
+      (accepted-unmet (node-width kind) (node-bytes kind) (node-code kind) node-limit events (ValueIn kind) bytes (w .0) (w .1 .written)
+      (w .1 .accepted .within) (w .1 .accepted .well-formed)),
 )
+
+pub protected-claim : ProtectedClaim
+protected-claim events kind φ within fit bound =
+    let bytes = encode-formula (node-bytes kind) φ in (
+      (λ e. let a = accepted-formula-of events kind bytes e in
+          subst (λ χ. (i : ℕ) → ¬ Unprotected χ i) (sym (formula-of-only kind bytes φ refl))
+          (not-unprotected (node-width kind) (node-bytes kind) (node-code kind) node-limit events (ValueIn kind) bytes (formula-of kind bytes)
+          (a .written) (a .accepted .within) (a .accepted .well-formed))),
+      λ protected.
+          accepted-exactly (byte-conditions events kind bytes) (rule-refusal events kind bytes) (first-of-rule events kind bytes) .1
+          (none-met (node-width kind) (node-bytes kind) (node-code kind) node-limit events (ValueIn kind) bytes φ refl within fit bound protected),
+    )

@@ -4,17 +4,17 @@ use mathlib.Core.List.{List, [], _∷_}
 use Prim.Native.Nat.{ℕ, zero, suc, _+_, _≤_, _<_}
 use native.Mathlib.Omega.{arith}
 use lib.{Dec.{ltb}, ListN.{length}}
-use borrow.Author.Tests.{le-ltb, ltb-true, ltb-false, not-true}
+use borrow.Author.Tests.{lt-ltb, le-ltb, ltb-true, ltb-false, not-true}
 use Rattle.theory.specs.Formula.{Formula, truth, variable, transition, output, conjunction, greatest, size}
-use Rattle.theory.specs.FormulaClasses.{FreeBelow, OpenPosition, ClosedPosition}
+use Rattle.theory.specs.FormulaClasses.{FreeBelow, GuardedIn, Guarded}
 use Rattle.theory.specs.Formula.{Stands}
 use Rattle.theory.specs.Formula.Stands.{root as stands-root, part-of-transition as stands-transition, left-part as stands-left, right-part as stands-right}
 use Rattle.theory.specs.Formula.Stands.{part-of-greatest as stands-greatest}
 use Rattle.refusal.specs.Refusal.{Lowest}
 use Rattle.formulas.specs.RuleConditions.Placed.{root as placed-root, part-of-transition as placed-transition, left-part as placed-left}
 use Rattle.formulas.specs.RuleConditions.Placed.{right-part as placed-right, part-of-greatest as placed-greatest}
-use Rattle.formulas.specs.RuleConditions.{Position, open-to-variable, closed-to-variable, Placed, Unbound, InClosedPosition}
-use Rattle.formulas.specs.RuleReading.{first-of, lowest-variable, unbound-below, closed-there, lowest-unbound, lowest-closed}
+use Rattle.formulas.specs.RuleConditions.{Mark, binder-mark, transition-mark, Protected, by-transition, past-binder, Placed, Unbound, Unprotected}
+use Rattle.formulas.specs.RuleReading.{first-of, lowest-variable, unbound-below, bound-near, lowest-unbound, lowest-unprotected}
 
 -- The answer of a search for the lowest place where something holds.
 abbrev pub Answered : (ℕ → Type 0) → Option ℕ → Type 0
@@ -159,47 +159,86 @@ module _ {B : Type 0} (φ : Formula B) where
       answered-as (FaultIn unbound-below (λ d. d) suc 0 0 φ) (Unbound φ) fault-unbound unbound-fault (lowest-unbound 0 0 φ)
       (lowest-answered unbound-below (λ d. d) suc 0 0 φ)
 
--- 9: the state is the kind of position.
+-- 9: the state is the number of binders since the last transition.
+abbrev near-binders : List Mark → ℕ
+near-binders [] = zero
+near-binders (binder-mark ∷ ms) = suc (near-binders ms)
+near-binders (transition-mark ∷ ms) = zero
+
+abbrev all-binders : List Mark → ℕ
+all-binders [] = zero
+all-binders (binder-mark ∷ ms) = suc (all-binders ms)
+all-binders (transition-mark ∷ ms) = all-binders ms
+
+-- A variable whose own binder is near is not protected; any other that has a binder is.
+near-unprotected : (ms : List Mark) (n : ℕ) → n < near-binders ms → ¬ Protected ms n
+near-unprotected (transition-mark ∷ ms) n h w = omega (arith, h)
+near-unprotected (binder-mark ∷ ms) (suc n) h (past-binder w) = near-unprotected ms n (omega (arith, h)) w
+
+far-protected : (ms : List Mark) (n : ℕ) → near-binders ms ≤ n → n < all-binders ms → Protected ms n
+far-protected [] n h l = absurd (omega (arith, l))
+far-protected (transition-mark ∷ ms) n h l = by-transition
+far-protected (binder-mark ∷ ms) zero h l = absurd (omega (arith, h))
+far-protected (binder-mark ∷ ms) (suc n) h l = past-binder (far-protected ms n (omega (arith, h)) (omega (arith, l)))
+
 module _ {B : Type 0} (φ : Formula B) where
-  abbrev AtPosition : ℕ → Position → Formula B → Type 0
-  AtPosition = Reached closed-there (λ p. open-to-variable) (λ p. closed-to-variable) closed-to-variable φ
+  abbrev BelowNear : ℕ → ℕ → Formula B → Type 0
+  BelowNear = Reached bound-near (λ x. zero) suc 0 φ
 
-  abbrev ClosedFault : ℕ → Type 0
-  ClosedFault = FaultIn closed-there (λ p. open-to-variable) (λ p. closed-to-variable) closed-to-variable 0 φ
+  abbrev pub NearFault : ℕ → Type 0
+  NearFault = FaultIn bound-near (λ x. zero) suc 0 0 φ
 
-  placed-at : {i : ℕ} {p : Position} {ψ : Formula B} → Placed φ i p ψ → AtPosition i p ψ
-  placed-at placed-root = root
-  placed-at (placed-transition r) = in-transition (placed-at r)
-  placed-at (placed-left r) = in-left (placed-at r)
-  placed-at (placed-right r) = in-right (placed-at r)
-  placed-at (placed-greatest r) = in-greatest (placed-at r)
+  placed-near : {i : ℕ} {ms : List Mark} {ψ : Formula B} → Placed φ i ms ψ → BelowNear i (near-binders ms) ψ
+  placed-near placed-root = root
+  placed-near (placed-transition r) = in-transition (placed-near r)
+  placed-near (placed-left r) = in-left (placed-near r)
+  placed-near (placed-right r) = in-right (placed-near r)
+  placed-near (placed-greatest r) = in-greatest (placed-near r)
 
-  at-placed : {i : ℕ} {p : Position} {ψ : Formula B} → AtPosition i p ψ → Placed φ i p ψ
-  at-placed root = placed-root
-  at-placed (in-transition r) = placed-transition (at-placed r)
-  at-placed (in-left r) = placed-left (at-placed r)
-  at-placed (in-right r) = placed-right (at-placed r)
-  at-placed (in-greatest r) = placed-greatest (at-placed r)
+  near-placed : {i d : ℕ} {ψ : Formula B} → BelowNear i d ψ → (ms : List Mark) × (near-binders ms ≡ d) × Placed φ i ms ψ
+  near-placed root = ([], refl, placed-root)
+  near-placed (in-transition r) = let w = near-placed r in (transition-mark ∷ w .0, refl, placed-transition (w .2))
+  near-placed (in-left r) = let w = near-placed r in (w .0, w .1, placed-left (w .2))
+  near-placed (in-right r) = let w = near-placed r in (w .0, w .1, placed-right (w .2))
+  near-placed (in-greatest r) = let w = near-placed r in (binder-mark ∷ w .0, ap suc (w .1), placed-greatest (w .2))
 
-  is-closed : (p : Position) (n : ℕ) → closed-there p n ≡ true → p ≡ closed-to-variable
-  unfolding closed-there
-  is-closed open-to-variable n e = let z : _≡_ {A = ℕ} 0 1 = cc in absurd (omega arith)
-  is-closed closed-to-variable n e = refl
+  placed-below : {i : ℕ} {ms : List Mark} {ψ : Formula B} → Placed φ i ms ψ → BelowBinders φ i (all-binders ms) ψ
+  placed-below placed-root = root
+  placed-below (placed-transition r) = in-transition (placed-below r)
+  placed-below (placed-left r) = in-left (placed-below r)
+  placed-below (placed-right r) = in-right (placed-below r)
+  placed-below (placed-greatest r) = in-greatest (placed-below r)
 
-  pub closed-fault : (j : ℕ) → InClosedPosition φ j → ClosedFault j
-  unfolding closed-there
-  closed-fault j (n, r) =
-      fault-up closed-there (λ p. open-to-variable) (λ p. closed-to-variable) closed-to-variable φ (placed-at r) j (refl, refl)
+  pub fault-unprotected : (j : ℕ) → NearFault j → Unprotected φ j
+  unfolding bound-near
+  fault-unprotected j f =
+      let w = fault-down bound-near (λ x. zero) suc 0 φ φ root j f in
+      let v = near-placed (w .2) in
+      (v .0, w .1, v .2, near-unprotected (v .0) (w .1) (subst (λ d. w .1 < d) (sym (v .1)) (ltb-true (w .1) (w .0) (w .3))))
 
-  pub fault-closed : (j : ℕ) → ClosedFault j → InClosedPosition φ j
-  fault-closed j f =
-      let w = fault-down closed-there (λ p. open-to-variable) (λ p. closed-to-variable) closed-to-variable φ φ root j f in
-      (w .1, subst (λ p. Placed φ j p (variable (w .1))) (is-closed (w .0) (w .1) (w .3)) (at-placed (w .2)))
+  -- Where every variable has a binder.
+  module _ (bound : (j : ℕ) → ¬ Unbound φ j) where
+    binder-above : {j : ℕ} {ms : List Mark} {n : ℕ} → Placed φ j ms (variable n) → n < all-binders ms
+    binder-above {j} {ms} {n} r = go (ltb n (all-binders ms)) refl
+      where
+        go : (b : Bool) → ltb n (all-binders ms) ≡ b → n < all-binders ms
+        go true e = ltb-true n (all-binders ms) e
+        go false e =
+            let w = below-stands φ (placed-below r) in
+            absurd (bound j (w .0, n, w .2, subst (λ d. d ≤ n) (sym (w .1)) (ltb-false n (all-binders ms) e)))
 
-  pub closed-answered : Answered (InClosedPosition φ) (lowest-closed closed-to-variable 0 φ)
-  closed-answered =
-      answered-as ClosedFault (InClosedPosition φ) fault-closed closed-fault (lowest-closed closed-to-variable 0 φ)
-      (lowest-answered closed-there (λ p. open-to-variable) (λ p. closed-to-variable) closed-to-variable 0 φ)
+    pub unprotected-fault : (j : ℕ) → Unprotected φ j → NearFault j
+    unfolding bound-near
+    unprotected-fault j (ms, n, r, u) = fault-up bound-near (λ x. zero) suc 0 φ (placed-near r) j (refl, go (ltb n (near-binders ms)) refl)
+      where
+        go : (b : Bool) → ltb n (near-binders ms) ≡ b → ltb n (near-binders ms) ≡ true
+        go true e = e
+        go false e = absurd (u (far-protected ms n (ltb-false n (near-binders ms) e) (binder-above r)))
+
+    pub unprotected-answered : Answered (Unprotected φ) (lowest-unprotected 0 0 φ)
+    unprotected-answered =
+        answered-as NearFault (Unprotected φ) fault-unprotected unprotected-fault (lowest-unprotected 0 0 φ)
+        (lowest-answered bound-near (λ x. zero) suc 0 0 φ)
 
 -- No variable is without binder exactly if the formula is closed.
 module _ {B : Type 0} where
@@ -229,45 +268,37 @@ module _ {B : Type 0} where
   below-free (conjunction φ χ) d i h j (inr f) = below-free χ d (suc i + size φ) (h .1) j f
   below-free (greatest φ) d i h j f = below-free φ (suc d) (suc i) h j f
 
-  -- No variable is in a closed position exactly if the formula is of the grammar.
-  abbrev MayStand : Position → Formula B → Type 0
-  MayStand open-to-variable φ = OpenPosition φ
-  MayStand closed-to-variable φ = ClosedPosition φ
+  -- No variable is without a transition below its own binder exactly if the formula is guarded, in the near binders too.
+  abbrev NoneNear : ℕ → ℕ → Formula B → Type 0
+  NoneNear near i φ = (j : ℕ) → ¬ FaultIn bound-near (λ x. zero) suc near i φ j
 
-  abbrev NoClosed : Position → ℕ → Formula B → Type 0
-  NoClosed p i φ = (j : ℕ) → ¬ FaultIn closed-there (λ x. open-to-variable) (λ x. closed-to-variable) p i φ j
+  abbrev GuardedNear : ℕ → Formula B → Type 0
+  GuardedNear near φ = Guarded φ × ((k : ℕ) → k < near → GuardedIn k φ)
 
-  pub may-stand : (φ : Formula B) (p : Position) (i : ℕ) → NoClosed p i φ → MayStand p φ
-  unfolding closed-there
-  may-stand truth open-to-variable i h = tt
-  may-stand truth closed-to-variable i h = tt
-  may-stand (variable n) open-to-variable i h = tt
-  may-stand (variable n) closed-to-variable i h = h i (refl, refl)
-  may-stand (transition e φ) open-to-variable i h = may-stand φ open-to-variable (suc i) h
-  may-stand (transition e φ) closed-to-variable i h = may-stand φ open-to-variable (suc i) h
-  may-stand (output e b) open-to-variable i h = tt
-  may-stand (output e b) closed-to-variable i h = tt
-  may-stand (conjunction φ χ) open-to-variable i h =
-      (may-stand φ open-to-variable (suc i) (λ j f. h j (inl f)), may-stand χ open-to-variable (suc i + size φ) (λ j f. h j (inr f)))
-  may-stand (conjunction φ χ) closed-to-variable i h =
-      (may-stand φ closed-to-variable (suc i) (λ j f. h j (inl f)), may-stand χ closed-to-variable (suc i + size φ) (λ j f. h j (inr f)))
-  may-stand (greatest φ) open-to-variable i h = may-stand φ closed-to-variable (suc i) h
-  may-stand (greatest φ) closed-to-variable i h = may-stand φ closed-to-variable (suc i) h
+  pub near-guarded : (φ : Formula B) (near i : ℕ) → NoneNear near i φ → GuardedNear near φ
+  unfolding bound-near
+  near-guarded truth near i h = (tt, λ k l. tt)
+  near-guarded (variable n) near i h = (tt, λ k l e. h i (refl, lt-ltb n near (omega (arith, l, e))))
+  near-guarded (transition e φ) near i h = (near-guarded φ zero (suc i) h .0, λ k l. tt)
+  near-guarded (output e b) near i h = (tt, λ k l. tt)
+  near-guarded (conjunction φ χ) near i h =
+      let u = near-guarded φ near (suc i) (λ j f. h j (inl f)) in
+      let v = near-guarded χ near (suc i + size φ) (λ j f. h j (inr f)) in
+      ((u .0, v .0), λ k l. (u .1 k l, v .1 k l))
+  near-guarded (greatest φ) near i h =
+      let w = near-guarded φ (suc near) (suc i) h in
+      ((w .1 zero (omega arith), w .0), λ k l. w .1 (suc k) (omega (arith, l)))
 
-  pub stand-may : (φ : Formula B) (p : Position) (i : ℕ) → MayStand p φ → NoClosed p i φ
-  unfolding closed-there
-  stand-may truth p i h j f = f
-  stand-may (variable n) open-to-variable i h j f = let z : _≡_ {A = ℕ} 0 1 = clash (f .1) in omega arith
+  pub guarded-near : (φ : Formula B) (near i : ℕ) → GuardedNear near φ → NoneNear near i φ
+  unfolding bound-near
+  guarded-near truth near i g j f = f
+  guarded-near (variable n) near i g j f = g .1 n (ltb-true n near (f .1)) refl
+  guarded-near (transition e φ) near i g j f = guarded-near φ zero (suc i) (g .0, λ k l. absurd (omega (arith, l))) j f
+  guarded-near (output e b) near i g j f = f
+  guarded-near (conjunction φ χ) near i g j (inl f) = guarded-near φ near (suc i) (g .0 .0, λ k l. g .1 k l .0) j f
+  guarded-near (conjunction φ χ) near i g j (inr f) = guarded-near χ near (suc i + size φ) (g .0 .1, λ k l. g .1 k l .1) j f
+  guarded-near (greatest φ) near i g j f = guarded-near φ (suc near) (suc i) (g .0 .1, inner) j f
     where
-      clash : false ≡ true → _≡_ {A = ℕ} 0 1
-      clash e = cc
-  stand-may (variable n) closed-to-variable i h j f = h
-  stand-may (transition e φ) open-to-variable i h j f = stand-may φ open-to-variable (suc i) h j f
-  stand-may (transition e φ) closed-to-variable i h j f = stand-may φ open-to-variable (suc i) h j f
-  stand-may (output e b) p i h j f = f
-  stand-may (conjunction φ χ) open-to-variable i h j (inl f) = stand-may φ open-to-variable (suc i) (h .0) j f
-  stand-may (conjunction φ χ) open-to-variable i h j (inr f) = stand-may χ open-to-variable (suc i + size φ) (h .1) j f
-  stand-may (conjunction φ χ) closed-to-variable i h j (inl f) = stand-may φ closed-to-variable (suc i) (h .0) j f
-  stand-may (conjunction φ χ) closed-to-variable i h j (inr f) = stand-may χ closed-to-variable (suc i + size φ) (h .1) j f
-  stand-may (greatest φ) open-to-variable i h j f = stand-may φ closed-to-variable (suc i) h j f
-  stand-may (greatest φ) closed-to-variable i h j f = stand-may φ closed-to-variable (suc i) h j f
+      inner : (k : ℕ) → k < suc near → GuardedIn k φ
+      inner zero l = g .0 .0
+      inner (suc k) l = g .1 k (omega (arith, l))

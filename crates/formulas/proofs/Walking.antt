@@ -1,12 +1,13 @@
 -- One step of a walk that notes the lowest variable at fault, for each kind of node.
 use mathlib.Core.{Path.{_≡_, refl, sym, _∙_, subst}, Bool.{Bool, cond}, Option.{Option, none, some}, List.{List}}
-use Prim.Native.Nat.{ℕ, suc, _+_, _-_, _≤_, _<_}
+use Prim.Native.Nat.{ℕ, zero, suc, _+_, _-_, _≤_, _<_}
 use native.Mathlib.{Numerals.{add-one}, Omega.{arith}}
 use lib.{ListN.{length, getD, set, length-set}, Seq.{getD-set-same, getD-set-other}}
+use borrow.Author.Tests.{le-ltb}
 use Rattle.limits.specs.Limits.{node-limit}
 use Rattle.theory.specs.Formula.{Formula, truth, variable, transition, output, conjunction, greatest, size}
-use Rattle.formulas.specs.{NodeReading.{Reads}, RuleConditions.{Position, open-to-variable, closed-to-variable}}
-use Rattle.formulas.specs.{RuleReading.{first-of, lowest-variable, unbound-below, closed-there}, NodeWalks.{Noted, Keeps, WalkJudged, Scanned}}
+use Rattle.formulas.specs.{NodeReading.{Reads}, RuleReading.{first-of, lowest-variable, unbound-below, bound-near}}
+use Rattle.formulas.specs.NodeWalks.{Noted, Keeps, WalkJudged, Scanned}
 
 pub size-positive : {B : Type 0} (φ : Formula B) → 0 < size φ
 size-positive truth = omega arith
@@ -134,75 +135,75 @@ module _ (kind first value : ℕ → ℕ) {S : Type 0} (faulty : S → ℕ → B
         walk-conjunction m between k one two (greatest φ) d h = absurd (omega (arith, k, d .0))
 
 -- The walk of 8 and 9: both notes.
-module _ (kind first : ℕ → ℕ) (depth : ℕ) (p : Position) (at left : ℕ) (before : List ℕ) where
-  pub scanned-none : left ≡ 0 → length before ≡ 2 → Scanned kind first depth p at left before before at
+module _ (kind first : ℕ → ℕ) (depth near at left : ℕ) (before : List ℕ) where
+  pub scanned-none : left ≡ 0 → length before ≡ 2 → Scanned kind first depth near at left before before at
   scanned-none e l =
       record {
         low = omega arith;
         high = omega arith;
         sized = l;
         unbound = λ value. walk-none kind first value unbound-below (λ d. d) suc at left depth _ _ at e;
-        closed = λ value. walk-none kind first value closed-there (λ q. open-to-variable) (λ q. closed-to-variable) at left p _ _ at e;
+        unprotected = λ value. walk-none kind first value bound-near (λ x. zero) suc at left near _ _ at e;
       }
 
   pub scanned-leaf :
       ¬ (left ≡ 0) → length before ≡ 2 → ¬ (kind at ≡ 1) → ¬ (kind at ≡ 2) → ¬ (kind at ≡ 4) → ¬ (kind at ≡ 5)
-      → Scanned kind first depth p at left before before (at + 1)
+      → Scanned kind first depth near at left before before (at + 1)
   scanned-leaf e l k1 k2 k4 k5 =
       record {
         low = omega arith;
         high = omega (arith, e);
         sized = l;
         unbound = λ value. walk-leaf kind first value unbound-below (λ d. d) suc at left depth _ k1 k2 k4 k5;
-        closed = λ value.
-            walk-leaf kind first value closed-there (λ q. open-to-variable) (λ q. closed-to-variable) at left p _ k1 k2 k4 k5;
+        unprotected = λ value.
+            walk-leaf kind first value bound-near (λ x. zero) suc at left near _ k1 k2 k4 k5;
       }
 
   module _ (after : List ℕ) where
     scanned-variable :
         ¬ (left ≡ 0) → length after ≡ 2 → kind at ≡ 1
         → Keeps (cond (unbound-below depth (first at)) (some at) none) (getD before 0 0) (getD after 0 0)
-        → Keeps (cond (closed-there p (first at)) (some at) none) (getD before 1 0) (getD after 1 0)
-        → Scanned kind first depth p at left before after (at + 1)
+        → Keeps (cond (bound-near near (first at)) (some at) none) (getD before 1 0) (getD after 1 0)
+        → Scanned kind first depth near at left before after (at + 1)
     scanned-variable e l k u v =
         record {
           low = omega arith;
           high = omega (arith, e);
           sized = l;
           unbound = λ value. walk-variable kind first value unbound-below (λ d. d) suc at left depth _ _ k u;
-          closed = λ value. walk-variable kind first value closed-there (λ q. open-to-variable) (λ q. closed-to-variable) at left p _ _ k v;
+          unprotected = λ value. walk-variable kind first value bound-near (λ x. zero) suc at left near _ _ k v;
         }
 
     module _ (r : ℕ) where
       pub scanned-transition :
-          ¬ (left ≡ 0) → kind at ≡ 2 → Scanned kind first depth open-to-variable (at + 1) (left - 1) before after r
-          → Scanned kind first depth p at left before after r
+          ¬ (left ≡ 0) → kind at ≡ 2 → Scanned kind first depth 0 (at + 1) (left - 1) before after r
+          → Scanned kind first depth near at left before after r
       scanned-transition e k w =
           record {
             low = omega (arith, w .low);
             high = omega (arith, e, w .high);
             sized = w .sized;
             unbound = λ value. walk-transition kind first value unbound-below (λ d. d) suc at left depth _ _ r k (w .unbound value);
-            closed = λ value.
-                walk-transition kind first value closed-there (λ q. open-to-variable) (λ q. closed-to-variable) at left p _ _ r k (w .closed value);
+            unprotected = λ value.
+                walk-transition kind first value bound-near (λ x. zero) suc at left near _ _ r k (w .unprotected value);
           }
 
       pub scanned-greatest :
-          ¬ (left ≡ 0) → kind at ≡ 5 → Scanned kind first (depth + 1) closed-to-variable (at + 1) (left - 1) before after r
-          → Scanned kind first depth p at left before after r
+          ¬ (left ≡ 0) → kind at ≡ 5 → Scanned kind first (depth + 1) (near + 1) (at + 1) (left - 1) before after r
+          → Scanned kind first depth near at left before after r
       scanned-greatest e k w =
           record {
             low = omega (arith, w .low);
             high = omega (arith, e, w .high);
             sized = w .sized;
             unbound = λ value. walk-greatest kind first value unbound-below (λ d. d) suc at left depth _ _ r k (rw (← (add-one depth)) (w .unbound value));
-            closed = λ value.
-                walk-greatest kind first value closed-there (λ q. open-to-variable) (λ q. closed-to-variable) at left p _ _ r k (w .closed value);
+            unprotected = λ value.
+                walk-greatest kind first value bound-near (λ x. zero) suc at left near _ _ r k (rw (← (add-one near)) (w .unprotected value));
           }
 
       pub scanned-conjunction :
-          (m : ℕ) (between : List ℕ) → ¬ (left ≡ 0) → kind at ≡ 4 → Scanned kind first depth p (at + 1) (left - 1) before between m
-          → Scanned kind first depth p m (at + left - m) between after r → Scanned kind first depth p at left before after r
+          (m : ℕ) (between : List ℕ) → ¬ (left ≡ 0) → kind at ≡ 4 → Scanned kind first depth near (at + 1) (left - 1) before between m
+          → Scanned kind first depth near m (at + left - m) between after r → Scanned kind first depth near at left before after r
       scanned-conjunction m between e k w v =
           record {
             low = omega (arith, w .low, v .low);
@@ -210,24 +211,26 @@ module _ (kind first : ℕ → ℕ) (depth : ℕ) (p : Position) (at left : ℕ)
             sized = v .sized;
             unbound = λ value.
                 walk-conjunction kind first value unbound-below (λ d. d) suc at left depth _ _ r m _ k (w .unbound value) (v .unbound value);
-            closed = λ value.
-                walk-conjunction kind first value closed-there (λ q. open-to-variable) (λ q. closed-to-variable) at left p _ _ r m _ k
-                (w .closed value) (v .closed value);
+            unprotected = λ value.
+                walk-conjunction kind first value bound-near (λ x. zero) suc at left near _ _ r m _ k
+                (w .unprotected value) (v .unprotected value);
           }
 
 -- A variable in a closed position has both notes, and one in an open position that of 8.
 module _ (kind first : ℕ → ℕ) (depth at left : ℕ) (before : List ℕ) (e : ¬ (left ≡ 0)) (l : length before ≡ 2) (k : kind at ≡ 1) where
   pub scanned-closed-variable :
-      (n m : ℕ) → Keeps (cond (unbound-below depth (first at)) (some at) none) (getD before 0 0) n
-      → Keeps (some at) (getD (set before 0 n) 1 0) m
-      → Scanned kind first depth closed-to-variable at left before (set (set before 0 n) 1 m) (at + 1)
-  unfolding closed-there
-  scanned-closed-variable n m u v =
-      scanned-variable kind first depth closed-to-variable at left before (set (set before 0 n) 1 m) e (simp length-set l) k
+      (near n m : ℕ) → Keeps (cond (unbound-below depth (first at)) (some at) none) (getD before 0 0) n
+      → Keeps (cond (bound-near near (first at)) (some at) none) (getD (set before 0 n) 1 0) m
+      → Scanned kind first depth near at left before (set (set before 0 n) 1 m) (at + 1)
+  scanned-closed-variable near n m u v =
+      scanned-variable kind first depth near at left before (set (set before 0 n) 1 m) e (simp length-set l) k
       (subst (Keeps (cond (unbound-below depth (first at)) (some at) none) (getD before 0 0)) (sym one) u)
-      (subst (λ x. Keeps (some at) x (getD (set (set before 0 n) 1 m) 1 0)) (getD-set-other before 0 1 n 0 (λ q. omega (arith, q)))
-      (subst (Keeps (some at) (getD (set before 0 n) 1 0)) (sym two) v))
+      (subst (λ x. Keeps note x (getD (set (set before 0 n) 1 m) 1 0)) (getD-set-other before 0 1 n 0 (λ q. omega (arith, q)))
+      (subst (Keeps note (getD (set before 0 n) 1 0)) (sym two) v))
     where
+      note : Option ℕ
+      note = cond (bound-near near (first at)) (some at) none
+
       one : getD (set (set before 0 n) 1 m) 0 0 ≡ n
       one = getD-set-other (set before 0 n) 1 0 m 0 (λ q. omega (arith, q)) ∙ getD-set-same before 0 n 0 (omega (arith, l))
 
@@ -236,9 +239,10 @@ module _ (kind first : ℕ → ℕ) (depth at left : ℕ) (before : List ℕ) (e
 
   pub scanned-open-variable :
       (n : ℕ) → Keeps (cond (unbound-below depth (first at)) (some at) none) (getD before 0 0) n
-      → Scanned kind first depth open-to-variable at left before (set before 0 n) (at + 1)
-  unfolding closed-there
+      → Scanned kind first depth 0 at left before (set before 0 n) (at + 1)
+  unfolding bound-near
   scanned-open-variable n u =
-      scanned-variable kind first depth open-to-variable at left before (set before 0 n) e (simp length-set l) k
+      scanned-variable kind first depth 0 at left before (set before 0 n) e (simp length-set l) k
       (subst (Keeps (cond (unbound-below depth (first at)) (some at) none) (getD before 0 0)) (sym (getD-set-same before 0 n 0 (omega (arith, l)))) u)
-      (subst (Keeps none (getD before 1 0)) (sym (getD-set-other before 0 1 n 0 (λ q. omega (arith, q)))) (keeps-none (getD before 1 0)))
+      (subst (λ b. Keeps (cond b (some at) none) (getD before 1 0) (getD (set before 0 n) 1 0)) (sym (le-ltb (first at) 0 (omega arith)))
+      (subst (Keeps none (getD before 1 0)) (sym (getD-set-other before 0 1 n 0 (λ q. omega (arith, q)))) (keeps-none (getD before 1 0))))

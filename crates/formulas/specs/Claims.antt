@@ -10,7 +10,7 @@ use Rattle.values.specs.ValueTests.{value-fits}
 use Rattle.limits.specs.Limits.{node-limit}
 use Rattle.refusal.specs.{declared.Judgement.{Judgement}, Refusal.{Judged, judgement-refusal}, RefusalAnswers.{judgement}}
 use Rattle.formulas.specs.NodeCode.{NodeCode, three-bytes, field-list, HoldsNodes}
-use Rattle.formulas.specs.RuleConditions.{encode-formula, node-width, node-bytes}
+use Rattle.formulas.specs.RuleConditions.{encode-formula, node-width, node-bytes, Unbound, Unprotected}
 use Rattle.formulas.specs.RuleConditions.{NodeAtFault, rule-conditions, byte-conditions}
 use Rattle.formulas.specs.{NodeReading.{Reads}, NodeWalks.{field}, NodeArrays.{decoded}}
 use Rattle.formulas.specs.RuleRefusal.{count-fits, fields-refusal, kind-at, first-at, value-at, rule-refusal, formula-of}
@@ -38,7 +38,7 @@ pub record NodesRefusalClaim : Type 0 where
       (r : Judgement) → r ≡ judgement (fields-refusal (field kinds) (field firsts) (field values) count (value-fits kind) events) →
       Judged (rule-conditions width encode node-limit events (ValueIn kind) bytes) (judgement-refusal r)
 
--- Bytes are accepted exactly if they are the prefix code of a closed formula of the grammar, within the set-up and the limit.
+-- Bytes are accepted exactly if they are the prefix code of a closed and guarded formula, within the set-up and the limit.
 pub record AcceptedFormula (events : ℕ) (kind : ValueKind) (bytes : List ℕ) (φ : Formula ℕ) : Type 0 where
   pub written : bytes ≡ encode-formula (node-bytes kind) φ
   pub accepted : Accepted node-limit events (ValueIn kind) φ
@@ -47,6 +47,15 @@ abbrev pub AcceptedClaim : Type 0
 AcceptedClaim =
     (events : ℕ) (kind : ValueKind) (bytes : List ℕ)
     → (rule-refusal events kind bytes ≡ none) ↔ ((φ : Formula ℕ) × AcceptedFormula events kind bytes φ)
+
+-- Of a formula within the limit whose nodes fit and whose variables have binders, the bytes are accepted exactly if a G lies between each
+-- variable and its own binder (document 02, F-2).
+abbrev pub ProtectedClaim : Type 0
+ProtectedClaim =
+    (events : ℕ) (kind : ValueKind) (φ : Formula ℕ) → size φ ≤ node-limit
+    → ((i : ℕ) → ¬ NodeAtFault (node-width kind) (node-bytes kind) (encode-formula (node-bytes kind) φ) events (ValueIn kind) i)
+    → ((i : ℕ) → ¬ Unbound φ i)
+    → (rule-refusal events kind (encode-formula (node-bytes kind) φ) ≡ none) ↔ ((i : ℕ) → ¬ Unprotected φ i)
 
 -- Bytes are the code of one formula at most, and that one is `formula-of`.
 abbrev pub FormulaOfClaim : Type 0

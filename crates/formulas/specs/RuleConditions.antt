@@ -33,27 +33,32 @@ node-fields greatest-node = (5, 0, 0)
 abbrev pub node-bytes : ValueKind → Node ℕ → List ℕ
 node-bytes kind n = node-fields n .0 ∷ node-fields n .1 ∷ value-bytes kind (node-fields n .2)
 
--- The grammar's two kinds of position (source 000, definition 3).
-pub data Position : Type 0 where
-  open-to-variable closed-to-variable : Position
+-- The V and G nodes that a part stands below, the innermost first.
+pub data Mark : Type 0 where
+  binder-mark transition-mark : Mark
 
--- `Placed i p ψ`: the part ψ stands at node i, in a position of kind p. The root and the part of V are closed; the part of G is
--- open; the parts of A are as A is.
+-- "a G lies between it and its own binder" (document 02, F-2): on the way up from variable n a G comes before its own binder, the V after
+-- n others.
+pub data Protected : List Mark → ℕ → Type 0 where
+  by-transition : {ms : List Mark} {n : ℕ} → Protected (transition-mark ∷ ms) n
+  past-binder : {ms : List Mark} {n : ℕ} → Protected ms n → Protected (binder-mark ∷ ms) (suc n)
+
+-- `Placed i ms ψ`: the part ψ stands at node i, below these.
 module _ {B : Type 0} (φ : Formula B) where
-  pub data Placed : ℕ → Position → Formula B → Type 0 where
-    root : Placed zero closed-to-variable φ
-    part-of-transition : {i : ℕ} {p : Position} {e : ℕ} {ψ : Formula B} → Placed i p (transition e ψ) → Placed (suc i) open-to-variable ψ
-    left-part : {i : ℕ} {p : Position} {ψ χ : Formula B} → Placed i p (conjunction ψ χ) → Placed (suc i) p ψ
-    right-part : {i : ℕ} {p : Position} {ψ χ : Formula B} → Placed i p (conjunction ψ χ) → Placed (suc i + size ψ) p χ
-    part-of-greatest : {i : ℕ} {p : Position} {ψ : Formula B} → Placed i p (greatest ψ) → Placed (suc i) closed-to-variable ψ
+  pub data Placed : ℕ → List Mark → Formula B → Type 0 where
+    root : Placed zero [] φ
+    part-of-transition : {i : ℕ} {ms : List Mark} {e : ℕ} {ψ : Formula B} → Placed i ms (transition e ψ) → Placed (suc i) (transition-mark ∷ ms) ψ
+    left-part : {i : ℕ} {ms : List Mark} {ψ χ : Formula B} → Placed i ms (conjunction ψ χ) → Placed (suc i) ms ψ
+    right-part : {i : ℕ} {ms : List Mark} {ψ χ : Formula B} → Placed i ms (conjunction ψ χ) → Placed (suc i + size ψ) ms χ
+    part-of-greatest : {i : ℕ} {ms : List Mark} {ψ : Formula B} → Placed i ms (greatest ψ) → Placed (suc i) (binder-mark ∷ ms) ψ
 
   -- Node i is a variable without binder.
   abbrev pub Unbound : ℕ → Type 0
   Unbound i = (bs : List ℕ) × (n : ℕ) × Stands φ i bs (variable n) × (length bs ≤ n)
 
-  -- Node i is a variable in a closed position.
-  abbrev pub InClosedPosition : ℕ → Type 0
-  InClosedPosition i = (n : ℕ) × Placed i closed-to-variable (variable n)
+  -- Node i is a variable with no G between it and its own binder. 8 speaks first, of variables that have none.
+  abbrev pub Unprotected : ℕ → Type 0
+  Unprotected i = (ms : List Mark) × (n : ℕ) × Placed i ms (variable n) × ¬ Protected ms n
 
 -- The events and values of a node are those of the set-up.
 abbrev pub NodeFits : {B : Type 0} → ℕ → (B → Type 0) → Node B → Type 0
@@ -100,7 +105,7 @@ rule-conditions width encode limit events In bytes = plain 5 (CountAtFault width
     ∷ at-lowest 6 (NodeAtFault width encode bytes events In)
     ∷ at-lowest 7 (λ p. RunOut width encode bytes p ⊎ LeftOver encode bytes p)
     ∷ at-lowest 8 (λ i. OfFormula encode bytes (λ φ. Unbound φ i))
-    ∷ at-lowest 9 (λ i. OfFormula encode bytes (λ φ. InClosedPosition φ i))
+    ∷ at-lowest 9 (λ i. OfFormula encode bytes (λ φ. Unprotected φ i))
     ∷ []
 
 -- The conditions of a rule with values of a kind.

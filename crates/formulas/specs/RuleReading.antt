@@ -1,12 +1,11 @@
 -- Twin of RuleConditions, pinned by formulas RuleRefusalClaim.
 -- Computing twins of RuleConditions, in parts: what is read from a node's fields, where nodes run out or are left over, the
 -- formula whose nodes these are, and the lowest variable at fault. Nodes are reached through accessors, as in NodeReading.
-use mathlib.Core.{Bool.{Bool, true, false, cond, not, _&&_}, Option.{Option, none, some}, List.{List, [], _∷_}}
+use mathlib.Core.{Bool.{Bool, false, cond, not, _&&_}, Option.{Option, none, some}, List.{List, [], _∷_}}
 use Prim.Native.Nat.{ℕ, zero, suc, _+_}
 use lib.Dec.{eqb, ltb}
 use Rattle.theory.specs.Formula.{Formula, truth, variable, transition, output, conjunction, greatest, size, Node, truth-node, variable-node, transition-node}
 use Rattle.theory.specs.Formula.{output-node, conjunction-node, greatest-node}
-use Rattle.formulas.specs.RuleConditions.{Position, open-to-variable, closed-to-variable}
 
 -- The first of two answers that is a place.
 unfoldable pub first-of : Option ℕ → Option ℕ → Option ℕ
@@ -117,16 +116,15 @@ module _ {B : Type 0} where
 unfoldable pub unbound-below : ℕ → ℕ → Bool
 unbound-below depth n = not (ltb n depth)
 
--- 9: a variable is at fault in a closed position.
-unfoldable pub closed-there : Position → ℕ → Bool
-closed-there open-to-variable n = false
-closed-there closed-to-variable n = true
+-- 9: a variable is at fault whose own binder is among those since the last G, so many: it counts fewer.
+unfoldable pub bound-near : ℕ → ℕ → Bool
+bound-near near n = ltb n near
 
 module _ {B : Type 0} where
   -- 8 from a node on, below so many binders: the lowest variable without binder.
   abbrev pub lowest-unbound : ℕ → ℕ → Formula B → Option ℕ
   lowest-unbound = lowest-variable unbound-below (λ depth. depth) suc
 
-  -- 9 from a node on, in a position of that kind: the lowest variable in a closed position.
-  abbrev pub lowest-closed : Position → ℕ → Formula B → Option ℕ
-  lowest-closed = lowest-variable closed-there (λ p. open-to-variable) (λ p. closed-to-variable)
+  -- 9 from a node on, below so many binders since the last G: the lowest variable with no G between it and its own binder.
+  abbrev pub lowest-unprotected : ℕ → ℕ → Formula B → Option ℕ
+  lowest-unprotected = lowest-variable bound-near (λ near. zero) suc

@@ -8,8 +8,8 @@ use Rattle.theory.specs.Formula.{Formula}
 use Rattle.refusal.specs.{RefusalAnswers.{or-else, plain-unless, at-found}, declared.Refusal.{Refusal}}
 use Rattle.values.specs.{declared.ValueKind.{ValueKind}, ValueTests.{value-fits}, Setup.{value-from}}
 use Rattle.limits.specs.Limits.{node-limit}
-use Rattle.formulas.specs.RuleConditions.{node-width, closed-to-variable}
-use Rattle.formulas.specs.RuleReading.{lowest-from, kind-of, fields-fit, end-fault, formula-read, lowest-unbound, lowest-closed}
+use Rattle.formulas.specs.RuleConditions.{node-width}
+use Rattle.formulas.specs.RuleReading.{lowest-from, kind-of, fields-fit, end-fault, formula-read, lowest-unbound, lowest-unprotected}
 
 -- Of 5: so many bytes are 1 to `limit` whole nodes.
 unfoldable pub count-fits : ℕ → ℕ → ℕ → Bool
@@ -17,7 +17,7 @@ count-fits width limit n = eqb (n % width) 0 && (ltb 0 (n / width) && leb (n / w
 
 -- 8 and 9 for a formula: every variable is judged by 8 before any is by 9.
 unfoldable pub variables-refusal : {B : Type 0} → Formula B → Option Refusal
-variables-refusal φ = or-else (at-found (lowest-unbound 0 0 φ) 8) (at-found (lowest-closed closed-to-variable 0 φ) 9)
+variables-refusal φ = or-else (at-found (lowest-unbound 0 0 φ) 8) (at-found (lowest-unprotected 0 0 φ) 9)
 
 module _ (kind first value : ℕ → ℕ) (count : ℕ) where
   -- 7 to 9.

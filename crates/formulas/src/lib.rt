@@ -6,19 +6,18 @@ ghost use mathlib.Core.Option.{none, some};
 ghost use Rattle.formulas.specs.RuleConditions.{node-width};
 ghost use lib.ListN.{length};
 ghost use Rattle.refusal.specs.RefusalAnswers.{judgement};
-ghost use Rattle.formulas.specs.RuleConditions.{open-to-variable, closed-to-variable};
-ghost use Rattle.formulas.specs.RuleReading.{kind-of, fields-fit, awaited, unbound-below};
+ghost use Rattle.formulas.specs.RuleReading.{kind-of, fields-fit, awaited, unbound-below, bound-near};
 ghost use Rattle.formulas.specs.RuleRefusal.{count-fits, tree-refusal, fields-refusal, rule-refusal};
 ghost use Rattle.formulas.specs.NodeWalks.{Keeps, Scanned, VariablesJudged, field};
 ghost use Rattle.formulas.specs.NodeArrays.{decoded};
 use limits::NODE_LIMIT;
-use refusal::CLOSED_VARIABLE;
 use refusal::Judgement;
 use refusal::NODE_COUNT;
 use refusal::NODE_FIELDS;
 use refusal::NODE_TREE;
 use refusal::Refusal;
 use refusal::UNBOUND_VARIABLE;
+use refusal::UNPROTECTED_VARIABLE;
 use values::ValueKind;
 use values::value_fits;
 use values::value_from;
@@ -195,6 +194,13 @@ fn unbound(first: u8, depth: usize) -> bool
     !(wide(first) < depth)
 }
 
+// 9, for one variable: its own binder is one of the last so many.
+fn bound_near(first: u8, near: usize) -> bool
+    ensures { λ r. ⌜ r ≡ bound-near near first ⌝ }
+{
+    wide(first) < near
+}
+
 // What is noted after a node: the node itself where it is the first at fault.
 fn noted(before: usize, fault: bool, at: usize) -> usize
     requires { ⌜ at < node-limit ⌝ }
@@ -208,19 +214,19 @@ fn noted(before: usize, fault: bool, at: usize) -> usize
     before
 }
 
-// 8 and 9 over the formula at a node, in a closed position, below so many binders: notes the lowest variable without binder, and the
-// lowest in a closed position. The answer is the node after the formula.
+// 8 and 9 over the formula at a node, in a closed position: below `depth` binders, `near` of them since the last G. Notes the lowest
+// variable without binder, and the lowest whose own binder is one of the near ones. The answer is the node after the formula.
 fn closed_position(
     kinds: &[u8; NODE_LIMIT],
     firsts: &[u8; NODE_LIMIT],
     at: usize,
     left: usize,
     depth: usize,
+    near: usize,
     faults: &mut [usize; 2],
 ) -> usize
-    requires { ⌜ (at + left ≤ node-limit) × (depth ≤ at) × (length (now faults) ≡ 2) ⌝ }
-    ensures { λ r. ⌜ Scanned (field (now (kinds .entry))) (field (now (firsts .entry))) depth closed-to-variable at left (now (faults .entry))
-        (now (faults .exit)) r ⌝ }
+    requires { ⌜ (at + left ≤ node-limit) × (depth ≤ at) × (near ≤ depth) × (length (now faults) ≡ 2) ⌝ }
+    ensures { λ r. ⌜ Scanned (field (now (kinds .entry))) (field (now (firsts .entry))) depth near at left (now (faults .entry)) (now (faults .exit)) r ⌝ }
 {
     if left == 0 {
         return at;
@@ -228,23 +234,31 @@ fn closed_position(
     let kind = kinds[at];
     if kind == VARIABLE {
         faults[0] = noted(faults[0], unbound(firsts[at], depth), at);
-        faults[1] = noted(faults[1], true, at);
+        faults[1] = noted(faults[1], bound_near(firsts[at], near), at);
         return at + 1;
     }
     if kind == TRANSITION {
         return open_position(kinds, firsts, at + 1, left - 1, depth, faults);
     }
     if kind == CONJUNCTION {
-        let second = closed_position(kinds, firsts, at + 1, left - 1, depth, faults);
-        return closed_position(kinds, firsts, second, at + left - second, depth, faults);
+        let second = closed_position(kinds, firsts, at + 1, left - 1, depth, near, faults);
+        return closed_position(
+            kinds,
+            firsts,
+            second,
+            at + left - second,
+            depth,
+            near,
+            faults,
+        );
     }
     if kind == GREATEST {
-        return closed_position(kinds, firsts, at + 1, left - 1, depth + 1, faults);
+        return closed_position(kinds, firsts, at + 1, left - 1, depth + 1, near + 1, faults);
     }
     at + 1
 }
 
-// The same in an open position.
+// The same in an open position: no binder since the last G, or since the root. 9 notes nothing there.
 fn open_position(
     kinds: &[u8; NODE_LIMIT],
     firsts: &[u8; NODE_LIMIT],
@@ -254,8 +268,7 @@ fn open_position(
     faults: &mut [usize; 2],
 ) -> usize
     requires { ⌜ (at + left ≤ node-limit) × (depth ≤ at) × (length (now faults) ≡ 2) ⌝ }
-    ensures { λ r. ⌜ Scanned (field (now (kinds .entry))) (field (now (firsts .entry))) depth open-to-variable at left (now (faults .entry))
-        (now (faults .exit)) r ⌝ }
+    ensures { λ r. ⌜ Scanned (field (now (kinds .entry))) (field (now (firsts .entry))) depth 0 at left (now (faults .entry)) (now (faults .exit)) r ⌝ }
 {
     if left == 0 {
         return at;
@@ -273,25 +286,25 @@ fn open_position(
         return open_position(kinds, firsts, second, at + left - second, depth, faults);
     }
     if kind == GREATEST {
-        return closed_position(kinds, firsts, at + 1, left - 1, depth + 1, faults);
+        return closed_position(kinds, firsts, at + 1, left - 1, depth + 1, 1, faults);
     }
     at + 1
 }
 
-// 8, then 9: every variable has its binder, and no variable is in a closed position.
+// 8, then 9: every variable has its binder, and a G lies between the two.
 fn check_variables(kinds: &[u8; NODE_LIMIT], firsts: &[u8; NODE_LIMIT], count: usize) -> Judgement
     requires { ⌜ count ≤ node-limit ⌝ }
     ensures { λ r. ⌜ VariablesJudged (field (now (kinds .entry))) (field (now (firsts .entry))) count r ⌝ }
 {
     let mut faults = [NODE_LIMIT; 2];
-    closed_position(kinds, firsts, 0, count, 0, &mut faults);
+    open_position(kinds, firsts, 0, count, 0, &mut faults);
     let p = faults[0];
     if p < NODE_LIMIT {
         return Judgement::Refused(Refusal::At(UNBOUND_VARIABLE, p));
     }
     let q = faults[1];
     if q < NODE_LIMIT {
-        return Judgement::Refused(Refusal::At(CLOSED_VARIABLE, q));
+        return Judgement::Refused(Refusal::At(UNPROTECTED_VARIABLE, q));
     }
     Judgement::Accepted
 }

@@ -4,11 +4,10 @@ use Prim.Native.Nat.{ℕ, zero, suc, _+_, _*_, _/_, _%_, _≤_, _<_}
 use native.Mathlib.{Nat.{not-suc-le-zero, le-of-suc-le-suc}, Omega.{arith}}
 use borrow.Author.Tests.{ltb-true, ltb-false, leb-true, leb-false}
 use lib.{Dec.{leb, ltb}, ListN.{length, getD, take}}
-use Rattle.theory.proofs.{Words.{length-word-values, word-values-at}, Claims.{grammar}, ValueSets.{every-at, every-some}}
-use Rattle.limits.specs.Limits.{node-limit, device-limit, table-limit, word-limit}
+use Rattle.theory.proofs.{Words.{length-word-values, word-values-at}, ValueSets.{every-at, every-some}}
+use Rattle.limits.specs.Limits.{device-limit, table-limit, word-limit}
 use Rattle.theory.specs.MealyMachine.{Word}
 use Rattle.theory.specs.ValueSetTests.{every}
-use Rattle.theory.specs.ValueSets.{Below}
 use Rattle.theory.specs.Formula.{Answers}
 use Rattle.refusal.specs.declared.{Refusal.{Refusal}, Counted.{Counted}}
 use Rattle.refusal.specs.declared.{Refusal.the-variants.{Plain, At}, Counted.the-variants.{Count, Refused as Uncounted}}
@@ -251,8 +250,7 @@ file-trial-claim c states start device old e =
     let x = file-trial c states start device in
     let a = or-else-none (contents-table-refusal c) (trial-refusal device-limit table-limit x old) e in
     let made = file-table-made c (a .0) .table in
-    let t = trial-satisfies device-limit table-limit x old (a .1) (made .formula)
-    (grammar ℕ node-limit (c .events) (Below (c .values)) (made .formula) (made .code .accepted)) (made .is-table) in
+    let t = trial-satisfies device-limit table-limit x old (a .1) (made .formula) (made .code .accepted .well-formed) (made .is-table) in
     let q : file-trial-answer (contents c) states start device old ≡ trial-answer device-limit table-limit x old =
     ap (λ (o : Option Refusal). answer-unless o (found-answer x)) (e ∙ sym (a .1)) in
     record {

@@ -10,8 +10,8 @@ use Rattle.values.specs.declared.ValueKind.{ValueKind}
 use Rattle.values.specs.declared.ValueKind.the-variants.{Numbered, Register}
 use Rattle.values.specs.{Setup.{Setup}, ValueTests.{value-fits}}
 use Rattle.values.specs.SetupTests.{events-test, values-test, meet-test, lines-test, kind-refusal, setup-refusal}
-use Rattle.formulas.specs.RuleConditions.{node-width, closed-to-variable}
-use Rattle.formulas.specs.RuleReading.{kind-of, awaited, end-fault, first-of, formula-read, lowest-variable, lowest-unbound, lowest-closed}
+use Rattle.formulas.specs.RuleConditions.{node-width}
+use Rattle.formulas.specs.RuleReading.{kind-of, awaited, end-fault, first-of, formula-read, lowest-variable, lowest-unbound, lowest-unprotected}
 use Rattle.formulas.specs.RuleRefusal.{count-fits, variables-refusal, structure-refusal, misfit-place, nodes-refusal, kind-at, first-at, value-at, rule-refusal}
 use Rattle.formulas.proofs.{Search.{lowest-found}, Decoding.{CountFits, count-facts}}
 use Rattle.text_format.specs.Format.{refused}
@@ -79,9 +79,9 @@ module _ {S : Type 0} (faulty : S → ℕ → Bool) (g v : S → S) where
 variables-small : (φ : Formula ℕ) → size φ ≤ node-limit → SmallAnswer (variables-refusal φ)
 unfolding variables-refusal
 variables-small φ h =
-    or-small (at-found (lowest-unbound 0 0 φ) 8) (at-found (lowest-closed closed-to-variable 0 φ) 9)
+    or-small (at-found (lowest-unbound 0 0 φ) 8) (at-found (lowest-unprotected 0 0 φ) 9)
     (found-small (lowest-unbound 0 0 φ) 8 (λ p e. let b = variable-bound _ _ _ 0 0 φ p e in omega arith))
-    (found-small (lowest-closed closed-to-variable 0 φ) 9 (λ p e. let b = variable-bound _ _ _ closed-to-variable 0 φ p e in omega arith))
+    (found-small (lowest-unprotected 0 0 φ) 9 (λ p e. let b = variable-bound _ _ _ 0 0 φ p e in omega arith))
 
 nodes-small : (kind first value : ℕ → ℕ) (count : ℕ) (fits : ℕ → Bool) (events : ℕ) → count ≤ node-limit → SmallAnswer
     (nodes-refusal kind first value count fits events)

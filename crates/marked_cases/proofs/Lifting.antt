@@ -129,7 +129,7 @@ module _ (rule : List (Node ℕ)) where
         }
 
     well : Well (formula rule)
-    well = grammar ℕ node-limit (s .events) (SetupValue s) (formula rule) (code .accepted)
+    well = code .accepted .well-formed
 
 -- Every accepted rule is well-formed.
 rule-well : (rule : List (Node ℕ)) (φ : Formula ℕ) → IsRule rule φ → Well φ
@@ -346,7 +346,7 @@ lifted (written n rows count) (in-order, nodes-are, small, states-are, few, same
     let accepted = accepted-table state-limit (s .events) (s .kind) n 0 rows in-order in
     let w = characteristic (SetupValue s) (setup-meet s) (setup-top s) (s .events) laws n 1 m refl (accepted .runs) 0 (accepted .start-in) in
     let within : size φ ≤ node-limit = subst (λ k. k ≤ node-limit) (sym nodes-are) (leb-true count node-limit small) in
-    let good : Well φ = grammar ℕ node-limit (s .events) (SetupValue s) φ (record { within = within; closed = w .2; position = w .3; fits = w .4 }) in
+    let good : Well φ = record { closed = w .2; guarded = grammar ℕ φ (w .3); fits = w .4 } in
     record { lower = (φ, w .0, nodes-are, (made φ, table-of-states φ good within n states-are few, same)) }
 lifted (failing k rows rule word) (h, found) =
     record {

@@ -6,7 +6,7 @@ use Rattle.refusal.specs.RefusalAnswers.{or-else, plain-unless, at-found}
 use Rattle.values.specs.Setup.{meetOf}
 use Rattle.values.specs.SetupTests.{events-test, values-test, entries-test, meet-test, kind-refusal, setup-refusal}
 use Rattle.formulas.specs.RuleReading.{lowest-from, kind-of, fields-fit, awaited, end-fault, first-of, node-of, nodes-from, with-parts, formulas}
-use Rattle.formulas.specs.RuleReading.{first-formula, formula-read, lowest-variable, unbound-below, closed-there}
+use Rattle.formulas.specs.RuleReading.{first-formula, formula-read, lowest-variable, unbound-below, bound-near}
 use Rattle.formulas.specs.RuleRefusal.{count-fits, variables-refusal, structure-refusal, misfit-place, nodes-refusal, rule-refusal, formula-of}
 use Rattle.machines.specs.TableRefusal.{table-test, entry-test, table-refusal}
 use Rattle.synthesis.specs.{FormulaTable.{formula-states, formula-table}, Compilation.{rule-table-refusal}}
@@ -21,7 +21,7 @@ use Rattle.marked_cases.proofs.Lifting.{Comparable, Coverable, Checked,
 all-checked : AllChecked cases × AllChecked request-cases
 unfolding AllChecked Checked Comparable Coverable rule-refusal formula-of or-else plain-unless at-found count-fits nodes-refusal misfit-place structure-refusal
     variables-refusal lowest-from kind-of fields-fit awaited end-fault first-of node-of nodes-from with-parts formulas first-formula formula-read
-    lowest-variable unbound-below closed-there meetOf meetAt four-value-meet empty only union table-refusal table-test entry-test every
+    lowest-variable unbound-below bound-near meetOf meetAt four-value-meet empty only union table-refusal table-test entry-test every
     closed-test idempotent-test commutative-test associative-test neutral-test lawful events-test values-test entries-test meet-test kind-refusal
     setup-refusal formula-states formula-table rule-table-refusal pair-table-refusal numeral row-line table-text answer-text outcome-text
 all-checked = (
@@ -40,7 +40,7 @@ all-checked = (
               (
                 refl,
                 (
-                  refl,
+                  (refl, refl, refl, refl),
                   (
                     refl,
                     (
@@ -89,7 +89,19 @@ all-checked = (
                         ((refl, refl, refl, refl), refl),
                         (
                           ((refl, refl, refl, refl), refl),
-                          (((refl, refl, refl, refl), refl), tt),
+                          (
+                            ((refl, refl, refl, refl), refl),
+                            (
+                              refl,
+                              (
+                                refl,
+                                (
+                                  refl,
+                                  ((refl, refl, refl, refl), tt),
+                                ),
+                              ),
+                            ),
+                          ),
                         ),
                       ),
                     ),

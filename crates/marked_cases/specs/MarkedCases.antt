@@ -1,5 +1,5 @@
--- Document 01, "Marked for proof": the twelve cases in its order, and what it is for a case to hold, by document 01's definitions; then cases of
--- our own for document 02's requests. Four-value set, two events.
+-- Document 01, "Marked for proof": the twelve cases in its order, the seventh as document 02 changes it, and what it is for a case to hold, by
+-- the documents' definitions; then cases of our own for document 02's requests. Four-value set, two events.
 use mathlib.Core.{Path.{_≡_}, Logic.{Lift}, List.{List, [], _∷_}, Option.{none, some}}
 use Prim.Native.Nat.{ℕ, zero, suc}
 use Rattle.theory.specs.ValueSets.{four-value-meet}
@@ -130,10 +130,10 @@ cases =
     -- 4. three states; event 1 repeated gives 3, then 1 for ever
     ∷ tabled («V» ∷ A ∷ G 1 ∷ O 1 1 ∷ G 1 ∷ X 0 ∷ []) 3 (3 ∷ 1 ∷ 3 ∷ 2 ∷ 3 ∷ 1 ∷ 3 ∷ 1 ∷ 3 ∷ 1 ∷ 1 ∷ 2 ∷ [])
     ∷ repeated («V» ∷ A ∷ G 1 ∷ O 1 1 ∷ G 1 ∷ X 0 ∷ []) 1 3 1
-    -- 5 to 9
+    -- 5 to 9; 7 is accepted, with three states (document 02, F-2)
     ∷ refused (X 0 ∷ []) (At 8 0)
     ∷ refused («V» ∷ X 0 ∷ []) (At 9 1)
-    ∷ refused («V» ∷ G 0 ∷ «V» ∷ A ∷ X 1 ∷ G 0 ∷ X 0 ∷ []) (At 9 4)
+    ∷ tabled («V» ∷ G 0 ∷ «V» ∷ A ∷ X 1 ∷ G 0 ∷ X 0 ∷ []) 3 (3 ∷ 1 ∷ 3 ∷ 2 ∷ 3 ∷ 1 ∷ 3 ∷ 2 ∷ 3 ∷ 2 ∷ 3 ∷ 2 ∷ [])
     ∷ refused (A ∷ T ∷ []) (At 7 2)
     ∷ refused (T ∷ T ∷ []) (At 7 1)
     -- 10. two states
@@ -166,6 +166,11 @@ request-cases =
     ∷ implying («V» ∷ A ∷ O 0 1 ∷ G 0 ∷ X 0 ∷ []) (A ∷ O 0 1 ∷ G 0 ∷ O 0 1 ∷ [])
     ∷ not-implying (A ∷ O 0 1 ∷ G 0 ∷ O 0 1 ∷ []) («V» ∷ A ∷ O 0 1 ∷ G 0 ∷ X 0 ∷ []) (0 ∷ 0 ∷ 0 ∷ [])
     ∷ implying (T ∷ []) (O 0 3 ∷ [])
+    -- F-2. no G between X1 and the first V; the G is above the V of X0; it is beside X0; and it protects X1 below an inner V
+    ∷ refused («V» ∷ «V» ∷ X 1 ∷ []) (At 9 2)
+    ∷ refused («V» ∷ G 0 ∷ «V» ∷ X 0 ∷ []) (At 9 3)
+    ∷ refused («V» ∷ A ∷ G 0 ∷ X 0 ∷ X 0 ∷ []) (At 9 4)
+    ∷ tabled («V» ∷ G 0 ∷ «V» ∷ X 1 ∷ []) 2 (3 ∷ 0 ∷ 3 ∷ 1 ∷ 3 ∷ 1 ∷ 3 ∷ 1 ∷ [])
     ∷ []
 
 unfoldable pub AllHold : List Case → Type 1

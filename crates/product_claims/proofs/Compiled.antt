@@ -8,7 +8,7 @@ use Rattle.theory.specs.{ValueSets.{MeetSemilattice, AtOrBelow}, Formula.{Formu
 use Rattle.theory.specs.MealyMachine.{Machine, Word, States, Runs, Satisfies}
 use Rattle.theory.specs.TableSatisfaction.{TableSatisfies}
 use Rattle.theory.specs.ReachableStates.{IsTableOf}
-use Rattle.theory.proofs.Claims.{grammar, answers, table-values, table-satisfaction}
+use Rattle.theory.proofs.Claims.{answers, table-values, table-satisfaction}
 use Rattle.refusal.specs.{declared.Refusal.{Refusal}, RefusalAnswers.{or-else, plain-unless}}
 use Rattle.refusal.specs.Refusal.{put, First, JudgedCall, counted-refusal, count-of}
 use Rattle.refusal.specs.RefusalAnswers.{put-unless}
@@ -85,7 +85,7 @@ module _ (s : Setup) (rule old : List ℕ) (accepted : compile-refusal state-lim
   there = accepted-formula-of (s .events) (s .kind) rule rule-fine
 
   pub well : WellFormed (s .events) (SetupValue s) φ₀
-  well = grammar ℕ node-limit (s .events) (SetupValue s) φ₀ (there .accepted)
+  well = there .accepted .well-formed
 
   pub obeys : MeetSemilattice (SetupValue s) meet (setup-top s)
   obeys = laws s (none-of .0)
@@ -233,7 +233,7 @@ module _ (s : Setup) (states start : ℕ) (table buffer : List ℕ)
   obeyed = laws s setup-fine
 
   sound : WellFormed (s .events) (SetupValue s) ψ
-  sound = grammar ℕ node-limit (s .events) (SetupValue s) ψ (made .rule-written .accepted)
+  sound = made .rule-written .accepted .well-formed
 
   read : formula-of (s .kind) bytes ≡ ψ
   read = sym (formula-of-only (s .kind) bytes ψ refl)

@@ -1,27 +1,27 @@
 -- When one rule covers another: by the theorem on implication, from the tables that `compile` stores. And rules joined by A.
 use mathlib.Core.{Path.{_≡_, refl, sym, _∙_, ap, ap₂, subst}, Bool.{Bool, true, false}, Logic.{_↔_, Iff·trans, _⊎_, inl, inr}}
-use mathlib.Core.{List.{List, _++_}, Option.{Option, none, some, Option·some-ne-none}}
-use Prim.Native.Nat.{ℕ, zero, _*_, _≤_, _<_}
+use mathlib.Core.{List.{List, _++_}, Option.{none, some, Option·some-ne-none}}
+use Prim.Native.Nat.{ℕ, zero, _≤_, _<_}
 use native.Mathlib.Omega.{arith}
 use borrow.Author.Tests.{leb-true, leb-false}
 use lib.{Dec.{leb}, ListN.{length}}
 use Rattle.theory.specs.{Formula.{Formula, conjunction, size, conjunction-node, nodes}, FormulaClasses.{WellFormed, Accepted}}
 use Rattle.theory.specs.{MealyMachine.{Word, after, Implies}, Evaluation.{value, formulas}}
-use Rattle.theory.proofs.{Claims.{grammar, answers, conjunction as conjunction-answers, implication}, Equations.{well-formed-conjunction}}
-use Rattle.refusal.specs.{declared.Refusal.{Refusal}, declared.Refusal.the-variants.{Plain}, RefusalAnswers.{or-else, plain-unless}}
+use Rattle.theory.proofs.{Claims.{answers, conjunction as conjunction-answers, implication}, Equations.{well-formed-conjunction}}
+use Rattle.refusal.specs.{declared.Refusal.{Refusal}, declared.Refusal.the-variants.{Plain}}
 use Rattle.refusal.specs.Refusal.{First, counted-refusal, count-of}
-use Rattle.refusal.proofs.{Refusals.{or-else-some, plain-some}, Answers.{counted-refusal-is, count-of-counted}}
+use Rattle.refusal.proofs.Answers.{count-of-counted}
 use Rattle.limits.specs.Limits.{node-limit, state-limit, device-limit, table-limit, word-limit}
 use Rattle.values.specs.{declared.ValueKind.{ValueKind}, Setup.{Setup, SetupValue, ValueIn, setup-meet, setup-top}, SetupTests.{setup-refusal}}
-use Rattle.machines.specs.TableBytes.{entry-width}
 use Rattle.formulas.specs.{RuleConditions.{encode-formula, node-width, node-bytes}, RuleRefusal.{rule-refusal, formula-of}}
 use Rattle.formulas.specs.Claims.{AcceptedFormula}
 use Rattle.formulas.proofs.{Encoding.{encode-append}, NodeCodes.{node-code}}
-use Rattle.formulas.proofs.RuleClaims.{rule-judged, accepted-formula-of, accepted-claim, formula-of-only, count-is}
-use Rattle.synthesis.specs.Compilation.{rule-table-refusal, setup-states, compile-refusal, compile-answer}
+use Rattle.formulas.proofs.RuleClaims.{rule-judged, accepted-claim, count-is}
+use Rattle.synthesis.specs.Compilation.{setup-states, compile-refusal, compile-answer}
 use Rattle.conformance.specs.{Trial.{refusal-of, Passed}, TrialAnswer.{trial-answer}}
 use Rattle.conformance.proofs.TrialClaims.{trial-refused}
 use Rattle.product_claims.specs.Requests.{cover-trial-input, rule-bytes, LetThrough, joined, HasValue, stored-value, Covering}
+use Rattle.product_claims.proofs.InnerBinders.{let-through, let-through-formula, refused-by}
 use Rattle.product_claims.proofs.Compiled.{for-rule, in-order, well, there, obeys, its-table, none-met, by-definition, stored-answers}
 
 -- ---- covering
@@ -61,13 +61,6 @@ module _ (s : Setup) where
   abbrev IsAccepted : Formula ℕ → Type 0
   IsAccepted = Accepted node-limit (s .events) (SetupValue s)
 
-  -- Bytes that 5 to 9 let through are those of a formula in order.
-  let-through : (rule : List ℕ) → LetThrough s rule → AcceptedFormula (s .events) (s .kind) rule (formula-of (s .kind) rule)
-  let-through rule h = accepted-formula-of (s .events) (s .kind) rule (sym (rule-judged (s .events) (s .kind) rule .only none h))
-
-  let-through-formula : (φ : Formula ℕ) → LetThrough s (rule-bytes s φ) → IsAccepted φ
-  let-through-formula φ h = subst IsAccepted (sym (formula-of-only (s .kind) (rule-bytes s φ) φ refl)) (let-through (rule-bytes s φ) h .accepted)
-
   abbrev Well : Formula ℕ → Type 0
   Well = WellFormed (s .events) (SetupValue s)
 
@@ -81,8 +74,8 @@ module _ (s : Setup) where
       (φ χ : Formula ℕ) → IsAccepted φ → IsAccepted χ → (w : List ℕ) (e : ℕ) →
       (b : ℕ) × (c : ℕ) × HasValue s φ w e b × HasValue s χ w e c × HasValue s (conjunction φ χ) w e (setup-meet s b c)
   values-meet φ χ a b w e =
-      let g : Well φ = grammar ℕ node-limit (s .events) (SetupValue s) φ a in
-      let h : Well χ = grammar ℕ node-limit (s .events) (SetupValue s) χ b in
+      let g = a .well-formed in
+      let h = b .well-formed in
       let both : Well (conjunction φ χ) = well-formed-conjunction (s .events) (SetupValue s) φ χ g h in
       let is : setup-meet s (value-of φ w e) (value-of χ w e) ≡ value-of (conjunction φ χ) w e
       = one-value (conjunction φ χ) both w e _ .0
@@ -98,7 +91,7 @@ module _ (s : Setup) where
   pub joined-values :
       (φ χ : Formula ℕ) → LetThrough s (rule-bytes s φ) → LetThrough s (rule-bytes s χ) → (w : List ℕ) (e : ℕ) →
       (b : ℕ) × (c : ℕ) × HasValue s φ w e b × HasValue s χ w e c × HasValue s (conjunction φ χ) w e (setup-meet s b c)
-  joined-values φ χ h h′ = values-meet φ χ (let-through-formula φ h) (let-through-formula χ h′)
+  joined-values φ χ h h′ = values-meet φ χ (let-through-formula s φ h) (let-through-formula s χ h′)
 
   joined-code :
       (first second : List ℕ) (φ χ : Formula ℕ) → first ≡ rule-bytes s φ → second ≡ rule-bytes s χ →
@@ -151,22 +144,8 @@ pub joined-refused :
     (s : Setup) (first second to : List ℕ) → setup-refusal s ≡ none → LetThrough s first → LetThrough s second →
     (r : Refusal) → counted-refusal (compile-answer state-limit s (joined s first second) to) ≡ some r →
     (r ≡ Plain 5) ⊎ ((r ≡ Plain 10) ⊎ (r ≡ Plain 13))
-unfolding compile-refusal rule-table-refusal
-joined-refused s first second to fine h h′ r met =
-    outer (or-else-some (setup-refusal s) (or-else from-rule room) r (sym (counted-refusal-is (compile-refusal state-limit s rule to) n) ∙ met))
+joined-refused s first second to fine h h′ r met = by (refused-by s (joined s first second) to fine r met)
   where
-    rule : List ℕ
-    rule = joined s first second
-
-    n : ℕ
-    n = setup-states state-limit s rule
-
-    from-rule : Option Refusal
-    from-rule = rule-table-refusal (s .kind) (s .events) (setup-top s) (s .meet) rule state-limit
-
-    room : Option Refusal
-    room = plain-unless (leb (n * s .events * entry-width (s .kind)) (length to)) 13
-
     x : AcceptedFormula (s .events) (s .kind) first (formula-of (s .kind) first)
     x = let-through s first h
 
@@ -180,27 +159,17 @@ joined-refused s first second to fine h h′ r met =
     sound limit l =
         record {
           within = l;
-          closed = (x .accepted .closed, y .accepted .closed);
-          position = (x .accepted .position, y .accepted .position);
-          fits = (x .accepted .fits, y .accepted .fits);
+          well-formed = well-formed-conjunction (s .events) (SetupValue s) _ _ (x .accepted .well-formed) (y .accepted .well-formed);
         }
 
-    code : rule ≡ rule-bytes s whole
+    code : joined s first second ≡ rule-bytes s whole
     code = joined-code s first second (formula-of (s .kind) first) (formula-of (s .kind) second) (x .written) (y .written)
 
-    inner :
-        (rule-refusal (s .events) (s .kind) rule ≡ some r) ⊎ (plain-unless (leb n state-limit) 10 ≡ some r) →
+    by :
+        (rule-refusal (s .events) (s .kind) (joined s first second) ≡ some r) ⊎ ((r ≡ Plain 10) ⊎ (r ≡ Plain 13)) →
         (r ≡ Plain 5) ⊎ ((r ≡ Plain 10) ⊎ (r ≡ Plain 13))
-    inner (inl e) = inl (only-5 (s .events) (s .kind) rule whole code sound r e)
-    inner (inr e) = inr (inl (plain-some (leb n state-limit) 10 r e .1))
-
-    middle : (from-rule ≡ some r) ⊎ (room ≡ some r) → (r ≡ Plain 5) ⊎ ((r ≡ Plain 10) ⊎ (r ≡ Plain 13))
-    middle (inl e) = inner (or-else-some (rule-refusal (s .events) (s .kind) rule) (plain-unless (leb n state-limit) 10) r e)
-    middle (inr e) = inr (inr (plain-some (leb (n * s .events * entry-width (s .kind)) (length to)) 13 r e .1))
-
-    outer : (setup-refusal s ≡ some r) ⊎ (or-else from-rule room ≡ some r) → (r ≡ Plain 5) ⊎ ((r ≡ Plain 10) ⊎ (r ≡ Plain 13))
-    outer (inl e) = absurd (Option·some-ne-none r (sym e ∙ fine))
-    outer (inr e) = middle (or-else-some from-rule room r e)
+    by (inl e) = inl (only-5 (s .events) (s .kind) (joined s first second) whole code sound r e)
+    by (inr e) = inr e
 
 pub covering : Covering
 covering =

@@ -1,4 +1,5 @@
 pub mod Compiled
+pub mod InnerBinders
 pub mod Covering
 pub mod Demands
 pub mod Requests

@@ -3,17 +3,35 @@
 use mathlib.Core.{Path.{_≡_}, Logic.{_↔_, _⊎_}, List.{List, _++_}, Option.{none, some}}
 use Prim.Native.Nat.{ℕ, zero, _*_, _≤_, _<_}
 use lib.ListN.{length, take}
-use Rattle.limits.specs.Limits.{state-limit, device-limit, table-limit, word-limit}
-use Rattle.theory.specs.{Formula.{Formula, conjunction, conjunction-node, Answers}, MealyMachine.{Machine, Word, after, Implies}}
+use Rattle.limits.specs.Limits.{node-limit, state-limit, device-limit, table-limit, word-limit}
+use Rattle.theory.specs.{Formula.{Formula, conjunction, size, conjunction-node, Answers}, MealyMachine.{Machine, Word, after, Implies}}
 use Rattle.refusal.specs.{declared.Refusal.{Refusal}, declared.Refusal.the-variants.{Plain}, Refusal.{First, counted-refusal, count-of}}
 use Rattle.values.specs.declared.{ValueKind.{ValueKind}, Comparison.{Comparison}}
-use Rattle.values.specs.{Setup.{Setup, SetupValue, setup-meet, setup-top, meetOf, ComparesAs}, SetupTests.{setup-refusal}, ValueTests.{comparison}}
+use Rattle.values.specs.{Setup.{Setup, SetupValue, ValueIn, setup-meet, setup-top, meetOf, ComparesAs}, SetupTests.{setup-refusal}, ValueTests.{comparison}}
 use Rattle.conformance.specs.declared.{Grade.the-variants.{Same, Stricter}, Verdict.{Verdict}}
 use Rattle.conformance.specs.{Trial.{TrialInput, DeviceInOrder, Passes, EndsSame, refusal-of, Passed, grade}, TrialAnswer.{trial-answer}}
 use Rattle.machines.specs.TableBytes.{entry-width, machine-of}
-use Rattle.formulas.specs.RuleConditions.{encode-formula, node-bytes, byte-conditions}
+use Rattle.formulas.specs.RuleConditions.{encode-formula, node-width, node-bytes, Unbound, Unprotected, NodeAtFault, byte-conditions}
 use Rattle.synthesis.specs.Compilation.{compile-answer, compile-contents}
 use Rattle.product_claims.specs.Demands.{rule-trial-input}
+
+-- A rule's bytes; 5 to 9 let bytes through.
+abbrev pub rule-bytes : Setup → Formula ℕ → List ℕ
+rule-bytes s φ = encode-formula (node-bytes (s .kind)) φ
+
+abbrev pub LetThrough : Setup → List ℕ → Type 0
+LetThrough s rule = First (byte-conditions (s .events) (s .kind) rule) none
+
+-- F-2: a variable under an inner binder. 9's condition, with its place, is that of RuleConditions.
+pub record InnerBinders : Type 0 where
+  -- "A variable is in order when a G lies between it and its own binder. Refusal 9 is given only where none does": where 5, 6 and 8 are
+  -- not met, a rule is let through exactly if each variable is in order
+  pub in-order : (s : Setup) (φ : Formula ℕ) → size φ ≤ node-limit →
+      ((i : ℕ) → ¬ NodeAtFault (node-width (s .kind)) (node-bytes (s .kind)) (rule-bytes s φ) (s .events) (ValueIn (s .kind)) i) →
+      ((i : ℕ) → ¬ Unbound φ i) → LetThrough s (rule-bytes s φ) ↔ ((i : ℕ) → ¬ Unprotected φ i)
+  -- "everything promised about rules covers the wider class": `compile` refuses what is let through by 10 and 13 alone
+  pub covered : (s : Setup) (rule to : List ℕ) → setup-refusal s ≡ none → LetThrough s rule →
+      (r : Refusal) → counted-refusal (compile-answer state-limit s rule to) ≡ some r → (r ≡ Plain 10) ⊎ (r ≡ Plain 13)
 
 -- From a state the machine gives the rule's value (source 000, section 3) on every event sequence.
 abbrev pub MatchesRule : Setup → Formula ℕ → Machine ℕ ℕ → ℕ → Type 0
@@ -46,13 +64,7 @@ abbrev pub cover-trial-input : Setup → List ℕ → List ℕ → ℕ → List 
 cover-trial-input s first to n second to′ k =
     rule-trial-input s second to′ k n zero (take (n * s .events * entry-width (s .kind)) (compile-contents state-limit s first to))
 
--- A rule's bytes; 5 to 9 let bytes through; two rules joined by A: its node, then theirs.
-abbrev pub rule-bytes : Setup → Formula ℕ → List ℕ
-rule-bytes s φ = encode-formula (node-bytes (s .kind)) φ
-
-abbrev pub LetThrough : Setup → List ℕ → Type 0
-LetThrough s rule = First (byte-conditions (s .events) (s .kind) rule) none
-
+-- Two rules joined by A: its node, then theirs.
 abbrev pub joined : Setup → List ℕ → List ℕ → List ℕ
 joined s first second = node-bytes (s .kind) conjunction-node ++ (first ++ second)
 
@@ -88,5 +100,6 @@ pub record Covering : Type 1 where
       (r ≡ Plain 5) ⊎ ((r ≡ Plain 10) ⊎ (r ≡ Plain 13))
 
 pub record Requests : Type 1 where
+  pub inner-binders : InnerBinders
   pub same-or-stricter : SameOrStricter
   pub covering : Covering

@@ -41,8 +41,8 @@ pub const NODE_FIELDS: u8 = 6;
 pub const NODE_TREE: u8 = 7;
 // 8: variable without binder; has a place.
 pub const UNBOUND_VARIABLE: u8 = 8;
-// 9: variable in a closed position; has a place.
-pub const CLOSED_VARIABLE: u8 = 9;
+// 9: variable with no G between it and its own binder (document 02, F-2); has a place.
+pub const UNPROTECTED_VARIABLE: u8 = 9;
 // 10: over 64 states, where the call makes a table.
 pub const STATE_COUNT: u8 = 10;
 // 23: more than twelve binders on a path (document 02, F-9).

@@ -6,7 +6,6 @@ use native.Mathlib.{Decide.{decLt}, Omega.{arith}}
 use borrow.Author.Tests.{lt-ltb, le-ltb, le-leb, lt-leb, leb-true}
 use lib.{Dec.{ltb, leb}, ListN.{length, getD, replicate, length-replicate, getD-replicate}, Seq.{ext-getD}}
 use Rattle.theory.specs.Formula.{size}
-use Rattle.theory.proofs.Claims.{grammar}
 use Rattle.refusal.specs.declared.{Refusal.{Refusal}, Counted.{Counted}, Judgement.{Judgement}}
 use Rattle.refusal.specs.declared.Refusal.the-variants.{Plain}
 use Rattle.refusal.specs.declared.Counted.the-variants.{Count, Refused}
@@ -14,7 +13,7 @@ use Rattle.refusal.specs.declared.Judgement.the-variants.{Accepted, Refused as 
 use Rattle.refusal.specs.RefusalAnswers.{or-else, plain-unless, judgement, counted}
 use Rattle.refusal.proofs.Refusals.{or-else-none, or-else-assoc, plain-none, counted-refused, judgement-refused, judgement-accepted}
 use Rattle.values.specs.declared.ValueKind.{ValueKind}
-use Rattle.values.specs.Setup.{ValueIn, meetOf, Setup, setup-top}
+use Rattle.values.specs.Setup.{meetOf, Setup, setup-top}
 use Rattle.values.specs.ValueTests.{value-fits}
 use Rattle.values.specs.SetupTests.{events-test, setup-refusal}
 use Rattle.formulas.specs.RuleConditions.{node-width}
@@ -214,7 +213,7 @@ module _ (limit : ℕ) (kind : ValueKind) (events top : ℕ) (table rule : List 
       tabled =
           let a = accepted-formula-of events kind rule rule-accepted in
           let d = decoded-reads kind rule (formula-of kind rule) (a .written) (a .accepted .within) in
-          let w = grammar ℕ node-limit events (ValueIn kind) (formula-of kind rule) (a .accepted) in
+          let w = a .accepted .well-formed in
           t (formula-of kind rule) (d .reads) (sym (d .counted)) (w .closed) (w .guarded)
 
       pub within-many : limit < n → refused (Plain 10) ≡ compiled-within limit kind events top table rule

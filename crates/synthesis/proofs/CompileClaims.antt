@@ -10,7 +10,7 @@ use Rattle.theory.specs.Formula.{Formula, size}
 use Rattle.theory.specs.FormulaClasses.{WellFormed}
 use Rattle.theory.specs.MealyMachine.{Machine}
 use Rattle.theory.specs.{ReachableStates.{IsTable, IsTableOf, StatesAtMost}, DemandSets.{set-machine, first-set}}
-use Rattle.theory.proofs.{Claims.{grammar, numbering, table-values}, SetMachine.{table-of-iff}}
+use Rattle.theory.proofs.{Claims.{numbering, table-values}, SetMachine.{table-of-iff}}
 use Rattle.refusal.specs.declared.Refusal.{Refusal}
 use Rattle.refusal.specs.declared.Refusal.the-variants.{Plain}
 use Rattle.refusal.specs.Refusal.{Condition, plain, First, has-place, part-of, order, condition-numbers, right-places}
@@ -73,7 +73,7 @@ module _ (meet : ℕ → ℕ → ℕ) (top events : ℕ) (kind : ValueKind) (lim
   there = accepted-formula-of events kind rule ok
 
   well : WellFormed events (ValueIn kind) φ₀
-  well = grammar ℕ node-limit events (ValueIn kind) φ₀ (there .accepted)
+  well = there .accepted .well-formed
 
   small : size φ₀ ≤ node-limit
   small = there .accepted .within

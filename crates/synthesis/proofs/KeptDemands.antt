@@ -3,14 +3,12 @@ use mathlib.Core.{Path.{_≡_, refl, _∙_, ap, ap₂, subst, subst⁻¹}, Logic
 use Prim.Native.Nat.{ℕ, suc, _+_, _≤_}
 use native.Mathlib.Omega.{arith}
 use lib.Dec.{T}
-use Rattle.limits.specs.Limits.{node-limit}
-use Rattle.values.specs.Setup.{ValueIn}
 use Rattle.theory.specs.Formula.{Formula, transition, greatest, size}
 use Rattle.theory.specs.FormulaClasses.{Guarded}
 use Rattle.theory.specs.Formula.{Stands, root, part-of-transition, left-part, right-part, part-of-greatest}
 use Rattle.theory.specs.ReachableStates.{NodeSet, Demands}
 use Rattle.theory.specs.DemandSets.{demands, moved}
-use Rattle.theory.proofs.{Binders.{binder-demands}, Demands.{demands-iff, is-next-set}, Claims.{grammar}}
+use Rattle.theory.proofs.{Binders.{binder-demands}, Demands.{demands-iff, is-next-set}}
 use Rattle.values.specs.declared.ValueKind.{ValueKind}
 use Rattle.formulas.specs.{NodeArrays.{decoded}, NodeReading.{Reads}, NodeWalks.{field}, RuleRefusal.{rule-refusal, formula-of}}
 use Rattle.formulas.specs.Claims.{AcceptedFormula}
@@ -125,7 +123,7 @@ module _ (events : ℕ) (kind : ValueKind) (rule stack binders rows : List ℕ) 
   reads₀ = decoded-reads kind rule φ₀ (there .written) (there .accepted .within) .reads
 
   guarded₀ : Guarded φ₀
-  guarded₀ = grammar ℕ node-limit events (ValueIn kind) φ₀ (there .accepted) .guarded
+  guarded₀ = there .accepted .well-formed .guarded
 
   filled₀ : RowsTo (decoded kind rule .kinds) binders (size φ₀) rows (size φ₀)
   filled₀ = subst (λ n. RowsTo (decoded kind rule .kinds) binders n rows n) counted (k .filled)
@@ -133,7 +131,7 @@ module _ (events : ℕ) (kind : ValueKind) (rule stack binders rows : List ℕ) 
   binds₀ : Binds (field binders) [] 0 φ₀
   unfolding AllBound
   binds₀ =
-      k .bound (field (decoded kind rule .values)) φ₀ [] reads₀ (omega (arith, counted)) (there .accepted .closed)
+      k .bound (field (decoded kind rule .values)) φ₀ [] reads₀ (omega (arith, counted)) (there .accepted .well-formed .closed)
       (record { deep = refl; at = λ k h. absurd (omega arith) })
 
   kept₀ : (i : ℕ) (bs : List ℕ) (ψ : Formula ℕ) → Stands φ₀ i bs ψ → (d : ℕ) → T (row rows i d) ↔ Demands φ₀ i d

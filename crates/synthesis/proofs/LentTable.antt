@@ -7,7 +7,6 @@ use lib.{Dec.{leb}, ListN.{length, getD}}
 use Rattle.theory.specs.Formula.{size}
 use Rattle.theory.specs.FormulaClasses.{WellFormed}
 use Rattle.theory.specs.MealyMachine.{States, Runs}
-use Rattle.theory.proofs.Claims.{grammar}
 use Rattle.refusal.specs.declared.{Refusal.{Refusal}, Counted.{Counted}}
 use Rattle.refusal.specs.declared.Refusal.the-variants.{Plain}
 use Rattle.refusal.specs.declared.Judgement.the-variants.{Accepted as AcceptedJudgement, Refused as RefusedJudgement}
@@ -74,9 +73,7 @@ module _ (s : Setup) (ok : setup-refusal s ≡ none) where
         (leb (rule-states (s .kind) (s .events) (setup-top s) (s .meet) rule limit) limit) 10) fine .1))
 
     pub formula-well-formed : WellFormed (s .events) (ValueIn (s .kind)) (formula-of (s .kind) rule)
-    formula-well-formed =
-        grammar ℕ node-limit (s .events) (ValueIn (s .kind)) (formula-of (s .kind) rule)
-        (accepted-formula-of (s .events) (s .kind) rule rule-fine .accepted)
+    formula-well-formed = accepted-formula-of (s .events) (s .kind) rule rule-fine .accepted .well-formed
 
     pub formula-small : size (formula-of (s .kind) rule) ≤ node-limit
     formula-small = accepted-formula-of (s .events) (s .kind) rule rule-fine .accepted .within

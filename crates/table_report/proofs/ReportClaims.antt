@@ -3,10 +3,9 @@ use Prim.Native.Nat.{ℕ, _*_, _/_, _%_, _≤_, _<_}
 use mathlib.Core.{Path.{_≡_, refl, sym, ap, ap₂, _∙_, subst}, List.{List, _++_}, Option.{Option, none, some}}
 use native.Mathlib.{Omega.{arith}, Nat.{mod-lt, div-lt-iff-lt-mul}}
 use Rattle.theory.specs.{Formula.{Formula}, MealyMachine.{Machine}, DemandSets.{set-machine, first-set}, ReachableStates.{IsTableOf}}
-use Rattle.theory.proofs.{Claims.{grammar, numbering}, SetMachine.{table-of-iff}}
+use Rattle.theory.proofs.{Claims.{numbering}, SetMachine.{table-of-iff}}
 use Rattle.refusal.specs.declared.Refusal.{Refusal}
 use Rattle.refusal.specs.Refusal.{First}
-use Rattle.limits.specs.Limits.{node-limit}
 use Rattle.values.specs.declared.ValueKind.{ValueKind}
 use Rattle.values.specs.Setup.{ValueIn, Setup, setup-meet, setup-top}
 use Rattle.text_format.specs.Format.{Outcome, contents, refused}
@@ -70,7 +69,7 @@ module _ (s : Setup) (rule : List ℕ) where
   unfolding table-text
   one-table n k t u some-events x y =
       let φ = x .formula in
-      let well = grammar ℕ node-limit events (ValueIn kind) φ (x .code .accepted) in
+      let well = x .code .accepted .well-formed in
       let same = numbering (ValueIn kind) meet top events _ (set-machine meet top φ) (first-set φ) .1 n k t u
       (table-of-iff meet top φ (well .guarded) events n t .0 (x .is-table))
       (table-of-iff meet top φ (well .guarded) events k u .0

@@ -5,7 +5,7 @@ use native.Mathlib.Omega.{arith}
 use lib.ListN.{length, getD, length-map}
 use Rattle.theory.specs.ValueSets.{MeetSemilattice}
 use Rattle.theory.specs.Formula.{Formula, size}
-use Rattle.theory.specs.FormulaClasses.{binders, WellFormed, Accepted}
+use Rattle.theory.specs.FormulaClasses.{binders, WellFormed}
 use Rattle.theory.specs.MealyMachine.{Machine, after}
 use Rattle.theory.specs.ReachableStates.{state-at}
 use Rattle.theory.specs.CharacteristicFormula.{Writes}
@@ -15,7 +15,7 @@ use Rattle.theory.specs.{Exploration.{same-bits, bit-machine, first-bits
 use Rattle.theory.proofs.{SemanticsEquality.{answers-claim}, SetMachine.{table-of-iff}}
 use Rattle.theory.proofs.{ExploredStates.{in-order, explored-words, explored-different}, BitSets.{same-bits-iff, same-as-bits}}
 use Rattle.theory.proofs.TableClaims.{table-claim}
-use Rattle.theory.proofs.CharacteristicFormula.{writes-tree, writes-one, written-writes, writes-accepted, writes-well-formed, writes-size}
+use Rattle.theory.proofs.CharacteristicFormula.{writes-tree, writes-one, written-writes, root-position, writes-well-formed, writes-size}
 use Rattle.theory.proofs.{CharacteristicValues.{writes-values}, CharacteristicTable.{states-at-most, table-count}}
 
 module _ {B : Type 0} (In : B → Type 0) (meet : B → B → B) (top : B) (laws : MeetSemilattice In meet top) (events : ℕ) where
@@ -53,13 +53,12 @@ module _ {B : Type 0} (In : B → Type 0) (meet : B → B → B) (top : B) (laws
   characteristic-claim n last m ev runs s l =
       let φ : Formula B = written m n last s in
       let w : Writes m events [] s φ = written-writes m events In n runs last ev s l in
-      let a : Accepted (size φ) events In φ = writes-accepted m events In n runs (size φ) w l (omega arith) in
       let g : WellFormed events In φ = writes-well-formed m events In n runs w l in (
         w,
         (λ χ v. writes-one m events v w),
-        a .closed,
-        a .position,
-        a .fits,
+        g .closed,
+        root-position m events (writes-tree m events w),
+        g .fits,
         (λ v h e u. answers-claim In meet top events φ g v e (m .value (after m s v) e) .1
             (sym (writes-values m events In n runs meet top laws w l v h e u))),
         writes-size m events w,

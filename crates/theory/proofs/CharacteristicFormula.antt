@@ -13,7 +13,7 @@ use Rattle.theory.specs.MealyMachine.{Machine, States, Runs}
 use Rattle.theory.specs.CharacteristicFormula.{OpenAt, here, above, Writes, already-open, opened, Rows, last-row, row}
 use Rattle.theory.specs.FormulaWriting.{one-more, open-at, variable-or}
 use Rattle.theory.specs.FormulaWriting.{rows, write, written}
-use Rattle.theory.proofs.{Substitution.{accepted-well-formed}, DistinctLists.{Distinct, distinct-below}}
+use Rattle.theory.proofs.{Substitution.{closed-position-guarded}, DistinctLists.{Distinct, distinct-below}}
 
 -- ---- where a state is open on a path
 pub open-one : {s : ℕ} {path : List ℕ} {i j : ℕ} → OpenAt s path i → OpenAt s path j → i ≡ j
@@ -235,7 +235,7 @@ module _ {B : Type 0} (m : Machine ℕ B) (events : ℕ) where
       pub written-writes : (s : ℕ) → s < n → Writes m events [] s (written m n last s)
       written-writes s l = write-writes n [] tt (λ t i. absurd (List·Memᴰ·not-nil i)) (omega arith) s l
 
-  -- A formula that is written at the root is a V.
+  -- A formula that is written at the root is a V, of the grammar.
   pub root-position : {s : ℕ} {φ : Formula B} → Tree [] s φ → ClosedPosition φ
   root-position (bound o) = elim o [ ]
   root-position (binding c r) = branches-position r
@@ -259,18 +259,17 @@ module _ {B : Type 0} (m : Machine ℕ B) (events : ℕ) where
   few-binders last ev {φ = φ} w h =
       omega (arith, binders-size last ev w, ap (λ x. x * binders φ) ev, suc-mul last (binders φ))
 
--- Each formula written for a state of a table is accepted, where it is not over the limit of nodes.
+-- Each formula written for a state of a table is well-formed, and accepted where it is not over the limit of nodes.
 module _ {B : Type 0} (m : Machine ℕ B) (events : ℕ) (In : B → Type 0) (n : ℕ) (runs : Runs events In (States n) m) where
-  pub writes-accepted :
-      (nodes : ℕ) {s : ℕ} {φ : Formula B} → Writes m events [] s φ → s < n → size φ ≤ nodes → Accepted nodes events In φ
-  writes-accepted nodes w l h =
+  pub writes-well-formed : {s : ℕ} {φ : Formula B} → Writes m events [] s φ → s < n → WellFormed events In φ
+  writes-well-formed {φ = φ} w l =
       let t = writes-tree m events w in
       record {
-        within = h;
         closed = tree-free m events t;
-        position = root-position m events t;
+        guarded = closed-position-guarded φ (root-position m events t);
         fits = tree-fits m events In n runs t l;
       }
 
-  pub writes-well-formed : {s : ℕ} {φ : Formula B} → Writes m events [] s φ → s < n → WellFormed events In φ
-  writes-well-formed {φ = φ} w l = accepted-well-formed (size φ) events In φ (writes-accepted (size φ) w l (omega arith))
+  pub writes-accepted :
+      (nodes : ℕ) {s : ℕ} {φ : Formula B} → Writes m events [] s φ → s < n → size φ ≤ nodes → Accepted nodes events In φ
+  writes-accepted nodes w l h = record { within = h; well-formed = writes-well-formed w l }

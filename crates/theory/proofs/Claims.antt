@@ -4,14 +4,14 @@ use Rattle.theory.specs.ValueSets.{MeetSemilattice}
 use Rattle.theory.specs.Claims.{GrammarClaim, SemanticsClaim, AnswersClaim, ConjunctionClaim, SimulationClaim, NumberingClaim, TableSimulationClaim}
 use Rattle.theory.specs.Claims.{SatisfactionClaim, TableSatisfactionClaim, DemandClaim, DemandValuesClaim, TableClaim, TableValuesClaim}
 use Rattle.theory.specs.Claims.{CharacteristicClaim, ConformanceClaim, OneFirstWordClaim, SameValuesClaim, TrialClaim, ImplicationClaim}
-use Rattle.theory.proofs.{Substitution.{accepted-well-formed}, SemanticsEquality.{semantics-claim, answers-claim, conjunction-claim}}
+use Rattle.theory.proofs.{Substitution.{closed-position-guarded}, SemanticsEquality.{semantics-claim, answers-claim, conjunction-claim}}
 use Rattle.theory.proofs.{Simulation.{simulation-claim}, Satisfaction.{satisfaction-claim}, TableSatisfaction.{table-satisfaction-claim}}
 use Rattle.theory.proofs.{DemandClaims.{demand-claim, demand-values-claim}, TableClaims.{numbering-claim, table-claim, table-values-claim}}
 use Rattle.theory.proofs.{CharacteristicClaims.{characteristic-claim}, Trial.{trial-claim}, Implication.{implication-claim}}
 use Rattle.theory.proofs.ConformanceClaims.{table-simulation-claim, conformance-claim, one-first-word-claim, same-values-claim}
 
 pub grammar : GrammarClaim
-grammar B limit events In φ = accepted-well-formed limit events In φ
+grammar B φ = closed-position-guarded φ
 
 module _ {B : Type 0} (In : B → Type 0) (meet : B → B → B) (top : B) (events : ℕ) where
   pub semantics : SemanticsClaim In meet top events

@@ -5,8 +5,7 @@ use native.Mathlib.{Nat.{lt-of-lt-of-le}, Omega.{arith}}
 use lib.Dec.{eqb}
 use borrow.Author.Tests.{eqb-true, eqb-false, eq-eqb, ne-eqb}
 use Rattle.theory.specs.Formula.{Formula, truth, variable, transition, output, conjunction, greatest, substitute}
-use Rattle.theory.specs.FormulaClasses.{FreeBelow, Closed, OpenPosition}
-use Rattle.theory.specs.FormulaClasses.{ClosedPosition, GuardedIn, Guarded, Fits, WellFormed, Accepted}
+use Rattle.theory.specs.FormulaClasses.{FreeBelow, Closed, OpenPosition, ClosedPosition, GuardedIn, Guarded, Fits}
 use Rattle.theory.specs.Evaluation.{unguarded-depth}
 
 module _ {B : Type 0} where
@@ -130,9 +129,3 @@ module _ {B : Type 0} where
     closed-position-guarded (output e b) h = tt
     closed-position-guarded (conjunction φ χ) h = (closed-position-guarded φ (h .0), closed-position-guarded χ (h .1))
     closed-position-guarded (greatest φ) h = (closed-position-guards zero φ h, closed-position-guarded φ h)
-
-  -- The grammar's class lies in the wider one.
-  pub accepted-well-formed :
-      (nodes events : ℕ) (In : B → Type 0) (φ : Formula B) → Accepted nodes events In φ → WellFormed events In φ
-  accepted-well-formed nodes events In φ a =
-      record { closed = a .closed; guarded = closed-position-guarded φ (a .position); fits = a .fits }

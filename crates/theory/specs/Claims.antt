@@ -3,7 +3,7 @@ use mathlib.Core.{Path.{_≡_}, Bool.{Bool}, Logic.{_↔_, _⊎_}, List.{List, [
 use Prim.Native.Nat.{ℕ, zero, suc, _+_, _*_, _≤_, _<_}
 use lib.{Dec.{T}, ListN.{length}}
 use Rattle.theory.specs.{ValueSets.{MeetSemilattice, AtOrBelow}, Formula.{Formula, transition, output, conjunction, size, Steps, Answers, Stands}}
-use Rattle.theory.specs.FormulaClasses.{binders, Closed, ClosedPosition, Fits, WellFormed, Accepted}
+use Rattle.theory.specs.FormulaClasses.{binders, Closed, ClosedPosition, Guarded, Fits, WellFormed}
 use Rattle.theory.specs.MealyMachine.{Machine, Word, after, States, Runs, Simulated, SameValues, FirstCounterexample, Satisfies, Implies}
 use Rattle.theory.specs.{MachineRuns.{SimulatedTable, BelowOnWords}, TableSatisfaction.{TableSatisfies}}
 use Rattle.theory.specs.{ReachableStates.{NodeSet, IsSetMachine, Numbering, IsTable, IsTableOf, StatesAtMost}, CharacteristicFormula.{Writes}}
@@ -19,9 +19,7 @@ module _ {B : Type 0} (φ : Formula B) where
 
 -- The grammar's class lies in the wider guarded class.
 abbrev pub GrammarClaim : Type 1
-GrammarClaim =
-    (B : Type 0) (limit events : ℕ) (In : B → Type 0) (φ : Formula B) →
-    Accepted limit events In φ → WellFormed events In φ
+GrammarClaim = (B : Type 0) (φ : Formula B) → ClosedPosition φ → Guarded φ
 
 -- For any carrier, meet and top: no law of meet is needed here.
 module _ {B : Type 0} (In : B → Type 0) (meet : B → B → B) (top : B) (events : ℕ) where

@@ -1,4 +1,4 @@
--- Classes of formulas: closed, of the grammar, guarded, within a set-up. What 5 to 9 let through is `Accepted`; document 01's own sentences
+-- Classes of formulas: closed, of the grammar, guarded, within a set-up. What 5 to 9 let through is `Accepted`; the papers' own sentences
 -- are the conditions of `formulas`, and its claims say that the two agree.
 use mathlib.Core.Path.{_≡_}
 use Prim.Native.Nat.{ℕ, zero, suc, _+_, _≤_, _<_}
@@ -27,7 +27,7 @@ module _ {B : Type 0} where
   abbrev pub Closed : Formula B → Type 0
   Closed φ = FreeBelow zero φ
 
-  -- The grammar's two kinds of position. The root and the part of V are closed to a variable; the part of G is open to it;
+  -- The grammar's two kinds of position (source 000, definition 3). The root and the part of V are closed to a variable; the part of G is open to it;
   -- the parts of A are as A is. `OpenPosition φ`: φ may stand at an open position.
   abbrev mutual
     pub OpenPosition : Formula B → Type 0
@@ -55,7 +55,7 @@ module _ {B : Type 0} where
   GuardedIn k (conjunction φ χ) = GuardedIn k φ × GuardedIn k χ
   GuardedIn k (greatest φ) = GuardedIn (suc k) φ
 
-  -- The wider class of document 02, F-2: a transition lies between each variable and its own binder.
+  -- Document 02, F-2: a transition lies between each variable and its own binder. Wider than the grammar's class.
   abbrev pub Guarded : Formula B → Type 0
   Guarded truth = Unit {0}
   Guarded (variable n) = Unit {0}
@@ -73,15 +73,13 @@ module _ {B : Type 0} where
   Fits events In (conjunction φ χ) = Fits events In φ × Fits events In χ
   Fits events In (greatest φ) = Fits events In φ
 
--- What the theorems ask of a formula: closed, of the wider guarded class, within the set-up.
+-- What the theorems ask of a formula: closed, guarded, within the set-up.
 pub record WellFormed {B : Type 0} (events : ℕ) (In : B → Type 0) (φ : Formula B) : Type 0 where
   pub closed : Closed φ
   pub guarded : Guarded φ
   pub fits : Fits events In φ
 
--- What refusals 5 to 9 let through: also at most so many nodes, and of the grammar.
+-- What refusals 5 to 9 let through: also at most so many nodes.
 pub record Accepted {B : Type 0} (nodes events : ℕ) (In : B → Type 0) (φ : Formula B) : Type 0 where
   pub within : size φ ≤ nodes
-  pub closed : Closed φ
-  pub position : ClosedPosition φ
-  pub fits : Fits events In φ
+  pub well-formed : WellFormed events In φ

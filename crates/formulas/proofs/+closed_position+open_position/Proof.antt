@@ -1,7 +1,7 @@
 -- `closed_position` and `open_position` meet their contracts: one step of the walk for each kind of node. The measure is the number of
 -- nodes left.
 use Rattle.formulas.specs.NodeWalks.{Keeps}
-use lib.ListN.{getD}
+use lib.ListN.{getD, set}
 use mathlib.Core.{Option.{none, some}, Bool.{cond}, Path.{subst}}
 use Rattle.formulas.proofs.Walking.{scanned-none, scanned-leaf, scanned-closed-variable, scanned-open-variable, scanned-transition, scanned-greatest}
 use Rattle.formulas.proofs.Walking.{scanned-conjunction}
@@ -15,6 +15,7 @@ use Rattle.formulas.proofs.+closed_position+open_position.Lts-closed_po
 use Rattle.formulas.proofs.open_position.Reads as open-position
 use Rattle.formulas.proofs.open_position.Kinds as open-position-kinds
 use Rattle.formulas.proofs.+closed_position+open_position.Lts-open_position as open-position-lts
+use Rattle.formulas.proofs.bound_near.Reads as bound-near-reads
 use Rattle.formulas.proofs.noted.Reads as noted-reads
 use Rattle.formulas.proofs.unbound.Reads as unbound-reads
 use Rattle.formulas.proofs.+closed_position+open_position.{statement}
@@ -59,6 +60,8 @@ closed-position-returns : (t : ℕ) → closed-position-lts.Need-returns (
   unbound-reads.Learnt,
   noted-reads.Asked,
   noted-reads.Learnt,
+  bound-near-reads.Asked,
+  bound-near-reads.Learnt,
   open-position-below t,
   open-position.Post,
   closed-position-below t,
@@ -72,6 +75,8 @@ closed-position-element-copy-out-unbound :
       unbound-reads.Learnt,
       noted-reads.Asked,
       noted-reads.Learnt,
+      bound-near-reads.Asked,
+      bound-near-reads.Learnt,
       open-position-below t,
       open-position.Post,
       closed-position-below t,
@@ -85,6 +90,8 @@ closed-position-element-copy-out-noted-2 :
       unbound-reads.Learnt,
       noted-reads.Asked,
       noted-reads.Learnt,
+      bound-near-reads.Asked,
+      bound-near-reads.Learnt,
       open-position-below t,
       open-position.Post,
       closed-position-below t,
@@ -97,22 +104,29 @@ closed-position-returns-2 : (t : ℕ) → closed-position-lts.Need-returns-2 (
   unbound-reads.Learnt,
   noted-reads.Asked,
   noted-reads.Learnt,
+  bound-near-reads.Asked,
+  bound-near-reads.Learnt,
   open-position-below t,
   open-position.Post,
   closed-position-below t,
   closed-position.Post,
 ) (closed-position-at t) closed-position.Post
-closed-position-returns-2 t c = let a = c .before .before .before .before .before .before .before .before .before .args in
-    scanned-closed-variable _ _ _ _ _ _ (c .before .before .before .before .before .before .before .before .if1 .left) (search needs)
-    (c .before .before .before .before .before .before .if2 .taken) _ _
-    (subst (λ x. Keeps (cond x (some (a .at)) none) (getD (a .faults .now) 0 0) (c .before .before .noted .result))
-    (c .before .before .before .unbound .ensures) (c .before .before .noted .ensures)) (c .noted2 .ensures)
+closed-position-returns-2 t c = let a = c .before .before .before .before .before .before .before .before .before .before .before .args in
+    let n = c .before .before .before .before .noted in
+    scanned-closed-variable _ _ _ _ _ _ (c .before .before .before .before .before .before .before .before .before .before .if1 .left) (search needs)
+    (c .before .before .before .before .before .before .before .before .if2 .taken) _ _ _
+    (subst (λ x. Keeps (cond x (some (a .at)) none) (getD (a .faults .now) 0 0) (n .result)) (c .before .before .before .before .before .unbound .ensures)
+    (n .ensures))
+    (subst (λ x. Keeps (cond x (some (a .at)) none) (getD (set (a .faults .now) 0 (n .result)) 1 0) (c .noted2 .result)) (c .before .bound-near .ensures)
+    (c .noted2 .ensures))
 
 closed-position-returns-3 : (t : ℕ) → closed-position-lts.Need-returns-3 (
   unbound-reads.Asked,
   unbound-reads.Learnt,
   noted-reads.Asked,
   noted-reads.Learnt,
+  bound-near-reads.Asked,
+  bound-near-reads.Learnt,
   open-position-below t,
   open-position.Post,
   closed-position-below t,
@@ -127,6 +141,8 @@ closed-position-closed-position-requires :
       unbound-reads.Learnt,
       noted-reads.Asked,
       noted-reads.Learnt,
+      bound-near-reads.Asked,
+      bound-near-reads.Learnt,
       open-position-below t,
       open-position.Post,
       closed-position-below t,
@@ -140,6 +156,8 @@ closed-position-closed-position-requires-2 :
       unbound-reads.Learnt,
       noted-reads.Asked,
       noted-reads.Learnt,
+      bound-near-reads.Asked,
+      bound-near-reads.Learnt,
       open-position-below t,
       open-position.Post,
       closed-position-below t,
@@ -152,6 +170,8 @@ closed-position-returns-4 : (t : ℕ) → closed-position-lts.Need-returns-4 (
   unbound-reads.Learnt,
   noted-reads.Asked,
   noted-reads.Learnt,
+  bound-near-reads.Asked,
+  bound-near-reads.Learnt,
   open-position-below t,
   open-position.Post,
   closed-position-below t,
@@ -167,6 +187,8 @@ closed-position-closed-position-requires-3 :
       unbound-reads.Learnt,
       noted-reads.Asked,
       noted-reads.Learnt,
+      bound-near-reads.Asked,
+      bound-near-reads.Learnt,
       open-position-below t,
       open-position.Post,
       closed-position-below t,
@@ -179,6 +201,8 @@ closed-position-returns-5 : (t : ℕ) → closed-position-lts.Need-returns-5 (
   unbound-reads.Learnt,
   noted-reads.Asked,
   noted-reads.Learnt,
+  bound-near-reads.Asked,
+  bound-near-reads.Learnt,
   open-position-below t,
   open-position.Post,
   closed-position-below t,
@@ -192,6 +216,8 @@ closed-position-returns-6 : (t : ℕ) → closed-position-lts.Need-returns-6 (
   unbound-reads.Learnt,
   noted-reads.Asked,
   noted-reads.Learnt,
+  bound-near-reads.Asked,
+  bound-near-reads.Learnt,
   open-position-below t,
   open-position.Post,
   closed-position-below t,
@@ -287,6 +313,8 @@ pub +closed-position+open-position-spec : {M : Type 1} → statement M
       unbound-reads.Learnt,
       noted-reads.Asked,
       noted-reads.Learnt,
+      bound-near-reads.Asked,
+      bound-near-reads.Learnt,
       open-position-below t,
       open-position.Post,
       closed-position-below t,
@@ -302,6 +330,8 @@ pub +closed-position+open-position-spec : {M : Type 1} → statement M
     (λ c κs. search needs)
     (λ c. search needs)
     (closed-position-element-copy-out-noted-2 t)
+    (λ c. search needs)
+    (λ c κs. search needs)
     (λ c κs. search needs)
     (λ c. search needs)
     (λ c. search needs)
@@ -317,6 +347,7 @@ pub +closed-position+open-position-spec : {M : Type 1} → statement M
     (λ c. search needs)
     (closed-position-closed-position-requires-2 t)
     (closed-position-returns-4 t)
+    (λ c. search needs)
     (λ c. search needs)
     (λ c. search needs)
     (λ c. search needs)
