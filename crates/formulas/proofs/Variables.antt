@@ -159,16 +159,38 @@ module _ {B : Type 0} (φ : Formula B) where
       answered-as (FaultIn unbound-below (λ d. d) suc 0 0 φ) (Unbound φ) fault-unbound unbound-fault (lowest-unbound 0 0 φ)
       (lowest-answered unbound-below (λ d. d) suc 0 0 φ)
 
+-- The state that the marks on the way down lead to; each part that stands below marks is reached with it.
+module _ {S : Type 0} (below-transition below-greatest : S → S) (start : S) where
+  abbrev state-below : List Mark → S
+  state-below [] = start
+  state-below (binder-mark ∷ ms) = below-greatest (state-below ms)
+  state-below (transition-mark ∷ ms) = below-transition (state-below ms)
+
+  module _ {B : Type 0} (faulty : S → ℕ → Bool) (φ : Formula B) where
+    abbrev ReachedHere : ℕ → S → Formula B → Type 0
+    ReachedHere = Reached faulty below-transition below-greatest start φ
+
+    placed-reached : {i : ℕ} {ms : List Mark} {ψ : Formula B} → Placed φ i ms ψ → ReachedHere i (state-below ms) ψ
+    placed-reached placed-root = root
+    placed-reached (placed-transition r) = in-transition (placed-reached r)
+    placed-reached (placed-left r) = in-left (placed-reached r)
+    placed-reached (placed-right r) = in-right (placed-reached r)
+    placed-reached (placed-greatest r) = in-greatest (placed-reached r)
+
+    reached-placed : {i : ℕ} {s : S} {ψ : Formula B} → ReachedHere i s ψ → (ms : List Mark) × (state-below ms ≡ s) × Placed φ i ms ψ
+    reached-placed root = ([], refl, placed-root)
+    reached-placed (in-transition r) =
+        let w = reached-placed r in (transition-mark ∷ w .0, ap below-transition (w .1), placed-transition (w .2))
+    reached-placed (in-left r) = let w = reached-placed r in (w .0, w .1, placed-left (w .2))
+    reached-placed (in-right r) = let w = reached-placed r in (w .0, w .1, placed-right (w .2))
+    reached-placed (in-greatest r) = let w = reached-placed r in (binder-mark ∷ w .0, ap below-greatest (w .1), placed-greatest (w .2))
+
 -- 9: the state is the number of binders since the last transition.
 abbrev near-binders : List Mark → ℕ
-near-binders [] = zero
-near-binders (binder-mark ∷ ms) = suc (near-binders ms)
-near-binders (transition-mark ∷ ms) = zero
+near-binders = state-below (λ x. zero) suc zero
 
 abbrev all-binders : List Mark → ℕ
-all-binders [] = zero
-all-binders (binder-mark ∷ ms) = suc (all-binders ms)
-all-binders (transition-mark ∷ ms) = all-binders ms
+all-binders = state-below (λ d. d) suc zero
 
 -- A variable whose own binder is near is not protected; any other that has a binder is.
 near-unprotected : (ms : List Mark) (n : ℕ) → n < near-binders ms → ¬ Protected ms n
@@ -182,38 +204,14 @@ far-protected (binder-mark ∷ ms) zero h l = absurd (omega (arith, h))
 far-protected (binder-mark ∷ ms) (suc n) h l = past-binder (far-protected ms n (omega (arith, h)) (omega (arith, l)))
 
 module _ {B : Type 0} (φ : Formula B) where
-  abbrev BelowNear : ℕ → ℕ → Formula B → Type 0
-  BelowNear = Reached bound-near (λ x. zero) suc 0 φ
-
   abbrev pub NearFault : ℕ → Type 0
   NearFault = FaultIn bound-near (λ x. zero) suc 0 0 φ
-
-  placed-near : {i : ℕ} {ms : List Mark} {ψ : Formula B} → Placed φ i ms ψ → BelowNear i (near-binders ms) ψ
-  placed-near placed-root = root
-  placed-near (placed-transition r) = in-transition (placed-near r)
-  placed-near (placed-left r) = in-left (placed-near r)
-  placed-near (placed-right r) = in-right (placed-near r)
-  placed-near (placed-greatest r) = in-greatest (placed-near r)
-
-  near-placed : {i d : ℕ} {ψ : Formula B} → BelowNear i d ψ → (ms : List Mark) × (near-binders ms ≡ d) × Placed φ i ms ψ
-  near-placed root = ([], refl, placed-root)
-  near-placed (in-transition r) = let w = near-placed r in (transition-mark ∷ w .0, refl, placed-transition (w .2))
-  near-placed (in-left r) = let w = near-placed r in (w .0, w .1, placed-left (w .2))
-  near-placed (in-right r) = let w = near-placed r in (w .0, w .1, placed-right (w .2))
-  near-placed (in-greatest r) = let w = near-placed r in (binder-mark ∷ w .0, ap suc (w .1), placed-greatest (w .2))
-
-  placed-below : {i : ℕ} {ms : List Mark} {ψ : Formula B} → Placed φ i ms ψ → BelowBinders φ i (all-binders ms) ψ
-  placed-below placed-root = root
-  placed-below (placed-transition r) = in-transition (placed-below r)
-  placed-below (placed-left r) = in-left (placed-below r)
-  placed-below (placed-right r) = in-right (placed-below r)
-  placed-below (placed-greatest r) = in-greatest (placed-below r)
 
   pub fault-unprotected : (j : ℕ) → NearFault j → Unprotected φ j
   unfolding bound-near
   fault-unprotected j f =
       let w = fault-down bound-near (λ x. zero) suc 0 φ φ root j f in
-      let v = near-placed (w .2) in
+      let v = reached-placed (λ x. zero) suc zero bound-near φ (w .2) in
       (v .0, w .1, v .2, near-unprotected (v .0) (w .1) (subst (λ d. w .1 < d) (sym (v .1)) (ltb-true (w .1) (w .0) (w .3))))
 
   -- Where every variable has a binder.
@@ -224,12 +222,13 @@ module _ {B : Type 0} (φ : Formula B) where
         go : (b : Bool) → ltb n (all-binders ms) ≡ b → n < all-binders ms
         go true e = ltb-true n (all-binders ms) e
         go false e =
-            let w = below-stands φ (placed-below r) in
+            let w = below-stands φ (placed-reached (λ d. d) suc zero unbound-below φ r) in
             absurd (bound j (w .0, n, w .2, subst (λ d. d ≤ n) (sym (w .1)) (ltb-false n (all-binders ms) e)))
 
     pub unprotected-fault : (j : ℕ) → Unprotected φ j → NearFault j
     unfolding bound-near
-    unprotected-fault j (ms, n, r, u) = fault-up bound-near (λ x. zero) suc 0 φ (placed-near r) j (refl, go (ltb n (near-binders ms)) refl)
+    unprotected-fault j (ms, n, r, u) =
+        fault-up bound-near (λ x. zero) suc 0 φ (placed-reached (λ x. zero) suc zero bound-near φ r) j (refl, go (ltb n (near-binders ms)) refl)
       where
         go : (b : Bool) → ltb n (near-binders ms) ≡ b → ltb n (near-binders ms) ≡ true
         go true e = e
@@ -268,7 +267,7 @@ module _ {B : Type 0} where
   below-free (conjunction φ χ) d i h j (inr f) = below-free χ d (suc i + size φ) (h .1) j f
   below-free (greatest φ) d i h j f = below-free φ (suc d) (suc i) h j f
 
-  -- No variable is without a transition below its own binder exactly if the formula is guarded, in the near binders too.
+  -- No variable has its own binder near exactly if the formula is guarded, also in the variables of the near binders.
   abbrev NoneNear : ℕ → ℕ → Formula B → Type 0
   NoneNear near i φ = (j : ℕ) → ¬ FaultIn bound-near (λ x. zero) suc near i φ j
 

@@ -29,7 +29,7 @@ pub record InnerBinders : Type 0 where
   pub in-order : (s : Setup) (φ : Formula ℕ) → size φ ≤ node-limit →
       ((i : ℕ) → ¬ NodeAtFault (node-width (s .kind)) (node-bytes (s .kind)) (rule-bytes s φ) (s .events) (ValueIn (s .kind)) i) →
       ((i : ℕ) → ¬ Unbound φ i) → LetThrough s (rule-bytes s φ) ↔ ((i : ℕ) → ¬ Unprotected φ i)
-  -- "everything promised about rules covers the wider class": `compile` refuses what is let through by 10 and 13 alone
+  -- "everything promised about rules covers the wider class": of what is let through, `compile` refuses by 10 and 13 alone
   pub covered : (s : Setup) (rule to : List ℕ) → setup-refusal s ≡ none → LetThrough s rule →
       (r : Refusal) → counted-refusal (compile-answer state-limit s rule to) ≡ some r → (r ≡ Plain 10) ⊎ (r ≡ Plain 13)
 
