@@ -210,6 +210,16 @@ fn ring(states: usize) -> Vec<Node> {
     nodes
 }
 
+/// `V G0 (V A X1 A X1 G0)^k X0`: each inner binder has its outer one's demands twice, so that demands gathered by plain recursion take
+/// 2^k steps.
+fn inner_binders(count: usize) -> Vec<Node> {
+    let bracket = [Node::Greatest, Node::Both, Node::Variable(1), Node::Both, Node::Variable(1), Node::After(0)];
+    let mut nodes = vec![Node::Greatest, Node::After(0)];
+    nodes.extend(bracket.repeat(count));
+    nodes.push(Node::Variable(0));
+    nodes
+}
+
 fn reading() {
     println!("-- reading alone: a file that 9 refuses at its last node");
     for size in [16, 64, 250] {
@@ -258,6 +268,10 @@ fn tables() {
     for states in [1, 2, 4, 8, 16, 32, 64] {
         let set_up = four(1);
         line(format!("loop of {states}, 1 event"), &file(&set_up, &ring(states)));
+    }
+    for count in [10, 20, 42] {
+        let set_up = four(1);
+        line(format!("{count} inner binders, 1 event"), &file(&set_up, &inner_binders(count)));
     }
     for events in [1, 2, 4, 8, 16] {
         let set_up = four(events);

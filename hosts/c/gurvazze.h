@@ -29,6 +29,8 @@
  *     {
  *         static const uint8_t file[] =
  *             "events=2\nvalues=4\ntop=3\nmeet=0 0 0 0 0 1 0 1 0 0 2 2 0 1 2 3\nrule=A O1.1 V G1 X0\n";
+ *         static const uint8_t inner_binder[] =
+ *             "events=2\nvalues=4\ntop=3\nmeet=0 0 0 0 0 1 0 1 0 0 2 2 0 1 2 3\nrule=V G0 V A X1 G0 X0\n";
  *         static const uint8_t events[] = {1, 1, 0};
  *         static const uint8_t always_open[] = {3, 0, 3, 0}, always_low[] = {1, 0, 1, 0};
  *         static uint8_t table[GURVAZZE_TABLE_BYTES], values[3], word[GURVAZZE_WORD_BYTES];
@@ -40,6 +42,8 @@
  *         say_trial(gurvazze_trial(file, sizeof file - 1, 1, 0, always_open, sizeof always_open, word, sizeof word), word);
  *         say_trial(gurvazze_trial(file, sizeof file - 1, 1, 0, always_low, sizeof always_low, word, sizeof word), word);
  *         say_trial(gurvazze_trial(file, sizeof file - 1, 3, 0, table, 3 * 2 * 2, word, sizeof word), word);
+ *         answer = gurvazze_table(inner_binder, sizeof inner_binder - 1, table, sizeof table);
+ *         printf("states=%u\n", gurvazze_states(answer));
  *         answer = gurvazze_table(file, 8, table, sizeof table);
  *         printf("refused=%u %llu\n", gurvazze_refusal(answer), (unsigned long long)gurvazze_place(answer));
  *         return 0;
@@ -52,6 +56,7 @@
  *     word of 1: 1
  *     stricter
  *     same
+ *     states=3
  *     refused=4 8
  */
 #ifndef GURVAZZE_H
@@ -75,7 +80,8 @@ extern "C" {
 #define GURVAZZE_STRICTER 65536
 
 /* The table of a channel file's rule, value and next state, one byte each, by state and then event. Yields its numbers.
- * Refusals 4, 1 to 3, 5 to 10, 13. */
+ * Refusals 4, 1 to 3, 5 to 10, 13. Here and below, a variable is in order when a G lies between it and its own binder; refusal 9 is given
+ * only where none does. */
 uint64_t gurvazze_table(const uint8_t *text, size_t text_length, uint8_t *to, size_t to_length);
 
 /* The values of a channel file's rule on a sequence of events, one byte each. Yields 0. Refusals 4, 1 to 3, 5 to 10, 16, 13. */

@@ -1,7 +1,8 @@
 //! Seeded scripts of commands, good and damaged. Equal seeds give equal scripts.
 
 use gurvazze_reference::channel_file;
-use gurvazze_reference::generate::{Generator, RawTable};
+use gurvazze_reference::formula::Rule;
+use gurvazze_reference::generate::{has_variable_under_inner_binder, Generator, RawTable};
 use gurvazze_reference::table::Table;
 use gurvazze_reference::values::{RawSetUp, SetUp};
 
@@ -80,7 +81,20 @@ impl Script {
                 self.tally.count("set-up of", "16-values");
             }
         }
+        if !answer.is_refused() && session.set_up().is_some_and(|set_up| has_wide_rule(set_up, line)) {
+            self.tally.count("inner binder in", answer.command);
+        }
     }
+}
+
+/// Whether a rule in a command has a variable under an inner binder (document 02, F-2). Tokens stand behind the command, behind a
+/// channel, or behind another rule.
+fn has_wide_rule(set_up: &SetUp, line: &[u8]) -> bool {
+    let line = String::from_utf8_lossy(line);
+    let words: Vec<&str> = line.split(' ').filter(|word| !word.is_empty()).collect();
+    let is_wide =
+        |tokens: &[&str]| rule_of(set_up, &tokens.join(" ")).is_some_and(|rule| has_variable_under_inner_binder(&rule));
+    words.split(|&word| word == "/").any(|part| (0..part.len().min(3)).any(|from| is_wide(&part[from..])))
 }
 
 /// The four-value set with one event.
@@ -356,9 +370,11 @@ impl Writer {
     }
 
     fn device_and_rule(&mut self, set_up: &SetUp) -> Vec<Vec<u8>> {
-        let device = match self.0.below(8) {
-            0 => self.0.damaged_table(set_up),
-            1 => self.0.table(set_up),
+        let tokens = self.0.good_tokens(set_up);
+        let device = match (self.0.below(8), table_of(set_up, &tokens)) {
+            (0, _) => self.0.damaged_table(set_up),
+            (1, _) => self.0.table(set_up),
+            (2, Some(table)) => RawTable { states: table.states(), start: 0, bytes: table.to_bytes() },
             _ => self.0.chain(set_up),
         };
         vec![self.device(&device), self.spaced(&["write".to_string()])]
@@ -460,11 +476,15 @@ impl Writer {
     }
 }
 
+/// The rule in tokens, if 4 to 9 do not refuse it.
+fn rule_of(set_up: &SetUp, tokens: &str) -> Option<Rule> {
+    let text = format!("{}{tokens}\n", file_head(set_up));
+    Some(channel_file::read(text.as_bytes()).ok()?.rule)
+}
+
 /// The table of a rule in tokens, if it has at most 64 states.
 fn table_of(set_up: &SetUp, tokens: &str) -> Option<Table> {
-    let text = format!("{}{tokens}\n", file_head(set_up));
-    let file = channel_file::read(text.as_bytes()).ok()?;
-    Table::of_rule(set_up, &file.rule).ok()
+    Table::of_rule(set_up, &rule_of(set_up, tokens)?).ok()
 }
 
 /// Commands at document 01's limits, for one event.
@@ -494,6 +514,14 @@ fn limits() -> Vec<Vec<u8>> {
     for (first, second) in [(63, 63), (63, 64), (64, 63), (255, 255), (255, 256), (256, 255)] {
         commands.push(format!("covers {}T / {}T", "G0 ".repeat(first), "G0 ".repeat(second)));
         commands.push(format!("covers {}T / {}T", "V ".repeat(first), "V ".repeat(second)));
+    }
+    // Each inner binder has its outer one's demands twice: plain recursion takes over 2^42 steps.
+    for brackets in [10, 20, 42] {
+        let tokens = format!("V G0 {}X0", "V A X1 A X1 G0 ".repeat(brackets));
+        commands.push(device_of(brackets + 1, |state| (3, (state + 1).min(brackets))));
+        commands.extend(["table", "load 0", "dot", "trial"].map(|command| format!("{command} {tokens}")));
+        commands.push(format!("covers {tokens} / {tokens}"));
+        commands.push("events 0".to_string() + &" 0".repeat(60));
     }
     // Passes of such loops: as same, and as stricter by the device's first or last state alone.
     for low in [None, Some(0), Some(63)] {

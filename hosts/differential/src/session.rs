@@ -39,6 +39,13 @@ pub struct Answer {
     pub text: String,
 }
 
+impl Answer {
+    /// Whether it is `refused=` or `error=`.
+    pub fn is_refused(&self) -> bool {
+        self.text.starts_with("refused=") || self.text.starts_with("error=")
+    }
+}
+
 /// Why a command has no other answer.
 enum Problem {
     /// A reason of `error=`.

@@ -8,7 +8,7 @@ use crate::session::Answer;
 const ENOUGH: usize = 20;
 
 /// Every answer that each command can have.
-const EXPECTED: [(&str, &str); 20] = [
+const EXPECTED: [(&str, &str); 21] = [
     ("setup", "ok refused=1 refused=2 refused=3 error=arguments error=number"),
     ("table", "states refused=5 refused=6 refused=7 refused=8 refused=9 refused=10 error=setup error=tokens"),
     ("dot", "digraph refused=5 refused=6 refused=7 refused=8 refused=9 refused=10 error=setup error=tokens"),
@@ -30,6 +30,8 @@ const EXPECTED: [(&str, &str); 20] = [
     ("line", "error=line skipped"),
     // Set-ups that were accepted.
     ("set-up of", "16-events 16-values"),
+    // Rules that were accepted though document 01 alone refuses them.
+    ("inner binder in", "table dot load trial covers"),
 ];
 
 /// Counts by command and kind of answer.

@@ -8,7 +8,7 @@ use std::fmt::Debug;
 use both::{covers, replay, rule, table, trial, trial_table, Called};
 use gurvazze_reference::channel_file::{self, ChannelFile};
 use gurvazze_reference::formula::{joined, Rule};
-use gurvazze_reference::generate::{Generator, RawTable};
+use gurvazze_reference::generate::{has_variable_under_inner_binder, Generator, RawTable};
 use gurvazze_reference::table::Table;
 use gurvazze_reference::trial::{first_word, same_values, Grade, Outcome};
 use gurvazze_reference::values::{RawSetUp, SetUp};
@@ -81,6 +81,11 @@ fn buffer(generator: &mut Generator, output: usize) -> Vec<u8> {
     generator.bytes(length)
 }
 
+/// Whether a file's rule has a variable under an inner binder (document 02, F-2).
+fn is_wide(text: &[u8]) -> bool {
+    channel_file::read(text).is_ok_and(|file| has_variable_under_inner_binder(&file.rule))
+}
+
 fn shown(text: &[u8]) -> String {
     String::from_utf8_lossy(text).into_owned()
 }
@@ -88,6 +93,7 @@ fn shown(text: &[u8]) -> String {
 #[test]
 fn tables() {
     let mut tally = Tally::default();
+    let mut wide = 0;
     for seed in seeds(100_000) {
         let mut generator = Generator::new(seed);
         let text = text(&mut generator);
@@ -96,16 +102,18 @@ fn tables() {
             Err(_) => 2048,
         };
         let old = buffer(&mut generator, output);
-        tally.compare(table::library(&text, &old), table::reference(&text, &old), &old, || {
-            format!("seed {seed}: {}", shown(&text))
-        });
+        let library = table::library(&text, &old);
+        wide += usize::from(library.0.is_ok() && is_wide(&text));
+        tally.compare(library, table::reference(&text, &old), &old, || format!("seed {seed}: {}", shown(&text)));
     }
     tally.has(&[0, 1, 2, 3, 4, 5, 6, 7, 8, 9, 10, 13]);
+    assert!(wide > 1000, "{wide}");
 }
 
 #[test]
 fn replays() {
     let mut tally = Tally::default();
+    let mut wide = 0;
     for seed in seeds(50_000) {
         let mut generator = Generator::new(seed);
         let (text, events) = if generator.once_in(4) {
@@ -121,11 +129,14 @@ fn replays() {
             word[at] = (events + generator.one_of(&[0, 1, 16, 200])) as u8;
         }
         let old = buffer(&mut generator, length);
-        tally.compare(replay::library(&text, &word, &old), replay::reference(&text, &word, &old), &old, || {
+        let library = replay::library(&text, &word, &old);
+        wide += usize::from(library.0.is_ok() && is_wide(&text));
+        tally.compare(library, replay::reference(&text, &word, &old), &old, || {
             format!("seed {seed}: {} {word:?}", shown(&text))
         });
     }
     tally.has(&[0, 1, 2, 3, 4, 5, 6, 7, 8, 9, 10, 13, 16]);
+    assert!(wide > 1000, "{wide}");
 }
 
 /// A device: any table, one near the rule's, or a damaged one.
@@ -196,8 +207,8 @@ impl Verdicts {
     }
 
     /// Each arose often enough to mean something.
-    fn are_many(&self) {
-        assert!(self.same > 1000 && self.stricter > 1000 && self.fails > 1000, "{self:?}");
+    fn are_many(&self, many: usize) {
+        assert!(self.same > many && self.stricter > many && self.fails > many, "{self:?}");
         println!("{self:?}");
     }
 }
@@ -206,6 +217,7 @@ impl Verdicts {
 fn trials() {
     let mut tally = Tally::default();
     let mut verdicts = Verdicts::default();
+    let mut of_wide = Verdicts::default();
     for seed in seeds(50_000) {
         let mut generator = Generator::new(seed);
         let text = if generator.once_in(4) { text(&mut generator) } else { generator.file() };
@@ -216,6 +228,7 @@ fn trials() {
         let old = word_buffer(&mut generator);
         let library = trial::library(&text, &device, &old);
         if let (Ok(outcome), Some(table)) = (library.0, &of_rule) {
+            let verdicts = if is_wide(&text) { &mut of_wide } else { &mut verdicts };
             verdicts.judge(&set_up, &device, table, outcome, &library.1);
         }
         tally.compare(library, trial::reference(&text, &device, &old), &old, || {
@@ -223,7 +236,8 @@ fn trials() {
         });
     }
     tally.has(&[0, 1, 2, 3, 4, 5, 6, 7, 8, 9, 10, 11, 13]);
-    verdicts.are_many();
+    verdicts.are_many(1000);
+    of_wide.are_many(200);
 }
 
 #[test]
@@ -249,13 +263,13 @@ fn trials_of_tables() {
         });
     }
     tally.has(&[0, 1, 2, 3, 11, 13]);
-    verdicts.are_many();
+    verdicts.are_many(1000);
 }
 
 /// Document 02, F-14: one rule implies another exactly if its table, as a device, passes.
 #[test]
 fn covering() {
-    let (mut yes, mut no, mut refused, mut longest) = (0, 0, 0, 0);
+    let (mut yes, mut no, mut refused, mut longest, mut wide) = (0, 0, 0, 0, 0);
     for seed in seeds(30_000) {
         let mut generator = Generator::new(seed);
         let set_up = generator.set_up();
@@ -263,6 +277,7 @@ fn covering() {
         let [first, second] = [first, second].map(|rule| channel_file::to_text(&set_up, &rule).into_bytes());
         let answer = covers::library(&first, &second);
         assert_eq!(answer, covers::reference(&first, &second), "seed {seed}: {} {}", shown(&first), shown(&second));
+        wide += usize::from(answer.is_ok() && (is_wide(&first) || is_wide(&second)));
         match answer {
             Ok(None) => yes += 1,
             Ok(Some(word)) => {
@@ -272,8 +287,8 @@ fn covering() {
             Err(_) => refused += 1,
         }
     }
-    println!("{yes} yes, {no} no, {refused} refused, longest word {longest}");
-    assert!(yes > 5000 && no > 5000 && refused > 500 && longest > 20);
+    println!("{yes} yes, {no} no, {refused} refused, longest word {longest}, {wide} with an inner binder");
+    assert!(yes > 5000 && no > 5000 && refused > 500 && longest > 20 && wide > 1000);
 }
 
 /// Document 02, F-14: two rules joined by A have the meet of both values.
@@ -303,9 +318,11 @@ fn rules() {
     for seed in seeds(50_000) {
         let mut generator = Generator::new(seed);
         let set_up = generator.set_up();
-        let table = match generator.below(8) {
-            0 => generator.damaged_table(&set_up),
-            1 | 2 => generator.table(&set_up),
+        let of_rule = generator.rule(&set_up);
+        let table = match (generator.below(8), Table::of_rule(&set_up, &of_rule)) {
+            (0, _) => generator.damaged_table(&set_up),
+            (1 | 2, _) => generator.table(&set_up),
+            (3, Ok(table)) => RawTable { states: table.states(), start: 0, bytes: table.to_bytes() },
             _ => generator.chain(&set_up),
         };
         let raw = if generator.once_in(10) { generator.damaged_set_up() } else { set_up.raw().clone() };
@@ -378,6 +395,10 @@ fn limits() {
             let items: Vec<String> = primes[..count].iter().map(loops).collect();
             texts.push(four(&format!("{}{}", "A ".repeat(count - 1), items.join(" ")), events));
         }
+        // Each inner binder has its outer one's demands twice (document 02, F-2).
+        texts.extend([10, 20, 42].map(|count| four(&format!("V G0 {}X0", "V A X1 A X1 G0 ".repeat(count)), events)));
+        texts.push(four(&format!("V G0 {}X253", "V ".repeat(253)), events));
+        texts.push(four(&format!("V G0 {}X252", "V ".repeat(253)), events));
     }
     for text in &texts {
         for length in [0, 1, 2, 127, 128, 2047, 2048, 3000] {

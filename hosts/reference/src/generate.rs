@@ -30,6 +30,37 @@ impl RawTable {
     }
 }
 
+/// The binders around a part.
+#[derive(Clone, Copy, Default)]
+struct Around {
+    /// How many there are.
+    binders: usize,
+    /// How many of them lie below the last G, so that none lies between them and a variable here.
+    near: usize,
+}
+
+impl Around {
+    /// Around the parts of a node that stands here.
+    fn parts_of(self, node: Node) -> Around {
+        match node {
+            Node::Greatest => Around { binders: self.binders + 1, near: self.near + 1 },
+            Node::After(_) => Around { near: 0, ..self },
+            _ => self,
+        }
+    }
+}
+
+/// Whether some variable of a rule stands where document 01 alone has none: "The root and the part of V are closed; the part of G is
+/// open; the parts of A are as A is." Document 02's F-2 accepts such a rule where a G lies further out.
+pub fn has_variable_under_inner_binder(rule: &Rule) -> bool {
+    let mut waiting = vec![Around::default()];
+    rule.nodes().iter().any(|&node| {
+        let around = waiting.pop().expect("the rule is whole");
+        waiting.extend(std::iter::repeat_n(around.parts_of(node), node.parts()));
+        matches!(node, Node::Variable(_)) && around.near > 0
+    })
+}
+
 /// Numbers of the first lines of a file, or of a set-up, that are out of range; some of them wrap to a good byte.
 const LARGE: [usize; 8] = [16, 17, 18, 64, 255, 256, 258, 999];
 
@@ -147,6 +178,9 @@ impl Generator {
 
     /// A rule; most are small.
     pub fn rule(&mut self, set_up: &SetUp) -> Rule {
+        if self.once_in(4) {
+            return self.rule_of_binders(set_up);
+        }
         let size = if self.once_in(8) { self.between(1, MAX_NODES) } else { self.between(1, 24) };
         self.rule_of_size(set_up, size)
     }
@@ -154,34 +188,64 @@ impl Generator {
     /// A rule of so many nodes, 1 to 256.
     pub fn rule_of_size(&mut self, set_up: &SetUp, size: usize) -> Rule {
         let mut nodes = Vec::with_capacity(size);
-        self.part(set_up, size, false, 0, &mut nodes);
-        let bytes: Vec<u8> = nodes.iter().flat_map(|node| node.to_bytes()).collect();
-        Rule::from_bytes(set_up, &bytes).expect("no refusal holds of the rule")
+        self.part(set_up, size, Around::default(), &mut nodes);
+        Rule::from_nodes(nodes).expect("no refusal holds of the rule")
     }
 
-    /// A part of so many nodes in an open or closed position under so many binders.
-    fn part(&mut self, set_up: &SetUp, size: usize, open: bool, binders: usize, nodes: &mut Vec<Node>) {
-        let event = self.below(set_up.events()) as u8;
-        if size == 1 {
-            nodes.push(if open && binders > 0 && !self.once_in(4) {
-                Node::Variable(self.below(binders) as u8)
-            } else if self.once_in(5) {
-                Node::True
-            } else {
-                Node::Output(event, self.below(set_up.values()) as u8)
-            });
+    /// A part of so many nodes.
+    fn part(&mut self, set_up: &SetUp, size: usize, around: Around, nodes: &mut Vec<Node>) {
+        let node = if size == 1 {
+            self.leaf(set_up, around)
         } else if size >= 3 && !self.once_in(3) {
-            let first = self.between(1, size - 2);
-            nodes.push(Node::Both);
-            self.part(set_up, first, open, binders, nodes);
-            self.part(set_up, size - 1 - first, open, binders, nodes);
+            Node::Both
         } else if self.once_in(3) {
-            nodes.push(Node::Greatest);
-            self.part(set_up, size - 1, false, binders + 1, nodes);
+            Node::Greatest
         } else {
-            nodes.push(Node::After(event));
-            self.part(set_up, size - 1, true, binders, nodes);
+            Node::After(self.below(set_up.events()) as u8)
+        };
+        nodes.push(node);
+        let within = around.parts_of(node);
+        match node.parts() {
+            0 => {}
+            1 => self.part(set_up, size - 1, within, nodes),
+            _ => {
+                let first = self.between(1, size - 2);
+                self.part(set_up, first, within, nodes);
+                self.part(set_up, size - 1 - first, within, nodes);
+            }
         }
+    }
+
+    /// A part of one node: mostly a variable where a G lies between it and some binder.
+    fn leaf(&mut self, set_up: &SetUp, around: Around) -> Node {
+        if around.near < around.binders && !self.once_in(4) {
+            Node::Variable(self.between(around.near, around.binders - 1) as u8)
+        } else if self.once_in(5) {
+            Node::True
+        } else {
+            Node::Output(self.below(set_up.events()) as u8, self.below(set_up.values()) as u8)
+        }
+    }
+
+    /// A rule of nested binders, at times without a G between two of them, each with variables of outer binders beside it.
+    pub fn rule_of_binders(&mut self, set_up: &SetUp) -> Rule {
+        let binders = if self.once_in(8) { self.between(1, 42) } else { self.between(1, 6) };
+        let mut nodes = Vec::new();
+        let mut around = Around::default();
+        for _ in 0..binders {
+            nodes.push(Node::Greatest);
+            around = around.parts_of(Node::Greatest);
+            for _ in 0..self.below(3) {
+                nodes.extend([Node::Both, self.leaf(set_up, around)]);
+            }
+            if !self.once_in(4) {
+                let after = Node::After(self.below(set_up.events()) as u8);
+                nodes.push(after);
+                around = around.parts_of(after);
+            }
+        }
+        nodes.push(self.leaf(set_up, around));
+        Rule::from_nodes(nodes).expect("no refusal holds of the rule")
     }
 
     /// A rule of loops of different lengths, which has many states and often too many.
@@ -281,22 +345,29 @@ impl Generator {
         bytes
     }
 
-    /// A whole tree some of whose leaves have become variables, mostly of binders around them: often 9, at times 8.
-    fn misplaced_variables(&mut self, set_up: &SetUp) -> Vec<Node> {
+    /// A whole tree some of whose leaves have become variables, mostly of binders around them, often of the outermost one with no G
+    /// between or of the innermost one with a G between: often 9, at times 8.
+    pub fn misplaced_variables(&mut self, set_up: &SetUp) -> Vec<Node> {
         let mut nodes = self.rule(set_up).nodes().to_vec();
-        // How many binders lie around each node still to come.
-        let mut waiting = vec![0];
+        let mut waiting = vec![Around::default()];
         for node in &mut nodes {
-            let binders = waiting.pop().expect("the rule is whole");
-            let within = binders + usize::from(*node == Node::Greatest);
-            waiting.extend(std::iter::repeat_n(within, node.parts()));
-            if node.parts() == 0 && binders > 0 && self.once_in(3) {
-                *node = Node::Variable(self.below(binders) as u8);
+            let around = waiting.pop().expect("the rule is whole");
+            waiting.extend(std::iter::repeat_n(around.parts_of(*node), node.parts()));
+            if node.parts() == 0 && around.binders > 0 && self.once_in(3) {
+                *node = Node::Variable(self.any_variable(around) as u8);
             } else if node.parts() == 0 && self.once_in(20) {
-                *node = Node::Variable((binders + self.below(2)) as u8);
+                *node = Node::Variable((around.binders + self.below(2)) as u8);
             }
         }
         nodes
+    }
+
+    fn any_variable(&mut self, Around { binders, near }: Around) -> usize {
+        match self.below(4) {
+            0 => near.saturating_sub(1),
+            1 => near.min(binders - 1),
+            _ => self.below(binders),
+        }
     }
 
     // Words and tables.

@@ -169,22 +169,33 @@ pub fn compile(set_up: &RawSetUp, rule: &[u8], lent: &mut [u8]) -> Result<usize,
 fn demands(rule: &Rule) -> Vec<NodeSet> {
     let nodes = rule.nodes();
     let mut demands = vec![NodeSet::EMPTY; nodes.len()];
-    // From a binder no variable is met before a G, since 9 was tested, so the first round gets all binders right and the second
-    // the variables and what is above them.
-    for _ in 0..2 {
-        for (number, node) in nodes.iter().enumerate().rev() {
-            demands[number] = match node {
-                Node::True => NodeSet::EMPTY,
-                Node::Variable(_) => demands[rule.binder(number)],
-                Node::After(_) | Node::Output(..) => NodeSet::of(number),
-                Node::Both => {
-                    let mut both = demands[number + 1];
-                    both.add_all(&demands[rule.second(number)]);
-                    both
-                }
-                Node::Greatest => demands[number + 1],
-            };
+    // Parts stand behind their node and are done first. A binder stands before its variables, so its number is put for its demands.
+    let mut binders = NodeSet::EMPTY;
+    for (number, node) in nodes.iter().enumerate().rev() {
+        demands[number] = match node {
+            Node::True => NodeSet::EMPTY,
+            Node::Variable(_) => {
+                let binder = NodeSet::of(rule.binder(number));
+                binders.add_all(&binder);
+                binder
+            }
+            Node::After(_) | Node::Output(..) => NodeSet::of(number),
+            Node::Both => {
+                let mut both = demands[number + 1];
+                both.add_all(&demands[rule.second(number)]);
+                both
+            }
+            Node::Greatest => demands[number + 1],
+        };
+    }
+    // Then each binder's number gives way to its demands. No G lies between a node and the variables in its set, and 9 was tested, so
+    // their binders stand before the node and are done.
+    for number in 0..nodes.len() {
+        let mut all = demands[number];
+        for binder in all.take_out(&binders).iter() {
+            all.add_all(&demands[binder]);
         }
+        demands[number] = all;
     }
     demands
 }
@@ -206,6 +217,16 @@ impl NodeSet {
         for (word, other) in self.0.iter_mut().zip(other.0) {
             *word |= other;
         }
+    }
+
+    /// Takes out what both sets have.
+    fn take_out(&mut self, other: &NodeSet) -> NodeSet {
+        let mut taken = NodeSet::EMPTY;
+        for (index, word) in self.0.iter_mut().enumerate() {
+            taken.0[index] = *word & other.0[index];
+            *word &= !other.0[index];
+        }
+        taken
     }
 
     /// The node numbers, rising.

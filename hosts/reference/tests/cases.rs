@@ -47,12 +47,23 @@ fn case_4_low_for_ever_after_the_first() {
 }
 
 #[test]
-fn cases_5_to_9_are_refused() {
+fn cases_5_6_8_and_9_are_refused() {
     let set_up = four(2);
-    for (items, number, place) in [("X0", 8, 0), ("V X0", 9, 1), ("V G0 V A X1 G0 X0", 9, 4), ("A T", 7, 2), ("T T", 7, 1)] {
+    for (items, number, place) in [("X0", 8, 0), ("V X0", 9, 1), ("A T", 7, 2), ("T T", 7, 1)] {
         assert_eq!(rule(&set_up, items), Err(Refusal::at(number, place)), "{items}");
         assert_eq!(render::program(&file(items)), format!("refused={number} {place}\n"), "{items}");
     }
+}
+
+/// "Case 7 is accepted" (document 02, F-2).
+#[test]
+fn case_7_has_three_states() {
+    let items = "V G0 V A X1 G0 X0";
+    let table = table(&four(2), items).unwrap();
+    assert_eq!(table.states(), 3);
+    assert_eq!(table.to_bytes(), [3, 1, 3, 2, 3, 1, 3, 2, 3, 2, 3, 2]);
+    let printed = "events=2\nstates=3\nrow=0 0 3 1\nrow=0 1 3 2\nrow=1 0 3 1\nrow=1 1 3 2\nrow=2 0 3 2\nrow=2 1 3 2\n";
+    assert_eq!(render::program(&file(items)), printed);
 }
 
 #[test]

@@ -7,7 +7,7 @@ use std::rc::Rc;
 
 use common::{bytes, four, seeds};
 use gurvazze_reference::formula::{joined, Formulas, Id, Node, Rule};
-use gurvazze_reference::generate::Generator;
+use gurvazze_reference::generate::{has_variable_under_inner_binder, Generator};
 use gurvazze_reference::table::Table;
 use gurvazze_reference::trial::{covers, first_word, same_values, satisfies, satisfying, trial, Grade, Verdict};
 use gurvazze_reference::values::{Comparison, SetUp};
@@ -102,11 +102,12 @@ impl Plain {
 
 #[test]
 fn the_formula_semantics_are_the_plain_equations() {
-    for seed in seeds(300) {
+    let mut wide = 0;
+    for seed in seeds(600) {
         let mut g = Generator::new(seed);
         let set_up = g.set_up();
-        let size = g.between(1, 14);
-        let rule = g.rule_of_size(&set_up, size);
+        let rule = small_rule(&mut g, &set_up, 14);
+        wide += usize::from(has_variable_under_inner_binder(&rule));
         let mut formulas = Formulas::new(set_up.clone());
         let root = formulas.of_rule(&rule);
         let plain = Plain::of(&mut rule.nodes().iter(), 0);
@@ -122,6 +123,19 @@ fn the_formula_semantics_are_the_plain_equations() {
             assert_eq!(untidied(&mut formulas, root, &word), expected, "seed {seed}: {:?} on {word:?}", rule.nodes());
         }
     }
+    assert!(wide > 50, "{wide}");
+}
+
+/// A rule of at most so many nodes, often with variables under inner binders.
+fn small_rule(g: &mut Generator, set_up: &SetUp, most: usize) -> Rule {
+    if g.once_in(2) {
+        let rule = g.rule_of_binders(set_up);
+        if rule.nodes().len() <= most {
+            return rule;
+        }
+    }
+    let size = g.between(1, most);
+    g.rule_of_size(set_up, size)
 }
 
 /// The values on a word by the equations alone.
@@ -192,7 +206,7 @@ fn a_rule_is_its_formula_and_so_is_each_follower() {
 
 #[test]
 fn a_table_has_the_values_of_its_rule() {
-    let (mut tables, mut over) = (0, 0);
+    let (mut tables, mut wide, mut over) = (0, 0, 0);
     for seed in seeds(1500) {
         let mut g = Generator::new(seed);
         let set_up = g.set_up();
@@ -202,6 +216,7 @@ fn a_table_has_the_values_of_its_rule() {
             continue;
         };
         tables += 1;
+        wide += usize::from(has_variable_under_inner_binder(&rule));
         let mut formulas = Formulas::new(set_up.clone());
         let root = formulas.of_rule(&rule);
         for _ in 0..4 {
@@ -210,35 +225,43 @@ fn a_table_has_the_values_of_its_rule() {
             assert_eq!(table.run(0, &word).0, formulas.values(root, &word), "seed {seed}: {:?}", rule.nodes());
         }
     }
-    assert!(tables > 1000 && over > 20, "{tables} tables, {over} over 64 states");
+    assert!(tables > 1000 && wide > 100 && over > 20, "{tables} tables, {wide} of wide rules, {over} over 64 states");
 }
 
-/// "The demands of a node", as a plain set.
-fn demands(rule: &Rule, node: usize) -> BTreeSet<usize> {
-    match rule.nodes()[node] {
+/// "The demands of a node", as a plain set, kept for each node.
+fn demands(rule: &Rule, node: usize, kept: &mut HashMap<usize, BTreeSet<usize>>) -> BTreeSet<usize> {
+    if let Some(set) = kept.get(&node) {
+        return set.clone();
+    }
+    let set = match rule.nodes()[node] {
         Node::True => BTreeSet::new(),
         Node::After(_) | Node::Output(..) => BTreeSet::from([node]),
-        Node::Both => &demands(rule, node + 1) | &demands(rule, rule.second(node)),
-        Node::Greatest => demands(rule, node + 1),
-        Node::Variable(_) => demands(rule, rule.binder(node)),
-    }
+        Node::Both => &demands(rule, node + 1, kept) | &demands(rule, rule.second(node), kept),
+        Node::Greatest => demands(rule, node + 1, kept),
+        Node::Variable(_) => demands(rule, rule.binder(node), kept),
+    };
+    kept.insert(node, set.clone());
+    set
 }
 
 #[test]
 fn states_are_the_reached_sets_numbered_by_their_first_word() {
-    for seed in seeds(150) {
+    let mut wide = 0;
+    for seed in seeds(300) {
         let mut g = Generator::new(seed);
         let set_up = g.set_up();
         let rule = if g.once_in(3) { g.rule_of_loops(&set_up) } else { g.rule(&set_up) };
         let Ok(table) = Table::of_rule(&set_up, &rule) else { continue };
+        wide += usize::from(has_variable_under_inner_binder(&rule));
+        let mut kept = HashMap::new();
         let mut numbers: HashMap<BTreeSet<usize>, usize> = HashMap::new();
         for word in words(set_up.events(), length_for(set_up.events())) {
-            let mut state = demands(&rule, 0);
+            let mut state = demands(&rule, 0, &mut kept);
             for &event in &word {
                 state = state
                     .into_iter()
                     .filter(|&node| rule.nodes()[node] == Node::After(event))
-                    .flat_map(|node| demands(&rule, node + 1))
+                    .flat_map(|node| demands(&rule, node + 1, &mut kept))
                     .collect();
             }
             let next = numbers.len();
@@ -254,6 +277,7 @@ fn states_are_the_reached_sets_numbered_by_their_first_word() {
         }
         assert!(numbers.len() <= table.states());
     }
+    assert!(wide > 20, "{wide}");
 }
 
 /// Document 01's form of the rule of a table, as nested lists.
@@ -354,7 +378,7 @@ fn below_on(set_up: &SetUp, device: (&Table, usize), table: (&Table, usize), wor
 
 #[test]
 fn trial_is_simulation_and_satisfaction() {
-    let (mut passes, mut fails, mut longest) = (0, 0, 0);
+    let (mut passes, mut fails, mut longest, mut wide) = (0, 0, 0, [0; 2]);
     for seed in seeds(1500) {
         let mut g = Generator::new(seed);
         let set_up = g.set_up();
@@ -365,6 +389,7 @@ fn trial_is_simulation_and_satisfaction() {
         let (ours, theirs) = ((&device, raw.start), (&table, 0));
         let verdict = trial(&set_up, ours, theirs);
         let passed = matches!(verdict, Verdict::Passes(_));
+        wide[usize::from(passed)] += usize::from(has_variable_under_inner_binder(&rule));
         if device.states() * table.states() <= 400 {
             let related = simulation(&set_up, &device, &table);
             assert_eq!(related.contains(&(raw.start, 0)), passed, "seed {seed}");
@@ -399,6 +424,7 @@ fn trial_is_simulation_and_satisfaction() {
         }
     }
     assert!(passes > 300 && fails > 300 && longest > 5, "{passes} pass, {fails} fail, longest {longest}");
+    assert!(wide.iter().all(|&count| count > 50), "of wide rules fail and pass: {wide:?}");
 }
 
 #[test]
@@ -499,23 +525,23 @@ fn set_of(set_up: &SetUp, rule: &Rule, device: &Table, node: usize, put: &mut Ha
 
 #[test]
 fn falling_sets_are_the_set_definition() {
-    let mut judged = 0;
-    for seed in seeds(1000) {
+    let (mut judged, mut wide) = (0, 0);
+    for seed in seeds(2000) {
         let mut g = Generator::new(seed);
         let set_up = g.set_up();
-        let size = g.between(1, 16);
-        let rule = g.rule_of_size(&set_up, size);
+        let rule = small_rule(&mut g, &set_up, 16);
         let raw = g.table(&set_up);
         let binders = rule.nodes().iter().filter(|&&node| node == Node::Greatest).count();
         if raw.states > 3 || binders > 3 {
             continue;
         }
         judged += 1;
+        wide += usize::from(has_variable_under_inner_binder(&rule));
         let device = raw.lent().table(&set_up).unwrap();
         let expected = set_of(&set_up, &rule, &device, 0, &mut HashMap::new());
         assert_eq!(satisfying(&set_up, &rule, &device), expected, "seed {seed}: {:?}", rule.nodes());
     }
-    assert!(judged > 200, "{judged}");
+    assert!(judged > 500 && wide > 80, "{judged} judged, {wide} wide");
 }
 
 #[test]

@@ -36,12 +36,30 @@ fn each_refusal_of_a_rule_is_tested_over_the_whole_rule_before_the_next() {
         ("A V G0 X0 G0 X0", 8, 5),
         ("V A T X0", 9, 3),
         ("V A G0 A X0 T X0", 9, 6),
+        ("V V X1", 9, 2),
         ("V G0 V X0", 9, 3),
-        ("V G0 A T V A T X1", 9, 7),
+        ("V A G0 X0 X0", 9, 4),
+        ("V G0 V V X1", 9, 4),
+        ("V G0 V A X1 A X0 G0 X0", 9, 6),
+        ("V G0 A T V A T X0", 9, 7),
+        ("V G0 V A X0 G0 X9", 8, 6),
     ] {
         assert_eq!(rule(&set_up, items), Err(Refusal::at(number, place)), "{items}");
     }
-    for items in ["V G0 X0", "V G0 A X0 X0", "V V G0 A X0 X1", "V A T G0 A T A X0 O0.1", "V G0 V G0 A X0 X1"] {
+    for items in [
+        "V G0 X0",
+        "V G0 A X0 X0",
+        "V V G0 A X0 X1",
+        "V A T G0 A T A X0 O0.1",
+        "V G0 V G0 A X0 X1",
+        // Under inner binders (document 02, F-2).
+        "V G0 V X1",
+        "V G0 V V X2",
+        "V V G0 V A X1 X2",
+        "V G0 A T V A T X1",
+        "V G0 V A X1 G0 X0",
+        "V G0 V G0 V A X2 X1",
+    ] {
         assert!(rule(&set_up, items).is_ok(), "{items}");
     }
 }
@@ -433,6 +451,11 @@ fn the_log_judges_the_same() {
     assert!(log.record(0).is_none());
 }
 
+/// Variables of so many outer binders, up to ten, each with an A before it.
+fn outer(count: usize) -> String {
+    (1..=count.min(10)).map(|index| format!("A X{index} ")).collect()
+}
+
 #[test]
 fn deep_and_wide_rules_stay_cheap() {
     let set_up = four(2);
@@ -446,6 +469,12 @@ fn deep_and_wide_rules_stay_cheap() {
         "V G0 ".repeat(127) + "X126",
         // Both parts go on with the whole: the follower doubles with each event.
         "V A G0 X0 G0 X0".to_string(),
+        // Each inner binder has its outer one's demands twice.
+        "V G0 ".to_string() + &"V A X1 A X1 G0 ".repeat(42) + "X0",
+        // Each has those of all outer binders.
+        "V G0 ".to_string() + &(1..15).map(|count| "V ".to_string() + &outer(count) + "G0 ").collect::<String>() + "X0",
+        // No G between the inner binders.
+        "V G0 ".to_string() + &"V ".repeat(253) + "X253",
         // Loops of prime lengths.
         [2, 3, 5, 7, 11, 13, 17, 19, 23]
             .iter()

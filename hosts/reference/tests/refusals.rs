@@ -99,8 +99,10 @@ fn rule_refusal(events: usize, values: usize, nodes: &[(u8, usize, usize)]) -> R
     let above = |node: usize| std::iter::successors(parents[node], |&parent| parents[parent]);
     let is_variable = |node: usize| nodes[node].0 == 1;
     lowest(8, &|node| is_variable(node) && above(node).filter(|&n| nodes[n].0 == 5).count() <= nodes[node].1)?;
-    // "a position is open when the nearest ancestor that is no A is a G"
-    lowest(9, &|node| is_variable(node) && above(node).find(|&n| nodes[n].0 != 4).is_none_or(|n| nodes[n].0 != 2))
+    // "A variable is in order when a G lies between it and its own binder. Refusal 9 is given only where none does."
+    let own_binder = |node: usize| above(node).filter(|&n| nodes[n].0 == 5).nth(nodes[node].1);
+    let is_guarded = |node: usize| above(node).take_while(|&n| Some(n) != own_binder(node)).any(|n| nodes[n].0 == 2);
+    lowest(9, &|node| is_variable(node) && !is_guarded(node))
 }
 
 /// Where the part that begins at a node ends, or nothing when nodes run out.

@@ -103,6 +103,21 @@ pub struct Table<'a> {
 /// assert_eq!((refusal.number, refusal.place), (4, Some(8)));
 /// # Ok::<(), gurvazze::Refusal>(())
 /// ```
+///
+/// A variable is in order when a G lies between it and its own binder, also under an inner binder. Refusal 9 is given only where none
+/// does.
+///
+/// ```
+/// let file = b"events=2\nvalues=4\ntop=3\nmeet=0 0 0 0 0 1 0 1 0 0 2 2 0 1 2 3\nrule=V G0 V A X1 G0 X0\n";
+/// let mut to = [0; gurvazze::TABLE_BYTES];
+/// assert_eq!(gurvazze::table(file, &mut to)?.states, 3);
+/// assert_eq!(to[..12], [3, 1, 3, 2, 3, 1, 3, 2, 3, 2, 3, 2]);
+///
+/// let file = b"events=2\nvalues=4\ntop=3\nmeet=0 0 0 0 0 1 0 1 0 0 2 2 0 1 2 3\nrule=V G0 V X0\n";
+/// let refusal = gurvazze::table(file, &mut to).unwrap_err();
+/// assert_eq!((refusal.number, refusal.place), (9, Some(3)));
+/// # Ok::<(), gurvazze::Refusal>(())
+/// ```
 pub fn table(text: &[u8], to: &mut [u8]) -> Result<TableNumbers, Refusal> {
     // SAFETY: both slices are valid for the call, and a slice that is lent mutably overlaps no other.
     let code = unsafe { library::gurvazze_table(text.as_ptr(), text.len(), to.as_mut_ptr(), to.len()) };

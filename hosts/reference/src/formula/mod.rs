@@ -78,10 +78,10 @@ pub struct Rule {
 
 /// Where the next node stands.
 struct Position {
-    /// "two kinds of position, open to a variable and closed to it".
-    open: bool,
     /// The innermost V around it.
     binder: Option<usize>,
+    /// The innermost G above it.
+    after: Option<usize>,
     /// The A whose second part it is.
     second_of: Option<usize>,
 }
@@ -166,38 +166,40 @@ fn link(nodes: &[Node]) -> Result<Vec<u16>, Refusal> {
     let mut links = vec![0; nodes.len()];
     // The binder around each V, so that a variable finds its own by going outwards.
     let mut around = vec![None; nodes.len()];
-    let mut lowest_closed = None;
-    // "The root and the part of V are closed; the part of G is open; the parts of A are as A is."
-    let mut waiting = vec![Position { open: false, binder: None, second_of: None }];
+    let mut lowest_bare = None;
+    let mut waiting = vec![Position { binder: None, after: None, second_of: None }];
     for (number, &node) in nodes.iter().enumerate() {
         let position = waiting.pop().expect("7 has been tested");
         if let Some(both) = position.second_of {
             links[both] = number as u16;
         }
-        let Position { open, binder, .. } = position;
+        let Position { binder, after, .. } = position;
         match node {
             Node::True | Node::Output(..) => {}
             Node::Variable(index) => {
                 // 8: "variable without binder; place = lowest".
                 let own = (0..index).fold(binder, |binder, _| binder.and_then(|v: usize| around[v]));
-                links[number] = own.ok_or(Refusal::at(8, number))? as u16;
-                // 9: "variable in a closed position; place = lowest".
-                if !open && lowest_closed.is_none() {
-                    lowest_closed = Some(number);
+                let own = own.ok_or(Refusal::at(8, number))?;
+                links[number] = own as u16;
+                // 9: "A variable is in order when a G lies between it and its own binder. Refusal 9 is given only where none does"
+                // (document 02, F-2); "place = lowest". Numbers rise along a path, so a G does if the innermost one is behind the binder.
+                let in_order = after.is_some_and(|after| after > own);
+                if !in_order && lowest_bare.is_none() {
+                    lowest_bare = Some(number);
                 }
             }
-            Node::After(_) => waiting.push(Position { open: true, binder, second_of: None }),
+            Node::After(_) => waiting.push(Position { binder, after: Some(number), second_of: None }),
             Node::Both => {
-                waiting.push(Position { open, binder, second_of: Some(number) });
-                waiting.push(Position { open, binder, second_of: None });
+                waiting.push(Position { binder, after, second_of: Some(number) });
+                waiting.push(Position { binder, after, second_of: None });
             }
             Node::Greatest => {
                 around[number] = binder;
-                waiting.push(Position { open: false, binder: Some(number), second_of: None });
+                waiting.push(Position { binder: Some(number), after, second_of: None });
             }
         }
     }
-    match lowest_closed {
+    match lowest_bare {
         Some(place) => Err(Refusal::at(9, place)),
         None => Ok(links),
     }

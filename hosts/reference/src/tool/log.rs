@@ -116,18 +116,14 @@ impl Log {
 /// 10: "over 64 states". Counts the reached sets of G and O node numbers, by document 01's sentences on demands, and nothing
 /// else of the table.
 fn reaches_too_many(rule: &Rule, events: usize) -> bool {
-    let mut first = BTreeSet::new();
-    demands(rule, 0, &mut first);
+    let first = demands(rule, vec![0]);
     let mut reached = HashSet::from([first.clone()]);
     let mut waiting = vec![first];
     while let Some(state) = waiting.pop() {
         for event in 0..events {
-            let mut next = BTreeSet::new();
-            for &node in &state {
-                if matches!(rule.nodes()[node], Node::After(own) if usize::from(own) == event) {
-                    demands(rule, node + 1, &mut next);
-                }
-            }
+            let is_for = |node: usize| matches!(rule.nodes()[node], Node::After(own) if usize::from(own) == event);
+            let parts = state.iter().filter(|&&node| is_for(node)).map(|node| node + 1).collect();
+            let next = demands(rule, parts);
             if reached.insert(next.clone()) {
                 waiting.push(next);
             }
@@ -139,18 +135,25 @@ fn reaches_too_many(rule: &Rule, events: usize) -> bool {
     false
 }
 
-/// Adds the demands of a node.
-fn demands(rule: &Rule, node: usize, set: &mut BTreeSet<usize>) {
-    match rule.nodes()[node] {
-        Node::True => {}
-        Node::After(_) | Node::Output(..) => {
-            set.insert(node);
+/// The union of the demands of some nodes. A node that was met is not met again: an inner binder may have its outer one's demands by
+/// many variables, and that one again (document 02, F-2).
+fn demands(rule: &Rule, of: Vec<usize>) -> BTreeSet<usize> {
+    let mut met = HashSet::new();
+    let mut demands = BTreeSet::new();
+    let mut waiting = of;
+    while let Some(node) = waiting.pop() {
+        if !met.insert(node) {
+            continue;
         }
-        Node::Both => {
-            demands(rule, node + 1, set);
-            demands(rule, rule.second(node), set);
+        match rule.nodes()[node] {
+            Node::True => {}
+            Node::After(_) | Node::Output(..) => {
+                demands.insert(node);
+            }
+            Node::Both => waiting.extend([node + 1, rule.second(node)]),
+            Node::Greatest => waiting.push(node + 1),
+            Node::Variable(_) => waiting.push(rule.binder(node)),
         }
-        Node::Greatest => demands(rule, node + 1, set),
-        Node::Variable(_) => demands(rule, rule.binder(node), set),
     }
+    demands
 }
