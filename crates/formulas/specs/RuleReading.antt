@@ -116,7 +116,7 @@ module _ {B : Type 0} where
 unfoldable pub unbound-below : ℕ → ℕ → Bool
 unbound-below depth n = not (ltb n depth)
 
--- 9: a variable is at fault whose own binder is among those since the last G, so many: it counts fewer.
+-- 9: a variable is at fault that counts fewer binders than stand since the last G: its own is one of them.
 unfoldable pub bound-near : ℕ → ℕ → Bool
 bound-near near n = ltb n near
 
