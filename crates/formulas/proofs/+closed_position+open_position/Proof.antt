@@ -114,7 +114,7 @@ closed-position-returns-2 : (t : ℕ) → closed-position-lts.Need-returns-2 (
 closed-position-returns-2 t c = let a = c .before .before .before .before .before .before .before .before .before .before .before .args in
     let n = c .before .before .before .before .noted in
     scanned-closed-variable _ _ _ _ _ _ (c .before .before .before .before .before .before .before .before .before .before .if1 .left) (search needs)
-    (c .before .before .before .before .before .before .before .before .if2 .taken) _ _ _
+    (c .before .before .before .before .before .before .before .before .if2 .taken) (a .near) _ _
     (subst (λ x. Keeps (cond x (some (a .at)) none) (getD (a .faults .now) 0 0) (n .result)) (c .before .before .before .before .before .unbound .ensures)
     (n .ensures))
     (subst (λ x. Keeps (cond x (some (a .at)) none) (getD (set (a .faults .now) 0 (n .result)) 1 0) (c .noted2 .result)) (c .before .bound-near .ensures)
@@ -177,7 +177,8 @@ closed-position-returns-4 : (t : ℕ) → closed-position-lts.Need-returns-4 (
   closed-position-below t,
   closed-position.Post,
 ) (closed-position-at t) closed-position.Post
-closed-position-returns-4 t c = scanned-conjunction _ _ _ _ _ _ _ _ _ (c .before .before .closed-position .result) _
+closed-position-returns-4 t c = let a = c .before .before .before .before .before .before .before .before .before .args in
+    scanned-conjunction _ _ _ (a .near) _ _ _ _ _ (c .before .before .closed-position .result) _
     (c .before .before .before .before .before .before .before .before .if1 .left) (c .before .before .before .before .if4 .taken)
     (c .before .before .closed-position .ensures) (c .closed-position2 .ensures)
 
