@@ -1,13 +1,12 @@
 //! Times the proved library beside plain Rust on the same inputs, in one run, and prints ratios.
 
-use std::fmt::Write;
 use std::hint::black_box;
-use std::io::Write as _;
+use std::io::Write;
 use std::process::{Command, Stdio};
 
 use gurvazze_reference::channel_file;
 use gurvazze_reference::formula::{Node, Rule};
-use gurvazze_reference::generate::{Generator, RawTable};
+use gurvazze_reference::generate::{inner_binders, under, Generator, RawTable};
 use gurvazze_reference::table::{Entry, Table};
 use gurvazze_reference::tool::Tool;
 use gurvazze_reference::trial::{failing_word, trial_of_rule, trial_of_table, Grade, Outcome, WORD_BYTES};
@@ -210,57 +209,73 @@ fn ring(states: usize) -> Vec<Node> {
     nodes
 }
 
-/// `V G0 (V A X1 A X1 G0)^k X0`: each inner binder has its outer one's demands twice, so that demands gathered by plain recursion take
-/// 2^k steps.
-fn inner_binders(count: usize) -> Vec<Node> {
-    let bracket = [Node::Greatest, Node::Both, Node::Variable(1), Node::Both, Node::Variable(1), Node::After(0)];
-    let mut nodes = vec![Node::Greatest, Node::After(0)];
-    nodes.extend(bracket.repeat(count));
-    nodes.push(Node::Variable(0));
+/// So many V or G nodes, one below the other.
+fn nested(node: Node, count: usize) -> Vec<Node> {
+    let mut nodes = vec![node; count];
+    nodes.push(Node::True);
     nodes
+}
+
+/// The same rule so many times, joined by A.
+fn side_by_side(rule: &[Node], count: usize) -> Vec<Node> {
+    [vec![Node::Both; count - 1], rule.repeat(count)].concat()
+}
+
+/// A file of this set-up with these tokens.
+fn file_of_tokens(set_up: &SetUp, tokens: &str) -> Vec<u8> {
+    let mut text = file(set_up, &[Node::True]);
+    text.truncate(text.len() - b"T\n".len());
+    text.extend_from_slice(tokens.as_bytes());
+    text.push(b'\n');
+    text
+}
+
+/// The library's refusal in the reference's words.
+fn plain(refusal: gurvazze::Refusal) -> Refusal {
+    Refusal { number: refusal.number, place: refusal.place }
+}
+
+/// Reading alone: a file that both refuse with the same number, at the same place.
+fn line_reading(case: &str, text: &[u8], number: u8) {
+    let mut to = [0; 2048];
+    let refusal = gurvazze::table(text, &mut to).map(|_| ()).map_err(plain);
+    assert_eq!(refusal.map_err(|refusal| refusal.number), Err(number));
+    assert_eq!(refusal, channel_file::read(text).map(|_| ()));
+    compare(&format!("  {case}"), || gurvazze::table(text, &mut to), || channel_file::read(text));
 }
 
 fn reading() {
     println!("-- reading alone: a file that 9 refuses at its last node");
-    for size in [16, 64, 250] {
-        let set_up = four(2);
-        let mut text = file(&set_up, &wide_rule(&set_up, size));
+    let line = |case: &str, set_up: &SetUp, size: usize| {
+        let mut text = file(set_up, &wide_rule(set_up, size));
         // A V X0 in the place of the last item.
         let end = text.iter().rposition(|&byte| byte == b' ').expect("there are items") + 1;
         text.truncate(end);
         text.extend_from_slice(b"V X0\n");
-        let mut to = [0; 2048];
-        assert_eq!(gurvazze::table(&text, &mut to).unwrap_err().number, 9);
-        compare(
-            &format!("  file of {size} nodes, 4 values"),
-            || gurvazze::table(&text, &mut to.clone()),
-            || channel_file::read(&text),
-        );
+        line_reading(case, &text, 9);
+    };
+    for size in [16, 64, 250] {
+        line(&format!("file of {size} nodes, 4 values"), &four(2), size);
     }
-    let set_up = sixteen(16);
-    let mut text = file(&set_up, &wide_rule(&set_up, 250));
-    let end = text.iter().rposition(|&byte| byte == b' ').expect("there are items") + 1;
-    text.truncate(end);
-    text.extend_from_slice(b"V X0\n");
-    let mut to = [0; 2048];
-    assert_eq!(gurvazze::table(&text, &mut to).unwrap_err().number, 9);
-    compare("  file of 250 nodes, 16 values", || gurvazze::table(&text, &mut to), || channel_file::read(&text));
-    let refused = b"events=2\nvalues=4\ntop=3\nmeet=0 0 0 0 0 1 0 1 0 0 2 2 0 1 2 3\nrule=A O1.1 V G1 X0!\n";
-    let mut to = [0; 2048];
-    compare("  file that 4 refuses", || gurvazze::table(refused, &mut to), || channel_file::read(refused));
+    line("file of 250 nodes, 16 values", &sixteen(16), 250);
+    line_reading("file that 4 refuses", &file_of_tokens(&four(2), "A O1.1 V G1 X0!"), 4);
+    line_reading("file that 23 refuses, 255 nested V", &file_of_tokens(&four(2), &under(255, "T")), 23);
+}
+
+/// The table of a file, which both accept, or refuse with the number that the case names.
+fn line_table(case: &str, text: &[u8], expected: Result<(), u8>) {
+    let (mut to, mut other) = ([0; 2048], [0; 2048]);
+    let states = gurvazze::table(text, &mut to).map(|made| made.states).map_err(plain);
+    assert_eq!(states.map(|_| ()).map_err(|refusal| refusal.number), expected);
+    assert_eq!(states, rust_table(text, &mut other));
+    assert_eq!(to, other);
+    let said = states.map_or_else(|refusal| format!("refused={refusal}"), |states| format!("{states} states"));
+    compare(&format!("  {case}, {said}"), || gurvazze::table(text, &mut to), || rust_table(text, &mut other));
 }
 
 fn tables() {
     println!("-- table of a channel file");
-    let mut to = [0; 2048];
-    let mut lent = [0; 2048];
-    let mut line = |case: String, text: &[u8]| {
-        let answer = gurvazze::table(text, &mut to).expect("accepted");
-        assert_eq!(Ok(answer.states), rust_table(text, &mut lent));
-        assert_eq!(to, lent);
-        let case = format!("  {case}, {} states", answer.states);
-        compare(&case, || gurvazze::table(text, &mut to), || rust_table(text, &mut lent));
-    };
+    let line = |case: String, text: &[u8]| line_table(&case, text, Ok(()));
     for size in [16, 32, 64, 128, 256] {
         let set_up = four(2);
         line(format!("{size} nodes, 2 events"), &file(&set_up, &wide_rule(&set_up, size)));
@@ -269,9 +284,9 @@ fn tables() {
         let set_up = four(1);
         line(format!("loop of {states}, 1 event"), &file(&set_up, &ring(states)));
     }
-    for count in [10, 20, 42] {
-        let set_up = four(1);
-        line(format!("{count} inner binders, 1 event"), &file(&set_up, &inner_binders(count)));
+    for (count, variables) in [(3, 2), (7, 2), (11, 2), (11, 10)] {
+        let text = file_of_tokens(&four(1), &inner_binders(count, variables));
+        line(format!("{count} inner binders, {variables} X1 each"), &text);
     }
     for events in [1, 2, 4, 8, 16] {
         let set_up = four(events);
@@ -320,6 +335,9 @@ fn replays() {
         let word = Generator::new(1).word(&set_up, length);
         let mut to = vec![0; word.len()];
         let mut other = vec![0; word.len()];
+        gurvazze::replay(&text, &word, &mut to).expect("accepted");
+        rust_replay(&text, &word, &mut other).expect("accepted");
+        assert!(to == other);
         compare(
             &format!("  {length} events"),
             || gurvazze::replay(&text, &word, &mut to),
@@ -403,16 +421,15 @@ fn trials() {
     }
 }
 
-fn line_rule(case: &str, set_up: &SetUp, table: &RawTable) {
+/// The rule of a table, which both write, or refuse with the number that the case names.
+fn line_rule(case: &str, set_up: &SetUp, table: &RawTable, expected: Result<(), u8>) {
     let mut to = [0; 768];
     let mut other = [0; 768];
-    let nodes = gurvazze::rule(raw(set_up), lent(table), &mut to);
-    assert_eq!(nodes.is_ok(), characteristic::write_rule(set_up.raw(), table.lent(), &mut other).is_ok());
-    let mut said = String::new();
-    match nodes {
-        Ok(nodes) => write!(said, "{nodes} nodes").expect("a string has room"),
-        Err(refusal) => write!(said, "{refusal}").expect("a string has room"),
-    }
+    let nodes = gurvazze::rule(raw(set_up), lent(table), &mut to).map_err(plain);
+    assert_eq!(nodes.map(|_| ()).map_err(|refusal| refusal.number), expected);
+    assert_eq!(nodes, characteristic::write_rule(set_up.raw(), table.lent(), &mut other));
+    assert_eq!(to, other);
+    let said = nodes.map_or_else(|refusal| format!("refused={refusal}"), |nodes| format!("{nodes} nodes"));
     compare(
         &format!("  {case}, {said}"),
         || gurvazze::rule(raw(set_up), lent(table), &mut to),
@@ -420,18 +437,25 @@ fn line_rule(case: &str, set_up: &SetUp, table: &RawTable) {
     );
 }
 
-fn chain(states: usize) -> RawTable {
-    RawTable { states, start: 0, bytes: (0..states).flat_map(|state| [3, (state + 1).min(states - 1) as u8]).collect() }
+/// Each state goes to the next one on event 0, and past it on event 1; the last goes to itself.
+fn branching(states: usize) -> RawTable {
+    let bytes = (0..states).flat_map(|state| [1, 2].map(|on| [3, (state + on).min(states - 1) as u8]).concat()).collect();
+    RawTable { states, start: 0, bytes }
 }
 
 fn rules() {
     println!("-- rule of a table");
-    for states in [1, 4, 16, 63] {
-        line_rule(&format!("chain of {states}, 1 event"), &four(1), &chain(states));
+    for states in [1, 4, 12] {
+        line_rule(&format!("chain of {states}, 1 event"), &four(1), &RawTable::chain(states, 3), Ok(()));
     }
+    for events in [2, 4] {
+        let set_up = four(events);
+        line_rule(&format!("loop of 12, {events} events"), &set_up, &loop_table(&set_up, 12, |_| 1), Ok(()));
+    }
+    line_rule("6 states, branching, 2 events", &four(2), &branching(6), Ok(()));
     for events in [1, 4, 16] {
         let set_up = four(events);
-        line_rule(&format!("1 state, {events} events"), &set_up, &loop_table(&set_up, 1, |_| 1));
+        line_rule(&format!("1 state, {events} events"), &set_up, &loop_table(&set_up, 1, |_| 1), Ok(()));
     }
 }
 
@@ -441,26 +465,16 @@ fn worst() {
     let primes = [2, 3, 5, 7, 11, 13, 17, 19, 23];
     let loops: Vec<Node> =
         std::iter::repeat_n(Node::Both, primes.len() - 1).chain(primes.iter().flat_map(|&prime| ring(prime))).collect();
-    let text = file(&set_up, &loops);
-    let (mut to, mut other) = ([0; 2048], [0; 2048]);
-    assert_eq!(gurvazze::table(&text, &mut to).unwrap_err().number, 10);
-    compare("  table: nine loops of prime lengths, 10", || gurvazze::table(&text, &mut to), || rust_table(&text, &mut other));
-    let nested = |node: Node| {
-        let mut nodes = vec![node; 255];
-        nodes.push(Node::True);
-        nodes
-    };
-    for (name, node) in [("V", Node::Greatest), ("G", Node::After(0))] {
-        let text = file(&set_up, &nested(node));
-        compare(&format!("  table: 255 nested {name}"), || gurvazze::table(&text, &mut to), || rust_table(&text, &mut other));
-    }
-    let mut left = vec![Node::Both; 127];
-    left.extend([Node::True; 128]);
-    let text = file(&set_up, &left);
-    compare("  table: A nested to the left", || gurvazze::table(&text, &mut to), || rust_table(&text, &mut other));
+    line_table("table: nine loops of prime lengths", &file(&set_up, &loops), Err(10));
+    let binders = nested(Node::Greatest, 12);
+    line_table("table: 12 nested V", &file(&set_up, &binders), Ok(()));
+    line_table("table: 18 times 12 nested V", &file(&set_up, &side_by_side(&binders, 18)), Ok(()));
+    line_table("table: 255 nested G", &file(&set_up, &nested(Node::After(0), 255)), Err(10));
+    line_table("table: A nested to the left", &file(&set_up, &side_by_side(&[Node::True], 128)), Ok(()));
     let full = four(16);
     let bytes = (0..64 * 16).flat_map(|entry: usize| [1, ((entry * 7 + entry / 16) % 64) as u8]).collect();
-    line_rule("rule: 64 states, 16 events, all joined", &full, &RawTable { states: 64, start: 0, bytes });
+    line_rule("rule: 64 states, 16 events, all joined", &full, &RawTable { states: 64, start: 0, bytes }, Err(12));
+    line_rule("rule: chain of 63, 1 event", &set_up, &RawTable::chain(63, 3), Err(23));
     // The device is low but for its last state, and the rule is low in its last state alone.
     let table = loop_table(&set_up, 63, |state| if state == 62 { 1 } else { 3 });
     let device = loop_table(&set_up, 64, |state| if state == 63 { 3 } else { 1 });

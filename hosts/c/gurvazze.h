@@ -5,8 +5,8 @@
  * overlaps nothing else that the call is lent. A refused call leaves all lent memory as it was, and what lies behind an output keeps
  * its contents.
  *
- * Every answer is one number: its low byte is the number of the refusal in document 01's list, 0 where there is none; above it stands
- * the refusal's place (4 and 6 to 9 have one), or what the call yields.
+ * Every answer is one number: its low byte is the number of the refusal in the lists of documents 01 and 02, 0 where there is none;
+ * above it stands the refusal's place (4 and 6 to 9 have one), or what the call yields.
  *
  * Example, compiled and run by hosts/c/test:
  *
@@ -25,12 +25,29 @@
  *             printf("word of %llu: %u\n", (unsigned long long)gurvazze_yield(answer), word[0]);
  *     }
  *
+ *     static void say_rule_of_chain(unsigned states)
+ *     {
+ *         static const uint8_t meet[] = {0, 0, 0, 1};
+ *         static uint8_t table[GURVAZZE_TABLE_BYTES], rule[GURVAZZE_RULE_BYTES];
+ *         for (unsigned state = 0; state < states; state++) {
+ *             table[2 * state] = 1;
+ *             table[2 * state + 1] = (uint8_t)(state + 1 < states ? state + 1 : state);
+ *         }
+ *         uint64_t answer = gurvazze_rule(1, 2, 1, meet, sizeof meet, states, 0, table, 2 * states, rule, sizeof rule);
+ *         if (gurvazze_refusal(answer) != 0)
+ *             printf("chain of %u: refused=%u\n", states, gurvazze_refusal(answer));
+ *         else
+ *             printf("chain of %u: nodes=%llu\n", states, (unsigned long long)gurvazze_yield(answer));
+ *     }
+ *
  *     int main(void)
  *     {
  *         static const uint8_t file[] =
  *             "events=2\nvalues=4\ntop=3\nmeet=0 0 0 0 0 1 0 1 0 0 2 2 0 1 2 3\nrule=A O1.1 V G1 X0\n";
  *         static const uint8_t inner_binder[] =
  *             "events=2\nvalues=4\ntop=3\nmeet=0 0 0 0 0 1 0 1 0 0 2 2 0 1 2 3\nrule=V G0 V A X1 G0 X0\n";
+ *         static const uint8_t thirteen_binders[] =
+ *             "events=2\nvalues=4\ntop=3\nmeet=0 0 0 0 0 1 0 1 0 0 2 2 0 1 2 3\nrule=V V V V V V V V V V V V V T\n";
  *         static const uint8_t events[] = {1, 1, 0};
  *         static const uint8_t always_open[] = {3, 0, 3, 0}, always_low[] = {1, 0, 1, 0};
  *         static uint8_t table[GURVAZZE_TABLE_BYTES], values[3], word[GURVAZZE_WORD_BYTES];
@@ -46,6 +63,10 @@
  *         printf("states=%u\n", gurvazze_states(answer));
  *         answer = gurvazze_table(file, 8, table, sizeof table);
  *         printf("refused=%u %llu\n", gurvazze_refusal(answer), (unsigned long long)gurvazze_place(answer));
+ *         answer = gurvazze_table(thirteen_binders, sizeof thirteen_binders - 1, table, sizeof table);
+ *         printf("refused=%u\n", gurvazze_refusal(answer));
+ *         say_rule_of_chain(12);
+ *         say_rule_of_chain(13);
  *         return 0;
  *     }
  *
@@ -58,6 +79,9 @@
  *     same
  *     states=3
  *     refused=4 8
+ *     refused=23
+ *     chain of 12: nodes=49
+ *     chain of 13: refused=23
  */
 #ifndef GURVAZZE_H
 #define GURVAZZE_H
@@ -80,11 +104,12 @@ extern "C" {
 #define GURVAZZE_STRICTER 65536
 
 /* The table of a channel file's rule, value and next state, one byte each, by state and then event. Yields its numbers.
- * Refusals 4, 1 to 3, 5 to 10, 13. Here and below, a variable is in order when a G lies between it and its own binder; refusal 9 is given
- * only where none does. */
+ * Refusals 4, 1 to 3, 5 to 8, 23, 9, 10, 13. Here and below, a variable is in order when a G lies between it and its own binder; refusal 9
+ * is given only where none does. Refusal 23: a path with more than twelve V nodes, counted from the root. */
 uint64_t gurvazze_table(const uint8_t *text, size_t text_length, uint8_t *to, size_t to_length);
 
-/* The values of a channel file's rule on a sequence of events, one byte each. Yields 0. Refusals 4, 1 to 3, 5 to 10, 16, 13. */
+/* The values of a channel file's rule on a sequence of events, one byte each. Yields 0. Refusals 4, 1 to 3, 5 to 8, 23, 9, 10,
+ * 16, 13. */
 uint64_t gurvazze_replay(const uint8_t *text, size_t text_length, const uint8_t *events, size_t events_length, uint8_t *to,
                          size_t to_length);
 
@@ -94,7 +119,7 @@ uint64_t gurvazze_replay(const uint8_t *text, size_t text_length, const uint8_t 
  * one with the smaller event at the first difference. Word and length are fixed by the two tables.
  * A rule covers another of the same set-up, so that every device that satisfies it satisfies the other, exactly if its gurvazze_table, as
  * a device from state 0, passes against the other.
- * Refusals 4, 1 to 3, 5 to 10, 11, 13. */
+ * Refusals 4, 1 to 3, 5 to 8, 23, 9, 10, 11, 13. */
 uint64_t gurvazze_trial(const uint8_t *text, size_t text_length, size_t device_states, size_t device_start, const uint8_t *device,
                         size_t device_length, uint8_t *word, size_t word_length);
 
@@ -104,7 +129,9 @@ uint64_t gurvazze_trial_table(size_t events, size_t values, size_t top, const ui
                               const uint8_t *table, size_t table_length, size_t device_states, size_t device_start,
                               const uint8_t *device, size_t device_length, uint8_t *word, size_t word_length);
 
-/* The rule of a table from a start, three bytes a node. Yields the number of nodes. Refusals 1 to 3, 11, 12, 13. */
+/* The rule of a table from a start, three bytes a node. Yields the number of nodes. Refusals 1 to 3, 11, 12, 23, 13. What is written is
+ * always a rule that gurvazze_table takes. A path of it has a V node for each state that is open there, and 23 is given for more than
+ * twelve. */
 uint64_t gurvazze_rule(size_t events, size_t values, size_t top, const uint8_t *meet, size_t meet_length, size_t states, size_t start,
                        const uint8_t *table, size_t table_length, uint8_t *to, size_t to_length);
 

@@ -1,13 +1,13 @@
 -- A number above 255 held as 255: refusals 1 to 3 and 5 to 9 are the same, and of what is accepted nothing is clamped.
-use Prim.Native.Nat.{ℕ, zero, suc, _+_, _*_, _/_, _≤_, _<_}
+use Prim.Native.Nat.{ℕ, zero, suc, max, _+_, _*_, _/_, _≤_, _<_}
 use mathlib.Core.{Path.{_≡_, refl, sym, ap, ap₂, _∙_}, List.{List, [], _∷_, _++_, map}, Bool.{Bool, true, false, cond, not, _&&_}}
 use mathlib.Core.Option.{Option, none, some}
 use native.Mathlib.Omega.{arith}
-use lib.{Dec.{eqb, ltb}, ListN.{length, getD, length-map, List·getD-map}}
+use lib.{Dec.{eqb, ltb, leb}, ListN.{length, getD, length-map, List·getD-map}}
 use borrow.Author.Tests.{ltb-true, ltb-false, lt-ltb, le-ltb, eqb-true, eqb-false, eq-eqb, ne-eqb}
-use Rattle.limits.specs.Limits.{event-limit, value-limit, node-limit}
+use Rattle.limits.specs.Limits.{event-limit, value-limit, node-limit, binder-limit}
 use Rattle.theory.specs.Formula.{Formula, truth, variable, transition, output, conjunction, greatest, size}
-use Rattle.theory.specs.FormulaClasses.{FreeBelow, Fits}
+use Rattle.theory.specs.FormulaClasses.{binder-depth, FreeBelow, Fits}
 use Rattle.theory.specs.Formula.{Node, truth-node, variable-node, transition-node, output-node, conjunction-node, greatest-node}
 use Rattle.theory.specs.ValueSets.{Below}
 use Rattle.theory.specs.ValueSetTests.{every, lawful}
@@ -24,8 +24,8 @@ use Rattle.values.proofs.Setups.{values-small, setup-accepted}
 use Rattle.formulas.specs.RuleConditions.{node-bytes, encode-formula}
 use Rattle.formulas.specs.RuleReading.{Kind, kind-T, kind-X, kind-G, kind-O, kind-A, kind-V, unknown-kind, kind-of, fields-fit}
 use Rattle.formulas.specs.RuleReading.{end-fault, awaited, first-of, node-of, nodes-from, with-parts, formulas, first-formula, formula-read}
-use Rattle.formulas.specs.RuleReading.{lowest-variable, unbound-below, bound-near, lowest-unbound, lowest-unprotected}
-use Rattle.formulas.specs.RuleRefusal.{count-fits, variables-refusal, structure-refusal, misfit-place, nodes-refusal, kind-at, first-at, value-at}
+use Rattle.formulas.specs.RuleReading.{Search, lowest-fault, unbound-below, bound-near, unbound-search, unprotected-search, lowest-unbound, lowest-unprotected}
+use Rattle.formulas.specs.RuleRefusal.{count-fits, depth-refusal, variables-refusal, structure-refusal, misfit-place, nodes-refusal, kind-at, first-at, value-at}
 use Rattle.formulas.specs.RuleRefusal.{rule-refusal, formula-of}
 use Rattle.formulas.proofs.{Search.{lowest-same}, Prefix.{length-from}, Decoding.{CountFits, count-facts}, RuleClaims.{accepted-formula-of}}
 use Rattle.channel_file.specs.ChannelFile.{Token, token-T, token-A, token-V, token-X, token-G, token-O, Contents}
@@ -219,33 +219,42 @@ size-same (conjunction φ χ) = ap₂ (λ (x y : ℕ). suc (x + y)) (size-same �
 size-same (greatest φ) = ap suc (size-same φ)
 
 -- 8 and 9: within 256 nodes fewer than 256 binders stand above a variable
-module _ (faulty : ℕ → ℕ → Bool) (below : ℕ → ℕ) (falls : (d : ℕ) → below d ≤ d) (alike : (d n : ℕ) → d ≤ 255 → faulty d (clamp n) ≡ faulty d n) where
-  abbrev lowest : ℕ → ℕ → Formula ℕ → Option ℕ
-  lowest = lowest-variable faulty below suc
-
-  variable-same : (d i : ℕ) (φ : Formula ℕ) → d + size φ ≤ node-limit → lowest d i (clamp-formula φ) ≡ lowest d i φ
-  unfolding lowest-variable
-  variable-same d i truth h = refl
-  variable-same d i (variable n) h = ap (λ (b : Bool). cond b (some i) none) (alike d n (omega arith))
-  variable-same d i (transition e φ) h = variable-same (below d) (suc i) φ (omega (arith, falls d))
-  variable-same d i (output e v) h = refl
-  variable-same d i (conjunction φ χ) h =
-      ap₂ (λ (x y : Option ℕ). first-of x y) (variable-same d (suc i) φ (omega arith))
-      (ap (λ (n : ℕ). lowest d (suc i + n) (clamp-formula χ)) (size-same φ) ∙ variable-same d (suc i + size φ) χ (omega arith))
-  variable-same d i (greatest φ) h = variable-same (suc d) (suc i) φ (omega arith)
+module _ (f : Search ℕ) (falls : (d : ℕ) → f .below-transition d ≤ d) (rises : (d : ℕ) → f .below-greatest d ≡ suc d)
+    (alike : (d n : ℕ) → d ≤ 255 → f .at-variable d (clamp n) ≡ f .at-variable d n) where
+  fault-same : (d i : ℕ) (φ : Formula ℕ) → d + size φ ≤ node-limit → lowest-fault f d i (clamp-formula φ) ≡ lowest-fault f d i φ
+  unfolding lowest-fault
+  fault-same d i truth h = refl
+  fault-same d i (variable n) h = ap (λ (b : Bool). cond b (some i) none) (alike d n (omega arith))
+  fault-same d i (transition e φ) h = fault-same (f .below-transition d) (suc i) φ (omega (arith, falls d))
+  fault-same d i (output e v) h = refl
+  fault-same d i (conjunction φ χ) h =
+      ap₂ (λ (x y : Option ℕ). first-of x y) (fault-same d (suc i) φ (omega arith))
+      (ap (λ (n : ℕ). lowest-fault f d (suc i + n) (clamp-formula χ)) (size-same φ) ∙ fault-same d (suc i + size φ) χ (omega arith))
+  fault-same d i (greatest φ) h =
+      ap (λ (x : Option ℕ). first-of (cond (f .at-greatest d) (some i) none) x) (fault-same (f .below-greatest d) (suc i) φ (omega (arith, rises d)))
 
 unbound-same : (φ : Formula ℕ) → size φ ≤ node-limit → lowest-unbound 0 0 (clamp-formula φ) ≡ lowest-unbound 0 0 φ
 unfolding unbound-below
-unbound-same φ h = variable-same unbound-below (λ d. d) (λ d. omega arith) (λ d n l. ap not (clamp-below n d l)) 0 0 φ (omega (arith, h))
+unbound-same φ h = fault-same unbound-search (λ d. omega arith) (λ d. refl) (λ d n l. ap not (clamp-below n d l)) 0 0 φ (omega (arith, h))
 
 unprotected-same : (φ : Formula ℕ) → size φ ≤ node-limit → lowest-unprotected 0 0 (clamp-formula φ) ≡ lowest-unprotected 0 0 φ
 unfolding bound-near
-unprotected-same φ h = variable-same bound-near (λ d. zero) (λ d. omega arith) (λ d n l. clamp-below n d l) 0 0 φ (omega (arith, h))
+unprotected-same φ h = fault-same unprotected-search (λ d. omega arith) (λ d. refl) (λ d n l. clamp-below n d l) 0 0 φ (omega (arith, h))
+
+-- 23: the V nodes stay
+depth-same : (φ : Formula ℕ) → binder-depth (clamp-formula φ) ≡ binder-depth φ
+depth-same truth = refl
+depth-same (variable n) = refl
+depth-same (transition e φ) = depth-same φ
+depth-same (output e v) = refl
+depth-same (conjunction φ χ) = ap₂ (λ (x y : ℕ). max x y) (depth-same φ) (depth-same χ)
+depth-same (greatest φ) = ap suc (depth-same φ)
 
 variables-same : (φ : Formula ℕ) → size φ ≤ node-limit → variables-refusal (clamp-formula φ) ≡ variables-refusal φ
-unfolding variables-refusal
+unfolding variables-refusal depth-refusal
 variables-same φ h =
-    ap₂ (λ (x y : Option ℕ). or-else (at-found x 8) (at-found y 9)) (unbound-same φ h) (unprotected-same φ h)
+    ap₂ (λ (x : Option ℕ) (l : Option Refusal). or-else (at-found x 8) l) (unbound-same φ h)
+    (ap₂ (λ (d : ℕ) (y : Option ℕ). or-else (plain-unless (leb d binder-limit) 23) (at-found y 9)) (depth-same φ) (unprotected-same φ h))
 
 -- ---- nodes reached through accessors
 

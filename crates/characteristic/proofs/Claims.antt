@@ -4,29 +4,29 @@ use Prim.Native.Nat.{ℕ, _*_, _≤_, _-_}
 use native.Mathlib.Omega.{arith}
 use lib.{ListN.{length}, Dec.{leb}}
 use borrow.Author.Tests.{leb-true, leb-false}
-use Rattle.limits.specs.Limits.{node-limit, state-limit, table-limit}
+use Rattle.limits.specs.Limits.{node-limit, binder-limit, state-limit, table-limit}
 use Rattle.theory.specs.Formula.{Formula, size}
-use Rattle.theory.specs.FormulaClasses.{binders, Accepted}
+use Rattle.theory.specs.FormulaClasses.{binders, binder-depth, Accepted}
 use Rattle.theory.specs.ReachableStates.{StatesAtMost}
 use Rattle.theory.proofs.{Claims.{characteristic}, CharacteristicFormula.{writes-one, writes-accepted, few-binders}}
 use Rattle.refusal.specs.Refusal.{plain, First, has-place, condition-numbers, right-places, part-of, order}
-use Rattle.refusal.specs.RefusalAnswers.{plain-unless, counted}
+use Rattle.refusal.specs.RefusalAnswers.{or-else, plain-unless, counted}
 use Rattle.refusal.proofs.Refusals.{plain-first, first-then, first-append, or-else-none, plain-none}
 use Rattle.refusal.specs.RefusalAnswers.{put-unless}
 use Rattle.values.specs.{Setup.{Setup, SetupValue, setup-meet, setup-top, setup-conditions}, SetupTests.{setup-refusal}}
 use Rattle.values.proofs.Setups.{setup-first, judged-after-setup, setup-accepted}
-use Rattle.formulas.specs.RuleConditions.{encode-formula, node-width, node-bytes}
-use Rattle.formulas.proofs.{Encoding.{formula-length}, NodeCodes.{node-code}, RuleClaims.{accepted-claim}}
+use Rattle.formulas.specs.{RuleConditions.{encode-formula, node-width, node-bytes}, RuleRefusal.{depth-refusal}}
+use Rattle.formulas.proofs.{Encoding.{formula-length}, NodeCodes.{node-code}, RuleClaims.{accepted-claim, depth-claim}}
 use Rattle.machines.specs.{TableBytes.{entry-width, machine-of, table-condition}, TableRefusal.{table-refusal}}
 use Rattle.machines.proofs.TableRefusals.{table-refusal-first}
-use Rattle.characteristic.specs.RuleOfTable.{IsRuleOf, TooManyNodes, BufferTooShort, write-conditions}
+use Rattle.characteristic.specs.RuleOfTable.{IsRuleOf, TooManyNodes, WrittenTooDeep, BufferTooShort, write-conditions}
 use Rattle.characteristic.specs.RuleWriting.{output-refusal, rule-of, write-refusal}
 use Rattle.characteristic.specs.RuleWriting.{write-answer, write-contents}
 use Rattle.characteristic.specs.Claims.{WriteRefusalClaim, RefusedClaim, RuleWritten, Written, WrittenClaim}
 use Rattle.characteristic.proofs.{Outputs.{refused-answer}, Answers.{is-rule, runs, last-event, start-within}}
 
 module _ (table-most node-most : ℕ) (s : Setup) (states start : ℕ) (table : List ℕ) where
-  -- 12 and 13, where the formula is the rule.
+  -- 12, 23 and 13, where the formula is the rule.
   module _ (φ : Formula ℕ) (w : IsRuleOf (s .events) (s .kind) start table φ) (room : ℕ) where
     same-rule : (χ : Formula ℕ) → IsRuleOf (s .events) (s .kind) start table χ → χ ≡ φ
     same-rule χ v = writes-one (machine-of (s .kind) (s .events) table) (s .events) v w
@@ -36,23 +36,34 @@ module _ (table-most node-most : ℕ) (s : Setup) (states start : ℕ) (table : 
 
     output-first :
         First (plain 12 (TooManyNodes table-most node-most s states start table)
+        ∷ plain 23 (WrittenTooDeep table-most node-most s states start table)
         ∷ plain 13 (BufferTooShort table-most node-most s states start table room)
         ∷ [])
         (output-refusal (s .kind) node-most φ room)
-    unfolding output-refusal
+    unfolding output-refusal depth-refusal
     output-first =
         first-append
         (plain 12 (TooManyNodes table-most node-most s states start table) ∷ [])
-        (plain 13 (BufferTooShort table-most node-most s states start table room) ∷ [])
+        (plain 23 (WrittenTooDeep table-most node-most s states start table)
+        ∷ plain 13 (BufferTooShort table-most node-most s states start table room)
+        ∷ [])
         (plain-unless (leb (size φ) node-most) 12)
-        (plain-unless (leb (size φ * node-width (s .kind)) room) 13)
+        (or-else (depth-refusal φ) (plain-unless (leb (size φ * node-width (s .kind)) room) 13))
         (plain-first 12 _ (leb (size φ) node-most)
         (λ e. (φ, w, leb-false (size φ) node-most e))
         (λ e (χ, v, h). omega (arith, leb-true (size φ) node-most e, h, ap size (same-rule χ v))))
+        (first-append
+        (plain 23 (WrittenTooDeep table-most node-most s states start table) ∷ [])
+        (plain 13 (BufferTooShort table-most node-most s states start table room) ∷ [])
+        (depth-refusal φ)
+        (plain-unless (leb (size φ * node-width (s .kind)) room) 13)
+        (plain-first 23 _ (leb (binder-depth φ) binder-limit)
+        (λ e. (φ, w, depth-claim ℕ φ .1 (leb-false (binder-depth φ) binder-limit e)))
+        (λ e (χ, v, h). omega (arith, leb-true (binder-depth φ) binder-limit e, depth-claim ℕ χ .0 h, ap binder-depth (same-rule χ v))))
         (plain-first 13 _ (leb (size φ * node-width (s .kind)) room)
         (λ e. (φ, w, omega (arith, leb-false (size φ * node-width (s .kind)) room e, bytes-of φ)))
         (λ e (χ, v, h).
-        omega (arith, leb-true (size φ * node-width (s .kind)) room e, h, bytes-of χ, ap (λ y. size y * node-width (s .kind)) (same-rule χ v))))
+        omega (arith, leb-true (size φ * node-width (s .kind)) room e, h, bytes-of χ, ap (λ y. size y * node-width (s .kind)) (same-rule χ v)))))
 
   write-first :
       (room : ℕ)
@@ -71,17 +82,20 @@ module _ (table-most node-most : ℕ) (s : Setup) (states start : ℕ) (table : 
     setup-passed : setup-refusal s ≡ none
     table-passed : table-refusal table-most (s .events) (s .kind) states start table ≡ none
     few-nodes : size (rule-of s states start table) ≤ node-most
+    shallow : binder-depth (rule-of s states start table) ≤ binder-limit
 
   passed : (room : ℕ) → write-refusal table-most node-most s states start table room ≡ none → Passed room
-  unfolding write-refusal output-refusal
+  unfolding write-refusal output-refusal depth-refusal
   passed room e =
       let one = or-else-none (setup-refusal s) _ e in
       let two = or-else-none (table-refusal table-most (s .events) (s .kind) states start table) _ (one .1) in
       let three = or-else-none (plain-unless (leb (size (rule-of s states start table)) node-most) 12) _ (two .1) in
+      let four = or-else-none (depth-refusal (rule-of s states start table)) _ (three .1) in
       record {
         setup-passed = one .0;
         table-passed = two .0;
         few-nodes = leb-true _ _ (plain-none _ 12 (three .0));
+        shallow = leb-true _ _ (plain-none _ 23 (four .0));
       }
 
 pub write-refusal-claim : WriteRefusalClaim
@@ -116,8 +130,8 @@ module _ (s : Setup) (states start : ℕ) (table old : List ℕ)
       let laws = setup-accepted s .0 (through .setup-passed) .laws in
       let m = machine-of (s .kind) (s .events) table in
       let claim = characteristic (SetupValue s) (setup-meet s) (setup-top s) (s .events) laws states (s .events - 1) m l r start inside in
-      let ok : Accepted node-limit (s .events) (SetupValue s) (rule-of s states start table) =
-      writes-accepted m (s .events) (SetupValue s) states r node-limit w inside (through .few-nodes) in
+      let ok : Accepted node-limit binder-limit (s .events) (SetupValue s) (rule-of s states start table) =
+      writes-accepted m (s .events) (SetupValue s) states r node-limit binder-limit w inside (through .few-nodes) (through .shallow) in
       let few = few-binders m (s .events) (s .events - 1) l w (through .few-nodes) in
       record {
         is-rule = w;

@@ -1,4 +1,4 @@
--- The nodes listed in a buffer of the walk's own, judged by refusals 12 and 13, and copied to the front of the lent buffer.
+-- The nodes listed in a buffer of the walk's own, judged by refusals 12, 23 and 13, and copied to the front of the lent buffer.
 use mathlib.Core.{Path.{_≡_, refl, sym, _∙_, ap, ap₂}, Option.{Option, none, some}, List.{List, [], _++_}}
 use Prim.Native.Nat.{ℕ, _+_, _*_, _≤_, _<_}
 use native.Mathlib.{Nat.{zero-mul, mul-le-mul}, Numerals.{add-one}, Omega.{arith}}
@@ -9,18 +9,18 @@ use Rattle.theory.specs.{Formula.{Formula, size}, CharacteristicFormula.{Writes
 use Rattle.refusal.specs.declared.Refusal.{Refusal}
 use Rattle.refusal.specs.declared.Refusal.the-variants.{Plain}
 use Rattle.refusal.specs.declared.Counted.the-variants.{Count, Refused}
-use Rattle.refusal.specs.RefusalAnswers.{or-else, plain-unless, counted}
-use Rattle.refusal.specs.Refusal.{put}
-use Rattle.refusal.specs.RefusalAnswers.{put-unless}
+use Rattle.refusal.specs.declared.{Counted.{Counted}, Judgement.{Judgement}, Judgement.the-variants.{Accepted as Allowed, Refused as Denied}}
+use Rattle.refusal.specs.{Refusal.{put}, RefusalAnswers.{or-else, plain-unless, judgement, counted, put-unless}}
+use Rattle.refusal.proofs.Refusals.{judgement-accepted, judgement-refused}
 use Rattle.values.specs.declared.ValueKind.{ValueKind}
 use Rattle.values.specs.declared.ValueKind.the-variants.{Numbered, Register}
-use Rattle.formulas.specs.RuleConditions.{encode-formula, node-width, node-bytes}
-use Rattle.formulas.proofs.Prefix.{length-nodes}
+use Rattle.formulas.specs.{RuleConditions.{encode-formula, node-width, node-bytes}, RuleRefusal.{depth-refusal, rule-refusal}}
+use Rattle.formulas.proofs.{Prefix.{length-nodes}, RuleClaims.{well-formed-refusal}}
 use Rattle.machines.specs.TableBytes.{machine-of}
 use Rattle.machines.proofs.Stores.{put-snoc}
 use Rattle.characteristic.specs.RuleOfTable.{IsRuleOf}
 use Rattle.characteristic.specs.RuleWriting.{output-refusal}
-use Rattle.characteristic.specs.NodeOutput.{HasRoom, Ready, Walked, Listed, Answered}
+use Rattle.characteristic.specs.NodeOutput.{HasRoom, Ready, Walked, Listed, Answered, RuleWellFormed}
 use Rattle.characteristic.proofs.OpenPath.{path-empty}
 
 -- ---- a copy, byte by byte
@@ -67,19 +67,23 @@ rule-room (Register lines) e = record { room = omega (arith, e); small-limit = o
 pub rule-bytes : {count width : ℕ} → count ≤ node-limit → width ≤ 6 → count * width ≤ node-limit * 6
 rule-bytes few narrow = mul-le-mul few narrow
 
--- ---- 12 and 13
+-- ---- 12, 23 and 13
 module _ (kind : ValueKind) (limit : ℕ) (φ : Formula ℕ) (room : ℕ) where
   pub over-limit : limit < size φ → output-refusal kind limit φ room ≡ some (Plain 12)
   unfolding output-refusal or-else plain-unless
   over-limit h = rw (lt-leb (size φ) limit h)
 
-  pub over-room : size φ ≤ limit → room < size φ * node-width kind → output-refusal kind limit φ room ≡ some (Plain 13)
+  pub over-depth : (r : Refusal) → size φ ≤ limit → depth-refusal φ ≡ some r → output-refusal kind limit φ room ≡ some r
   unfolding output-refusal or-else plain-unless
-  over-room h k = rw (le-leb (size φ) limit h, lt-leb (size φ * node-width kind) room k)
+  over-depth r h d = rw (le-leb (size φ) limit h, d)
 
-  pub fits-room : size φ ≤ limit → size φ * node-width kind ≤ room → output-refusal kind limit φ room ≡ none
+  pub over-room : size φ ≤ limit → depth-refusal φ ≡ none → room < size φ * node-width kind → output-refusal kind limit φ room ≡ some (Plain 13)
   unfolding output-refusal or-else plain-unless
-  fits-room h k = rw (le-leb (size φ) limit h, le-leb (size φ * node-width kind) room k)
+  over-room h d k = rw (le-leb (size φ) limit h, d, lt-leb (size φ * node-width kind) room k)
+
+  pub fits-room : size φ ≤ limit → depth-refusal φ ≡ none → size φ * node-width kind ≤ room → output-refusal kind limit φ room ≡ none
+  unfolding output-refusal or-else plain-unless
+  fits-room h d k = rw (le-leb (size φ) limit h, d, le-leb (size φ * node-width kind) room k)
 
 -- A refusal leaves the buffer.
 pub refused-answer :
@@ -94,52 +98,66 @@ accepted-answer :
 unfolding counted put-unless
 accepted-answer count output old e = (ap (λ o. counted o count) (sym e), ap (λ o. put-unless o output old) (sym e))
 
-module _ {kind : ValueKind} {limit events start count : ℕ} {table blank listed old : List ℕ} (l : Listed kind limit events start table blank listed count) where
-  pub too-many : limit < count → Answered kind limit events start table old old (Refused (Plain 12))
-  too-many h = record { answer = λ φ w. both φ w .0; contents = λ φ w. both φ w .1 }
-    where
-      both :
-          (φ : Formula ℕ) → IsRuleOf events kind start table φ
-          → (Refused (Plain 12) ≡ counted (output-refusal kind limit φ (length old)) (size φ))
-          × (old ≡ put-unless (output-refusal kind limit φ (length old)) (encode-formula (node-bytes kind) φ) old)
-      both φ w =
-          refused-answer (Plain 12) (size φ) (encode-formula (node-bytes kind) φ) old
-          (over-limit kind limit φ (length old) (omega (arith, l .listed φ w .position, length-nodes φ)))
+module _ {kind : ValueKind} {events start : ℕ} {table : List ℕ} (old : List ℕ) where
+  -- The answer and the buffer, from what is said of the rule of the table.
+  given :
+      {r : Counted} {after : List ℕ}
+      → ((φ : Formula ℕ) → IsRuleOf events kind start table φ
+      → (r ≡ counted (output-refusal kind node-limit φ (length old)) (size φ))
+      × (after ≡ put-unless (output-refusal kind node-limit φ (length old)) (encode-formula (node-bytes kind) φ) old))
+      → Answered kind node-limit events start table old after r
+  given both = record { answer = λ φ w. both φ w .0; contents = λ φ w. both φ w .1 }
 
-  pub too-short :
-      {width : ℕ} → width ≡ node-width kind → count ≤ limit → length old < count * width
-      → Answered kind limit events start table old old (Refused (Plain 13))
-  too-short {width} width-is h k = record { answer = λ φ w. both φ w .0; contents = λ φ w. both φ w .1 }
-    where
-      both :
-          (φ : Formula ℕ) → IsRuleOf events kind start table φ
-          → (Refused (Plain 13) ≡ counted (output-refusal kind limit φ (length old)) (size φ))
-          × (old ≡ put-unless (output-refusal kind limit φ (length old)) (encode-formula (node-bytes kind) φ) old)
-      both φ w =
-          let same : count ≡ size φ = omega (arith, l .listed φ w .position, length-nodes φ) in
-          let bytes : count * width ≡ size φ * node-width kind = ap₂ _*_ same width-is in
-          refused-answer (Plain 13) (size φ) (encode-formula (node-bytes kind) φ) old
-          (over-room kind limit φ (length old) (omega (arith, same)) (omega (arith, bytes)))
+  refused-by :
+      (r : Refusal) → ((φ : Formula ℕ) → IsRuleOf events kind start table φ → output-refusal kind node-limit φ (length old) ≡ some r)
+      → Answered kind node-limit events start table old old (Refused r)
+  refused-by r meets = given λ φ w. refused-answer r (size φ) (encode-formula (node-bytes kind) φ) old (meets φ w)
 
-  pub all-copied :
-      {after : List ℕ} {width : ℕ} → width ≡ node-width kind → count ≤ limit → count * width ≤ length old → after ≡ put (take (count * width) listed) old
-      → Answered kind limit events start table old after (Count count)
-  all-copied {after} {width} width-is h k copied = record { answer = λ φ w. both φ w .0; contents = λ φ w. both φ w .1 }
-    where
-      both :
-          (φ : Formula ℕ) → IsRuleOf events kind start table φ
-          → (Count count ≡ counted (output-refusal kind limit φ (length old)) (size φ))
-          × (after ≡ put-unless (output-refusal kind limit φ (length old)) (encode-formula (node-bytes kind) φ) old)
-      both φ w =
-          let same : count ≡ size φ = omega (arith, l .listed φ w .position, length-nodes φ) in
-          let bytes : count * width ≡ size φ * node-width kind = ap₂ _*_ same width-is in
-          let done =
-          accepted-answer (size φ) (encode-formula (node-bytes kind) φ) old
-          (fits-room kind limit φ (length old) (omega (arith, same)) (omega (arith, bytes))) in (
-            ap Count same ∙ done .0,
-            copied
-                ∙ ap (λ n. put (take (count * n) listed) old) width-is
-                ∙ ap (λ b. put b old)
-                (l .listed φ w .contents h ∙ ap (λ n. take n blank ++ encode-formula (node-bytes kind) φ) (zero-mul (node-width kind)))
-                ∙ done .1,
-          )
+module _ {kind : ValueKind} {events start count : ℕ} {table blank listed : List ℕ}
+    (l : Listed kind node-limit events start table blank listed count) where
+  pub too-many : {old : List ℕ} → node-limit < count → Answered kind node-limit events start table old old (Refused (Plain 12))
+  too-many {old} h = refused-by old (Plain 12) λ φ w. over-limit kind node-limit φ (length old) (omega (arith, l .listed φ w .position, length-nodes φ))
+
+  -- Past 12, what is listed are the bytes of the rule; and of them 23 alone can be met.
+  module _ {width : ℕ} (width-is : width ≡ node-width kind) (h : count ≤ node-limit) where
+    same : (φ : Formula ℕ) → IsRuleOf events kind start table φ → count ≡ size φ
+    same φ w = omega (arith, h, l .listed φ w .position, length-nodes φ)
+
+    bytes : (φ : Formula ℕ) → IsRuleOf events kind start table φ → count * width ≡ size φ * node-width kind
+    bytes φ w = ap₂ _*_ (same φ w) width-is
+
+    listed-bytes : (φ : Formula ℕ) → IsRuleOf events kind start table φ → take (count * width) listed ≡ encode-formula (node-bytes kind) φ
+    listed-bytes φ w =
+        ap (λ n. take (count * n) listed) width-is ∙ l .listed φ w .contents h
+        ∙ ap (λ n. take n blank ++ encode-formula (node-bytes kind) φ) (zero-mul (node-width kind))
+
+    module _ (well : RuleWellFormed events kind start table) {judged : Judgement}
+        (judged-is : judged ≡ judgement (rule-refusal events kind (take (count * width) listed))) where
+      depth-judged : (φ : Formula ℕ) → IsRuleOf events kind start table φ → judged ≡ judgement (depth-refusal φ)
+      depth-judged φ w =
+          judged-is ∙ ap (λ b. judgement (rule-refusal events kind b)) (listed-bytes φ w)
+          ∙ ap judgement (well-formed-refusal events kind φ (omega (arith, h, same φ w)) (well φ w))
+
+      pub too-deep : {old : List ℕ} (r : Refusal) → judged ≡ Denied r → Answered kind node-limit events start table old old (Refused r)
+      too-deep {old} r e =
+          refused-by old r λ φ w.
+          over-depth kind node-limit φ (length old) r (omega (arith, h, same φ w)) (judgement-refused (depth-refusal φ) r (sym (depth-judged φ w) ∙ e))
+
+      module _ (e : judged ≡ Allowed) where
+        shallow : (φ : Formula ℕ) → IsRuleOf events kind start table φ → depth-refusal φ ≡ none
+        shallow φ w = judgement-accepted (depth-refusal φ) (sym (depth-judged φ w) ∙ e)
+
+        pub too-short : {old : List ℕ} → length old < count * width → Answered kind node-limit events start table old old (Refused (Plain 13))
+        too-short {old} k =
+            refused-by old (Plain 13) λ φ w.
+            over-room kind node-limit φ (length old) (omega (arith, h, same φ w)) (shallow φ w) (omega (arith, k, bytes φ w))
+
+        pub all-copied :
+            {old after : List ℕ} → count * width ≤ length old → after ≡ put (take (count * width) listed) old
+            → Answered kind node-limit events start table old after (Count count)
+        all-copied {old} k copied =
+            given old λ φ w.
+            let done =
+            accepted-answer (size φ) (encode-formula (node-bytes kind) φ) old
+            (fits-room kind node-limit φ (length old) (omega (arith, h, same φ w)) (shallow φ w) (omega (arith, k, bytes φ w))) in
+            (ap Count (same φ w) ∙ done .0, copied ∙ ap (λ b. put b old) (listed-bytes φ w) ∙ done .1)

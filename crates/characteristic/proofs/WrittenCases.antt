@@ -1,66 +1,97 @@
--- The cases of document 01 on the rule of a table, computed from the definitions.
-use mathlib.Core.{Path.{_≡_, refl, _∙_, ap}, Option.{none}, List.{List}}
-use Prim.Native.Nat.{ℕ, _*_, _≤_, _<_}
+-- The cases on the rule of a table, computed from the definitions.
+use mathlib.Core.{Path.{_≡_, refl, _∙_, ap}, Option.{Option, none, some}, List.{List}}
+use Prim.Native.Nat.{ℕ, suc, _*_, _≤_, _<_}
 use native.Mathlib.Omega.{arith}
-use lib.{Dec.{lit≤, lit<}, ListN.{length}}
+use lib.{Dec.{lit≤}, ListN.{length}}
 use Rattle.limits.specs.Limits.{node-limit, table-limit}
-use Rattle.theory.specs.{Formula.{size}, ValueSetTests.{every}}
-use Rattle.refusal.specs.declared.Refusal.the-variants.{Plain}
+use Rattle.theory.specs.{Formula.{Formula, size}, ValueSetTests.{every}}
+use Rattle.refusal.specs.declared.{Refusal.{Refusal}, Refusal.the-variants.{Plain}}
 use Rattle.refusal.specs.declared.Counted.the-variants.{Count, Refused}
 use Rattle.refusal.specs.RefusalAnswers.{counted, plain-unless}
 use Rattle.values.specs.declared.ValueKind.the-variants.{Numbered}
 use Rattle.values.specs.{Setup.{Setup}, SetupTests.{setup-refusal}}
 use Rattle.values.proofs.Setups.{four-value-setup}
-use Rattle.formulas.specs.RuleConditions.{node-width}
+use Rattle.formulas.specs.{RuleConditions.{node-width}, RuleRefusal.{depth-refusal}}
 use Rattle.machines.specs.TableRefusal.{table-test, entry-test, table-refusal}
-use Rattle.characteristic.specs.RuleWriting.{rule-of, write-answer}
+use Rattle.characteristic.specs.RuleWriting.{output-refusal, rule-of, write-answer}
 use Rattle.characteristic.specs.WrittenCases.{four-values, chain-rows, ChainClaim}
-use Rattle.characteristic.proofs.{Outputs.{over-limit, fits-room}, Answers.{output-last}}
+use Rattle.characteristic.proofs.{Outputs.{over-limit, over-depth, fits-room}, Answers.{output-last}}
 
--- The answer for a set-up and a table that are in order, from the size of the rule.
+-- The answer for a set-up and a table that are in order, from the size and the depth of the rule.
 module _ (s : Setup) (states start : ℕ) (rows old : List ℕ) (setup-passed : setup-refusal s ≡ none)
     (table-passed : table-refusal table-limit (s .events) (s .kind) states start rows ≡ none) where
-  answer-fits :
-      (k : ℕ) → size (rule-of s states start rows) ≡ k → k ≤ node-limit → k * node-width (s .kind) ≤ length old
-      → write-answer table-limit node-limit s states start rows old ≡ Count k
-  unfolding write-answer counted
-  answer-fits k e few room =
+  rule : Formula ℕ
+  rule = rule-of s states start rows
+
+  answer :
+      {o : Option Refusal} → output-refusal (s .kind) node-limit rule (length old) ≡ o
+      → write-answer table-limit node-limit s states start rows old ≡ counted o (size rule)
+  unfolding write-answer rule
+  answer e =
       ap (λ o. counted o (size (rule-of s states start rows)))
-      (output-last table-limit node-limit s states start rows (length old) setup-passed table-passed
-      ∙ fits-room (s .kind) node-limit (rule-of s states start rows) (length old) (omega (arith, e))
+      (output-last table-limit node-limit s states start rows (length old) setup-passed table-passed ∙ e)
+
+  answer-fits :
+      (k : ℕ) → size rule ≡ k → k ≤ node-limit → depth-refusal rule ≡ none → k * node-width (s .kind) ≤ length old
+      → write-answer table-limit node-limit s states start rows old ≡ Count k
+  unfolding counted
+  answer-fits k e few shallow room =
+      answer (fits-room (s .kind) node-limit rule (length old) (omega (arith, e)) shallow
       (omega (arith, room, ap (λ n. n * node-width (s .kind)) e)))
       ∙ ap Count e
 
-  answer-over :
-      (k : ℕ) → size (rule-of s states start rows) ≡ k → node-limit < k → write-answer table-limit node-limit s states start rows old ≡ Refused (Plain 12)
-  unfolding write-answer counted
-  answer-over k e many =
-      ap (λ o. counted o (size (rule-of s states start rows)))
-      (output-last table-limit node-limit s states start rows (length old) setup-passed table-passed
-      ∙ over-limit (s .kind) node-limit (rule-of s states start rows) (length old) (omega (arith, e)))
+  answer-deep :
+      size rule ≤ node-limit → depth-refusal rule ≡ some (Plain 23) → write-answer table-limit node-limit s states start rows old ≡ Refused (Plain 23)
+  unfolding counted
+  answer-deep few deep = answer (over-depth (s .kind) node-limit rule (length old) (Plain 23) few deep)
+
+  answer-over : node-limit < size rule → write-answer table-limit node-limit s states start rows old ≡ Refused (Plain 12)
+  unfolding counted
+  answer-over many = answer (over-limit (s .kind) node-limit rule (length old) many)
 
 one-event : setup-refusal (four-values 1) ≡ none
 one-event = four-value-setup 1 (lit≤ tt) (lit≤ tt)
 
-chain-63-passed : table-refusal table-limit 1 (Numbered 4) 63 0 (chain-rows 62 0) ≡ none
+-- The chain of c + 1 states is in order, whatever its length; its rule's size and depth are computed.
+abbrev Passed : ℕ → Type 0
+Passed c = table-refusal table-limit 1 (Numbered 4) (suc c) 0 (chain-rows c 0) ≡ none
+
+abbrev chain-rule : ℕ → Formula ℕ
+chain-rule c = rule-of (four-values 1) (suc c) 0 (chain-rows c 0)
+
+passed-12 : Passed 11
 unfolding chain-rows table-refusal table-test every entry-test plain-unless
-chain-63-passed = refl
+passed-12 = refl
 
-chain-64-passed : table-refusal table-limit 1 (Numbered 4) 64 0 (chain-rows 63 0) ≡ none
+passed-13 : Passed 12
 unfolding chain-rows table-refusal table-test every entry-test plain-unless
-chain-64-passed = refl
+passed-13 = refl
 
-chain-63-size : size (rule-of (four-values 1) 63 0 (chain-rows 62 0)) ≡ 253
-unfolding chain-rows rule-of
-chain-63-size = refl
+passed-63 : Passed 62
+unfolding chain-rows table-refusal table-test every entry-test plain-unless
+passed-63 = refl
 
-chain-64-size : size (rule-of (four-values 1) 64 0 (chain-rows 63 0)) ≡ 257
+passed-64 : Passed 63
+unfolding chain-rows table-refusal table-test every entry-test plain-unless
+passed-64 = refl
+
+sizes : (size (chain-rule 11) ≡ 49) × (size (chain-rule 12) ≡ 53) × (size (chain-rule 62) ≡ 253) × (size (chain-rule 63) ≡ 257)
 unfolding chain-rows rule-of
-chain-64-size = refl
+sizes = (refl, refl, refl, refl)
+
+depths :
+    (depth-refusal (chain-rule 11) ≡ none) × (depth-refusal (chain-rule 12) ≡ some (Plain 23)) × (depth-refusal (chain-rule 62) ≡ some (Plain 23))
+unfolding chain-rows rule-of depth-refusal plain-unless
+depths = (refl, refl, refl)
 
 pub chains : ChainClaim
+unfolding rule
 chains =
     record {
-      sixty-three = λ old room. answer-fits (four-values 1) 63 0 (chain-rows 62 0) old one-event chain-63-passed 253 chain-63-size (lit≤ tt) room;
-      sixty-four = λ old. answer-over (four-values 1) 64 0 (chain-rows 63 0) old one-event chain-64-passed 257 chain-64-size (lit< tt);
+      twelve = λ old room. answer-fits (four-values 1) 12 0 (chain-rows 11 0) old one-event passed-12 49 (sizes .0) (lit≤ tt) (depths .0) room;
+      thirteen = λ old.
+          answer-deep (four-values 1) 13 0 (chain-rows 12 0) old one-event passed-13 (omega (arith, sizes .1)) (depths .1);
+      sixty-three = λ old.
+          answer-deep (four-values 1) 63 0 (chain-rows 62 0) old one-event passed-63 (omega (arith, sizes .2)) (depths .2);
+      sixty-four = λ old. answer-over (four-values 1) 64 0 (chain-rows 63 0) old one-event passed-64 (omega (arith, sizes .3));
     }

@@ -1,4 +1,4 @@
--- What is claimed of the rule of a table (document 01, "Rule of a table" and refusals 12 and 13; document 02, F-7); proofs/Claims has a proof of each.
+-- What is claimed of the rule of a table (document 01, "Rule of a table" and refusals 12 and 13; document 02, F-7 and F-9); proofs/Claims has a proof of each.
 use mathlib.Core.{Path.{_≡_}, Option.{none, some}, List.{List}}
 use Prim.Native.Nat.{ℕ, suc, _+_, _*_, _≤_, _<_}
 use lib.ListN.{length}
@@ -9,7 +9,7 @@ use Rattle.values.specs.Setup.{Setup, SetupValue, setup-meet, setup-top}
 use Rattle.formulas.specs.{RuleConditions.{encode-formula, node-width, node-bytes}, RuleRefusal.{rule-refusal}}
 use Rattle.machines.specs.TableBytes.{machine-of}
 use Rattle.characteristic.specs.{RuleOfTable.{IsRuleOf, write-conditions}, RuleWriting.{write-refusal, write-answer, write-contents}}
-use Rattle.limits.specs.Limits.{node-limit, state-limit, table-limit}
+use Rattle.limits.specs.Limits.{node-limit, binder-limit, state-limit, table-limit}
 
 -- A call is judged as document 01 asks, at every limit.
 abbrev pub WriteRefusalClaim : Type 0
@@ -24,7 +24,7 @@ module _ (s : Setup) (start : ℕ) (table : List ℕ) where
   pub record RuleWritten (φ : Formula ℕ) : Type 0 where
     pub is-rule : IsRuleOf (s .events) (s .kind) start table φ
     pub only-rule : (χ : Formula ℕ) → IsRuleOf (s .events) (s .kind) start table χ → χ ≡ φ
-    pub accepted : Accepted node-limit (s .events) (SetupValue s) φ
+    pub accepted : Accepted node-limit binder-limit (s .events) (SetupValue s) φ
     pub accepted-bytes : rule-refusal (s .events) (s .kind) (encode-formula (node-bytes (s .kind)) φ) ≡ none
     pub few-binders : binders φ ≤ 63
     pub size-by-binders : size φ + binders φ ≡ suc (5 * (s .events * binders φ))

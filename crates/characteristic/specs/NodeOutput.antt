@@ -3,9 +3,9 @@ use mathlib.Core.{Path.{_≡_}, Option.{none}, List.{List, [], _∷_, _++_}}
 use Prim.Native.Nat.{ℕ, _+_, _*_, _-_, _≤_, _<_, min}
 use lib.ListN.{length, getD, take}
 use Rattle.limits.specs.Limits.{table-limit, node-limit}
-use Rattle.theory.specs.{Formula.{Formula, size, Node, nodes}, CharacteristicFormula.{OpenAt}}
+use Rattle.theory.specs.{Formula.{Formula, size, Node, nodes}, FormulaClasses.{WellFormed}, CharacteristicFormula.{OpenAt}}
 use Rattle.refusal.specs.{declared.Counted.{Counted}, RefusalAnswers.{counted, put-unless}}
-use Rattle.values.specs.{declared.ValueKind.{ValueKind}, Setup.{setup-of-kind}, SetupTests.{setup-refusal}}
+use Rattle.values.specs.{declared.ValueKind.{ValueKind}, Setup.{setup-of-kind, ValueIn}, SetupTests.{setup-refusal}}
 use Rattle.formulas.specs.{NodeCode.{kind-number, first-field, value-field}, RuleConditions.{encode-all, encode-formula, node-width, node-bytes}}
 use Rattle.characteristic.specs.{RuleOfTable.{IsRuleOf}, RuleWriting.{output-refusal, write-answer, write-contents}}
 
@@ -63,12 +63,16 @@ module _ (kind : ValueKind) (limit : ℕ) where
     pub cut-off : r ≤ limit + 1
     pub listed : (φ : Formula ℕ) → IsRuleOf events kind start table φ → Appends kind limit 0 (nodes φ) before after r
 
-  -- The answer and the buffer after the rule of a table is written, 12 and 13 judged.
+  -- The answer and the buffer after the rule of a table is written, 12, 23 and 13 judged.
   pub record Answered (events start : ℕ) (table before after : List ℕ) (r : Counted) : Type 0 where
     pub answer : (φ : Formula ℕ) → IsRuleOf events kind start table φ → r ≡ counted (output-refusal kind limit φ (length before)) (size φ)
     pub contents :
         (φ : Formula ℕ) → IsRuleOf events kind start table φ
         → after ≡ put-unless (output-refusal kind limit φ (length before)) (encode-formula (node-bytes kind) φ) before
+
+-- The rule of a table is well-formed, as it is where the table is in order.
+abbrev pub RuleWellFormed : (events : ℕ) → ValueKind → (start : ℕ) → List ℕ → Type 0
+RuleWellFormed events kind start table = (φ : Formula ℕ) → IsRuleOf events kind start table φ → WellFormed events (ValueIn kind) φ
 
 -- The answer and the buffer after a call over an accepted set-up, whatever its top and meet.
 abbrev pub Concluded : (events : ℕ) → ValueKind → (states start : ℕ) (table before after : List ℕ) → Counted → Type 0

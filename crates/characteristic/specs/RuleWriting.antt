@@ -6,13 +6,13 @@ use lib.{ListN.{length}, Dec.{leb}}
 use Rattle.theory.specs.{Formula.{Formula, size}, FormulaWriting.{written}}
 use Rattle.refusal.specs.{declared.Refusal.{Refusal}, declared.Counted.{Counted}, RefusalAnswers.{or-else, plain-unless, counted, put-unless}}
 use Rattle.values.specs.{declared.ValueKind.{ValueKind}, Setup.{Setup}, SetupTests.{setup-refusal}}
-use Rattle.formulas.specs.RuleConditions.{encode-formula, node-width, node-bytes}
+use Rattle.formulas.specs.{RuleConditions.{encode-formula, node-width, node-bytes}, RuleRefusal.{depth-refusal}}
 use Rattle.machines.specs.{TableBytes.{machine-of}, TableRefusal.{table-refusal}}
 
--- 12 or 13 or none, for a formula that is written to a buffer of `room` bytes.
+-- 12 or 23 or 13 or none, for a formula that is written to a buffer of `room` bytes.
 unfoldable pub output-refusal : ValueKind → (node-most : ℕ) → Formula ℕ → (room : ℕ) → Option Refusal
 output-refusal kind node-most φ room =
-    or-else (plain-unless (leb (size φ) node-most) 12) (plain-unless (leb (size φ * node-width kind) room) 13)
+    or-else (plain-unless (leb (size φ) node-most) 12) (or-else (depth-refusal φ) (plain-unless (leb (size φ * node-width kind) room) 13))
 
 -- The rule of the table.
 unfoldable pub rule-of : Setup → (states start : ℕ) → List ℕ → Formula ℕ

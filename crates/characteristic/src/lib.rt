@@ -1,9 +1,10 @@
-// The rule of a table (document 01, "Rule of a table"): refusals 1 to 3, 11, 12 and 13.
+// The rule of a table (document 01, "Rule of a table"): refusals 1 to 3, 11, 12, 23 and 13.
 use formulas::CONJUNCTION;
 use formulas::GREATEST;
 use formulas::OUTPUT;
 use formulas::TRANSITION;
 use formulas::VARIABLE;
+use formulas::check_rule;
 use formulas::node_width;
 use limits::NODE_LIMIT;
 use limits::TABLE_LIMIT;
@@ -32,7 +33,7 @@ ghost use Rattle.values.specs.Setup.{setup};
 ghost use Rattle.machines.specs.TableBytes.{machine-of};
 ghost use Rattle.machines.specs.Claims.{OfBytes};
 ghost use Rattle.characteristic.specs.RuleWriting.{write-answer, write-contents};
-ghost use Rattle.characteristic.specs.NodeOutput.{Appends, AppendsOne, HasRoom, Ready, Walked, Listed, Answered, Concluded};
+ghost use Rattle.characteristic.specs.NodeOutput.{Appends, AppendsOne, HasRoom, Ready, Walked, Listed, Answered, RuleWellFormed, Concluded};
 
 // The bytes of all nodes that a rule may have, at six a node at most.
 const RULE_BYTES: usize = NODE_LIMIT * 6;
@@ -244,9 +245,9 @@ fn copy_front(from: &[u8], count: usize, to: &mut [u8])
     }
 }
 
-// Writes the rule of a table that is in order: refusals 12 and 13, and the output.
+// Writes the rule of a table that is in order: refusals 12, 23 and 13, and the output. Of a rule, 23 is all that it can meet.
 fn write_nodes(table: &[u8], events: usize, kind: ValueKind, start: usize, to: &mut [u8]) -> Counted
-    requires { ⌜ (0 < events) × (events ≤ 256) × (start < 256) ⌝ }
+    requires { ⌜ (0 < events) × (events ≤ 256) × (start < 256) × RuleWellFormed events kind start (now table) ⌝ }
     ensures { λ r. ⌜ Answered kind node-limit events start (now (table .entry)) (now (to .entry)) (now (to .exit)) r ⌝ }
 {
     let mut nodes = [0u8; RULE_BYTES];
@@ -255,6 +256,10 @@ fn write_nodes(table: &[u8], events: usize, kind: ValueKind, start: usize, to: &
         return Counted::Refused(Refusal::Plain(WRITTEN_SIZE));
     }
     let bytes = count * node_width(kind);
+    let judged = check_rule(events, kind, &nodes[..bytes]);
+    if let Judgement::Refused(reason) = judged {
+        return Counted::Refused(reason);
+    }
     if to.len() < bytes {
         return Counted::Refused(Refusal::Plain(BUFFER_LENGTH));
     }

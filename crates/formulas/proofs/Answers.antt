@@ -1,11 +1,11 @@
--- The answers of 5 to 9, one after the other, and that they depend on the nodes' fields alone.
+-- The answers of 5 to 9 and 23, one after the other, and that they depend on the nodes' fields alone.
 use mathlib.Core.{Path.{_≡_, refl, sym, _∙_, ap, ap₂}, Bool.{Bool, true, false, not, _&&_}, Option.{Option, none, some, Option·some-ne-none}}
 use mathlib.Core.List.{_∷_}
 use Prim.Native.Nat.{ℕ, zero, suc, _+_, _≤_, _<_}
 use native.Mathlib.Omega.{arith}
 use lib.Dec.{ltb, leb}
 use borrow.Author.Tests.{not-false, lt-ltb, le-ltb, le-leb, lt-leb}
-use Rattle.theory.specs.Formula.{Formula, size}
+use Rattle.theory.specs.{Formula.{Formula, size}, FormulaClasses.{binder-depth}}
 use Rattle.refusal.specs.RefusalAnswers.{or-else, plain-unless, at-found, judgement}
 use Rattle.refusal.specs.declared.Refusal.{Refusal}
 use Rattle.refusal.specs.declared.Refusal.the-variants.{Plain, At}
@@ -13,11 +13,11 @@ use Rattle.refusal.specs.declared.Judgement.the-variants.{Refused}
 use Rattle.refusal.proofs.Refusals.{or-else-assoc, or-else-none, judgement-refused}
 use Rattle.formulas.specs.NodeReading.{Reads}
 use Rattle.formulas.specs.RuleReading.{first-of, kind-of, fields-fit, awaited, end-fault, node-of, nodes-from, formulas, first-formula, formula-read}
-use Rattle.formulas.specs.RuleReading.{lowest-unbound, lowest-unprotected}
-use Rattle.formulas.specs.RuleRefusal.{variables-refusal, structure-refusal, misfit-place, tree-refusal, nodes-refusal, fields-refusal}
+use Rattle.formulas.specs.RuleReading.{lowest-unbound, lowest-deep, lowest-unprotected}
+use Rattle.formulas.specs.RuleRefusal.{depth-refusal, variables-refusal, structure-refusal, misfit-place, tree-refusal, nodes-refusal, fields-refusal}
 use Rattle.formulas.specs.NodeWalks.{Noted, Keeps}
-use Rattle.formulas.proofs.{KindFacts.{fit-known}, Search.{lowest-clear, lowest-same}, Prefix.{no-fault}, Reading.{whole-read}}
-use Rattle.limits.specs.Limits.{node-limit}
+use Rattle.formulas.proofs.{KindFacts.{fit-known}, Search.{lowest-clear, lowest-same}, Prefix.{no-fault}, Reading.{whole-read}, Depth.{found-deep, clear-shallow}}
+use Rattle.limits.specs.Limits.{node-limit, binder-limit}
 
 -- Every kind is known.
 abbrev KnownKinds : (ℕ → ℕ) → ℕ → Type 0
@@ -51,11 +51,19 @@ later-answer o n later e = ap (λ x. or-else (at-found x n) later) e
 module _ (φ : Formula ℕ) where
   pub answer-unbound : (p : ℕ) → lowest-unbound 0 0 φ ≡ some p → variables-refusal φ ≡ some (At 8 p)
   unfolding variables-refusal
-  answer-unbound p e = first-answer (lowest-unbound 0 0 φ) 8 p (at-found (lowest-unprotected 0 0 φ) 9) e
+  answer-unbound p e = first-answer (lowest-unbound 0 0 φ) 8 p (or-else (depth-refusal φ) (at-found (lowest-unprotected 0 0 φ) 9)) e
 
-  pub answer-unprotected : lowest-unbound 0 0 φ ≡ none → variables-refusal φ ≡ at-found (lowest-unprotected 0 0 φ) 9
-  unfolding variables-refusal
-  answer-unprotected e = later-answer (lowest-unbound 0 0 φ) 8 (at-found (lowest-unprotected 0 0 φ) 9) e
+  pub answer-deep : lowest-unbound 0 0 φ ≡ none → (p : ℕ) → lowest-deep 0 0 φ ≡ some p → variables-refusal φ ≡ some (Plain 23)
+  unfolding variables-refusal depth-refusal plain-unless or-else
+  answer-deep e p d =
+      later-answer (lowest-unbound 0 0 φ) 8 (or-else (depth-refusal φ) (at-found (lowest-unprotected 0 0 φ) 9)) e
+      ∙ ap (λ b. or-else (plain-unless b 23) (at-found (lowest-unprotected 0 0 φ) 9)) (lt-leb (binder-depth φ) binder-limit (found-deep φ p d))
+
+  pub answer-unprotected : lowest-unbound 0 0 φ ≡ none → lowest-deep 0 0 φ ≡ none → variables-refusal φ ≡ at-found (lowest-unprotected 0 0 φ) 9
+  unfolding variables-refusal depth-refusal plain-unless or-else
+  answer-unprotected e d =
+      later-answer (lowest-unbound 0 0 φ) 8 (or-else (depth-refusal φ) (at-found (lowest-unprotected 0 0 φ) 9)) e
+      ∙ ap (λ b. or-else (plain-unless b 23) (at-found (lowest-unprotected 0 0 φ) 9)) (le-leb (binder-depth φ) binder-limit (clear-shallow φ d))
 
 module _ (kind first value : ℕ → ℕ) (count : ℕ) where
   -- Where every kind is known and 7 is not met, the formula reads from node 0 on to the last node.

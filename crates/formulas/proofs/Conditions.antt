@@ -1,31 +1,32 @@
--- Refusals 5 to 9 for any way in which nodes lie in bytes: the answer computed from a test of each node and from accessors is the
+-- Refusals 5 to 9 and 23 for any way in which nodes lie in bytes: the answer computed from a test of each node and from accessors is the
 -- first refusal that is met.
-use mathlib.Core.{Path.{_≡_, refl, sym, _∙_, ap, ap₂, subst}, Logic.{_⊎_, inl, inr}, Bool.{Bool, true, false, not, _&&_}}
+use mathlib.Core.{Path.{_≡_, refl, sym, _∙_, ap, ap₂, subst}, Logic.{_↔_, _⊎_, inl, inr}, Bool.{Bool, true, false, not, _&&_}}
 use mathlib.Core.{Option.{Option, none, some, Option·some-ne-none}, List.{List, [], _∷_, _++_, append-assoc, append-nil}}
 use Prim.Native.Nat.{ℕ, zero, suc, _+_, _*_, _/_, _%_, _≤_, _<_}
 use native.Mathlib.{Nat.{div-add-mod', add-zero, zero-mul, mul-div-cancel, mul-mod-left}, Omega.{arith}}
 use lib.{Dec.{leb}, ListN.{length, take, drop}}
-use borrow.Author.Tests.{eq-eqb, lt-ltb, le-leb, not-true, not-false}
+use borrow.Author.Tests.{eq-eqb, lt-ltb, le-leb, leb-true, leb-false, not-true, not-false}
+use Rattle.limits.specs.Limits.{binder-limit}
 use Rattle.theory.specs.Formula.{Formula, truth, variable, transition, output, conjunction, greatest, size}
-use Rattle.theory.specs.FormulaClasses.{Fits, WellFormed, Accepted}
+use Rattle.theory.specs.FormulaClasses.{binder-depth, Fits, WellFormed, Accepted}
 use Rattle.theory.specs.Formula.{Node, nodes}
 use Rattle.refusal.specs.Refusal.{Condition, plain, at-lowest, Gives, First}
 use Rattle.refusal.specs.RefusalAnswers.{or-else, plain-unless, at-found}
-use Rattle.refusal.specs.RefusalClaims.{NoneMet}
 use Rattle.refusal.specs.declared.Refusal.{Refusal}
-use Rattle.refusal.specs.declared.Refusal.the-variants.{At}
-use Rattle.refusal.proofs.Refusals.{only-place, first-one, first-cons, or-else-none, plain-none, plain-some}
+use Rattle.refusal.specs.declared.Refusal.the-variants.{Plain, At}
+use Rattle.refusal.proofs.Refusals.{only-place, first-unique, plain-first, first-then, first-one, first-cons, or-else-none, plain-none, plain-some}
 use Rattle.formulas.specs.NodeCode.{NodeCode}
 use Rattle.formulas.specs.RuleConditions.{encode-all, encode-formula}
-use Rattle.formulas.specs.RuleConditions.{Unbound, Unprotected, NodeFits, node-count, node-at, CountAtFault, NodeAtFault, RunOut}
+use Rattle.formulas.specs.RuleConditions.{Unbound, TooDeep, Unprotected, NodeFits, node-count, node-at, CountAtFault, NodeAtFault, RunOut}
 use Rattle.formulas.specs.RuleConditions.{LeftOver, OfFormula, rule-conditions}
 use Rattle.formulas.specs.RuleReading.{lowest-from, kind-of, end-fault, node-of, nodes-from, formula-read, lowest-unbound, lowest-unprotected}
-use Rattle.formulas.specs.RuleRefusal.{count-fits, variables-refusal}
+use Rattle.formulas.specs.RuleRefusal.{count-fits, depth-refusal, variables-refusal}
 use Rattle.formulas.proofs.{Search.{FoundFrom, lowest-clear, lowest-found}, Walking.{size-positive}}
 use Rattle.formulas.proofs.{Prefix.{length-nodes, Outcome, whole, over, short, outcome, length-from, no-fault}, Answers.{place-unmet}}
 use Rattle.formulas.proofs.Decoding.{CountFits, count-facts}
 use Rattle.formulas.proofs.Encoding.{All, all-append, all-left, all-right, encode-append, formula-unique, formula-length, every-node, bytes-from}
-use Rattle.formulas.proofs.Variables.{Answered, answered-as, unbound-answered, unprotected-answered, unbound-fault, fault-unbound}
+use Rattle.formulas.proofs.{Faults.{Answered, answered-as, false-not-true}, Depth.{too-deep}}
+use Rattle.formulas.proofs.Variables.{unbound-answered, unprotected-answered, unbound-fault, fault-unbound}
 use Rattle.formulas.proofs.Variables.{unprotected-fault, fault-unprotected, free-below, below-free, near-guarded, guarded-near}
 
 -- The answer of a condition with a place.
@@ -108,6 +109,37 @@ module _ {B : Type 0} (width : ℕ) (encode : Node B → List ℕ) (code : NodeC
   of-formula : (φ : Formula B) → bytes ≡ encode-formula encode φ → (Met : Formula B → Type 0) → OfFormula encode bytes Met → Met φ
   of-formula φ e Met (χ, d, x) = subst Met (one-formula χ φ d e) x
 
+  -- 23.
+  deep-first : (φ : Formula B) → bytes ≡ encode-formula encode φ → First (plain 23 (OfFormula encode bytes TooDeep) ∷ []) (depth-refusal φ)
+  unfolding depth-refusal
+  deep-first φ e =
+      plain-first 23 (OfFormula encode bytes TooDeep) (leb (binder-depth φ) binder-limit)
+      (λ t. (φ, e, too-deep φ .1 (leb-false (binder-depth φ) binder-limit t)))
+      (λ t m. omega (arith, too-deep φ .0 (of-formula φ e TooDeep m), leb-true (binder-depth φ) binder-limit t))
+
+  -- What is found in the one formula is found of it.
+  found-there :
+      (φ : Formula B) → bytes ≡ encode-formula encode φ → (Met : Formula B → ℕ → Type 0) (o : Option ℕ) → Answered (Met φ) o
+      → Answered (λ i. OfFormula encode bytes (λ χ. Met χ i)) o
+  found-there φ e Met =
+      answered-as (Met φ) (λ i. OfFormula encode bytes (λ χ. Met χ i)) (λ i u. (φ, e, u)) (λ i. of-formula φ e (λ χ. Met χ i))
+
+  -- 23, then 9, where every variable has a binder.
+  abbrev pub last-two : List Condition
+  last-two = plain 23 (OfFormula encode bytes TooDeep) ∷ at-lowest 9 (λ i. OfFormula encode bytes (λ φ. Unprotected φ i)) ∷ []
+
+  abbrev last-answer : Formula B → Option Refusal
+  last-answer φ = or-else (depth-refusal φ) (at-found (lowest-unprotected 0 0 φ) 9)
+
+  first-last : (φ : Formula B) → bytes ≡ encode-formula encode φ → ((j : ℕ) → ¬ Unbound φ j) → First last-two (last-answer φ)
+  first-last φ e bound =
+      let unprotected = found-there φ e Unprotected (lowest-unprotected 0 0 φ) (unprotected-answered φ bound) in
+      first-then (plain 23 (OfFormula encode bytes TooDeep) ∷ []) _ (depth-refusal φ) (at-found (lowest-unprotected 0 0 φ) 9) (deep-first φ e)
+      (λ d.
+      first-one _ (at-found (lowest-unprotected 0 0 φ) 9)
+      (answered-met _ 9 (lowest-unprotected 0 0 φ) unprotected)
+      (answered-unmet _ 9 (lowest-unprotected 0 0 φ) unprotected))
+
   -- 7 has one place.
   abbrev EndFault : ℕ → Type 0
   EndFault p = RunOut width encode bytes p ⊎ LeftOver encode bytes p
@@ -119,7 +151,7 @@ module _ {B : Type 0} (width : ℕ) (encode : Node B → List ℕ) (code : NodeC
   one-end p q (inr (φ, n, ns, e, x)) (inr (χ, m, ms, d, y)) =
       y ∙ ap size (formula-unique width encode code χ φ (m ∷ ms) (n ∷ ns) (sym d ∙ e) .0) ∙ sym x
 
-  -- A formula in bytes, within the limit of nodes: none of the conditions is met where no node is at fault.
+  -- A formula in bytes, within the limit of nodes.
   module _ (φ : Formula B) (written : bytes ≡ encode-formula encode φ) (within : size φ ≤ limit) where
     positive : 0 < width
     positive = omega (arith, code .two)
@@ -138,30 +170,66 @@ module _ {B : Type 0} (width : ℕ) (encode : Node B → List ℕ) (code : NodeC
           within = subst (λ x. x ≤ limit) (sym count-there) within;
         }
 
-    pub none-met :
-        ((i : ℕ) → ¬ NodeAtFault width encode bytes events In i) → ((i : ℕ) → ¬ Unbound φ i) → ((i : ℕ) → ¬ Unprotected φ i)
-        → NoneMet (rule-conditions width encode limit events In bytes)
-    unfolding NoneMet
-    none-met fit bound protected = (
-      λ r m. m .0 (counted .whole, counted .some-node, counted .within),
-      (
-        λ r m. fit (m .0) (m .1 .holds),
-        (
-          λ r m. end-unmet (m .0) (m .1 .holds),
-          (
-            λ r m. bound (m .0) (of-formula φ written (λ ψ. Unbound ψ (m .0)) (m .1 .holds)),
-            (
-              λ r m. protected (m .0) (of-formula φ written (λ ψ. Unprotected ψ (m .0)) (m .1 .holds)),
-              tt,
+    not-nine : ((i : ℕ) → ¬ Unprotected φ i) → First (at-lowest 9 (λ i. OfFormula encode bytes (λ ψ. Unprotected ψ i)) ∷ []) none
+    unfolding First
+    not-nine protected = inr (λ r m. protected (m .0) (of-formula φ written (λ ψ. Unprotected ψ (m .0)) (m .1 .holds)), refl)
+
+    -- Where 6 and 8 are not met, 23 and 9 decide.
+    pub past-eight :
+        ((i : ℕ) → ¬ NodeAtFault width encode bytes events In i) → ((i : ℕ) → ¬ Unbound φ i) → (answer : Option Refusal)
+        → First last-two answer → First (rule-conditions width encode limit events In bytes) answer
+    unfolding First
+    past-eight fit bound answer last =
+        inr (
+          λ r m. m .0 (counted .whole, counted .some-node, counted .within),
+          inr (
+            λ r m. fit (m .0) (m .1 .holds),
+            inr (
+              λ r m. end-unmet (m .0) (m .1 .holds),
+              inr (λ r m. bound (m .0) (of-formula φ written (λ ψ. Unbound ψ (m .0)) (m .1 .holds)), last),
             ),
           ),
-        ),
-      ),
-    )
+        )
       where
         end-unmet : (p : ℕ) → ¬ EndFault p
         end-unmet p (inl x) = not-run-out φ written p x
         end-unmet p (inr x) = not-left-over φ written p x
+
+    -- Where 9 is not met either, 23 does.
+    pub depth-decides :
+        ((i : ℕ) → ¬ NodeAtFault width encode bytes events In i) → ((i : ℕ) → ¬ Unbound φ i) → ((i : ℕ) → ¬ Unprotected φ i)
+        → First (rule-conditions width encode limit events In bytes) (depth-refusal φ)
+    unfolding or-else
+    depth-decides fit bound protected =
+        past-eight fit bound (depth-refusal φ) (subst (First last-two) (alone (depth-refusal φ))
+        (first-then (plain 23 (OfFormula encode bytes TooDeep) ∷ []) _ (depth-refusal φ) none (deep-first φ written) (λ e. not-nine protected)))
+      where
+        alone : (o : Option Refusal) → or-else o none ≡ o
+        alone none = refl
+        alone (some r) = refl
+
+    -- Where 6 and 8 are not met, 23 is the answer exactly if a path is too deep, whatever 9 says.
+    pub deep-exactly :
+        ((i : ℕ) → ¬ NodeAtFault width encode bytes events In i) → ((i : ℕ) → ¬ Unbound φ i)
+        → First (rule-conditions width encode limit events In bytes) (some (Plain 23)) ↔ TooDeep φ
+    unfolding First depth-refusal plain-unless or-else at-found
+    deep-exactly fit bound = (
+      (λ h. by-depth (leb (binder-depth φ) binder-limit) refl
+          (first-unique (rule-conditions width encode limit events In bytes) _ _ h (past-eight fit bound (last-answer φ) (first-last φ written bound)))),
+      λ deep. past-eight fit bound (some (Plain 23)) (inl (Plain 23, ((φ, written, deep), refl), refl)),
+    )
+      where
+        not-nine-found : (o : Option ℕ) → some (Plain 23) ≡ at-found o 9 → ⊥
+        not-nine-found none e = Option·some-ne-none (Plain 23) e
+        not-nine-found (some p) e = let z : _≡_ {A = ℕ} 0 1 = cc in omega arith
+
+        by-depth :
+            (b : Bool) → leb (binder-depth φ) binder-limit ≡ b
+            → some (Plain 23) ≡ or-else (plain-unless (leb (binder-depth φ) binder-limit) 23) (at-found (lowest-unprotected 0 0 φ) 9) → TooDeep φ
+        by-depth false d e = too-deep φ .1 (leb-false (binder-depth φ) binder-limit d)
+        by-depth true d e =
+            absurd (not-nine-found (lowest-unprotected 0 0 φ)
+            (e ∙ ap (λ b. or-else (plain-unless b 23) (at-found (lowest-unprotected 0 0 φ) 9)) d))
 
     -- No node of a well-formed formula is at fault.
     module _ (w : WellFormed events In φ) where
@@ -181,8 +249,8 @@ module _ {B : Type 0} (width : ℕ) (encode : Node B → List ℕ) (code : NodeC
       pub not-unprotected : (j : ℕ) → ¬ Unprotected φ j
       not-unprotected j u = guarded-near φ 0 0 (w .guarded, λ k l. absurd (omega (arith, l))) j (unprotected-fault φ not-unbound j u)
 
-      pub accepted-unmet : NoneMet (rule-conditions width encode limit events In bytes)
-      accepted-unmet = none-met not-misfit not-unbound not-unprotected
+      pub well-formed-first : First (rule-conditions width encode limit events In bytes) (depth-refusal φ)
+      well-formed-first = depth-decides not-misfit not-unbound not-unprotected
 
   -- Accessors for the nodes, and a test that decides which nodes are in order.
   module _
@@ -290,12 +358,6 @@ module _ {B : Type 0} (width : ℕ) (encode : Node B → List ℕ) (code : NodeC
         pub formula-there : bytes ≡ encode-formula encode read
         formula-there = nodes-there ∙ ap (encode-all encode) (no-fault kind first value count ended)
 
-        -- What is said of the formula read is said of the bytes' formula.
-        there : (Met : Formula B → ℕ → Type 0) (o : Option ℕ) → Answered (Met read) o → Answered (λ i. OfFormula encode bytes (λ φ. Met φ i)) o
-        there Met =
-            answered-as (Met read) (λ i. OfFormula encode bytes (λ φ. Met φ i)) (λ i u. (read, formula-there, u))
-            (λ i. of-formula read formula-there (λ φ. Met φ i))
-
         nowhere : (P : ℕ → Type 0) (o : Option ℕ) → Answered P o → o ≡ none → (j : ℕ) → ¬ P j
         nowhere P none w e = w
         nowhere P (some p) w e = absurd (Option·some-ne-none p e)
@@ -305,33 +367,31 @@ module _ {B : Type 0} (width : ℕ) (encode : Node B → List ℕ) (code : NodeC
 
         first-variables :
             First
-            (at-lowest 8 (λ i. OfFormula encode bytes (λ φ. Unbound φ i)) ∷ at-lowest 9 (λ i. OfFormula encode bytes (λ φ. Unprotected φ i)) ∷ [])
+            (at-lowest 8 (λ i. OfFormula encode bytes (λ φ. Unbound φ i)) ∷ last-two)
             (variables-refusal read)
         unfolding variables-refusal
         first-variables =
-            let unbound = there Unbound (lowest-unbound 0 0 read) (unbound-answered read) in
-            first-cons _ _ (at-found (lowest-unbound 0 0 read) 8) (at-found (lowest-unprotected 0 0 read) 9)
+            let unbound = found-there read formula-there Unbound (lowest-unbound 0 0 read) (unbound-answered read) in
+            first-cons _ _ (at-found (lowest-unbound 0 0 read) 8) (last-answer read)
             (answered-met _ 8 (lowest-unbound 0 0 read) unbound)
             (answered-unmet _ 8 (lowest-unbound 0 0 read) unbound)
-            (λ e.
-            let unprotected = there Unprotected (lowest-unprotected 0 0 read) (unprotected-answered read (all-bound e)) in
-            first-one _ (at-found (lowest-unprotected 0 0 read) 9)
-            (answered-met _ 9 (lowest-unprotected 0 0 read) unprotected)
-            (answered-unmet _ 9 (lowest-unprotected 0 0 read) unprotected))
+            (λ e. first-last read formula-there (all-bound e))
 
         -- What is accepted.
-        pub accepted-there : variables-refusal read ≡ none → Accepted limit events In read
-        unfolding variables-refusal
+        pub accepted-there : variables-refusal read ≡ none → Accepted limit binder-limit events In read
+        unfolding variables-refusal depth-refusal
         accepted-there e =
-            let w = or-else-none (at-found (lowest-unbound 0 0 read) 8) (at-found (lowest-unprotected 0 0 read) 9) e in
+            let w = or-else-none (at-found (lowest-unbound 0 0 read) 8) (last-answer read) e in
+            let v = or-else-none (depth-refusal read) (at-found (lowest-unprotected 0 0 read) 9) (w .1) in
             let bound = all-bound (w .0) in
             let s : size read ≡ count = sym (length-nodes read) ∙ ap length (sym (no-fault kind first value count ended)) ∙ length-from kind first value
             count 0 in
             let protected =
             nowhere (Unprotected read) (lowest-unprotected 0 0 read) (unprotected-answered read bound)
-            (place-unmet (lowest-unprotected 0 0 read) 9 (w .1)) in
+            (place-unmet (lowest-unprotected 0 0 read) 9 (v .1)) in
             record {
               within = subst (λ x. x ≤ limit) (sym s) (counted .within);
+              shallow = leb-true (binder-depth read) binder-limit (plain-none (leb (binder-depth read) binder-limit) 23 (v .0));
               well-formed =
                   record {
                     closed = free-below read 0 0 (λ j f. bound j (fault-unbound read j f));
@@ -353,20 +413,16 @@ module _ {B : Type 0} (width : ℕ) (encode : Node B → List ℕ) (code : NodeC
         (or-else (at-found misfits 6) (or-else (at-found (end-fault kind 1 count 0) 7) (variables-refusal read)))
         (λ r e.
         let w = plain-some (count-fits width limit (length bytes)) 5 r e in
-        (λ f. clash (sym (w .0) ∙ count-true width limit (length bytes) (record { whole = f .0; some-node = f .1; within = f .2 })), w .1))
+        (λ f. false-not-true (sym (w .0) ∙ count-true width limit (length bytes) (record { whole = f .0; some-node = f .1; within = f .2 })), w .1))
         (λ e r m. let f = count-facts width limit (length bytes) (plain-none (count-fits width limit (length bytes)) 5 e) in m .0
         (f .whole, f .some-node, f .within))
         (λ e. first-later (count-facts width limit (length bytes) (plain-none (count-fits width limit (length bytes)) 5 e)))
       where
-        clash : false ≡ true → ⊥
-        clash x = let z : _≡_ {A = ℕ} 0 1 = cc in omega arith
-
-        last-two : List Condition
-        last-two =
-            at-lowest 8 (λ i. OfFormula encode bytes (λ φ. Unbound φ i)) ∷ at-lowest 9 (λ i. OfFormula encode bytes (λ φ. Unprotected φ i)) ∷ []
+        last-three : List Condition
+        last-three = at-lowest 8 (λ i. OfFormula encode bytes (λ φ. Unbound φ i)) ∷ last-two
 
         later : List Condition
-        later = at-lowest 6 (NodeAtFault width encode bytes events In) ∷ at-lowest 7 EndFault ∷ last-two
+        later = at-lowest 6 (NodeAtFault width encode bytes events In) ∷ at-lowest 7 EndFault ∷ last-three
 
         end-answered : CountFits width limit (length bytes) → misfits ≡ none → Answered EndFault (end-fault kind 1 count 0)
         end-answered f m = go (end-fault kind 1 count 0) refl
@@ -383,9 +439,9 @@ module _ {B : Type 0} (width : ℕ) (encode : Node B → List ℕ) (code : NodeC
 
         first-end :
             CountFits width limit (length bytes) → misfits ≡ none →
-            First (at-lowest 7 EndFault ∷ last-two) (or-else (at-found (end-fault kind 1 count 0) 7) (variables-refusal read))
+            First (at-lowest 7 EndFault ∷ last-three) (or-else (at-found (end-fault kind 1 count 0) 7) (variables-refusal read))
         first-end f m =
-            first-cons (at-lowest 7 EndFault) last-two (at-found (end-fault kind 1 count 0) 7) (variables-refusal read)
+            first-cons (at-lowest 7 EndFault) last-three (at-found (end-fault kind 1 count 0) 7) (variables-refusal read)
             (answered-met EndFault 7 (end-fault kind 1 count 0) (end-answered f m))
             (answered-unmet EndFault 7 (end-fault kind 1 count 0) (end-answered f m))
             (λ e. first-variables f m (place-unmet (end-fault kind 1 count 0) 7 e))
@@ -396,7 +452,7 @@ module _ {B : Type 0} (width : ℕ) (encode : Node B → List ℕ) (code : NodeC
         first-later f =
             first-cons
             (at-lowest 6 (NodeAtFault width encode bytes events In))
-            (at-lowest 7 EndFault ∷ last-two)
+            (at-lowest 7 EndFault ∷ last-three)
             (at-found misfits 6)
             (or-else (at-found (end-fault kind 1 count 0) 7) (variables-refusal read))
             (λ r e. answered-met (NodeAtFault width encode bytes events In) 6 misfits misfit-answered r e)
@@ -404,7 +460,7 @@ module _ {B : Type 0} (width : ℕ) (encode : Node B → List ℕ) (code : NodeC
             (λ e. first-end f (place-unmet misfits 6 e))
 
     -- Accepted bytes are those of the formula read, which is accepted.
-    pub accepted-formula : answer ≡ none → (bytes ≡ encode-formula encode read) × Accepted limit events In read
+    pub accepted-formula : answer ≡ none → (bytes ≡ encode-formula encode read) × Accepted limit binder-limit events In read
     accepted-formula e =
         let a = or-else-none (plain-unless (count-fits width limit (length bytes)) 5)
         (or-else (at-found misfits 6) (or-else (at-found (end-fault kind 1 count 0) 7) (variables-refusal read))) e in

@@ -20,7 +20,7 @@ use Rattle.formulas.specs.RuleConditions.{NodeFits, node-count, node-at,
 use Rattle.formulas.specs.RuleReading.{kind-of, fields-fit, node-of}
 use Rattle.formulas.specs.RuleRefusal.{count-fits, structure-refusal, misfit-place, nodes-refusal, fields-refusal}
 use Rattle.formulas.specs.Claims.{NodesRefusalClaim}
-use Rattle.formulas.proofs.{Conditions.{first-refusal}, NodeFields.{fields-sound, fields-full}, NodeCodes.{fields-same, node-code}}
+use Rattle.formulas.proofs.{Faults.{false-not-true}, Conditions.{first-refusal}, NodeFields.{fields-sound, fields-full}, NodeCodes.{fields-same, node-code}}
 
 -- ---- under any node code
 module _ (width : ℕ) (encode : Node ℕ → List ℕ) (code : NodeCode width encode) (events : ℕ) (kind : ValueKind) (k a v : ℕ → ℕ) (count : ℕ)
@@ -43,11 +43,8 @@ module _ (width : ℕ) (encode : Node ℕ → List ℕ) (code : NodeCode width e
   full :
       (i : ℕ) → i < node-count width bytes → fit i ≡ false → (n : Node ℕ) → node-at width bytes i ≡ encode n → ¬ NodeFits events (ValueIn kind) n
   full i h e n d f =
-      clash (sym e ∙ fields-full events (ValueIn kind) (value-fits kind) (value-fitting kind) n (k i) (a i) (v i)
+      false-not-true (sym e ∙ fields-full events (ValueIn kind) (value-fits kind) (value-fitting kind) n (k i) (a i) (v i)
       (holds .its-fields i (subst (λ x. i < x) count-is h) n d) f)
-    where
-      clash : false ≡ true → ⊥
-      clash x = let z : _≡_ {A = ℕ} 0 1 = cc in omega arith
 
   counted : count-fits width node-limit (length bytes) ≡ (ltb 0 count && leb count node-limit)
   unfolding count-fits

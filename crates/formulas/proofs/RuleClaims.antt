@@ -2,28 +2,31 @@
 use mathlib.Core.{Path.{_≡_, refl, sym, _∙_, ap, subst}, Bool.{Bool, true, false}, Option.{none}, List.{List, [], _++_, append-nil}}
 use Prim.Native.Nat.{ℕ, zero, suc, _+_, _*_, _/_, _≤_, _<_, min}
 use native.Mathlib.{Nat.{min-le-left, min-eq-right, mul-div-cancel, zero-mul}, Omega.{arith}}
-use lib.ListN.{length, drop}
-use Rattle.limits.specs.Limits.{node-limit}
+use lib.{Dec.{leb}, ListN.{length, drop}}
+use borrow.Author.Tests.{le-leb, leb-true, leb-false}
+use Rattle.limits.specs.Limits.{node-limit, binder-limit}
 use Rattle.theory.specs.Formula.{Formula, size}
-use Rattle.theory.specs.FormulaClasses.{Accepted}
+use Rattle.theory.specs.FormulaClasses.{binder-depth, Accepted}
 use Rattle.theory.specs.Formula.{Node, nodes}
 use Rattle.values.specs.declared.ValueKind.{ValueKind}
 use Rattle.values.specs.Setup.{ValueIn}
 use Rattle.values.specs.ValueTests.{value-fits}
 use Rattle.values.proofs.ValueKinds.{fits-value, value-fitting}
 use Rattle.refusal.specs.Refusal.{First, has-place, part-of, order, condition-numbers, right-places}
-use Rattle.refusal.proofs.Refusals.{judged, accepted-exactly}
-use Rattle.formulas.specs.RuleConditions.{encode-all, encode-formula, node-width, node-bytes, NodeFits, node-at, NodeAtFault, Unprotected}
+use Rattle.refusal.specs.RefusalAnswers.{plain-unless}
+use Rattle.refusal.proofs.Refusals.{judged, first-unique}
+use Rattle.formulas.specs.RuleConditions.{encode-all, encode-formula, node-width, node-bytes, NodeFits, node-at, NodeAtFault, TooDeep, Unprotected}
 use Rattle.formulas.specs.{NodeReading.{Reads}, RuleReading.{kind-of, fields-fit, node-of, nodes-from, formulas, first-formula, formula-read}}
-use Rattle.formulas.specs.RuleRefusal.{structure-refusal, misfit-place, nodes-refusal, kind-at, first-at, value-at, rule-refusal, formula-of}
-use Rattle.formulas.specs.{NodeWalks.{field}, NodeArrays.{padded, decoded-count, decoded}}
+use Rattle.formulas.specs.RuleRefusal.{depth-refusal, structure-refusal, misfit-place, nodes-refusal, kind-at, first-at, value-at, rule-refusal}
+use Rattle.formulas.specs.{RuleRefusal.{formula-of}, NodeWalks.{field}, NodeArrays.{padded, decoded-count, decoded}}
 use Rattle.formulas.specs.RuleConditions.{byte-conditions}
-use Rattle.formulas.specs.Claims.{RuleRefusalClaim, AcceptedClaim, ProtectedClaim, FormulaOfClaim, AcceptedFormulaClaim, DecodedClaim}
-use Rattle.formulas.specs.Claims.{DecodedRefusalClaim, ReadsClaim, ReadsBackClaim, ReadsUniqueClaim}
+use Rattle.formulas.specs.Claims.{RuleRefusalClaim, AcceptedClaim, WellFormedRefusalClaim, DepthClaim, TooDeepClaim, ProtectedClaim, FormulaOfClaim}
+use Rattle.formulas.specs.Claims.{AcceptedFormulaClaim, DecodedClaim, DecodedRefusalClaim, ReadsClaim, ReadsBackClaim, ReadsUniqueClaim}
 use Rattle.formulas.proofs.{Padding.{padded-field}, Answers.{from-same}, Prefix.{length-nodes, first-is}}
 use Rattle.formulas.proofs.{Reading.{reads-nodes, reads-unique, whole-read}, Decoding.{decoded-refusal}}
+use Rattle.formulas.proofs.{Faults.{false-not-true}, Depth.{too-deep}}
 use Rattle.formulas.proofs.Encoding.{formula-length, read-back, known-back, bytes-from}
-use Rattle.formulas.proofs.Conditions.{none-met, not-unprotected, accepted-unmet, first-refusal, accepted-formula}
+use Rattle.formulas.proofs.Conditions.{depth-decides, deep-exactly, not-unprotected, well-formed-first, first-refusal, accepted-formula}
 use Rattle.formulas.proofs.NodeFields.{fields-sound, fields-full, field-value}
 use Rattle.formulas.proofs.NodeCodes.{node-code, width-positive, fields-bytes, bytes-fields, output-value}
 
@@ -45,14 +48,11 @@ module _ (events : ℕ) (kind : ValueKind) (bytes : List ℕ) where
 
   full : (i : ℕ) → i < length bytes / node-width kind → fit i ≡ false → (n : Node ℕ) → at i ≡ node-bytes kind n → ¬ NodeFits events (ValueIn kind) n
   full i h e n d f =
-      clash
+      false-not-true
       (sym e
       ∙ fields-full events (ValueIn kind) (value-fits kind) (value-fitting kind) n (kind-at kind bytes i) (first-at kind bytes i) (value-at kind bytes i)
       (bytes-fields kind bytes i h n d)
       f)
-    where
-      clash : false ≡ true → ⊥
-      clash x = let z : _≡_ {A = ℕ} 0 1 = cc in omega arith
 
   first-of-rule : First (byte-conditions events kind bytes) (rule-refusal events kind bytes)
   unfolding rule-refusal nodes-refusal misfit-place structure-refusal
@@ -61,7 +61,7 @@ module _ (events : ℕ) (kind : ValueKind) (bytes : List ℕ) where
       (value-at kind bytes) fit sound full
 
   formula-accepted :
-      rule-refusal events kind bytes ≡ none → (bytes ≡ encode-formula (node-bytes kind) (formula-of kind bytes)) × Accepted node-limit events
+      rule-refusal events kind bytes ≡ none → (bytes ≡ encode-formula (node-bytes kind) (formula-of kind bytes)) × Accepted node-limit binder-limit events
       (ValueIn kind) (formula-of kind bytes)
   unfolding rule-refusal nodes-refusal misfit-place structure-refusal formula-of
   formula-accepted e =
@@ -185,24 +185,51 @@ reads-one B kind first value φ χ i d e = reads-unique kind first value φ χ i
 pub accepted-formula-of : AcceptedFormulaClaim
 accepted-formula-of events kind bytes e = let w = formula-accepted events kind bytes e in record { written = w .0; accepted = w .1 }
 
+shallow-unmet : (φ : Formula ℕ) → binder-depth φ ≤ binder-limit → depth-refusal φ ≡ none
+unfolding depth-refusal plain-unless
+shallow-unmet φ h = ap (λ b. plain-unless b 23) (le-leb (binder-depth φ) binder-limit h)
+
 -- Accepted bytes are the prefix code of exactly one closed and guarded formula.
 pub accepted-claim : AcceptedClaim
 accepted-claim events kind bytes = (
   (λ e. (formula-of kind bytes, accepted-formula-of events kind bytes e)),
   λ w.
-      accepted-exactly (byte-conditions events kind bytes) (rule-refusal events kind bytes) (first-of-rule events kind bytes) .1
-      (accepted-unmet (node-width kind) (node-bytes kind) (node-code kind) node-limit events (ValueIn kind) bytes (w .0) (w .1 .written)
-      (w .1 .accepted .within) (w .1 .accepted .well-formed)),
+      first-unique (byte-conditions events kind bytes) _ _ (first-of-rule events kind bytes)
+      (well-formed-first (node-width kind) (node-bytes kind) (node-code kind) node-limit events (ValueIn kind) bytes (w .0) (w .1 .written)
+      (w .1 .accepted .within) (w .1 .accepted .well-formed))
+      ∙ shallow-unmet (w .0) (w .1 .accepted .shallow),
 )
 
+pub well-formed-refusal : WellFormedRefusalClaim
+well-formed-refusal events kind φ within w =
+    let bytes = encode-formula (node-bytes kind) φ in
+    first-unique (byte-conditions events kind bytes) _ _ (first-of-rule events kind bytes)
+    (well-formed-first (node-width kind) (node-bytes kind) (node-code kind) node-limit events (ValueIn kind) bytes φ refl within w)
+
+pub too-deep-claim : TooDeepClaim
+too-deep-claim events kind φ within fit bound =
+    deep-exactly (node-width kind) (node-bytes kind) (node-code kind) node-limit events (ValueIn kind) (encode-formula (node-bytes kind) φ) φ refl within
+    fit bound
+
+pub depth-claim : DepthClaim
+depth-claim B φ = too-deep φ
+
+not-deep : (φ : Formula ℕ) → ¬ TooDeep φ → binder-depth φ ≤ binder-limit
+not-deep φ h = go (leb (binder-depth φ) binder-limit) refl
+  where
+    go : (b : Bool) → leb (binder-depth φ) binder-limit ≡ b → binder-depth φ ≤ binder-limit
+    go true e = leb-true (binder-depth φ) binder-limit e
+    go false e = absurd (h (too-deep φ .1 (leb-false (binder-depth φ) binder-limit e)))
+
 pub protected-claim : ProtectedClaim
-protected-claim events kind φ within fit bound =
+protected-claim events kind φ within fit bound shallow =
     let bytes = encode-formula (node-bytes kind) φ in (
       (λ e. let a = accepted-formula-of events kind bytes e in
           subst (λ χ. (i : ℕ) → ¬ Unprotected χ i) (sym (formula-of-only kind bytes φ refl))
           (not-unprotected (node-width kind) (node-bytes kind) (node-code kind) node-limit events (ValueIn kind) bytes (formula-of kind bytes)
           (a .written) (a .accepted .within) (a .accepted .well-formed))),
       λ protected.
-          accepted-exactly (byte-conditions events kind bytes) (rule-refusal events kind bytes) (first-of-rule events kind bytes) .1
-          (none-met (node-width kind) (node-bytes kind) (node-code kind) node-limit events (ValueIn kind) bytes φ refl within fit bound protected),
+          first-unique (byte-conditions events kind bytes) _ _ (first-of-rule events kind bytes)
+          (depth-decides (node-width kind) (node-bytes kind) (node-code kind) node-limit events (ValueIn kind) bytes φ refl within fit bound protected)
+          ∙ shallow-unmet φ (not-deep φ shallow),
     )

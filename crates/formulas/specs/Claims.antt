@@ -1,19 +1,19 @@
--- What is claimed of rules in bytes (document 01, "Rules", refusals 5 to 9): each is a proposition, inhabited in proofs/.
-use mathlib.Core.{Path.{_≡_}, Logic.{_↔_}, Bool.{true}, Option.{none}, List.{List}}
-use Prim.Native.Nat.{ℕ, _*_, _≤_}
+-- What is claimed of rules in bytes (document 01, "Rules", refusals 5 to 9 and 23): each is a proposition, inhabited in proofs/.
+use mathlib.Core.{Path.{_≡_}, Logic.{_↔_}, Bool.{true}, Option.{none, some}, List.{List}}
+use Prim.Native.Nat.{ℕ, _*_, _≤_, _<_}
 use lib.ListN.{length}
 use Rattle.theory.specs.Formula.{Formula, size, Node}
-use Rattle.theory.specs.FormulaClasses.{Accepted}
+use Rattle.theory.specs.FormulaClasses.{binder-depth, WellFormed, Accepted}
 use Rattle.values.specs.declared.ValueKind.{ValueKind}
 use Rattle.values.specs.Setup.{ValueIn}
 use Rattle.values.specs.ValueTests.{value-fits}
-use Rattle.limits.specs.Limits.{node-limit}
-use Rattle.refusal.specs.{declared.Judgement.{Judgement}, Refusal.{Judged, judgement-refusal}, RefusalAnswers.{judgement}}
+use Rattle.limits.specs.Limits.{node-limit, binder-limit}
+use Rattle.refusal.specs.{declared.Refusal.the-variants.{Plain}, declared.Judgement.{Judgement}, Refusal.{First, Judged, judgement-refusal}, RefusalAnswers.{judgement}}
 use Rattle.formulas.specs.NodeCode.{NodeCode, three-bytes, field-list, HoldsNodes}
-use Rattle.formulas.specs.RuleConditions.{encode-formula, node-width, node-bytes, Unbound, Unprotected}
+use Rattle.formulas.specs.RuleConditions.{encode-formula, node-width, node-bytes, Unbound, TooDeep, Unprotected}
 use Rattle.formulas.specs.RuleConditions.{NodeAtFault, rule-conditions, byte-conditions}
 use Rattle.formulas.specs.{NodeReading.{Reads}, NodeWalks.{field}, NodeArrays.{decoded}}
-use Rattle.formulas.specs.RuleRefusal.{count-fits, fields-refusal, kind-at, first-at, value-at, rule-refusal, formula-of}
+use Rattle.formulas.specs.RuleRefusal.{count-fits, depth-refusal, fields-refusal, kind-at, first-at, value-at, rule-refusal, formula-of}
 
 -- With values of either kind, nodes are written in bytes so that equal bytes are of equal nodes.
 abbrev pub NodeCodeClaim : Type 0
@@ -38,23 +38,43 @@ pub record NodesRefusalClaim : Type 0 where
       (r : Judgement) → r ≡ judgement (fields-refusal (field kinds) (field firsts) (field values) count (value-fits kind) events) →
       Judged (rule-conditions width encode node-limit events (ValueIn kind) bytes) (judgement-refusal r)
 
--- Bytes are accepted exactly if they are the prefix code of a closed and guarded formula, within the set-up and the limit.
+-- Bytes are accepted exactly if they are the prefix code of a closed and guarded formula, within the set-up and the limits.
 pub record AcceptedFormula (events : ℕ) (kind : ValueKind) (bytes : List ℕ) (φ : Formula ℕ) : Type 0 where
   pub written : bytes ≡ encode-formula (node-bytes kind) φ
-  pub accepted : Accepted node-limit events (ValueIn kind) φ
+  pub accepted : Accepted node-limit binder-limit events (ValueIn kind) φ
 
 abbrev pub AcceptedClaim : Type 0
 AcceptedClaim =
     (events : ℕ) (kind : ValueKind) (bytes : List ℕ)
     → (rule-refusal events kind bytes ≡ none) ↔ ((φ : Formula ℕ) × AcceptedFormula events kind bytes φ)
 
--- Of a formula within the limit whose nodes fit and whose variables have binders, the bytes are accepted exactly if a G lies between each
+-- A well-formed formula within the limit of nodes meets 23 or nothing.
+abbrev pub WellFormedRefusalClaim : Type 0
+WellFormedRefusalClaim =
+    (events : ℕ) (kind : ValueKind) (φ : Formula ℕ) → size φ ≤ node-limit → WellFormed events (ValueIn kind) φ
+    → rule-refusal events kind (encode-formula (node-bytes kind) φ) ≡ depth-refusal φ
+
+-- A path has more than twelve V nodes exactly if the most on a path are more (document 02, F-9).
+abbrev pub DepthClaim : Type 1
+DepthClaim = (B : Type 0) (φ : Formula B) → TooDeep φ ↔ (binder-limit < binder-depth φ)
+
+-- Of a formula within the limit of nodes whose nodes fit and whose variables have binders, 23 is the answer exactly if a path has more
+-- than twelve V nodes.
+abbrev pub TooDeepClaim : Type 0
+TooDeepClaim =
+    (events : ℕ) (kind : ValueKind) (φ : Formula ℕ) → size φ ≤ node-limit
+    → ((i : ℕ) → ¬ NodeAtFault (node-width kind) (node-bytes kind) (encode-formula (node-bytes kind) φ) events (ValueIn kind) i)
+    → ((i : ℕ) → ¬ Unbound φ i)
+    → First (byte-conditions events kind (encode-formula (node-bytes kind) φ)) (some (Plain 23)) ↔ TooDeep φ
+
+-- Of a formula within the limits whose nodes fit and whose variables have binders, the bytes are accepted exactly if a G lies between each
 -- variable and its own binder (document 02, F-2).
 abbrev pub ProtectedClaim : Type 0
 ProtectedClaim =
     (events : ℕ) (kind : ValueKind) (φ : Formula ℕ) → size φ ≤ node-limit
     → ((i : ℕ) → ¬ NodeAtFault (node-width kind) (node-bytes kind) (encode-formula (node-bytes kind) φ) events (ValueIn kind) i)
     → ((i : ℕ) → ¬ Unbound φ i)
+    → ¬ TooDeep φ
     → (rule-refusal events kind (encode-formula (node-bytes kind) φ) ≡ none) ↔ ((i : ℕ) → ¬ Unprotected φ i)
 
 -- Bytes are the code of one formula at most, and that one is `formula-of`.

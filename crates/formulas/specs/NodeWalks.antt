@@ -4,7 +4,7 @@ use Prim.Native.Nat.{ℕ, _+_, _≤_, _<_}
 use lib.ListN.{length, getD}
 use Rattle.theory.specs.Formula.{Formula, size}
 use Rattle.refusal.specs.{RefusalAnswers.{judgement}, declared.Judgement.{Judgement}}
-use Rattle.formulas.specs.{NodeReading.{Reads}, RuleReading.{first-of, lowest-unbound, lowest-unprotected}}
+use Rattle.formulas.specs.{NodeReading.{Reads}, RuleReading.{first-of, lowest-unbound, lowest-deep, lowest-unprotected}}
 use Rattle.formulas.specs.RuleRefusal.{variables-refusal}
 use Rattle.limits.specs.Limits.{node-limit}
 
@@ -23,15 +23,16 @@ unfoldable pub WalkJudged : (ℕ → ℕ) → (ℕ → ℕ) → (ℕ → ℕ) �
 WalkJudged kind first value judge at left before after r =
     (φ : Formula ℕ) → Reads kind first value at φ → size φ ≤ left → (r ≡ at + size φ) × Keeps (judge at φ) before after
 
--- The walk of 8 and 9, with two notes: for 8 the first, for 9 the second.
+-- The walk of 8, 23 and 9, with a note for each, in this order.
 pub record Scanned (kind first : ℕ → ℕ) (depth near at left : ℕ) (before after : List ℕ) (r : ℕ) : Type 0 where
   pub low : at ≤ r
   pub high : r ≤ at + left
-  pub sized : length after ≡ 2
+  pub sized : length after ≡ 3
   pub unbound : (value : ℕ → ℕ) → WalkJudged kind first value (lowest-unbound depth) at left (getD before 0 0) (getD after 0 0) r
-  pub unprotected : (value : ℕ → ℕ) → WalkJudged kind first value (lowest-unprotected near) at left (getD before 1 0) (getD after 1 0) r
+  pub deep : (value : ℕ → ℕ) → WalkJudged kind first value (lowest-deep depth) at left (getD before 1 0) (getD after 1 0) r
+  pub unprotected : (value : ℕ → ℕ) → WalkJudged kind first value (lowest-unprotected near) at left (getD before 2 0) (getD after 2 0) r
 
--- The answer of 8 and 9, for the formula whose nodes these are.
+-- The answer of 8, 23 and 9, for the formula whose nodes these are.
 unfoldable pub VariablesJudged : (ℕ → ℕ) → (ℕ → ℕ) → ℕ → Judgement → Type 0
 VariablesJudged kind first count r =
     (value : ℕ → ℕ) (φ : Formula ℕ) → Reads kind first value 0 φ → size φ ≡ count → r ≡ judgement (variables-refusal φ)

@@ -1,6 +1,6 @@
 -- Rules other than document 01's marked cases, and what 5 to 9 answer: 5 and 6, rules where the order of the refusals decides, and registers.
 use mathlib.Core.{Path.{_≡_}, Option.{Option, none, some}, List.{List, [], _∷_}}
-use Prim.Native.Nat.{ℕ}
+use Prim.Native.Nat.{ℕ, zero, suc}
 use Rattle.theory.specs.Formula.{Node, truth-node, variable-node, transition-node, output-node, conjunction-node, greatest-node}
 use Rattle.refusal.specs.{declared.Refusal.{Refusal}, declared.Refusal.the-variants.{Plain, At}}
 use Rattle.values.specs.{declared.ValueKind.{ValueKind}, declared.ValueKind.the-variants.{Numbered, Register}}
@@ -9,6 +9,11 @@ use Rattle.formulas.specs.{RuleConditions.{encode-all, node-bytes}, Node
 pub record RuleCase : Type 0 where
   pub rule : List ℕ
   pub answer : Option Refusal
+
+-- So many V nodes in a row, and what follows.
+abbrev below-binders : ℕ → List (Node ℕ) → List (Node ℕ)
+below-binders zero ns = ns
+below-binders (suc n) ns = greatest-node ∷ below-binders n ns
 
 abbrev rule-of : List (Node ℕ) → Option Refusal → RuleCase
 rule-of ns a = record { rule = encode-all three-bytes ns; answer = a }
@@ -26,6 +31,16 @@ rule-cases =
     -- an unknown kind; X with a second field
     ∷ record { rule = 6 ∷ 0 ∷ 0 ∷ []; answer = some (At 6 0) }
     ∷ record { rule = 1 ∷ 0 ∷ 1 ∷ []; answer = some (At 6 0) }
+    -- document 02, F-9: twelve V nodes on a path and thirteen, also in the second part of an A, which starts again where the first did
+    ∷ rule-of (below-binders 12 (truth-node ∷ [])) none
+    ∷ rule-of (below-binders 13 (truth-node ∷ [])) (some (Plain 23))
+    ∷ rule-of (conjunction-node ∷ below-binders 12 (truth-node ∷ below-binders 12 (truth-node ∷ []))) none
+    ∷ rule-of (conjunction-node ∷ truth-node ∷ below-binders 13 (truth-node ∷ [])) (some (Plain 23))
+    -- 23 comes after 7 and 8, and before 9
+    ∷ rule-of (below-binders 13 []) (some (At 7 13))
+    ∷ rule-of (below-binders 13 (variable-node 13 ∷ [])) (some (At 8 13))
+    ∷ rule-of (below-binders 13 (variable-node 0 ∷ [])) (some (Plain 23))
+    ∷ rule-of (below-binders 12 (variable-node 0 ∷ [])) (some (At 9 12))
     ∷ []
 
 -- Rules with two events and registers of two lines.

@@ -1,4 +1,4 @@
--- Rules in bytes (document 01, "Rules"), and refusals 5 to 9 ("Who can cause a refusal", rule writer), for any way in which nodes lie in bytes.
+-- Rules in bytes (document 01, "Rules"), and refusals 5 to 9 and 23 ("Who can cause a refusal", rule writer), for any way in which nodes lie in bytes.
 use mathlib.Core.{List.{List, [], _∷_, _++_}, Path.{_≡_}, Logic.{_⊎_}}
 use Prim.Native.Nat.{ℕ, zero, suc, _+_, _*_, _/_, _%_, _≤_, _<_}
 use Rattle.theory.specs.Formula.{Formula, Node, truth-node, variable-node, transition-node, output-node, conjunction-node, greatest-node, nodes, variable}
@@ -6,7 +6,7 @@ use Rattle.theory.specs.Formula.{transition, conjunction, greatest, size, Stand
 use Rattle.values.specs.{declared.ValueKind.{ValueKind}, declared.ValueKind.the-variants.{Numbered, Register}, Setup.{value-bytes, ValueIn}}
 use lib.ListN.{length, take, drop}
 use Rattle.refusal.specs.Refusal.{Condition, plain, at-lowest}
-use Rattle.limits.specs.Limits.{node-limit}
+use Rattle.limits.specs.Limits.{node-limit, binder-limit}
 
 -- Nodes one after the other, and a formula in prefix order: a node, then its parts.
 module _ {B : Type 0} (encode : Node B → List ℕ) where
@@ -43,6 +43,12 @@ pub data Protected : List Mark → ℕ → Type 0 where
   by-transition : {ms : List Mark} {n : ℕ} → Protected (transition-mark ∷ ms) n
   past-binder : {ms : List Mark} {n : ℕ} → Protected ms n → Protected (binder-mark ∷ ms) (suc n)
 
+-- How many of them are V nodes.
+abbrev pub binders-above : List Mark → ℕ
+binders-above [] = zero
+binders-above (binder-mark ∷ ms) = suc (binders-above ms)
+binders-above (transition-mark ∷ ms) = binders-above ms
+
 -- `Placed i ms ψ`: the part ψ stands at node i, below these.
 module _ {B : Type 0} (φ : Formula B) where
   pub data Placed : ℕ → List Mark → Formula B → Type 0 where
@@ -55,6 +61,10 @@ module _ {B : Type 0} (φ : Formula B) where
   -- Node i is a variable without binder.
   abbrev pub Unbound : ℕ → Type 0
   Unbound i = (bs : List ℕ) × (n : ℕ) × Stands φ i bs (variable n) × (length bs ≤ n)
+
+  -- "a path with more than twelve V nodes" (document 02, F-9): some part stands below more than twelve.
+  abbrev pub TooDeep : Type 0
+  TooDeep = (i : ℕ) × (ms : List Mark) × (ψ : Formula B) × Placed i ms ψ × (binder-limit < binders-above ms)
 
   -- Node i is a variable with no G between it and its own binder. 8 speaks first, of variables that have none.
   abbrev pub Unprotected : ℕ → Type 0
@@ -95,7 +105,7 @@ module _ {B : Type 0} (encode : Node B → List ℕ) (bytes : List ℕ) where
   abbrev pub LeftOver : ℕ → Type 0
   LeftOver p = (φ : Formula B) × (n : Node B) × (ns : List (Node B)) × (bytes ≡ encode-formula encode φ ++ encode-all encode (n ∷ ns)) × (p ≡ size φ)
 
-  -- 8, 9 and 10 speak of the formula whose bytes these are.
+  -- 8, 23, 9 and 10 speak of the formula whose bytes these are.
   abbrev pub OfFormula : (Formula B → Type 0) → Type 0
   OfFormula Met = (φ : Formula B) × (bytes ≡ encode-formula encode φ) × Met φ
 
@@ -105,6 +115,7 @@ rule-conditions width encode limit events In bytes = plain 5 (CountAtFault width
     ∷ at-lowest 6 (NodeAtFault width encode bytes events In)
     ∷ at-lowest 7 (λ p. RunOut width encode bytes p ⊎ LeftOver encode bytes p)
     ∷ at-lowest 8 (λ i. OfFormula encode bytes (λ φ. Unbound φ i))
+    ∷ plain 23 (OfFormula encode bytes TooDeep)
     ∷ at-lowest 9 (λ i. OfFormula encode bytes (λ φ. Unprotected φ i))
     ∷ []
 

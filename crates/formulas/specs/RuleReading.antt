@@ -1,9 +1,10 @@
 -- Twin of RuleConditions, pinned by formulas RuleRefusalClaim.
 -- Computing twins of RuleConditions, in parts: what is read from a node's fields, where nodes run out or are left over, the
--- formula whose nodes these are, and the lowest variable at fault. Nodes are reached through accessors, as in NodeReading.
+-- formula whose nodes these are, and the lowest node at fault. Nodes are reached through accessors, as in NodeReading.
 use mathlib.Core.{Bool.{Bool, false, cond, not, _&&_}, Option.{Option, none, some}, List.{List, [], _∷_}}
 use Prim.Native.Nat.{ℕ, zero, suc, _+_}
-use lib.Dec.{eqb, ltb}
+use lib.Dec.{eqb, ltb, leb}
+use Rattle.limits.specs.Limits.{binder-limit}
 use Rattle.theory.specs.Formula.{Formula, truth, variable, transition, output, conjunction, greatest, size, Node, truth-node, variable-node, transition-node}
 use Rattle.theory.specs.Formula.{output-node, conjunction-node, greatest-node}
 
@@ -101,30 +102,53 @@ module _ {B : Type 0} where
   unfoldable pub formula-read : (ℕ → ℕ) → (ℕ → ℕ) → (ℕ → B) → ℕ → Formula B
   formula-read kind first value count = first-formula (formulas (nodes-from kind first value count 0))
 
-  -- The lowest variable at fault in a formula that stands at node i. What decides it is kept on the way down: a state that changes
-  -- below G and below V.
-  module _ {S : Type 0} (faulty : S → ℕ → Bool) (below-transition below-greatest : S → S) where
-    unfoldable pub lowest-variable : S → ℕ → Formula B → Option ℕ
-    lowest-variable s i truth = none
-    lowest-variable s i (variable n) = cond (faulty s n) (some i) none
-    lowest-variable s i (transition e φ) = lowest-variable (below-transition s) (suc i) φ
-    lowest-variable s i (output e b) = none
-    lowest-variable s i (conjunction φ χ) = first-of (lowest-variable s (suc i) φ) (lowest-variable s (suc i + size φ) χ)
-    lowest-variable s i (greatest φ) = lowest-variable (below-greatest s) (suc i) φ
+-- A search for a variable or a V at fault. What decides it is kept on the way down: a state that changes below G and below V.
+pub record Search (S : Type 0) : Type 0 where
+  pub at-variable : S → ℕ → Bool
+  pub at-greatest : S → Bool
+  pub below-transition : S → S
+  pub below-greatest : S → S
+
+-- The lowest node at fault in a formula that stands at node i.
+module _ {B S : Type 0} (f : Search S) where
+  unfoldable pub lowest-fault : S → ℕ → Formula B → Option ℕ
+  lowest-fault s i truth = none
+  lowest-fault s i (variable n) = cond (f .at-variable s n) (some i) none
+  lowest-fault s i (transition e φ) = lowest-fault (f .below-transition s) (suc i) φ
+  lowest-fault s i (output e b) = none
+  lowest-fault s i (conjunction φ χ) = first-of (lowest-fault s (suc i) φ) (lowest-fault s (suc i + size φ) χ)
+  lowest-fault s i (greatest φ) = first-of (cond (f .at-greatest s) (some i) none) (lowest-fault (f .below-greatest s) (suc i) φ)
 
 -- 8: a variable is at fault that counts as many binders as it stands below, or more.
 unfoldable pub unbound-below : ℕ → ℕ → Bool
 unbound-below depth n = not (ltb n depth)
 
+-- 23: a V is at fault that stands below as many as a path may have, or more.
+unfoldable pub path-full : ℕ → Bool
+path-full depth = leb binder-limit depth
+
 -- 9: a variable is at fault that counts fewer binders than stand since the last G: its own is one of them.
 unfoldable pub bound-near : ℕ → ℕ → Bool
 bound-near near n = ltb n near
 
+abbrev pub unbound-search : Search ℕ
+unbound-search = record { at-variable = unbound-below; at-greatest = λ depth. false; below-transition = λ depth. depth; below-greatest = suc }
+
+abbrev pub deep-search : Search ℕ
+deep-search = record { at-variable = λ depth n. false; at-greatest = path-full; below-transition = λ depth. depth; below-greatest = suc }
+
+abbrev pub unprotected-search : Search ℕ
+unprotected-search = record { at-variable = bound-near; at-greatest = λ near. false; below-transition = λ near. zero; below-greatest = suc }
+
 module _ {B : Type 0} where
   -- 8 from a node on, below so many binders: the lowest variable without binder.
   abbrev pub lowest-unbound : ℕ → ℕ → Formula B → Option ℕ
-  lowest-unbound = lowest-variable unbound-below (λ depth. depth) suc
+  lowest-unbound = lowest-fault unbound-search
+
+  -- 23 from a node on, below so many binders: the lowest V that makes a path too long.
+  abbrev pub lowest-deep : ℕ → ℕ → Formula B → Option ℕ
+  lowest-deep = lowest-fault deep-search
 
   -- 9 from a node on, below so many binders since the last G: the lowest variable with no G between it and its own binder.
   abbrev pub lowest-unprotected : ℕ → ℕ → Formula B → Option ℕ
-  lowest-unprotected = lowest-variable bound-near (λ near. zero) suc
+  lowest-unprotected = lowest-fault unprotected-search

@@ -1,13 +1,13 @@
 -- Twin of RuleConditions, pinned by formulas RuleRefusalClaim.
--- Which of refusals 5 to 9 a rule in bytes meets, computed: the twin of `First rule-conditions`. Each is answered over the whole
+-- Which of refusals 5 to 9 and 23 a rule in bytes meets, computed: the twin of `First rule-conditions`. Each is answered over the whole
 -- input before the next.
 use mathlib.Core.{Bool.{Bool, not, _&&_}, Option.{Option}, List.{List}}
 use Prim.Native.Nat.{ℕ, _+_, _*_, _/_, _%_}
 use lib.{Dec.{eqb, ltb, leb}, ListN.{length, getD}}
-use Rattle.theory.specs.Formula.{Formula}
+use Rattle.theory.specs.{Formula.{Formula}, FormulaClasses.{binder-depth}}
 use Rattle.refusal.specs.{RefusalAnswers.{or-else, plain-unless, at-found}, declared.Refusal.{Refusal}}
 use Rattle.values.specs.{declared.ValueKind.{ValueKind}, ValueTests.{value-fits}, Setup.{value-from}}
-use Rattle.limits.specs.Limits.{node-limit}
+use Rattle.limits.specs.Limits.{node-limit, binder-limit}
 use Rattle.formulas.specs.RuleConditions.{node-width}
 use Rattle.formulas.specs.RuleReading.{lowest-from, kind-of, fields-fit, end-fault, formula-read, lowest-unbound, lowest-unprotected}
 
@@ -15,9 +15,13 @@ use Rattle.formulas.specs.RuleReading.{lowest-from, kind-of, fields-fit,
 unfoldable pub count-fits : ℕ → ℕ → ℕ → Bool
 count-fits width limit n = eqb (n % width) 0 && (ltb 0 (n / width) && leb (n / width) limit)
 
--- 8 and 9 for a formula: every variable is judged by 8 before any is by 9.
+-- 23 for a formula: a path with more V nodes than the limit.
+unfoldable pub depth-refusal : {B : Type 0} → Formula B → Option Refusal
+depth-refusal φ = plain-unless (leb (binder-depth φ) binder-limit) 23
+
+-- 8, 23 and 9 for a formula: every variable is judged by 8 before any is by 9.
 unfoldable pub variables-refusal : {B : Type 0} → Formula B → Option Refusal
-variables-refusal φ = or-else (at-found (lowest-unbound 0 0 φ) 8) (at-found (lowest-unprotected 0 0 φ) 9)
+variables-refusal φ = or-else (at-found (lowest-unbound 0 0 φ) 8) (or-else (depth-refusal φ) (at-found (lowest-unprotected 0 0 φ) 9))
 
 module _ (kind first value : ℕ → ℕ) (count : ℕ) where
   -- 7 to 9.

@@ -1,4 +1,4 @@
-// Formulas in bytes (document 01, "Rules"): refusals 5 to 9.
+// Formulas in bytes (document 01, "Rules"): refusals 5 to 9, and 23 of document 02, F-9.
 ghost use mathlib.Core.Path.{_≡_};
 ghost use Prim.Native.Nat.{_+_, _/_, _≤_, _<_, min};
 ghost use mathlib.Core.Bool.{cond};
@@ -6,11 +6,13 @@ ghost use mathlib.Core.Option.{none, some};
 ghost use Rattle.formulas.specs.RuleConditions.{node-width};
 ghost use lib.ListN.{length};
 ghost use Rattle.refusal.specs.RefusalAnswers.{judgement};
-ghost use Rattle.formulas.specs.RuleReading.{kind-of, fields-fit, awaited, unbound-below, bound-near};
+ghost use Rattle.formulas.specs.RuleReading.{kind-of, fields-fit, awaited, unbound-below, path-full, bound-near};
 ghost use Rattle.formulas.specs.RuleRefusal.{count-fits, tree-refusal, fields-refusal, rule-refusal};
 ghost use Rattle.formulas.specs.NodeWalks.{Keeps, Scanned, VariablesJudged, field};
 ghost use Rattle.formulas.specs.NodeArrays.{decoded};
+use limits::BINDER_LIMIT;
 use limits::NODE_LIMIT;
+use refusal::BINDER_DEPTH;
 use refusal::Judgement;
 use refusal::NODE_COUNT;
 use refusal::NODE_FIELDS;
@@ -194,6 +196,13 @@ fn unbound(first: u8, depth: usize) -> bool
     !(wide(first) < depth)
 }
 
+// 23, for one V: so many others stand above it that a path has too many.
+fn path_full(depth: usize) -> bool
+    ensures { λ r. ⌜ r ≡ path-full depth ⌝ }
+{
+    BINDER_LIMIT <= depth
+}
+
 // 9, for one variable: its own binder is one of the last so many.
 fn bound_near(first: u8, near: usize) -> bool
     ensures { λ r. ⌜ r ≡ bound-near near first ⌝ }
@@ -214,8 +223,9 @@ fn noted(before: usize, fault: bool, at: usize) -> usize
     before
 }
 
-// 8 and 9 over the formula at a node, in a closed position: below `depth` binders, `near` of them since the last G. Notes the lowest
-// variable without binder, and the lowest whose own binder is one of the near ones. The answer is the node after the formula.
+// 8, 23 and 9 over the formula at a node, in a closed position: below `depth` binders, `near` of them since the last G. Notes the lowest
+// variable without binder, the lowest V with too many above it, and the lowest variable whose own binder is one of the near ones. The
+// answer is the node after the formula.
 fn closed_position(
     kinds: &[u8; NODE_LIMIT],
     firsts: &[u8; NODE_LIMIT],
@@ -223,9 +233,9 @@ fn closed_position(
     left: usize,
     depth: usize,
     near: usize,
-    faults: &mut [usize; 2],
+    faults: &mut [usize; 3],
 ) -> usize
-    requires { ⌜ (at + left ≤ node-limit) × (depth ≤ at) × (near ≤ depth) × (length (now faults) ≡ 2) ⌝ }
+    requires { ⌜ (at + left ≤ node-limit) × (depth ≤ at) × (near ≤ depth) × (length (now faults) ≡ 3) ⌝ }
     ensures { λ r. ⌜ Scanned (field (now (kinds .entry))) (field (now (firsts .entry))) depth near at left (now (faults .entry)) (now (faults .exit)) r ⌝ }
 {
     if left == 0 {
@@ -234,7 +244,7 @@ fn closed_position(
     let kind = kinds[at];
     if kind == VARIABLE {
         faults[0] = noted(faults[0], unbound(firsts[at], depth), at);
-        faults[1] = noted(faults[1], bound_near(firsts[at], near), at);
+        faults[2] = noted(faults[2], bound_near(firsts[at], near), at);
         return at + 1;
     }
     if kind == TRANSITION {
@@ -253,6 +263,7 @@ fn closed_position(
         );
     }
     if kind == GREATEST {
+        faults[1] = noted(faults[1], path_full(depth), at);
         return closed_position(kinds, firsts, at + 1, left - 1, depth + 1, near + 1, faults);
     }
     at + 1
@@ -265,9 +276,9 @@ fn open_position(
     at: usize,
     left: usize,
     depth: usize,
-    faults: &mut [usize; 2],
+    faults: &mut [usize; 3],
 ) -> usize
-    requires { ⌜ (at + left ≤ node-limit) × (depth ≤ at) × (length (now faults) ≡ 2) ⌝ }
+    requires { ⌜ (at + left ≤ node-limit) × (depth ≤ at) × (length (now faults) ≡ 3) ⌝ }
     ensures { λ r. ⌜ Scanned (field (now (kinds .entry))) (field (now (firsts .entry))) depth 0 at left (now (faults .entry)) (now (faults .exit)) r ⌝ }
 {
     if left == 0 {
@@ -286,30 +297,34 @@ fn open_position(
         return open_position(kinds, firsts, second, at + left - second, depth, faults);
     }
     if kind == GREATEST {
+        faults[1] = noted(faults[1], path_full(depth), at);
         return closed_position(kinds, firsts, at + 1, left - 1, depth + 1, 1, faults);
     }
     at + 1
 }
 
-// 8, then 9: every variable has its binder, and a G lies between the two.
+// 8, then 23, then 9: every variable has its binder, no path has too many, and a G lies between each variable and its binder.
 fn check_variables(kinds: &[u8; NODE_LIMIT], firsts: &[u8; NODE_LIMIT], count: usize) -> Judgement
     requires { ⌜ count ≤ node-limit ⌝ }
     ensures { λ r. ⌜ VariablesJudged (field (now (kinds .entry))) (field (now (firsts .entry))) count r ⌝ }
 {
-    let mut faults = [NODE_LIMIT; 2];
+    let mut faults = [NODE_LIMIT; 3];
     open_position(kinds, firsts, 0, count, 0, &mut faults);
     let p = faults[0];
     if p < NODE_LIMIT {
         return Judgement::Refused(Refusal::At(UNBOUND_VARIABLE, p));
     }
-    let q = faults[1];
+    if faults[1] < NODE_LIMIT {
+        return Judgement::Refused(Refusal::Plain(BINDER_DEPTH));
+    }
+    let q = faults[2];
     if q < NODE_LIMIT {
         return Judgement::Refused(Refusal::At(UNPROTECTED_VARIABLE, q));
     }
     Judgement::Accepted
 }
 
-// 5 to 9 for decoded nodes, the first `count` of each array, with the set-up's count of events and kind of values.
+// 5 to 8, 23 and 9 for decoded nodes, the first `count` of each array, with the set-up's count of events and kind of values.
 pub fn check_nodes<'a>(
     events: usize,
     kind: ValueKind,
@@ -334,7 +349,7 @@ pub fn check_nodes<'a>(
     check_variables(kinds, firsts, count)
 }
 
-// 5 to 9 for a rule in bytes, with the set-up's count of events and kind of values.
+// 5 to 8, 23 and 9 for a rule in bytes, with the set-up's count of events and kind of values.
 pub fn check_rule(events: usize, kind: ValueKind, bytes: &[u8]) -> Judgement
     ensures { λ r. ⌜ r ≡ judgement (rule-refusal events kind (now (bytes .entry))) ⌝ }
 {

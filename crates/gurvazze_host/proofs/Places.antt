@@ -3,7 +3,7 @@ use Prim.Native.Nat.{ℕ, zero, suc, _+_, _/_, _≤_, _<_}
 use mathlib.Core.{Path.{_≡_, refl, subst}, List.{List}, Bool.{Bool, true, false, cond}, Option.{Option, none, some}}
 use native.Mathlib.Omega.{arith}
 use lib.{Dec.{leb}, ListN.{length}}
-use Rattle.theory.specs.Formula.{Formula, truth, variable, transition, output, conjunction, greatest, size}
+use Rattle.theory.specs.{Formula.{Formula, size}, FormulaClasses.{binder-depth}}
 use Rattle.refusal.specs.declared.Refusal.{Refusal}
 use Rattle.refusal.specs.RefusalAnswers.{or-else, plain-unless, at-found}
 use Rattle.values.specs.declared.ValueKind.{ValueKind}
@@ -11,9 +11,10 @@ use Rattle.values.specs.declared.ValueKind.the-variants.{Numbered, Register}
 use Rattle.values.specs.{Setup.{Setup}, ValueTests.{value-fits}}
 use Rattle.values.specs.SetupTests.{events-test, values-test, meet-test, lines-test, kind-refusal, setup-refusal}
 use Rattle.formulas.specs.RuleConditions.{node-width}
-use Rattle.formulas.specs.RuleReading.{kind-of, awaited, end-fault, first-of, formula-read, lowest-variable, lowest-unbound, lowest-unprotected}
-use Rattle.formulas.specs.RuleRefusal.{count-fits, variables-refusal, structure-refusal, misfit-place, nodes-refusal, kind-at, first-at, value-at, rule-refusal}
-use Rattle.formulas.proofs.{Search.{lowest-found}, Decoding.{CountFits, count-facts}}
+use Rattle.formulas.specs.RuleReading.{kind-of, awaited, end-fault, formula-read, unbound-search, unprotected-search, lowest-unbound, lowest-unprotected}
+use Rattle.formulas.specs.RuleRefusal.{count-fits, depth-refusal, variables-refusal, structure-refusal, misfit-place, nodes-refusal, kind-at, first-at, value-at}
+use Rattle.formulas.specs.RuleRefusal.{rule-refusal}
+use Rattle.formulas.proofs.{Search.{lowest-found}, Faults.{found-within}, Decoding.{CountFits, count-facts}}
 use Rattle.text_format.specs.Format.{refused}
 use Rattle.text_format.specs.Texts.{Refused, at, early}
 use Rattle.channel_file.specs.ChannelFile.{Contents, Form, Refused4, over-long, off-form}
@@ -25,7 +26,7 @@ use Rattle.channel_file.specs.ChannelFile.{rule-numbers}
 use Rattle.channel_io.proofs.Clamping.{read-size}
 use Rattle.channel_io.specs.FileRefusals.{pair-table-refusal, has-table-room, pair-compile-refusal, file-states, contents-table-refusal, file-refusal}
 use Rattle.gurvazze_host.specs.Codes.{SmallPlace}
-use Rattle.limits.specs.Limits.{node-limit, state-limit, file-limit}
+use Rattle.limits.specs.Limits.{node-limit, binder-limit, state-limit, file-limit}
 
 abbrev pub SmallAnswer : Option Refusal → Type 0
 SmallAnswer none = Unit {0}
@@ -54,34 +55,13 @@ end-bound kind zero (suc left) i p e = let z : i ≡ p = cc in omega arith
 end-bound kind (suc k) zero i p e = let z : i ≡ p = cc in omega arith
 end-bound kind (suc k) (suc left) i p e = let h = end-bound kind (awaited (kind-of (kind i)) k) left (suc i) p e in omega arith
 
--- 8 and 9
-either : (b : Bool) (i p : ℕ) → cond b (some i) none ≡ some p → i ≡ p
-either true i p e = cc
-either false i p e = let z : _≡_ {A = ℕ} 0 1 = cc in absurd (omega arith)
-
-first-bound : (a b : Option ℕ) (p n : ℕ) → first-of a b ≡ some p → (a ≡ some p → p < n) → (b ≡ some p → p < n) → p < n
-unfolding first-of
-first-bound none b p n e x y = y e
-first-bound (some i) b p n e x y = x e
-
-module _ {S : Type 0} (faulty : S → ℕ → Bool) (g v : S → S) where
-  variable-bound : (s : S) (i : ℕ) (φ : Formula ℕ) (p : ℕ) → lowest-variable faulty g v s i φ ≡ some p → p < i + size φ
-  unfolding lowest-variable
-  variable-bound s i truth p e = let z : _≡_ {A = ℕ} 0 1 = cc in absurd (omega arith)
-  variable-bound s i (variable n) p e = let z = either (faulty s n) i p e in omega arith
-  variable-bound s i (transition a φ) p e = let h = variable-bound (g s) (suc i) φ p e in omega arith
-  variable-bound s i (output a b) p e = let z : _≡_ {A = ℕ} 0 1 = cc in absurd (omega arith)
-  variable-bound s i (conjunction φ χ) p e =
-      first-bound (lowest-variable faulty g v s (suc i) φ) (lowest-variable faulty g v s (suc i + size φ) χ) p (i + suc (size φ + size χ)) e
-      (λ d. let h = variable-bound s (suc i) φ p d in omega arith) (λ d. let h = variable-bound s (suc i + size φ) χ p d in omega arith)
-  variable-bound s i (greatest φ) p e = let h = variable-bound (v s) (suc i) φ p e in omega arith
-
+-- 8, 23 and 9
 variables-small : (φ : Formula ℕ) → size φ ≤ node-limit → SmallAnswer (variables-refusal φ)
-unfolding variables-refusal
+unfolding variables-refusal depth-refusal
 variables-small φ h =
-    or-small (at-found (lowest-unbound 0 0 φ) 8) (at-found (lowest-unprotected 0 0 φ) 9)
-    (found-small (lowest-unbound 0 0 φ) 8 (λ p e. let b = variable-bound _ _ _ 0 0 φ p e in omega arith))
-    (found-small (lowest-unprotected 0 0 φ) 9 (λ p e. let b = variable-bound _ _ _ 0 0 φ p e in omega arith))
+    or-small _ _ (found-small (lowest-unbound 0 0 φ) 8 (λ p e. let b = found-within unbound-search 0 0 φ p e in omega arith))
+    (or-small _ _ (plain-small (leb (binder-depth φ) binder-limit) 23)
+    (found-small (lowest-unprotected 0 0 φ) 9 (λ p e. let b = found-within unprotected-search 0 0 φ p e in omega arith)))
 
 nodes-small : (kind first value : ℕ → ℕ) (count : ℕ) (fits : ℕ → Bool) (events : ℕ) → count ≤ node-limit → SmallAnswer
     (nodes-refusal kind first value count fits events)

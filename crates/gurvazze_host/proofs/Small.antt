@@ -4,14 +4,15 @@ use Prim.Native.Nat.{ℕ, _≤_}
 use native.Mathlib.Omega.{arith}
 use borrow.Author.Tests.{leb-true}
 use lib.{Dec.{leb}, ListN.{length}}
-use Rattle.limits.specs.Limits.{node-limit, device-limit, table-limit, word-limit}
-use Rattle.theory.specs.Formula.{size}
+use Rattle.limits.specs.Limits.{node-limit, binder-limit, device-limit, table-limit, word-limit}
+use Rattle.theory.specs.{Formula.{size}, FormulaClasses.{binder-depth}}
 use Rattle.refusal.specs.declared.Refusal.{Refusal}
 use Rattle.refusal.specs.RefusalAnswers.{plain-unless, counted}
 use Rattle.refusal.proofs.Refusals.{or-else-none, plain-none}
 use Rattle.values.specs.{Setup.{Setup}, SetupTests.{setup-refusal}}
 use Rattle.values.specs.declared.ValueKind.{ValueKind}
 use Rattle.machines.specs.{TableBytes.{entry-width}, TableRefusal.{table-refusal, table-test, entry-test}}
+use Rattle.formulas.specs.RuleRefusal.{depth-refusal}
 use Rattle.characteristic.specs.RuleWriting.{output-refusal, rule-of, write-refusal, write-answer}
 use Rattle.conformance.specs.declared.Verdict.{Verdict}
 use Rattle.conformance.specs.declared.Verdict.the-variants.{Pass, Fail, Refused}
@@ -58,11 +59,12 @@ module _ (x : TrialInput) (old : List ℕ) where
 -- ---- the rule of a table
 module _ (s : Setup) (states start : ℕ) (table old : List ℕ) where
   write-small : SmallAnswer (write-refusal table-limit node-limit s states start table (length old))
-  unfolding write-refusal output-refusal
+  unfolding write-refusal output-refusal depth-refusal
   write-small =
       or-small _ _ (setup-small s)
       (or-small _ _ (table-small table-limit (s .events) (s .kind) states start table)
-      (or-small _ _ (plain-small (leb (size (rule-of s states start table)) node-limit) 12) (plain-small _ 13)))
+      (or-small _ _ (plain-small (leb (size (rule-of s states start table)) node-limit) 12)
+      (or-small _ _ (plain-small (leb (binder-depth (rule-of s states start table)) binder-limit) 23) (plain-small _ 13))))
 
   size-small : write-refusal table-limit node-limit s states start table (length old) ≡ none → size (rule-of s states start table) ≤ node-limit
   unfolding write-refusal output-refusal

@@ -18,6 +18,10 @@ line-limit = 16
 abbrev pub node-limit : ℕ
 node-limit = 256
 
+-- "a path with more than twelve V nodes" (document 02, F-9).
+abbrev pub binder-limit : ℕ
+binder-limit = 12
+
 -- The states of a rule's table, "at most 64"; its entries.
 abbrev pub state-limit : ℕ
 state-limit = 64

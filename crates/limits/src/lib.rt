@@ -9,8 +9,10 @@ pub const MEET_LIMIT: usize = VALUE_LIMIT * VALUE_LIMIT;
 
 pub const LINE_LIMIT: usize = 16;
 
-// A rule: nodes, and the words of 64 bits of a set of nodes.
+// A rule: nodes, V nodes on a path, and the words of 64 bits of a set of nodes.
 pub const NODE_LIMIT: usize = 256;
+
+pub const BINDER_LIMIT: usize = 12;
 
 pub const SET_WORDS: usize = NODE_LIMIT / 64;
 

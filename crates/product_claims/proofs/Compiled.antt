@@ -283,7 +283,7 @@ module _ (s : Setup) (states start : ℕ) (table old : List ℕ) where
   unfolding write-answer write-contents
   rule-judged = counted-judged refusal _ _ old refl refl (write-refusal-claim table-limit node-limit s states start table (length old))
 
-  accepted-write : (n : ℕ) → count-of (write-answer table-limit node-limit s states start table old) ≡ some n → refusal ≡ none
+  pub accepted-write : (n : ℕ) → count-of (write-answer table-limit node-limit s states start table old) ≡ some n → refusal ≡ none
   unfolding write-answer
   accepted-write n h = count-of-counted refusal _ n h .0
 

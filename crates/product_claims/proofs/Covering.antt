@@ -11,7 +11,7 @@ use Rattle.theory.proofs.{Claims.{answers, conjunction as conjunction-answers, 
 use Rattle.refusal.specs.{declared.Refusal.{Refusal}, declared.Refusal.the-variants.{Plain}}
 use Rattle.refusal.specs.Refusal.{First, counted-refusal, count-of}
 use Rattle.refusal.proofs.Answers.{count-of-counted}
-use Rattle.limits.specs.Limits.{node-limit, state-limit, device-limit, table-limit, word-limit}
+use Rattle.limits.specs.Limits.{node-limit, binder-limit, state-limit, device-limit, table-limit, word-limit}
 use Rattle.values.specs.{declared.ValueKind.{ValueKind}, Setup.{Setup, SetupValue, ValueIn, setup-meet, setup-top}, SetupTests.{setup-refusal}}
 use Rattle.formulas.specs.{RuleConditions.{encode-formula, node-width, node-bytes}, RuleRefusal.{rule-refusal, formula-of}}
 use Rattle.formulas.specs.Claims.{AcceptedFormula}
@@ -59,7 +59,7 @@ joined-bytes s φ χ =
 
 module _ (s : Setup) where
   abbrev IsAccepted : Formula ℕ → Type 0
-  IsAccepted = Accepted node-limit (s .events) (SetupValue s)
+  IsAccepted = Accepted node-limit binder-limit (s .events) (SetupValue s)
 
   abbrev Well : Formula ℕ → Type 0
   Well = WellFormed (s .events) (SetupValue s)
@@ -121,7 +121,7 @@ module _ (s : Setup) where
 -- Of a formula in order but for its size, 5 alone can be met.
 only-5 :
     (events : ℕ) (kind : ValueKind) (bytes : List ℕ) (φ : Formula ℕ) → bytes ≡ encode-formula (node-bytes kind) φ →
-    ((limit : ℕ) → size φ ≤ limit → Accepted limit events (ValueIn kind) φ) → (r : Refusal) → rule-refusal events kind bytes ≡ some r → r ≡ Plain 5
+    ((limit : ℕ) → size φ ≤ limit → Accepted limit binder-limit events (ValueIn kind) φ) → (r : Refusal) → rule-refusal events kind bytes ≡ some r → r ≡ Plain 5
 unfolding First
 only-5 events kind bytes φ code sound r e = go (leb (size φ) node-limit) refl
   where
@@ -155,10 +155,11 @@ joined-refused s first second to fine h h′ r met = by (refused-by s (joined s 
     whole : Formula ℕ
     whole = conjunction (formula-of (s .kind) first) (formula-of (s .kind) second)
 
-    sound : (limit : ℕ) → size whole ≤ limit → Accepted limit (s .events) (SetupValue s) whole
+    sound : (limit : ℕ) → size whole ≤ limit → Accepted limit binder-limit (s .events) (SetupValue s) whole
     sound limit l =
         record {
           within = l;
+          shallow = omega (arith, x .accepted .shallow, y .accepted .shallow);
           well-formed = well-formed-conjunction (s .events) (SetupValue s) _ _ (x .accepted .well-formed) (y .accepted .well-formed);
         }
 

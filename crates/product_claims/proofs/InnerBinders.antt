@@ -6,7 +6,7 @@ use Rattle.theory.specs.{Formula.{Formula}, FormulaClasses.{Accepted}}
 use Rattle.refusal.specs.{declared.Refusal.{Refusal}, declared.Refusal.the-variants.{Plain}, RefusalAnswers.{or-else, plain-unless}}
 use Rattle.refusal.specs.Refusal.{First, counted-refusal}
 use Rattle.refusal.proofs.{Refusals.{or-else-some, plain-some}, Answers.{counted-refusal-is}}
-use Rattle.limits.specs.Limits.{node-limit, state-limit}
+use Rattle.limits.specs.Limits.{node-limit, binder-limit, state-limit}
 use Rattle.values.specs.{Setup.{Setup, SetupValue, setup-top}, SetupTests.{setup-refusal}}
 use Rattle.machines.specs.TableBytes.{entry-width}
 use Rattle.formulas.specs.{RuleConditions.{byte-conditions}, RuleRefusal.{rule-refusal, formula-of}, Claims.{AcceptedFormula}}
@@ -24,9 +24,9 @@ module _ (s : Setup) where
   pub let-through : (rule : List ℕ) → LetThrough s rule → AcceptedFormula (s .events) (s .kind) rule (formula-of (s .kind) rule)
   let-through rule h = accepted-formula-of (s .events) (s .kind) rule (let-through-iff rule .0 h)
 
-  pub let-through-formula : (φ : Formula ℕ) → LetThrough s (rule-bytes s φ) → Accepted node-limit (s .events) (SetupValue s) φ
+  pub let-through-formula : (φ : Formula ℕ) → LetThrough s (rule-bytes s φ) → Accepted node-limit binder-limit (s .events) (SetupValue s) φ
   let-through-formula φ h =
-      subst (Accepted node-limit (s .events) (SetupValue s)) (sym (formula-of-only (s .kind) (rule-bytes s φ) φ refl))
+      subst (Accepted node-limit binder-limit (s .events) (SetupValue s)) (sym (formula-of-only (s .kind) (rule-bytes s φ) φ refl))
       (let-through (rule-bytes s φ) h .accepted)
 
   -- With an accepted set-up `compile` refuses by 5 to 9, 10 and 13.
@@ -73,6 +73,7 @@ covered s rule to fine h r met = by (refused-by s rule to fine r met)
 pub inner-binders : InnerBinders
 inner-binders =
     record {
-      in-order = λ s φ within fit bound. Iff·trans (let-through-iff s (rule-bytes s φ)) (protected-claim (s .events) (s .kind) φ within fit bound);
+      in-order = λ s φ within fit bound shallow.
+          Iff·trans (let-through-iff s (rule-bytes s φ)) (protected-claim (s .events) (s .kind) φ within fit bound shallow);
       covered = covered;
     }

@@ -1,5 +1,6 @@
 pub mod Compiled
 pub mod InnerBinders
+pub mod TwelveBinders
 pub mod Covering
 pub mod Demands
 pub mod Requests

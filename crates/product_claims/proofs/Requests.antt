@@ -4,7 +4,7 @@ use Rattle.limits.specs.Limits.{device-limit, table-limit}
 use Rattle.values.proofs.Comparisons.{comparisons}
 use Rattle.conformance.proofs.TrialClaims.{trial-refused, trial-grades, two-passes}
 use Rattle.product_claims.specs.Requests.{SameOrStricter, Requests}
-use Rattle.product_claims.proofs.{InnerBinders.{inner-binders}, Compiled.{rule-grade}, Covering.{covering}}
+use Rattle.product_claims.proofs.{InnerBinders.{inner-binders}, TwelveBinders.{twelve-binders}, Compiled.{rule-grade}, Covering.{covering}}
 
 same-or-stricter : SameOrStricter
 same-or-stricter =
@@ -18,4 +18,5 @@ same-or-stricter =
     }
 
 pub requests : Requests
-requests = record { inner-binders = inner-binders; same-or-stricter = same-or-stricter; covering = covering }
+requests =
+    record { inner-binders = inner-binders; twelve-binders = twelve-binders; same-or-stricter = same-or-stricter; covering = covering }

@@ -11,8 +11,9 @@ use Rattle.values.specs.{Setup.{Setup, SetupValue, ValueIn, setup-meet, setup-t
 use Rattle.conformance.specs.declared.{Grade.the-variants.{Same, Stricter}, Verdict.{Verdict}}
 use Rattle.conformance.specs.{Trial.{TrialInput, DeviceInOrder, Passes, EndsSame, refusal-of, Passed, grade}, TrialAnswer.{trial-answer}}
 use Rattle.machines.specs.TableBytes.{entry-width, machine-of}
-use Rattle.formulas.specs.RuleConditions.{encode-formula, node-width, node-bytes, Unbound, Unprotected, NodeAtFault, byte-conditions}
+use Rattle.formulas.specs.RuleConditions.{encode-formula, node-width, node-bytes, Unbound, TooDeep, Unprotected, NodeAtFault, byte-conditions}
 use Rattle.synthesis.specs.Compilation.{compile-answer, compile-contents}
+use Rattle.characteristic.specs.{RuleOfTable.{IsRuleOf}, RuleWriting.{write-answer}}
 use Rattle.product_claims.specs.Demands.{rule-trial-input}
 
 -- A rule's bytes; 5 to 9 let bytes through.
@@ -24,14 +25,26 @@ LetThrough s rule = First (byte-conditions (s .events) (s .kind) rule) none
 
 -- F-2: a variable under an inner binder. 9's condition, with its place, is that of RuleConditions.
 pub record InnerBinders : Type 0 where
-  -- "A variable is in order when a G lies between it and its own binder. Refusal 9 is given only where none does": where 5, 6 and 8 are
-  -- not met, a rule is let through exactly if each variable is in order
+  -- "A variable is in order when a G lies between it and its own binder. Refusal 9 is given only where none does": where 5, 6, 8 and 23
+  -- are not met, a rule is let through exactly if each variable is in order
   pub in-order : (s : Setup) (φ : Formula ℕ) → size φ ≤ node-limit →
       ((i : ℕ) → ¬ NodeAtFault (node-width (s .kind)) (node-bytes (s .kind)) (rule-bytes s φ) (s .events) (ValueIn (s .kind)) i) →
-      ((i : ℕ) → ¬ Unbound φ i) → LetThrough s (rule-bytes s φ) ↔ ((i : ℕ) → ¬ Unprotected φ i)
+      ((i : ℕ) → ¬ Unbound φ i) → ¬ TooDeep φ → LetThrough s (rule-bytes s φ) ↔ ((i : ℕ) → ¬ Unprotected φ i)
   -- "everything promised about rules covers the wider class": of what is let through, `compile` refuses by 10 and 13 alone
   pub covered : (s : Setup) (rule to : List ℕ) → setup-refusal s ≡ none → LetThrough s rule →
       (r : Refusal) → counted-refusal (compile-answer state-limit s rule to) ≡ some r → (r ≡ Plain 10) ⊎ (r ≡ Plain 13)
+
+-- F-9: binders twelve deep. 23's conditions are those of RuleConditions and of RuleOfTable; "A written rule is still always a rule that
+-- compiles" stands in DemandTwo (`table-to-rule-to-table`).
+pub record TwelveBinders : Type 0 where
+  -- "23, a path with more than twelve V nodes, after 8 and before 9 for a rule": where 5, 6 and 8 are not met, whatever 9 says
+  pub refused : (s : Setup) (φ : Formula ℕ) → size φ ≤ node-limit →
+      ((i : ℕ) → ¬ NodeAtFault (node-width (s .kind)) (node-bytes (s .kind)) (rule-bytes s φ) (s .events) (ValueIn (s .kind)) i) →
+      ((i : ℕ) → ¬ Unbound φ i) → First (byte-conditions (s .events) (s .kind) (rule-bytes s φ)) (some (Plain 23)) ↔ TooDeep φ
+  -- "A written rule obeys it too"
+  pub obeyed : (s : Setup) (states start : ℕ) (table old : List ℕ) (n : ℕ) →
+      count-of (write-answer table-limit node-limit s states start table old) ≡ some n →
+      (φ : Formula ℕ) → IsRuleOf (s .events) (s .kind) start table φ → ¬ TooDeep φ
 
 -- From a state the machine gives the rule's value (source 000, section 3) on every event sequence.
 abbrev pub MatchesRule : Setup → Formula ℕ → Machine ℕ ℕ → ℕ → Type 0
@@ -101,5 +114,6 @@ pub record Covering : Type 1 where
 
 pub record Requests : Type 1 where
   pub inner-binders : InnerBinders
+  pub twelve-binders : TwelveBinders
   pub same-or-stricter : SameOrStricter
   pub covering : Covering

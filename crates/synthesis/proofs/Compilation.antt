@@ -214,7 +214,7 @@ module _ (limit : ℕ) (kind : ValueKind) (events top : ℕ) (table rule : List 
           let a = accepted-formula-of events kind rule rule-accepted in
           let d = decoded-reads kind rule (formula-of kind rule) (a .written) (a .accepted .within) in
           let w = a .accepted .well-formed in
-          t (formula-of kind rule) (d .reads) (sym (d .counted)) (w .closed) (w .guarded)
+          t (formula-of kind rule) (d .reads) (sym (d .counted)) (a .accepted .shallow) (w .closed) (w .guarded)
 
       pub within-many : limit < n → refused (Plain 10) ≡ compiled-within limit kind events top table rule
       unfolding plain-unless

@@ -3,9 +3,9 @@ use mathlib.Core.{Path.{_≡_, refl, sym, _∙_, ap, ap₂, subst, fun-ext}, Boo
 use Prim.Native.Nat.{ℕ, _*_, _/_, _%_, _<_, _≤_}
 use native.Mathlib.Omega.{arith}
 use lib.ListN.{length}
-use Rattle.limits.specs.Limits.{node-limit}
+use Rattle.limits.specs.Limits.{node-limit, binder-limit}
 use Rattle.theory.specs.Formula.{Formula, size}
-use Rattle.theory.specs.FormulaClasses.{Closed, Guarded}
+use Rattle.theory.specs.FormulaClasses.{binder-depth, Closed, Guarded}
 use Rattle.theory.specs.MealyMachine.{Machine}
 use Rattle.theory.specs.ReachableStates.{value-of-set}
 use Rattle.theory.specs.Exploration.{explored, numbered, member, bits, same-bits, bit-machine, first-bits}
@@ -29,11 +29,11 @@ pub record Parts (kinds firsts fields stack b rows states : List ℕ) (meet : �
 
 module _ (kinds firsts fields stack b rows states : List ℕ) (meet : ℕ → ℕ → ℕ) (top events limit n : ℕ)
     (values nexts values′ nexts′ : List ℕ) (φ : Formula ℕ) (d : Reads (field kinds) (field firsts) (field fields) 0 φ)
-    (closed : Closed φ) (guarded : Guarded φ)
+    (shallow : binder-depth φ ≤ binder-limit) (closed : Closed φ) (guarded : Guarded φ)
     (p : Parts kinds firsts fields stack b rows states meet top events limit n values nexts values′ nexts′ (size φ)) where
   binds : Binds (field b) [] 0 φ
   unfolding AllBound
-  binds = p .bound (field fields) φ [] d (omega arith) closed (record { deep = refl; at = λ k h. absurd (omega arith) })
+  binds = p .bound (field fields) φ [] d (omega arith) closed (omega (arith, shallow)) (record { deep = refl; at = λ k h. absurd (omega arith) })
 
   abbrev next : List Bool → ℕ → List Bool
   next = next-bits kinds firsts rows (size φ)
@@ -105,7 +105,7 @@ pub tables :
     (n ≤ limit → EntriesTo (state-value meet top kinds firsts fields count states) events (n * events) values′) →
     (n ≤ limit → Unchanged (n * events) values values′) → (n ≤ limit → Unchanged (n * events) nexts nexts′) →
     Tables kinds firsts fields count meet top events limit values nexts values′ nexts′ n
-tables kinds firsts fields stack b rows states meet top events limit n count values nexts values′ nexts′ bo fi co va vk nk φ d q closed guarded =
-    tabled kinds firsts fields stack b rows states meet top events limit n values nexts values′ nexts′ φ d closed guarded
+tables kinds firsts fields stack b rows states meet top events limit n count values nexts values′ nexts′ bo fi co va vk nk φ d q shallow closed guarded =
+    tabled kinds firsts fields stack b rows states meet top events limit n values nexts values′ nexts′ φ d shallow closed guarded
     (subst (Parts kinds firsts fields stack b rows states meet top events limit n values nexts values′ nexts′) (sym q)
     (record { bound = bo; filled = fi; counted = co; valued = va; values-kept = vk; nexts-kept = nk }))

@@ -132,7 +132,7 @@ module _ (events : ℕ) (kind : ValueKind) (rule stack binders rows : List ℕ) 
   unfolding AllBound
   binds₀ =
       k .bound (field (decoded kind rule .values)) φ₀ [] reads₀ (omega (arith, counted)) (there .accepted .well-formed .closed)
-      (record { deep = refl; at = λ k h. absurd (omega arith) })
+      (omega (arith, there .accepted .shallow)) (record { deep = refl; at = λ k h. absurd (omega arith) })
 
   kept₀ : (i : ℕ) (bs : List ℕ) (ψ : Formula ℕ) → Stands φ₀ i bs ψ → (d : ℕ) → T (row rows i d) ↔ Demands φ₀ i d
   kept₀ i bs ψ s d =

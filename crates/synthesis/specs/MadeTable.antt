@@ -1,7 +1,8 @@
 -- What the making of a table from nodes answers (document 01, "Table of a rule").
 use mathlib.Core.{Path.{_≡_}, List.{List}}
 use Prim.Native.Nat.{ℕ, suc, _*_, _≤_, _<_}
-use Rattle.theory.specs.{Formula.{Formula, size}, FormulaClasses.{Closed, Guarded}}
+use Rattle.limits.specs.Limits.{binder-limit}
+use Rattle.theory.specs.{Formula.{Formula, size}, FormulaClasses.{binder-depth, Closed, Guarded}}
 use Rattle.formulas.specs.{NodeReading.{Reads}, NodeWalks.{field}}
 use Rattle.synthesis.specs.{FormulaTable.{formula-states, formula-table}, Exploring.{Unchanged}, TableEntries.{EntriesTo}}
 
@@ -20,5 +21,5 @@ pub record Tabled (meet : ℕ → ℕ → ℕ) (top : ℕ) (φ : Formula ℕ) (e
 abbrev pub Tables :
     List ℕ → List ℕ → List ℕ → ℕ → (ℕ → ℕ → ℕ) → ℕ → ℕ → ℕ → List ℕ → List ℕ → List ℕ → List ℕ → ℕ → Type 0
 Tables kinds firsts fields count meet top events limit values nexts values′ nexts′ n =
-    (φ : Formula ℕ) → Reads (field kinds) (field firsts) (field fields) 0 φ → size φ ≡ count → Closed φ → Guarded φ →
+    (φ : Formula ℕ) → Reads (field kinds) (field firsts) (field fields) 0 φ → size φ ≡ count → binder-depth φ ≤ binder-limit → Closed φ → Guarded φ →
     Tabled meet top φ events limit values nexts values′ nexts′ n

@@ -9,16 +9,17 @@ use formulas::GREATEST;
 use formulas::OUTPUT;
 use formulas::TRANSITION;
 use formulas::VARIABLE;
+use limits::BINDER_LIMIT;
 use limits::NODE_LIMIT;
 use limits::SET_WORDS;
 ghost use mathlib.Core.Path.{_≡_};
 ghost use Prim.Native.Nat.{_+_, _<_, _≤_};
 ghost use lib.ListN.{length, getD};
 ghost use Rattle.theory.specs.DemandSets.{empty, only, union};
-ghost use Rattle.limits.specs.Limits.{node-limit};
+ghost use Rattle.limits.specs.Limits.{node-limit, binder-limit};
 ghost use Rattle.synthesis.specs.NodeWords.{row-words, row};
 ghost use Rattle.synthesis.specs.NodeWalks.{EndsHere, EndsFrom};
-ghost use Rattle.synthesis.specs.Binding.{Bound};
+ghost use Rattle.synthesis.specs.Binding.{OwnBinder, Bound};
 ghost use Rattle.synthesis.specs.DemandRows.{RowStored, Gathered, RowsTo};
 
 // The node after the formula at a node, those of the nodes behind it being known.
@@ -54,18 +55,33 @@ pub fn fill_ends(kinds: &[u8; NODE_LIMIT], count: usize, ends: &mut [usize; NODE
     }
 }
 
-// Gives each variable of the formula at a node its binder's node. The stack has the binders around, the innermost last.
+// The node of a variable's own binder, below so many; 0 where the stack has none.
+fn own_binder(stack: &[u8; BINDER_LIMIT], depth: usize, first: usize) -> u8
+    requires { ⌜ length (now stack) ≡ binder-limit ⌝ }
+    ensures { λ r. ⌜ OwnBinder (now (stack .entry)) depth first r ⌝ }
+{
+    if first < depth {
+        let place = depth - 1 - first;
+        if place < BINDER_LIMIT {
+            return stack[place];
+        }
+    }
+    0
+}
+
+// Gives each variable of the formula at a node its binder's node. The stack has the binders around, the innermost last: twelve cells, since
+// a rule that 23 lets through has no more on a path.
 pub fn bind(
     kinds: &[u8; NODE_LIMIT],
     firsts: &[u8; NODE_LIMIT],
     at: usize,
     left: usize,
     depth: usize,
-    stack: &mut [u8; NODE_LIMIT],
+    stack: &mut [u8; BINDER_LIMIT],
     binders: &mut [u8; NODE_LIMIT],
 ) -> usize
     requires { ⌜ (at + left ≤ node-limit) × (depth ≤ at) × (length (now kinds) ≡ node-limit) × (length (now firsts) ≡ node-limit)
-        × (length (now stack) ≡ node-limit)
+        × (length (now stack) ≡ binder-limit)
         × (length (now binders) ≡ node-limit) ⌝ }
     ensures { λ r. ⌜ Bound (now (kinds .entry)) (now (firsts .entry)) at left depth (now (stack .entry)) (now (binders .entry))
         (now (stack .exit)) (now (binders .exit)) r ⌝ }
@@ -75,10 +91,7 @@ pub fn bind(
     }
     let kind = kinds[at];
     if kind == VARIABLE {
-        let first = wide(firsts[at]);
-        if first < depth {
-            binders[at] = stack[depth - 1 - first];
-        }
+        binders[at] = own_binder(&*stack, depth, wide(firsts[at]));
         return at + 1;
     }
     if kind == TRANSITION {
@@ -97,7 +110,9 @@ pub fn bind(
         );
     }
     if kind == GREATEST {
-        stack[depth] = narrow(at);
+        if depth < BINDER_LIMIT {
+            stack[depth] = narrow(at);
+        }
         return bind(kinds, firsts, at + 1, left - 1, depth + 1, stack, binders);
     }
     at + 1

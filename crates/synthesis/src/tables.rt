@@ -5,6 +5,7 @@ use crate::demands::fill_rows;
 use crate::entries::fill_values;
 use crate::exploration::explore;
 use crate::node_sets::ROW_WORDS;
+use limits::BINDER_LIMIT;
 use limits::NODE_LIMIT;
 use values::ValueKind;
 ghost use mathlib.Core.Path.{_≡_};
@@ -38,7 +39,7 @@ pub fn table_of<'a>(
         × Tables (now (kinds .entry)) (now (firsts .entry)) (now (fields .entry)) count (meetOf kind (now (meet .entry))) top events limit
         (now (values .entry)) (now (nexts .entry)) (now (values .exit)) (now (nexts .exit)) r ⌝ }
 {
-    let mut stack = [0u8; NODE_LIMIT];
+    let mut stack = [0u8; BINDER_LIMIT];
     let mut binders = [0u8; NODE_LIMIT];
     bind(kinds, firsts, 0, count, 0, &mut stack, &mut binders);
     let mut ends = [0usize; NODE_LIMIT + 1];

@@ -7,7 +7,7 @@ use native.Mathlib.{Nat.{mul-suc, mul-add, mul-assoc, suc-mul}, Omega.{arith}}
 use lib.{Dec.{eqb}, ListN.{length}}
 use borrow.Author.Tests.{eqb-true, eqb-false}
 use Rattle.theory.specs.Formula.{Formula, truth, variable, transition, output, conjunction, greatest, size}
-use Rattle.theory.specs.FormulaClasses.{binders, FreeBelow, OpenPosition}
+use Rattle.theory.specs.FormulaClasses.{binders, binder-depth, FreeBelow, OpenPosition}
 use Rattle.theory.specs.FormulaClasses.{ClosedPosition, Fits, WellFormed, Accepted}
 use Rattle.theory.specs.MealyMachine.{Machine, States, Runs}
 use Rattle.theory.specs.CharacteristicFormula.{OpenAt, here, above, Writes, already-open, opened, Rows, last-row, row}
@@ -271,5 +271,6 @@ module _ {B : Type 0} (m : Machine ℕ B) (events : ℕ) (In : B → Type 0) (n 
       }
 
   pub writes-accepted :
-      (nodes : ℕ) {s : ℕ} {φ : Formula B} → Writes m events [] s φ → s < n → size φ ≤ nodes → Accepted nodes events In φ
-  writes-accepted nodes w l h = record { within = h; well-formed = writes-well-formed w l }
+      (nodes depth : ℕ) {s : ℕ} {φ : Formula B} → Writes m events [] s φ → s < n → size φ ≤ nodes → binder-depth φ ≤ depth
+      → Accepted nodes depth events In φ
+  writes-accepted nodes depth w l h d = record { within = h; shallow = d; well-formed = writes-well-formed w l }

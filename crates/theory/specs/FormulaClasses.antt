@@ -1,7 +1,7 @@
--- Classes of formulas: closed, of the grammar, guarded, within a set-up. What 5 to 9 let through is `Accepted`; the papers' own sentences
--- are the conditions of `formulas`, and its claims say that the two agree.
+-- Classes of formulas: closed, of the grammar, guarded, within a set-up. What 5 to 9 and 23 let through is `Accepted`; the papers' own
+-- sentences are the conditions of `formulas`, and its claims say that the two agree.
 use mathlib.Core.Path.{_≡_}
-use Prim.Native.Nat.{ℕ, zero, suc, _+_, _≤_, _<_}
+use Prim.Native.Nat.{ℕ, zero, suc, max, _+_, _≤_, _<_}
 use Rattle.theory.specs.Formula.{Formula, truth, variable, transition, output, conjunction, greatest, size}
 
 module _ {B : Type 0} where
@@ -13,6 +13,15 @@ module _ {B : Type 0} where
   binders (output e b) = zero
   binders (conjunction φ χ) = binders φ + binders χ
   binders (greatest φ) = suc (binders φ)
+
+  -- The most V nodes on a path from its root.
+  abbrev pub binder-depth : Formula B → ℕ
+  binder-depth truth = zero
+  binder-depth (variable n) = zero
+  binder-depth (transition e φ) = binder-depth φ
+  binder-depth (output e b) = zero
+  binder-depth (conjunction φ χ) = max (binder-depth φ) (binder-depth χ)
+  binder-depth (greatest φ) = suc (binder-depth φ)
 
   -- Each variable without a binder of its own in the formula is below n.
   abbrev pub FreeBelow : ℕ → Formula B → Type 0
@@ -79,7 +88,8 @@ pub record WellFormed {B : Type 0} (events : ℕ) (In : B → Type 0) (φ : Form
   pub guarded : Guarded φ
   pub fits : Fits events In φ
 
--- What refusals 5 to 9 let through: also at most so many nodes.
-pub record Accepted {B : Type 0} (nodes events : ℕ) (In : B → Type 0) (φ : Formula B) : Type 0 where
+-- What refusals 5 to 9 and 23 let through: also at most so many nodes, and so many V nodes on a path.
+pub record Accepted {B : Type 0} (nodes depth events : ℕ) (In : B → Type 0) (φ : Formula B) : Type 0 where
   pub within : size φ ≤ nodes
+  pub shallow : binder-depth φ ≤ depth
   pub well-formed : WellFormed events In φ

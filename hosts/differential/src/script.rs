@@ -2,7 +2,9 @@
 
 use gurvazze_reference::channel_file;
 use gurvazze_reference::formula::Rule;
-use gurvazze_reference::generate::{has_variable_under_inner_binder, Generator, RawTable};
+use gurvazze_reference::generate::{
+    has_most_binders, has_variable_under_inner_binder, inner_binders, under, Generator, RawTable,
+};
 use gurvazze_reference::table::Table;
 use gurvazze_reference::values::{RawSetUp, SetUp};
 
@@ -81,20 +83,28 @@ impl Script {
                 self.tally.count("set-up of", "16-values");
             }
         }
-        if !answer.is_refused() && session.set_up().is_some_and(|set_up| has_wide_rule(set_up, line)) {
-            self.tally.count("inner binder in", answer.command);
+        if let (false, Some(set_up)) = (answer.is_refused(), session.set_up()) {
+            // Document 02, F-2 and F-9.
+            let rules = rules_in(set_up, line, &answer.text);
+            if rules.iter().any(has_variable_under_inner_binder) {
+                self.tally.count("inner binder in", answer.command);
+            }
+            if rules.iter().any(has_most_binders) {
+                self.tally.count("twelve binders in", answer.command);
+            }
         }
     }
 }
 
-/// Whether a rule in a command has a variable under an inner binder (document 02, F-2). Tokens stand behind the command, behind a
-/// channel, or behind another rule.
-fn has_wide_rule(set_up: &SetUp, line: &[u8]) -> bool {
+/// The rules in an accepted command or in its answer. Tokens stand behind the command, behind a channel, or behind another rule; in an
+/// answer behind `rule=`.
+fn rules_in(set_up: &SetUp, line: &[u8], answer: &str) -> Vec<Rule> {
     let line = String::from_utf8_lossy(line);
     let words: Vec<&str> = line.split(' ').filter(|word| !word.is_empty()).collect();
-    let is_wide =
-        |tokens: &[&str]| rule_of(set_up, &tokens.join(" ")).is_some_and(|rule| has_variable_under_inner_binder(&rule));
-    words.split(|&word| word == "/").any(|part| (0..part.len().min(3)).any(|from| is_wide(&part[from..])))
+    let parts = words.split(|&word| word == "/");
+    let given = parts.flat_map(|part| (0..part.len().min(3)).map(|from| part[from..].join(" ")));
+    let written = answer.strip_prefix("rule=").map(|tokens| tokens.trim_end().to_string());
+    given.chain(written).filter_map(|tokens| rule_of(set_up, &tokens)).collect()
 }
 
 /// The four-value set with one event.
@@ -476,7 +486,7 @@ impl Writer {
     }
 }
 
-/// The rule in tokens, if 4 to 9 do not refuse it.
+/// The rule in tokens, if 4 to 9 and 23 do not refuse it.
 fn rule_of(set_up: &SetUp, tokens: &str) -> Option<Rule> {
     let text = format!("{}{tokens}\n", file_head(set_up));
     Some(channel_file::read(text.as_bytes()).ok()?.rule)
@@ -487,17 +497,39 @@ fn table_of(set_up: &SetUp, tokens: &str) -> Option<Table> {
     Table::of_rule(set_up, &rule_of(set_up, tokens)?).ok()
 }
 
-/// Commands at document 01's limits, for one event.
+/// Commands at the limits of documents 01 and 02, for one event.
 fn limits() -> Vec<Vec<u8>> {
     let mut commands = Vec::new();
-    for states in [63, 64] {
+    for states in [12, 13, 63, 64] {
         commands.push(format!("load 0 {}T", "G0 ".repeat(states)));
-        commands.push(device_of(states, |state| (3, (state + 1).min(states - 1))));
+        commands.push(chain(states));
         commands.push("write".to_string());
     }
-    for nodes in [255, 256] {
-        commands.push(format!("table {}T", "V ".repeat(nodes)));
+    for nodes in [12, 13, 255, 256] {
+        commands.push(format!("table {}", under(nodes, "T")));
         commands.push(format!("dot {}T", "A T ".repeat(nodes / 2)));
+    }
+    // Twelve and thirteen binders: in either part of an A, in both together, with G nodes, and in rules that 6 to 9 refuse.
+    for binders in [12, 13] {
+        let deep = under(binders, "T");
+        for tokens in [
+            format!("A T {deep}"),
+            format!("A {deep} T"),
+            format!("A {} {deep}", under(12, "T")),
+            format!("A {} {}", under(7, "T"), under(binders - 7, "T")),
+            under(6, &format!("A V G0 X0 {}", under(binders - 6, "G0 X0"))),
+            format!("G0 {deep}"),
+            format!("{}T", "V G0 ".repeat(binders)),
+            under(binders, &format!("G0 X{}", binders - 1)),
+            under(binders, &format!("G0 X{binders}")),
+            under(binders, "X0"),
+            format!("A V X0 {deep}"),
+            under(binders, "A T"),
+            under(binders, "G1 T"),
+        ] {
+            commands.extend(["table", "load 0", "dot", "trial"].map(|command| format!("{command} {tokens}")));
+            commands.extend([format!("covers {tokens} / T"), format!("covers T / {tokens}")]);
+        }
     }
     // A device loop of 64 states against a rule loop of 63: the failing word has 64 × 63 events.
     for (states, others) in [(64, 63), (63, 64), (64, 64), (61, 59)] {
@@ -513,12 +545,14 @@ fn limits() -> Vec<Vec<u8>> {
     }
     for (first, second) in [(63, 63), (63, 64), (64, 63), (255, 255), (255, 256), (256, 255)] {
         commands.push(format!("covers {}T / {}T", "G0 ".repeat(first), "G0 ".repeat(second)));
-        commands.push(format!("covers {}T / {}T", "V ".repeat(first), "V ".repeat(second)));
     }
-    // Each inner binder has its outer one's demands twice: plain recursion takes over 2^42 steps.
-    for brackets in [10, 20, 42] {
-        let tokens = format!("V G0 {}X0", "V A X1 A X1 G0 ".repeat(brackets));
-        commands.push(device_of(brackets + 1, |state| (3, (state + 1).min(brackets))));
+    for (first, second) in [(12, 12), (12, 13), (13, 12), (255, 256), (256, 255)] {
+        commands.push(format!("covers {} / {}", under(first, "T"), under(second, "T")));
+    }
+    // Each inner binder has its outer one's demands twice or ten times: plain recursion takes up to 10^11 steps. The last two are 23.
+    for (brackets, variables) in [(3, 2), (7, 2), (11, 2), (11, 10), (12, 2), (42, 2)] {
+        let tokens = inner_binders(brackets, variables);
+        commands.push(chain(brackets + 1));
         commands.extend(["table", "load 0", "dot", "trial"].map(|command| format!("{command} {tokens}")));
         commands.push(format!("covers {tokens} / {tokens}"));
         commands.push("events 0".to_string() + &" 0".repeat(60));
@@ -530,6 +564,12 @@ fn limits() -> Vec<Vec<u8>> {
         commands.push("trial T".to_string());
     }
     commands.into_iter().map(String::into_bytes).collect()
+}
+
+/// A chain of states whose last returns to itself, as a device.
+fn chain(states: usize) -> String {
+    let entries = RawTable::chain(states, 3).bytes;
+    device_of(states, |state| (entries[2 * state].into(), entries[2 * state + 1].into()))
 }
 
 /// A device for one event by the value and the next state of each state.

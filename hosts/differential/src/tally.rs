@@ -8,11 +8,11 @@ use crate::session::Answer;
 const ENOUGH: usize = 20;
 
 /// Every answer that each command can have.
-const EXPECTED: [(&str, &str); 21] = [
+const EXPECTED: [(&str, &str); 22] = [
     ("setup", "ok refused=1 refused=2 refused=3 error=arguments error=number"),
-    ("table", "states refused=5 refused=6 refused=7 refused=8 refused=9 refused=10 error=setup error=tokens"),
-    ("dot", "digraph refused=5 refused=6 refused=7 refused=8 refused=9 refused=10 error=setup error=tokens"),
-    ("load", "states refused=5 refused=6 refused=7 refused=8 refused=9 refused=10 refused=14"),
+    ("table", "states refused=5 refused=6 refused=7 refused=8 refused=23 refused=9 refused=10 error=setup error=tokens"),
+    ("dot", "digraph refused=5 refused=6 refused=7 refused=8 refused=23 refused=9 refused=10 error=setup error=tokens"),
+    ("load", "states refused=5 refused=6 refused=7 refused=8 refused=23 refused=9 refused=10 refused=14"),
     ("load", "error=setup error=arguments error=number error=tokens"),
     ("event", "value refused=14 refused=15 refused=16 error=setup error=arguments error=number"),
     ("events", "values refused=14 refused=15 refused=16 error=setup error=arguments error=number"),
@@ -21,10 +21,13 @@ const EXPECTED: [(&str, &str); 21] = [
     ("clear", "ok refused=14 error=setup error=arguments error=number"),
     ("show", "empty states refused=14 error=setup error=arguments error=number"),
     ("device", "ok error=arguments error=number"),
-    ("trial", "pass=same pass=stricter fail refused=5 refused=6 refused=7 refused=8 refused=9 refused=10 refused=11"),
+    (
+        "trial",
+        "pass=same pass=stricter fail refused=5 refused=6 refused=7 refused=8 refused=23 refused=9 refused=10 refused=11",
+    ),
     ("trial", "error=setup error=device error=tokens"),
-    ("covers", "yes no refused=5 refused=6 refused=7 refused=8 refused=9 refused=10 error=setup error=tokens"),
-    ("write", "rule refused=11 refused=12 error=setup error=arguments error=device"),
+    ("covers", "yes no refused=5 refused=6 refused=7 refused=8 refused=23 refused=9 refused=10 error=setup error=tokens"),
+    ("write", "rule refused=11 refused=12 refused=23 error=setup error=arguments error=device"),
     ("help", "help"),
     ("unknown", "error=command"),
     ("line", "error=line skipped"),
@@ -32,6 +35,8 @@ const EXPECTED: [(&str, &str); 21] = [
     ("set-up of", "16-events 16-values"),
     // Rules that were accepted though document 01 alone refuses them.
     ("inner binder in", "table dot load trial covers"),
+    // Rules that were accepted, or written, with as many binders on a path as it may have.
+    ("twelve binders in", "table dot load trial covers write"),
 ];
 
 /// Counts by command and kind of answer.

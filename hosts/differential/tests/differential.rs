@@ -8,7 +8,9 @@ use std::fmt::Debug;
 use both::{covers, replay, rule, table, trial, trial_table, Called};
 use gurvazze_reference::channel_file::{self, ChannelFile};
 use gurvazze_reference::formula::{joined, Rule};
-use gurvazze_reference::generate::{has_variable_under_inner_binder, Generator, RawTable};
+use gurvazze_reference::generate::{
+    has_most_binders, has_variable_under_inner_binder, inner_binders, under, Generator, RawTable,
+};
 use gurvazze_reference::table::Table;
 use gurvazze_reference::trial::{first_word, same_values, Grade, Outcome};
 use gurvazze_reference::values::{RawSetUp, SetUp};
@@ -86,6 +88,11 @@ fn is_wide(text: &[u8]) -> bool {
     channel_file::read(text).is_ok_and(|file| has_variable_under_inner_binder(&file.rule))
 }
 
+/// Whether a file's rule has as many binders on a path as it may have (document 02, F-9).
+fn is_deep(text: &[u8]) -> bool {
+    channel_file::read(text).is_ok_and(|file| has_most_binders(&file.rule))
+}
+
 fn shown(text: &[u8]) -> String {
     String::from_utf8_lossy(text).into_owned()
 }
@@ -93,7 +100,7 @@ fn shown(text: &[u8]) -> String {
 #[test]
 fn tables() {
     let mut tally = Tally::default();
-    let mut wide = 0;
+    let (mut wide, mut deep) = (0, 0);
     for seed in seeds(100_000) {
         let mut generator = Generator::new(seed);
         let text = text(&mut generator);
@@ -104,16 +111,17 @@ fn tables() {
         let old = buffer(&mut generator, output);
         let library = table::library(&text, &old);
         wide += usize::from(library.0.is_ok() && is_wide(&text));
+        deep += usize::from(library.0.is_ok() && is_deep(&text));
         tally.compare(library, table::reference(&text, &old), &old, || format!("seed {seed}: {}", shown(&text)));
     }
-    tally.has(&[0, 1, 2, 3, 4, 5, 6, 7, 8, 9, 10, 13]);
-    assert!(wide > 1000, "{wide}");
+    tally.has(&[0, 1, 2, 3, 4, 5, 6, 7, 8, 23, 9, 10, 13]);
+    assert!(wide > 1000 && deep > 200, "{wide} wide, {deep} deep");
 }
 
 #[test]
 fn replays() {
     let mut tally = Tally::default();
-    let mut wide = 0;
+    let (mut wide, mut deep) = (0, 0);
     for seed in seeds(50_000) {
         let mut generator = Generator::new(seed);
         let (text, events) = if generator.once_in(4) {
@@ -131,12 +139,13 @@ fn replays() {
         let old = buffer(&mut generator, length);
         let library = replay::library(&text, &word, &old);
         wide += usize::from(library.0.is_ok() && is_wide(&text));
+        deep += usize::from(library.0.is_ok() && is_deep(&text));
         tally.compare(library, replay::reference(&text, &word, &old), &old, || {
             format!("seed {seed}: {} {word:?}", shown(&text))
         });
     }
-    tally.has(&[0, 1, 2, 3, 4, 5, 6, 7, 8, 9, 10, 13, 16]);
-    assert!(wide > 1000, "{wide}");
+    tally.has(&[0, 1, 2, 3, 4, 5, 6, 7, 8, 23, 9, 10, 13, 16]);
+    assert!(wide > 1000 && deep > 200, "{wide} wide, {deep} deep");
 }
 
 /// A device: any table, one near the rule's, or a damaged one.
@@ -218,6 +227,7 @@ fn trials() {
     let mut tally = Tally::default();
     let mut verdicts = Verdicts::default();
     let mut of_wide = Verdicts::default();
+    let mut deep = 0;
     for seed in seeds(50_000) {
         let mut generator = Generator::new(seed);
         let text = if generator.once_in(4) { text(&mut generator) } else { generator.file() };
@@ -227,6 +237,7 @@ fn trials() {
         let device = device(&mut generator, &set_up, of_rule.as_ref());
         let old = word_buffer(&mut generator);
         let library = trial::library(&text, &device, &old);
+        deep += usize::from(library.0.is_ok() && is_deep(&text));
         if let (Ok(outcome), Some(table)) = (library.0, &of_rule) {
             let verdicts = if is_wide(&text) { &mut of_wide } else { &mut verdicts };
             verdicts.judge(&set_up, &device, table, outcome, &library.1);
@@ -235,9 +246,10 @@ fn trials() {
             format!("seed {seed}: {} {device:?}", shown(&text))
         });
     }
-    tally.has(&[0, 1, 2, 3, 4, 5, 6, 7, 8, 9, 10, 11, 13]);
+    tally.has(&[0, 1, 2, 3, 4, 5, 6, 7, 8, 23, 9, 10, 11, 13]);
     verdicts.are_many(1000);
     of_wide.are_many(200);
+    assert!(deep > 200, "{deep}");
 }
 
 #[test]
@@ -269,7 +281,7 @@ fn trials_of_tables() {
 /// Document 02, F-14: one rule implies another exactly if its table, as a device, passes.
 #[test]
 fn covering() {
-    let (mut yes, mut no, mut refused, mut longest, mut wide) = (0, 0, 0, 0, 0);
+    let (mut yes, mut no, mut refused, mut longest, mut wide, mut deep) = (0, 0, 0, 0, 0, 0);
     for seed in seeds(30_000) {
         let mut generator = Generator::new(seed);
         let set_up = generator.set_up();
@@ -278,6 +290,7 @@ fn covering() {
         let answer = covers::library(&first, &second);
         assert_eq!(answer, covers::reference(&first, &second), "seed {seed}: {} {}", shown(&first), shown(&second));
         wide += usize::from(answer.is_ok() && (is_wide(&first) || is_wide(&second)));
+        deep += usize::from(answer.is_ok() && (is_deep(&first) || is_deep(&second)));
         match answer {
             Ok(None) => yes += 1,
             Ok(Some(word)) => {
@@ -287,8 +300,8 @@ fn covering() {
             Err(_) => refused += 1,
         }
     }
-    println!("{yes} yes, {no} no, {refused} refused, longest word {longest}, {wide} with an inner binder");
-    assert!(yes > 5000 && no > 5000 && refused > 500 && longest > 20 && wide > 1000);
+    println!("{yes} yes, {no} no, {refused} refused, longest word {longest}, {wide} with an inner binder, {deep} deep");
+    assert!(yes > 5000 && no > 5000 && refused > 500 && longest > 20 && wide > 1000 && deep > 200);
 }
 
 /// Document 02, F-14: two rules joined by A have the meet of both values.
@@ -332,22 +345,25 @@ fn rules() {
             format!("seed {seed}: {raw:?} {table:?}")
         });
     }
-    tally.has(&[0, 1, 2, 3, 11, 12, 13]);
+    tally.has(&[0, 1, 2, 3, 11, 12, 23, 13]);
 }
 
 /// The rule that was written is a rule whose values are the start's.
 #[test]
 fn written_rules_are_rules() {
+    let mut deep = 0;
     for seed in seeds(20_000) {
         let mut generator = Generator::new(seed);
         let set_up = generator.set_up();
         let table = generator.chain(&set_up);
         let (Ok(count), bytes) = rule::library(set_up.raw(), &table, &[0; 768]) else { continue };
         let rule = Rule::from_bytes(&set_up, &bytes[..3 * count]).expect("each rule so written is accepted as a rule");
+        deep += usize::from(has_most_binders(&rule));
         let of_rule = Table::of_rule(&set_up, &rule).expect("and has one state for each V");
         let word = generator.word(&set_up, 50);
         assert_eq!(of_rule.run(0, &word).0, table.lent().table(&set_up).unwrap().run(table.start, &word).0, "seed {seed}");
     }
+    assert!(deep > 500, "{deep}");
 }
 
 /// A loop of states on one event, top but for a low one.
@@ -374,7 +390,38 @@ fn grades_of_loops() {
     }
 }
 
-/// Document 01's limits, and the worst cases.
+/// About twelve binders on a path (document 02, F-9): in a row, in either part of an A, with G nodes between, in rules that other
+/// refusals meet; and as many as there may be nodes.
+fn deep_rules() -> impl Iterator<Item = String> {
+    let around_twelve = [11, 12, 13, 14].into_iter().flat_map(|binders| {
+        let (deep, twelve) = (under(binders, "T"), under(12, "T"));
+        [
+            format!("A T {deep}"),
+            format!("A {deep} T"),
+            format!("A {twelve} {deep}"),
+            format!("A {deep} {twelve}"),
+            format!("A {} {}", under(7, "T"), under(binders - 7, "T")),
+            under(7, &format!("A {} {}", under(5, "T"), under(binders - 7, "T"))),
+            "V G0 ".repeat(binders) + "X0",
+            "V G0 ".to_string() + &under(binders - 1, &format!("X{}", binders - 1)),
+            "V G0 ".to_string() + &under(binders - 1, &format!("X{}", binders - 2)),
+            under(binders, &format!("G0 X{}", binders - 1)),
+            under(binders, &format!("G0 X{binders}")),
+            under(binders, "X0"),
+            format!("A V X0 {deep}"),
+            under(binders, "A T"),
+            under(binders, "T T"),
+            under(binders, "G16 T"),
+            under(binders, &("G0 ".repeat(64) + "T")),
+            deep,
+        ]
+    });
+    let many = [20, 254, 255, 256].into_iter().flat_map(|binders| [under(binders, "T"), under(binders, "X0")]);
+    let unbound = [under(254, "G0 X253"), under(254, "G0 X254"), under(255, "X255"), "V G0 ".repeat(127) + "X126"];
+    around_twelve.chain(many).chain(unbound)
+}
+
+/// The limits of documents 01 and 02, and the worst cases.
 #[test]
 fn limits() {
     let mut tally = Tally::default();
@@ -385,7 +432,7 @@ fn limits() {
     let mut texts: Vec<Vec<u8>> = Vec::new();
     for events in [1, 2, 16] {
         texts.extend([0, 1, 62, 63, 64, 100, 255, 256].map(|count| four(&steps(count), events)));
-        texts.push(four(&format!("{}T", "V ".repeat(255)), events));
+        texts.extend(deep_rules().map(|items| four(&items, events)));
         texts.push(four(&format!("{}T{}", "A ".repeat(127), " T".repeat(127)), events));
         texts.push(four(&format!("{}T{}", "A T ".repeat(127), ""), events));
         // Loops of prime lengths, whose states are as many as the product of the lengths.
@@ -395,10 +442,10 @@ fn limits() {
             let items: Vec<String> = primes[..count].iter().map(loops).collect();
             texts.push(four(&format!("{}{}", "A ".repeat(count - 1), items.join(" ")), events));
         }
-        // Each inner binder has its outer one's demands twice (document 02, F-2).
-        texts.extend([10, 20, 42].map(|count| four(&format!("V G0 {}X0", "V A X1 A X1 G0 ".repeat(count)), events)));
-        texts.push(four(&format!("V G0 {}X253", "V ".repeat(253)), events));
-        texts.push(four(&format!("V G0 {}X252", "V ".repeat(253)), events));
+        // Each inner binder has its outer one's demands twice or ten times (document 02, F-2); more than eleven are 23.
+        for (count, variables) in [(3, 2), (7, 2), (11, 2), (11, 10), (12, 2), (20, 2), (42, 2)] {
+            texts.push(four(&inner_binders(count, variables), events));
+        }
     }
     for text in &texts {
         for length in [0, 1, 2, 127, 128, 2047, 2048, 3000] {
@@ -406,15 +453,17 @@ fn limits() {
             tally.compare(table::library(text, &old), table::reference(text, &old), &old, || shown(text));
         }
     }
-    // One event, a chain of states whose last returns to itself: 253 nodes for 63 states, 12 for 64.
+    // One event, a chain of states whose last returns to itself: 49 nodes for 12 states, then 23; 12 for 64.
     let one = RawSetUp::four_values(1);
-    for states in [1, 2, 62, 63, 64] {
-        let bytes = (0..states).flat_map(|state| [3, (state + 1).min(states - 1) as u8]).collect();
-        let chain = RawTable { states, start: 0, bytes };
-        for length in [0, 3, 756, 757, 758, 759, 768] {
+    for (states, answer) in [(1, Ok(5)), (2, Ok(9)), (12, Ok(49)), (13, Err(23)), (62, Err(23)), (63, Err(23)), (64, Err(12))] {
+        let chain = RawTable::chain(states, 3);
+        for length in [0, 3, 145, 146, 147, 148, 756, 757, 758, 759, 768] {
             let old = vec![170; length];
-            tally
-                .compare(rule::library(&one, &chain, &old), rule::reference(&one, &chain, &old), &old, || format!("{chain:?}"));
+            let library = rule::library(&one, &chain, &old);
+            if length == 768 {
+                assert_eq!(library.0, answer.map_err(|number| (number, None)), "{states} states");
+            }
+            tally.compare(library, rule::reference(&one, &chain, &old), &old, || format!("{chain:?}"));
         }
     }
     // A device loop of 64 states against a rule loop of 63: the failing word has 64 × 63 events.

@@ -56,7 +56,7 @@ pub fn lines(text: &[u8]) -> Result<Lines, Refusal> {
     Ok(Lines { set_up: RawSetUp { events, values, top, meet }, rule, tokens })
 }
 
-/// Reads a channel file: refusals 4, 1 to 3, 5 to 9. "reading or writing a file alone makes none", so there is no 10.
+/// Reads a channel file: refusals 4, 1 to 3, 5 to 8, 23, 9. "reading or writing a file alone makes none", so there is no 10.
 pub fn read(text: &[u8]) -> Result<ChannelFile, Refusal> {
     let Lines { set_up, rule, .. } = lines(text)?;
     let set_up = SetUp::new(set_up)?;
@@ -77,7 +77,7 @@ pub struct Sizes {
     pub nodes: usize,
 }
 
-/// Reads a channel file into lent memory: refusals 4, 1 to 3, 5 to 9, and 13 on both buffers before either is written.
+/// Reads a channel file into lent memory: refusals 4, 1 to 3, 5 to 8, 23, 9, and 13 on both buffers before either is written.
 pub fn read_into(text: &[u8], meet: &mut [u8], rule: &mut [u8]) -> Result<Sizes, Refusal> {
     let file = read(text)?;
     let RawSetUp { events, values, top, meet: ref entries } = *file.set_up.raw();
@@ -119,7 +119,7 @@ pub fn to_text(set_up: &SetUp, rule: &Rule) -> String {
     text
 }
 
-/// Writes a channel file into lent memory and returns its length: refusals 1 to 3, 5 to 9, 13.
+/// Writes a channel file into lent memory and returns its length: refusals 1 to 3, 5 to 8, 23, 9, 13.
 pub fn write(set_up: &RawSetUp, rule: &[u8], lent: &mut [u8]) -> Result<usize, Refusal> {
     let set_up = SetUp::new(set_up.clone())?;
     let text = to_text(&set_up, &Rule::from_bytes(&set_up, rule)?);

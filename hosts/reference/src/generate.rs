@@ -1,6 +1,6 @@
 //! Seeded random inputs, good and damaged, for property tests and for comparing two versions. Equal seeds give equal inputs.
 
-use crate::formula::{joined, Node, Rule, MAX_NODES};
+use crate::formula::{joined, Node, Rule, MAX_BINDERS, MAX_NODES};
 use crate::table::{Entry, Table, MAX_STATES};
 use crate::tool::Call;
 use crate::values::{RawSetUp, SetUp, MAX_VALUES};
@@ -24,10 +24,28 @@ pub struct RawTable {
 }
 
 impl RawTable {
+    /// One event, one value: a chain of states whose last returns to itself.
+    pub fn chain(states: usize, value: u8) -> RawTable {
+        let bytes = (0..states).flat_map(|state| [value, (state + 1).min(states - 1) as u8]).collect();
+        RawTable { states, start: 0, bytes }
+    }
+
     /// The table as the calls take it.
     pub fn lent(&self) -> crate::table::Lent<'_> {
         crate::table::Lent { states: self.states, start: self.start, bytes: &self.bytes }
     }
+}
+
+/// These tokens under so many binders.
+pub fn under(binders: usize, tokens: &str) -> String {
+    "V ".repeat(binders) + tokens
+}
+
+/// `V G0 (V A X1 A X1 G0)^k X0`, with any number of `A X1` in each of its k brackets: each inner binder has its outer one's demands so
+/// often, so that a walk that does not mark what it met takes as many steps as that number raised to k.
+pub fn inner_binders(brackets: usize, variables: usize) -> String {
+    let bracket = format!("V {}G0 ", "A X1 ".repeat(variables));
+    format!("V G0 {}X0", bracket.repeat(brackets))
 }
 
 /// The binders around a part.
@@ -50,15 +68,25 @@ impl Around {
     }
 }
 
+/// Each node of a whole tree, and the binders around it.
+fn with_binders(nodes: &[Node]) -> impl Iterator<Item = (Node, Around)> + '_ {
+    let mut waiting = vec![Around::default()];
+    nodes.iter().map(move |&node| {
+        let around = waiting.pop().expect("the tree is whole");
+        waiting.extend(std::iter::repeat_n(around.parts_of(node), node.parts()));
+        (node, around)
+    })
+}
+
 /// Whether some variable of a rule stands where document 01 alone has none: "The root and the part of V are closed; the part of G is
 /// open; the parts of A are as A is." Document 02's F-2 accepts such a rule where a G lies further out.
 pub fn has_variable_under_inner_binder(rule: &Rule) -> bool {
-    let mut waiting = vec![Around::default()];
-    rule.nodes().iter().any(|&node| {
-        let around = waiting.pop().expect("the rule is whole");
-        waiting.extend(std::iter::repeat_n(around.parts_of(node), node.parts()));
-        matches!(node, Node::Variable(_)) && around.near > 0
-    })
+    with_binders(rule.nodes()).any(|(node, around)| matches!(node, Node::Variable(_)) && around.near > 0)
+}
+
+/// Whether some path of a rule has as many V nodes as a path may have (document 02, F-9).
+pub fn has_most_binders(rule: &Rule) -> bool {
+    with_binders(rule.nodes()).any(|(_, around)| around.binders == MAX_BINDERS)
 }
 
 /// Numbers of the first lines of a file, or of a set-up, that are out of range; some of them wrap to a good byte.
@@ -198,7 +226,7 @@ impl Generator {
             self.leaf(set_up, around)
         } else if size >= 3 && !self.once_in(3) {
             Node::Both
-        } else if self.once_in(3) {
+        } else if around.binders < MAX_BINDERS && self.once_in(3) {
             Node::Greatest
         } else {
             Node::After(self.below(set_up.events()) as u8)
@@ -227,16 +255,31 @@ impl Generator {
         }
     }
 
-    /// A rule of nested binders, at times without a G between two of them, each with variables of outer binders beside it.
+    /// A rule of nested binders, at times of as many as a path may have.
     pub fn rule_of_binders(&mut self, set_up: &SetUp) -> Rule {
-        let binders = if self.once_in(8) { self.between(1, 42) } else { self.between(1, 6) };
+        let binders = if self.once_in(4) { self.between(MAX_BINDERS - 2, MAX_BINDERS) } else { self.between(1, 6) };
+        Rule::from_nodes(self.nested_binders(set_up, binders)).expect("no refusal holds of the rule")
+    }
+
+    /// So many binders on one path, at times without a G between two of them. Each has variables of outer binders beside it, and at times
+    /// other parts, before the rest of the path or behind it.
+    fn nested_binders(&mut self, set_up: &SetUp, binders: usize) -> Vec<Node> {
         let mut nodes = Vec::new();
+        let mut behind = Vec::new();
         let mut around = Around::default();
         for _ in 0..binders {
             nodes.push(Node::Greatest);
             around = around.parts_of(Node::Greatest);
             for _ in 0..self.below(3) {
-                nodes.extend([Node::Both, self.leaf(set_up, around)]);
+                let size = if self.once_in(8) { self.between(2, 5) } else { 1 };
+                let mut beside = Vec::with_capacity(size);
+                self.part(set_up, size, around, &mut beside);
+                nodes.push(Node::Both);
+                if self.once_in(2) {
+                    nodes.append(&mut beside);
+                } else {
+                    behind.push(beside);
+                }
             }
             if !self.once_in(4) {
                 let after = Node::After(self.below(set_up.events()) as u8);
@@ -245,7 +288,23 @@ impl Generator {
             }
         }
         nodes.push(self.leaf(set_up, around));
-        Rule::from_nodes(nodes).expect("no refusal holds of the rule")
+        nodes.extend(behind.into_iter().rev().flatten());
+        nodes
+    }
+
+    /// Nested binders: one less than a path may have, as many, or one or two more.
+    fn about_most_binders(&mut self, set_up: &SetUp) -> Vec<Node> {
+        let binders = self.between(MAX_BINDERS - 1, MAX_BINDERS + 2);
+        self.nested_binders(set_up, binders)
+    }
+
+    /// A whole tree: a rule, or at times about as many nested binders as a path may have.
+    fn tree(&mut self, set_up: &SetUp) -> Vec<Node> {
+        if self.once_in(4) {
+            self.about_most_binders(set_up)
+        } else {
+            self.rule(set_up).nodes().to_vec()
+        }
     }
 
     /// A rule of loops of different lengths, which has many states and often too many.
@@ -267,8 +326,7 @@ impl Generator {
             }
             nodes.push(Node::Variable(0));
         }
-        let bytes: Vec<u8> = nodes.iter().flat_map(|node| node.to_bytes()).collect();
-        Rule::from_bytes(set_up, &bytes).expect("no refusal holds of the rule")
+        Rule::from_bytes(set_up, &bytes_of(&nodes)).expect("no refusal holds of the rule")
     }
 
     /// Two rules, often such that the first implies the second (document 02, F-14) or nearly does.
@@ -307,10 +365,10 @@ impl Generator {
 
     /// A rule in bytes, damaged in one way. The refusal is for the caller to find, since damage may by chance be harmless.
     pub fn damaged_rule(&mut self, set_up: &SetUp) -> Vec<u8> {
-        let mut bytes = self.rule(set_up).to_bytes();
+        let mut bytes = bytes_of(&self.tree(set_up));
         let nodes = bytes.len() / 3;
         let node = 3 * self.below(nodes);
-        match self.below(17) {
+        match self.below(19) {
             // 5
             0 => bytes.clear(),
             1 => bytes.resize(3 * MAX_NODES + self.between(1, 6), 0),
@@ -329,9 +387,11 @@ impl Generator {
                 let index = if self.once_in(2) { 0 } else { self.bits() as u8 };
                 bytes[node..node + 3].copy_from_slice(&[1, index, 0]);
             }
-            11..=14 => bytes = self.misplaced_variables(set_up).iter().flat_map(|node| node.to_bytes()).collect(),
+            11..=14 => bytes = bytes_of(&self.misplaced_variables(set_up)),
+            // 23
+            15 | 16 => bytes = bytes_of(&self.about_most_binders(set_up)),
             // Any of them, often several.
-            15 => {
+            17 => {
                 for _ in 0..self.between(1, 4) {
                     let at = self.below(bytes.len());
                     bytes[at] = self.below(8) as u8;
@@ -346,13 +406,11 @@ impl Generator {
     }
 
     /// A whole tree some of whose leaves have become variables, mostly of binders around them, often of the outermost one with no G
-    /// between or of the innermost one with a G between: often 9, at times 8.
+    /// between or of the innermost one with a G between: often 9, at times 8 or 23.
     pub fn misplaced_variables(&mut self, set_up: &SetUp) -> Vec<Node> {
-        let mut nodes = self.rule(set_up).nodes().to_vec();
-        let mut waiting = vec![Around::default()];
-        for node in &mut nodes {
-            let around = waiting.pop().expect("the rule is whole");
-            waiting.extend(std::iter::repeat_n(around.parts_of(*node), node.parts()));
+        let mut nodes = self.tree(set_up);
+        let places: Vec<Around> = with_binders(&nodes).map(|(_, around)| around).collect();
+        for (node, around) in nodes.iter_mut().zip(places) {
             if node.parts() == 0 && around.binders > 0 && self.once_in(3) {
                 *node = Node::Variable(self.any_variable(around) as u8);
             } else if node.parts() == 0 && self.once_in(20) {
@@ -385,16 +443,25 @@ impl Generator {
         RawTable { states, start: self.below(states), bytes }
     }
 
-    /// A table that may be written as a rule: next states seldom go back far, so few paths are long.
+    /// A table that may be written as a rule: on some event each state goes to the next one, on the others mostly to one before it, so
+    /// few paths are long. At times the longest one has about as many states as its rule may have binders on a path.
     pub fn chain(&mut self, set_up: &SetUp) -> RawTable {
-        let states = self.between(1, 12);
-        let bytes = (0..states)
-            .flat_map(|state| (0..set_up.events()).map(move |event| (state, event)))
-            .flat_map(|(state, event)| {
-                let next = if event == 0 { (state + 1).min(states - 1) } else { self.below(state + 1) };
-                [self.below(set_up.values()) as u8, next as u8]
-            })
-            .collect();
+        let states =
+            if self.once_in(3) { self.between(MAX_BINDERS - 1, MAX_BINDERS + 2) } else { self.between(1, MAX_BINDERS) };
+        let mut bytes = Vec::with_capacity(2 * states * set_up.events());
+        for state in 0..states {
+            let onwards = self.below(set_up.events());
+            for event in 0..set_up.events() {
+                let next = if event == onwards {
+                    (state + 1).min(states - 1)
+                } else if self.once_in(30) {
+                    self.below(states)
+                } else {
+                    self.below(state + 1)
+                };
+                bytes.extend([self.below(set_up.values()) as u8, next as u8]);
+            }
+        }
         RawTable { states, start: 0, bytes }
     }
 
@@ -491,15 +558,16 @@ impl Generator {
         channel_file::to_text(&set_up, &rule).into_bytes()
     }
 
-    /// A text in the form whose numbers and items are any, so that 1 to 3 and 5 to 10 arise.
+    /// A text in the form whose numbers and items are any, so that 1 to 3, 5 to 10 and 23 arise.
     pub fn loose_file(&mut self) -> Vec<u8> {
         let file = self.file();
         let text = String::from_utf8(file).expect("a file is plain text");
         let mut lines: Vec<String> = text.lines().map(str::to_string).collect();
         if self.once_in(4) {
-            // The rule line alone, so that 8 and 9 are not hidden by what comes before them.
+            // The rule line alone, so that 8, 9 and 23 are not hidden by what comes before them.
             let set_up = channel_file::read(text.as_bytes()).expect("a file is accepted").set_up;
-            lines[4] = format!("rule={}", tokens_of(&self.misplaced_variables(&set_up)));
+            let nodes = if self.once_in(4) { self.about_most_binders(&set_up) } else { self.misplaced_variables(&set_up) };
+            lines[4] = format!("rule={}", tokens_of(&nodes));
             return (lines.join("\n") + "\n").into_bytes();
         }
         for _ in 0..self.between(1, 2) {
@@ -643,7 +711,7 @@ impl Generator {
         (tokens_of(first.nodes()), tokens_of(second.nodes()))
     }
 
-    /// Tokens of any kind: good, in the form with 5 to 10 among them, or damaged in their bytes.
+    /// Tokens of any kind: good, in the form with 5 to 10 and 23 among them, or damaged in their bytes.
     pub fn tokens(&mut self, set_up: &SetUp) -> Vec<u8> {
         let mut tokens = match self.below(16) {
             0..=3 => tokens_of(&self.misplaced_variables(set_up)),
@@ -654,6 +722,7 @@ impl Generator {
             // About 64 states, and about 256 nodes.
             9 => format!("{}T", "G0 ".repeat(self.between(61, 66))),
             10 => format!("{}T", "G0 ".repeat(self.between(253, 260))),
+            11 | 12 => tokens_of(&self.about_most_binders(set_up)),
             _ => self.good_tokens(set_up),
         }
         .into_bytes();
@@ -666,6 +735,10 @@ impl Generator {
 
 /// Bytes that a text has, and some that it has not.
 const BYTES: &[u8] = b"\n\r\t \0.=0123456789TXGOAVtxgoaveventsvaluestopmeetrule\x7f\x80\xff";
+
+fn bytes_of(nodes: &[Node]) -> Vec<u8> {
+    nodes.iter().flat_map(|node| node.to_bytes()).collect()
+}
 
 fn tokens_of(nodes: &[Node]) -> String {
     let mut tokens = String::new();

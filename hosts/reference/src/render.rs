@@ -31,7 +31,7 @@ pub fn refusal(refusal: Refusal) -> String {
     format!("refused={refusal}\n")
 }
 
-/// What the program prints for the text on its standard input: the rule's table, or the refusal (4, 1 to 3, 5 to 10).
+/// What the program prints for the text on its standard input: the rule's table, or the refusal (4, 1 to 3, 5 to 8, 23, 9, 10).
 pub fn program(text: &[u8]) -> String {
     let made = channel_file::read(text).and_then(|ChannelFile { set_up, rule }| Table::of_rule(&set_up, &rule));
     match made {

@@ -158,7 +158,7 @@ pub(crate) fn within_limits(events: usize, values: usize, states: usize, entries
         && entries.iter().all(|entry| usize::from(entry.value) < values && usize::from(entry.next) < states)
 }
 
-/// Compiles a rule into lent memory and returns the number of states: refusals 1 to 3, 5 to 10, 13.
+/// Compiles a rule into lent memory and returns the number of states: refusals 1 to 3, 5 to 8, 23, 9, 10, 13.
 pub fn compile(set_up: &RawSetUp, rule: &[u8], lent: &mut [u8]) -> Result<usize, Refusal> {
     let set_up = SetUp::new(set_up.clone())?;
     let rule = Rule::from_bytes(&set_up, rule)?;

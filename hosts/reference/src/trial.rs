@@ -201,7 +201,7 @@ pub fn trial_of_table(
     judge(&set_up, (&of_device, device.start), &of_rule, word)
 }
 
-/// Trial against a rule in bytes: refusals 1 to 3, 5 to 10, 11, 13.
+/// Trial against a rule in bytes: refusals 1 to 3, 5 to 8, 23, 9, 10, 11, 13.
 pub fn trial_of_rule(set_up: &RawSetUp, device: Lent<'_>, rule: &[u8], word: &mut [u8]) -> Result<Outcome, Refusal> {
     let set_up = SetUp::new(set_up.clone())?;
     let of_rule = Table::of_rule(&set_up, &Rule::from_bytes(&set_up, rule)?)?;
@@ -225,7 +225,7 @@ fn judge(set_up: &SetUp, device: (&Table, usize), table: &Table, lent: &mut [u8]
 /// Whether the first rule implies the second: "every finite device satisfying the first satisfies the second, also one larger than a
 /// trial takes" (document 02, F-14). Nothing where it does, else the first failing word of its table against the second's.
 ///
-/// Refusals 1 to 3, 5 to 10 of the first rule, 5 to 10 of the second, then 11 where the first's table has more states than a device
+/// Refusals 1 to 3, 5 to 8, 23, 9, 10 of the first rule, the same of the second, then 11 where the first's table has more states than a device
 /// may have. Today both have at most 64, so 11 does not arise.
 pub fn covers(set_up: &RawSetUp, first: &[u8], second: &[u8]) -> Result<Option<Vec<u8>>, Refusal> {
     let set_up = SetUp::new(set_up.clone())?;

@@ -4,10 +4,11 @@ mod common;
 
 use common::{bytes, file, four, rule, table};
 use gurvazze_reference::formula::{joined, Formulas, Rule};
+use gurvazze_reference::generate::{under, Generator, RawTable};
 use gurvazze_reference::table::{Lent, Table};
 use gurvazze_reference::trial::{covers, same_values, satisfies, trial, Grade, Verdict};
 use gurvazze_reference::values::RawSetUp;
-use gurvazze_reference::{channel_file, characteristic, generate::Generator, render, Refusal};
+use gurvazze_reference::{channel_file, characteristic, render, Refusal};
 
 const PRINTED: &str = "events=2\nstates=3\nrow=0 0 3 1\nrow=0 1 1 2\nrow=1 0 3 1\nrow=1 1 3 1\nrow=2 0 3 1\nrow=2 1 3 2\n";
 
@@ -174,11 +175,11 @@ fn one_rule_covers_another() {
     assert_eq!(covers(four(1).raw(), &bytes(&first), &bytes(&second)), Ok(Some(vec![0; 64 * 63])));
 }
 
-/// Document 02, F-14: 1 to 3, then 5 to 10 of the first rule, then of the second.
+/// Document 02, F-14: 1 to 3, then 5 to 10 and 23 of the first rule, then of the second.
 #[test]
 fn refusals_of_covering() {
     let set_up = four(2);
-    let over = "G0 ".repeat(64) + "T";
+    let (over, deep) = ("G0 ".repeat(64) + "T", under(13, "T"));
     for (first, second, refusal) in [
         ("V X0", "X0", Refusal::at(9, 1)),
         ("X0", "V X0", Refusal::at(8, 0)),
@@ -189,6 +190,9 @@ fn refusals_of_covering() {
         ("T", "O2.0", Refusal::at(6, 0)),
         (&over, "T T", Refusal::new(10)),
         ("T", &over, Refusal::new(10)),
+        (&deep, "T T", Refusal::new(23)),
+        ("T", &deep, Refusal::new(23)),
+        (&over, &deep, Refusal::new(10)),
     ] {
         assert_eq!(covers(set_up.raw(), &bytes(first), &bytes(second)), Err(refusal), "{first} / {second}");
         let damaged = RawSetUp { top: 4, ..set_up.raw().clone() };
@@ -222,18 +226,20 @@ fn sixty_four_states_and_no_more() {
     assert_eq!(table(&four(1), &most).unwrap().states(), 64);
 }
 
+/// "document 01's chain of 63 states is refused and a chain of 12 is accepted" (document 02, F-9). 64 states have 257 nodes.
 #[test]
-fn chains_of_63_and_64_states() {
+fn chains_of_12_13_63_and_64_states() {
     let set_up = four(1);
-    let chain = |states: u8| -> Vec<u8> { (0..states).flat_map(|state| [1, (state + 1).min(states - 1)]).collect() };
-    let rows = chain(63);
-    let most = Lent { states: 63, start: 0, bytes: &rows }.table(&set_up).unwrap();
-    let written: Rule = characteristic::rule_of(&most, 0).unwrap();
-    assert_eq!(written.nodes().len(), 253);
-    assert_eq!(Table::of_rule(&set_up, &written).unwrap().to_bytes(), rows);
-    let rows = chain(64);
-    let over = Lent { states: 64, start: 0, bytes: &rows }.table(&set_up).unwrap();
-    assert_eq!(characteristic::rule_of(&over, 0), Err(Refusal::new(12)));
-    // From its second state on it is 63 states long.
-    assert_eq!(characteristic::rule_of(&over, 1).unwrap().nodes().len(), 253);
+    let chain = |states: usize| RawTable::chain(states, 1).lent().table(&set_up).unwrap();
+    let written: Rule = characteristic::rule_of(&chain(12), 0).unwrap();
+    assert_eq!(written.nodes().len(), 49);
+    assert_eq!(Table::of_rule(&set_up, &written), Ok(chain(12)));
+    for (states, number) in [(13, 23), (63, 23), (64, 12)] {
+        assert_eq!(characteristic::rule_of(&chain(states), 0), Err(Refusal::new(number)), "{states} states");
+    }
+    // From these states on it is 63, 13 and 12 states long.
+    let longest = chain(64);
+    assert_eq!(characteristic::rule_of(&longest, 1), Err(Refusal::new(23)));
+    assert_eq!(characteristic::rule_of(&longest, 51), Err(Refusal::new(23)));
+    assert_eq!(characteristic::rule_of(&longest, 52), Ok(written));
 }

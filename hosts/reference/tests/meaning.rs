@@ -7,7 +7,7 @@ use std::rc::Rc;
 
 use common::{bytes, four, seeds};
 use gurvazze_reference::formula::{joined, Formulas, Id, Node, Rule};
-use gurvazze_reference::generate::{has_variable_under_inner_binder, Generator};
+use gurvazze_reference::generate::{has_most_binders, has_variable_under_inner_binder, Generator};
 use gurvazze_reference::table::Table;
 use gurvazze_reference::trial::{covers, first_word, same_values, satisfies, satisfying, trial, Grade, Verdict};
 use gurvazze_reference::values::{Comparison, SetUp};
@@ -129,8 +129,8 @@ fn the_formula_semantics_are_the_plain_equations() {
 /// A rule of at most so many nodes, often with variables under inner binders.
 fn small_rule(g: &mut Generator, set_up: &SetUp, most: usize) -> Rule {
     if g.once_in(2) {
-        let rule = g.rule_of_binders(set_up);
-        if rule.nodes().len() <= most {
+        let small = (0..3).map(|_| g.rule_of_binders(set_up)).find(|rule| rule.nodes().len() <= most);
+        if let Some(rule) = small {
             return rule;
         }
     }
@@ -206,7 +206,7 @@ fn a_rule_is_its_formula_and_so_is_each_follower() {
 
 #[test]
 fn a_table_has_the_values_of_its_rule() {
-    let (mut tables, mut wide, mut over) = (0, 0, 0);
+    let (mut tables, mut wide, mut deep, mut over) = (0, 0, 0, 0);
     for seed in seeds(1500) {
         let mut g = Generator::new(seed);
         let set_up = g.set_up();
@@ -217,6 +217,7 @@ fn a_table_has_the_values_of_its_rule() {
         };
         tables += 1;
         wide += usize::from(has_variable_under_inner_binder(&rule));
+        deep += usize::from(has_most_binders(&rule));
         let mut formulas = Formulas::new(set_up.clone());
         let root = formulas.of_rule(&rule);
         for _ in 0..4 {
@@ -225,7 +226,8 @@ fn a_table_has_the_values_of_its_rule() {
             assert_eq!(table.run(0, &word).0, formulas.values(root, &word), "seed {seed}: {:?}", rule.nodes());
         }
     }
-    assert!(tables > 1000 && wide > 100 && over > 20, "{tables} tables, {wide} of wide rules, {over} over 64 states");
+    assert!(tables > 1000 && over > 20, "{tables} tables, {over} over 64 states");
+    assert!(wide > 100 && deep > 10, "{wide} tables of wide rules, {deep} with twelve binders on a path");
 }
 
 /// "The demands of a node", as a plain set, kept for each node.
@@ -305,9 +307,38 @@ fn written(table: &Table, state: usize, path: &mut Vec<usize>) -> Vec<String> {
     joined
 }
 
+/// How many nodes the rule of a state has, and how many states its longest path opens; nothing for over 256 nodes. Each event has a G,
+/// an O and two A, but for the last one, which has one A; and there is a V.
+fn measured(table: &Table, state: usize, path: &mut Vec<usize>) -> Option<(usize, usize)> {
+    if path.contains(&state) {
+        return Some((1, path.len()));
+    }
+    path.push(state);
+    let (mut nodes, mut longest) = (4 * table.events(), path.len());
+    for event in 0..table.events() {
+        let (more, open) = measured(table, table.entry(state, event).next.into(), path)?;
+        nodes += more;
+        longest = longest.max(open);
+    }
+    path.pop();
+    (nodes <= 256).then_some((nodes, longest))
+}
+
+/// How many states the path on event 0 alone opens.
+fn opened_on_event_0(table: &Table, start: usize) -> usize {
+    let mut path = vec![start];
+    loop {
+        let next = table.entry(path[path.len() - 1], 0).next.into();
+        if path.contains(&next) {
+            return path.len();
+        }
+        path.push(next);
+    }
+}
+
 #[test]
 fn a_written_rule_has_the_values_of_its_state() {
-    let (mut rules, mut over) = (0, 0);
+    let (mut rules, mut twelve, mut over, mut deep, mut not_on_event_0) = (0, 0, 0, 0, 0);
     for seed in seeds(800) {
         let mut g = Generator::new(seed);
         let mut set_up = g.set_up();
@@ -317,18 +348,24 @@ fn a_written_rule_has_the_values_of_its_state() {
         let raw = if g.once_in(2) { g.chain(&set_up) } else { g.table(&set_up) };
         let table = raw.lent().table(&set_up).unwrap();
         let result = characteristic::rule_of(&table, raw.start);
-        if table.states() <= 5 {
-            let items = written(&table, raw.start, &mut Vec::new());
-            match &result {
-                Ok(rule) => assert_eq!(rule.to_bytes(), bytes(&items.join(" ")), "seed {seed}"),
-                Err(refusal) => assert!(*refusal == Refusal::new(12) && items.len() > 256, "seed {seed}"),
-            }
-        }
-        let Ok(rule) = result else {
+        // 12, then 23 (document 02, F-9).
+        let Some((nodes, longest)) = measured(&table, raw.start, &mut Vec::new()) else {
+            assert_eq!(result, Err(Refusal::new(12)), "seed {seed}");
             over += 1;
             continue;
         };
+        let items = written(&table, raw.start, &mut Vec::new());
+        assert_eq!(items.len(), nodes, "seed {seed}");
+        if longest > 12 {
+            assert_eq!(result, Err(Refusal::new(23)), "seed {seed}");
+            deep += 1;
+            not_on_event_0 += usize::from(opened_on_event_0(&table, raw.start) <= 12);
+            continue;
+        }
+        let rule = result.unwrap();
+        assert_eq!(rule.to_bytes(), bytes(&items.join(" ")), "seed {seed}");
         rules += 1;
+        twelve += usize::from(longest == 12);
         assert_eq!(Rule::from_bytes(&set_up, &rule.to_bytes()).as_ref(), Ok(&rule));
         let again = Table::of_rule(&set_up, &rule).unwrap();
         let binders = rule.nodes().iter().filter(|&&node| node == Node::Greatest).count();
@@ -345,7 +382,9 @@ fn a_written_rule_has_the_values_of_its_state() {
         assert_eq!(trial(&set_up, (&again, 0), (&table, raw.start)), Verdict::Passes(Grade::Same));
         assert!(satisfies(&set_up, &rule, &table, raw.start));
     }
-    assert!(rules > 300 && over > 20, "{rules} rules, {over} over 256 nodes");
+    assert!(rules > 300 && twelve > 20, "{rules} rules, {twelve} with twelve binders on a path");
+    assert!(over > 20 && deep > 20, "{over} over 256 nodes, {deep} over twelve binders on a path");
+    assert!(not_on_event_0 > 10, "{not_on_event_0} of {deep} not on event 0 alone");
 }
 
 /// The largest simulation between two tables, by definition 1.
@@ -378,7 +417,7 @@ fn below_on(set_up: &SetUp, device: (&Table, usize), table: (&Table, usize), wor
 
 #[test]
 fn trial_is_simulation_and_satisfaction() {
-    let (mut passes, mut fails, mut longest, mut wide) = (0, 0, 0, [0; 2]);
+    let (mut passes, mut fails, mut longest, mut wide, mut deep) = (0, 0, 0, [0; 2], [0; 2]);
     for seed in seeds(1500) {
         let mut g = Generator::new(seed);
         let set_up = g.set_up();
@@ -390,6 +429,7 @@ fn trial_is_simulation_and_satisfaction() {
         let verdict = trial(&set_up, ours, theirs);
         let passed = matches!(verdict, Verdict::Passes(_));
         wide[usize::from(passed)] += usize::from(has_variable_under_inner_binder(&rule));
+        deep[usize::from(passed)] += usize::from(has_most_binders(&rule));
         if device.states() * table.states() <= 400 {
             let related = simulation(&set_up, &device, &table);
             assert_eq!(related.contains(&(raw.start, 0)), passed, "seed {seed}");
@@ -425,6 +465,7 @@ fn trial_is_simulation_and_satisfaction() {
     }
     assert!(passes > 300 && fails > 300 && longest > 5, "{passes} pass, {fails} fail, longest {longest}");
     assert!(wide.iter().all(|&count| count > 50), "of wide rules fail and pass: {wide:?}");
+    assert!(deep.iter().all(|&count| count > 5), "of rules with twelve binders on a path fail and pass: {deep:?}");
 }
 
 #[test]

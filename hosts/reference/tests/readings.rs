@@ -5,6 +5,7 @@ mod common;
 use common::{bytes, file, four, rule, table};
 use gurvazze_reference::channel_file::{self, lines, read, tokens};
 use gurvazze_reference::formula::{Formulas, Rule};
+use gurvazze_reference::generate::{inner_binders, under, RawTable};
 use gurvazze_reference::table::{compile, Entry, Lent, Table};
 use gurvazze_reference::tool::{Call, Channel, Log, Tool};
 use gurvazze_reference::trial::{satisfying, trial, trial_of_rule, trial_of_table, Grade, Outcome, Verdict, WORD_BYTES};
@@ -112,15 +113,14 @@ fn large_numbers_in_a_file_are_judged_in_the_usual_order() {
 #[test]
 fn most_binders() {
     let set_up = four(2);
-    // 254 binders, a G and the variable of the outermost.
-    let items = "V ".repeat(254) + "G0 X253";
-    assert_eq!(table(&set_up, &items).unwrap().states(), 2);
-    let items = "V ".repeat(254) + "G0 X254";
-    assert_eq!(rule(&set_up, &items), Err(Refusal::at(8, 255)));
-    let items = "V ".repeat(255) + "X254";
-    assert_eq!(rule(&set_up, &items), Err(Refusal::at(9, 255)));
-    let items = "V ".repeat(255) + "X255";
-    assert_eq!(rule(&set_up, &items), Err(Refusal::at(8, 255)));
+    // Twelve binders, a G and the variable of the outermost; then of none.
+    assert_eq!(table(&set_up, &under(12, "G0 X11")).unwrap().states(), 2);
+    assert_eq!(rule(&set_up, &under(12, "G0 X12")), Err(Refusal::at(8, 13)));
+    // As many as 256 nodes have: 8 comes before 23, and 23 before 9.
+    assert_eq!(rule(&set_up, &under(254, "G0 X253")), Err(refused(23)));
+    assert_eq!(rule(&set_up, &under(254, "G0 X254")), Err(Refusal::at(8, 255)));
+    assert_eq!(rule(&set_up, &under(255, "X254")), Err(refused(23)));
+    assert_eq!(rule(&set_up, &under(255, "X255")), Err(Refusal::at(8, 255)));
 }
 
 #[test]
@@ -279,9 +279,11 @@ fn thirteen_is_last() {
     assert_eq!(lent, [3, 0, 3, 0, 7, 7]);
 
     let one = RawSetUp::four_values(1);
-    let rows: Vec<u8> = (0..64).flat_map(|state: u8| [1, (state + 1).min(63)]).collect();
-    let chain = Lent { states: 64, start: 0, bytes: &rows };
+    let chain = RawTable::chain(64, 1);
+    let chain = chain.lent();
     assert_eq!(characteristic::write_rule(&one, chain, &mut []), Err(refused(12)));
+    assert_eq!(characteristic::write_rule(&one, Lent { start: 51, ..chain }, &mut []), Err(refused(23)));
+    assert_eq!(characteristic::write_rule(&one, Lent { start: 52, ..chain }, &mut [7; 146]), Err(refused(13)));
     let rest = Lent { start: 62, ..chain };
     assert_eq!(characteristic::write_rule(&one, rest, &mut [7; 26]), Err(refused(13)));
     let mut lent = [7; 28];
@@ -451,9 +453,9 @@ fn the_log_judges_the_same() {
     assert!(log.record(0).is_none());
 }
 
-/// Variables of so many outer binders, up to ten, each with an A before it.
+/// Variables of so many outer binders, each with an A before it.
 fn outer(count: usize) -> String {
-    (1..=count.min(10)).map(|index| format!("A X{index} ")).collect()
+    (1..=count).map(|index| format!("A X{index} ")).collect()
 }
 
 #[test]
@@ -463,18 +465,20 @@ fn deep_and_wide_rules_stay_cheap() {
     let rows: Vec<u8> = (0..64).flat_map(|state: u8| [3, (state + 1) % 64, 3, 0]).collect();
     let device = Lent { states: 64, start: 0, bytes: &rows }.table(&set_up).unwrap();
     for items in [
-        "V ".repeat(255) + "T",
+        under(12, "T"),
+        "A ".repeat(17) + &under(12, "T ").repeat(18),
         "G0 ".repeat(255) + "T",
         "A ".repeat(127) + &"T ".repeat(128),
-        "V G0 ".repeat(127) + "X126",
+        "V G0 ".repeat(12) + "X11",
+        "V ".to_string() + &"G0 ".repeat(243) + &under(11, "X11"),
         // Both parts go on with the whole: the follower doubles with each event.
         "V A G0 X0 G0 X0".to_string(),
-        // Each inner binder has its outer one's demands twice.
-        "V G0 ".to_string() + &"V A X1 A X1 G0 ".repeat(42) + "X0",
+        // Each inner binder has its outer one's demands ten times.
+        inner_binders(11, 10),
         // Each has those of all outer binders.
-        "V G0 ".to_string() + &(1..15).map(|count| "V ".to_string() + &outer(count) + "G0 ").collect::<String>() + "X0",
+        "V G0 ".to_string() + &(1..12).map(|count| "V ".to_string() + &outer(count) + "G0 ").collect::<String>() + "X0",
         // No G between the inner binders.
-        "V G0 ".to_string() + &"V ".repeat(253) + "X253",
+        "V G0 ".to_string() + &under(11, "X11"),
         // Loops of prime lengths.
         [2, 3, 5, 7, 11, 13, 17, 19, 23]
             .iter()

@@ -30,7 +30,7 @@ fn run(tool: &mut Tool, calls: &[Call]) -> Vec<Answer> {
 
 #[test]
 fn the_tool_equals_the_log() {
-    let mut numbers = [0; 18];
+    let mut numbers = [0; 24];
     let mut values = 0;
     for seed in seeds(150) {
         let mut g = Generator::new(seed);
@@ -62,7 +62,7 @@ fn the_tool_equals_the_log() {
         }
     }
     assert!(values > 2000, "{values} values");
-    for number in [5, 6, 7, 8, 9, 10, 14, 15, 16] {
+    for number in [5, 6, 7, 8, 9, 10, 14, 15, 16, 23] {
         assert!(numbers[number] > 5, "{number} hardly arose: {numbers:?}");
     }
     assert_eq!(numbers[17], 0);

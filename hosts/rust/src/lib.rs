@@ -14,7 +14,7 @@ pub const TABLE_BYTES: usize = 2048;
 /// The bytes that every rule has room in: 256 nodes, three bytes each.
 pub const RULE_BYTES: usize = 768;
 
-/// A refusal of document 01's list.
+/// A refusal of the lists of documents 01 and 02.
 #[derive(Clone, Copy, Debug, PartialEq, Eq, Hash)]
 pub struct Refusal {
     /// Its number.
@@ -90,7 +90,7 @@ pub struct Table<'a> {
     pub bytes: &'a [u8],
 }
 
-/// The table of a channel file's rule goes into `to`. Refusals 4, 1 to 3, 5 to 10, 13.
+/// The table of a channel file's rule goes into `to`. Refusals 4, 1 to 3, 5 to 8, 23, 9, 10, 13.
 ///
 /// ```
 /// let file = b"events=2\nvalues=4\ntop=3\nmeet=0 0 0 0 0 1 0 1 0 0 2 2 0 1 2 3\nrule=A O1.1 V G1 X0\n";
@@ -118,6 +118,18 @@ pub struct Table<'a> {
 /// assert_eq!((refusal.number, refusal.place), (9, Some(3)));
 /// # Ok::<(), gurvazze::Refusal>(())
 /// ```
+///
+/// A path from the root has at most twelve V nodes. Refusal 23, which has no place, is given where one has more.
+///
+/// ```
+/// let head = "events=2\nvalues=4\ntop=3\nmeet=0 0 0 0 0 1 0 1 0 0 2 2 0 1 2 3\n";
+/// let binders = |count: usize| format!("{head}rule=A T {}T\n", "V ".repeat(count)).into_bytes();
+/// let mut to = [0; gurvazze::TABLE_BYTES];
+/// assert_eq!(gurvazze::table(&binders(12), &mut to)?.states, 1);
+/// let refusal = gurvazze::table(&binders(13), &mut to).unwrap_err();
+/// assert_eq!((refusal.number, refusal.place), (23, None));
+/// # Ok::<(), gurvazze::Refusal>(())
+/// ```
 pub fn table(text: &[u8], to: &mut [u8]) -> Result<TableNumbers, Refusal> {
     // SAFETY: both slices are valid for the call, and a slice that is lent mutably overlaps no other.
     let code = unsafe { library::gurvazze_table(text.as_ptr(), text.len(), to.as_mut_ptr(), to.len()) };
@@ -127,7 +139,7 @@ pub fn table(text: &[u8], to: &mut [u8]) -> Result<TableNumbers, Refusal> {
 }
 
 /// The values of a channel file's rule on a sequence of events go into `to`, one byte for each event. Refusals 4, 1 to 3,
-/// 5 to 10, 16, 13.
+/// 5 to 8, 23, 9, 10, 16, 13.
 ///
 /// ```
 /// let file = b"events=2\nvalues=4\ntop=3\nmeet=0 0 0 0 0 1 0 1 0 0 2 2 0 1 2 3\nrule=V A G1 O1.1 G1 X0\n";
@@ -145,7 +157,7 @@ pub fn replay(text: &[u8], events: &[u8], to: &mut [u8]) -> Result<(), Refusal> 
     yielded(code).map(|_| ())
 }
 
-/// Trial of a device against a channel file's rule. Refusals 4, 1 to 3, 5 to 10, 11, 13.
+/// Trial of a device against a channel file's rule. Refusals 4, 1 to 3, 5 to 8, 23, 9, 10, 11, 13.
 ///
 /// ```
 /// use gurvazze::{Grade, Table, Verdict};
@@ -243,7 +255,7 @@ pub fn trial_of_table(
     verdict(code)
 }
 
-/// The rule of a table goes into `to`, three bytes a node; returns its number of nodes. Refusals 1 to 3, 11, 12, 13.
+/// The rule of a table goes into `to`, three bytes a node; returns its number of nodes. Refusals 1 to 3, 11, 12, 23, 13.
 ///
 /// ```
 /// use gurvazze::{SetUp, Table};
@@ -253,6 +265,21 @@ pub fn trial_of_table(
 /// let nodes = gurvazze::rule(set_up, Table { states: 1, start: 0, bytes: &[0, 0] }, &mut to)?;
 /// // V A G0 X0 O0.0
 /// assert_eq!(to[..3 * nodes], [5, 0, 0, 4, 0, 0, 2, 0, 0, 1, 0, 0, 3, 0, 0]);
+/// # Ok::<(), gurvazze::Refusal>(())
+/// ```
+///
+/// What is written is always a rule that [`table`] takes. A path of it has a V node for each state that is open there, and 23 is given for
+/// more than twelve: here a chain of states whose last returns to itself.
+///
+/// ```
+/// use gurvazze::{SetUp, Table};
+///
+/// let set_up = SetUp { events: 1, values: 2, top: 1, meet: &[0, 0, 0, 1] };
+/// let chain = |states: u8| (0..states).flat_map(|state| [1, (state + 1).min(states - 1)]).collect::<Vec<u8>>();
+/// let mut to = [0; gurvazze::RULE_BYTES];
+/// assert_eq!(gurvazze::rule(set_up, Table { states: 12, start: 0, bytes: &chain(12) }, &mut to)?, 49);
+/// let refusal = gurvazze::rule(set_up, Table { states: 13, start: 0, bytes: &chain(13) }, &mut to).unwrap_err();
+/// assert_eq!((refusal.number, refusal.place), (23, None));
 /// # Ok::<(), gurvazze::Refusal>(())
 /// ```
 pub fn rule(set_up: SetUp<'_>, table: Table<'_>, to: &mut [u8]) -> Result<usize, Refusal> {

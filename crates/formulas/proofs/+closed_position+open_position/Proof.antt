@@ -1,7 +1,7 @@
 -- `closed_position` and `open_position` meet their contracts: one step of the walk for each kind of node. The measure is the number of
 -- nodes left.
 use Rattle.formulas.specs.NodeWalks.{Keeps}
-use lib.ListN.{getD, set}
+use lib.ListN.{getD, set, length-set}
 use mathlib.Core.{Option.{none, some}, Bool.{cond}, Path.{subst}}
 use Rattle.formulas.proofs.Walking.{scanned-none, scanned-leaf, scanned-closed-variable, scanned-open-variable, scanned-transition, scanned-greatest}
 use Rattle.formulas.proofs.Walking.{scanned-conjunction}
@@ -17,6 +17,7 @@ use Rattle.formulas.proofs.open_position.Kinds as open-position-kinds
 use Rattle.formulas.proofs.+closed_position+open_position.Lts-open_position as open-position-lts
 use Rattle.formulas.proofs.bound_near.Reads as bound-near-reads
 use Rattle.formulas.proofs.noted.Reads as noted-reads
+use Rattle.formulas.proofs.path_full.Reads as path-full-reads
 use Rattle.formulas.proofs.unbound.Reads as unbound-reads
 use Rattle.formulas.proofs.+closed_position+open_position.{statement}
 use Rattle.formulas.proofs.+closed_position+open_position.Tie.{close}
@@ -66,6 +67,8 @@ closed-position-returns : (t : ℕ) → closed-position-lts.Need-returns (
   open-position.Post,
   closed-position-below t,
   closed-position.Post,
+  path-full-reads.Asked,
+  path-full-reads.Learnt,
 ) (closed-position-at t) closed-position.Post
 closed-position-returns t c = scanned-none _ _ _ _ _ _ _ (c .if1 .taken) (search needs)
 
@@ -81,6 +84,8 @@ closed-position-element-copy-out-unbound :
       open-position.Post,
       closed-position-below t,
       closed-position.Post,
+      path-full-reads.Asked,
+      path-full-reads.Learnt,
     ) (closed-position-at t) closed-position.Post
 closed-position-element-copy-out-unbound t c = search needs
 
@@ -96,6 +101,8 @@ closed-position-element-copy-out-noted-2 :
       open-position.Post,
       closed-position-below t,
       closed-position.Post,
+      path-full-reads.Asked,
+      path-full-reads.Learnt,
     ) (closed-position-at t) closed-position.Post
 closed-position-element-copy-out-noted-2 t c = search needs
 
@@ -110,6 +117,8 @@ closed-position-returns-2 : (t : ℕ) → closed-position-lts.Need-returns-2 (
   open-position.Post,
   closed-position-below t,
   closed-position.Post,
+  path-full-reads.Asked,
+  path-full-reads.Learnt,
 ) (closed-position-at t) closed-position.Post
 closed-position-returns-2 t c = let a = c .before .before .before .before .before .before .before .before .before .before .before .args in
     let n = c .before .before .before .before .noted in
@@ -117,7 +126,7 @@ closed-position-returns-2 t c = let a = c .before .before .before .before .befor
     (c .before .before .before .before .before .before .before .before .if2 .taken) (a .near) _ _
     (subst (λ x. Keeps (cond x (some (a .at)) none) (getD (a .faults .now) 0 0) (n .result)) (c .before .before .before .before .before .unbound .ensures)
     (n .ensures))
-    (subst (λ x. Keeps (cond x (some (a .at)) none) (getD (set (a .faults .now) 0 (n .result)) 1 0) (c .noted2 .result)) (c .before .bound-near .ensures)
+    (subst (λ x. Keeps (cond x (some (a .at)) none) (getD (set (a .faults .now) 0 (n .result)) 2 0) (c .noted2 .result)) (c .before .bound-near .ensures)
     (c .noted2 .ensures))
 
 closed-position-returns-3 : (t : ℕ) → closed-position-lts.Need-returns-3 (
@@ -131,6 +140,8 @@ closed-position-returns-3 : (t : ℕ) → closed-position-lts.Need-returns-3 (
   open-position.Post,
   closed-position-below t,
   closed-position.Post,
+  path-full-reads.Asked,
+  path-full-reads.Learnt,
 ) (closed-position-at t) closed-position.Post
 closed-position-returns-3 t c = scanned-transition _ _ _ _ _ _ _ _ _ (c .before .before .before .before .before .if1 .left) (c .before .before .if3 .taken)
     (c .open-position .ensures)
@@ -147,6 +158,8 @@ closed-position-closed-position-requires :
       open-position.Post,
       closed-position-below t,
       closed-position.Post,
+      path-full-reads.Asked,
+      path-full-reads.Learnt,
     ) (closed-position-at t) closed-position.Post
 closed-position-closed-position-requires t c κs = search needs
 
@@ -162,6 +175,8 @@ closed-position-closed-position-requires-2 :
       open-position.Post,
       closed-position-below t,
       closed-position.Post,
+      path-full-reads.Asked,
+      path-full-reads.Learnt,
     ) (closed-position-at t) closed-position.Post
 closed-position-closed-position-requires-2 t c κs = search needs
 
@@ -176,6 +191,8 @@ closed-position-returns-4 : (t : ℕ) → closed-position-lts.Need-returns-4 (
   open-position.Post,
   closed-position-below t,
   closed-position.Post,
+  path-full-reads.Asked,
+  path-full-reads.Learnt,
 ) (closed-position-at t) closed-position.Post
 closed-position-returns-4 t c = let a = c .before .before .before .before .before .before .before .before .before .args in
     scanned-conjunction _ _ _ (a .near) _ _ _ _ _ (c .before .before .closed-position .result) _
@@ -194,8 +211,11 @@ closed-position-closed-position-requires-3 :
       open-position.Post,
       closed-position-below t,
       closed-position.Post,
+      path-full-reads.Asked,
+      path-full-reads.Learnt,
     ) (closed-position-at t) closed-position.Post
-closed-position-closed-position-requires-3 t c κs = search needs
+closed-position-closed-position-requires-3 t c κs =
+    (search needs, (search needs, search needs, search needs, simp length-set (search needs)))
 
 closed-position-returns-5 : (t : ℕ) → closed-position-lts.Need-returns-5 (
   unbound-reads.Asked,
@@ -208,9 +228,17 @@ closed-position-returns-5 : (t : ℕ) → closed-position-lts.Need-returns-5 (
   open-position.Post,
   closed-position-below t,
   closed-position.Post,
+  path-full-reads.Asked,
+  path-full-reads.Learnt,
 ) (closed-position-at t) closed-position.Post
-closed-position-returns-5 t c = scanned-greatest _ _ _ _ _ _ _ _ _ (c .before .before .before .before .before .before .before .if1 .left)
-    (c .before .before .if5 .taken) (c .closed-position3 .ensures)
+closed-position-returns-5 t c =
+    let b5 = c .before .before .before .before .before in
+    let a = b5 .before .before .before .before .before .before .args in
+    scanned-greatest _ _ (a .depth) (a .near) _ _ (a .faults .now) _ _ _ (b5 .before .before .before .before .before .if1 .left) (search needs)
+    (b5 .if5 .taken)
+    (subst (λ x. Keeps (cond x (some (a .at)) none) (getD (a .faults .now) 1 0) (c .before .before .noted3 .result))
+    (c .before .before .before .path-full .ensures) (c .before .before .noted3 .ensures))
+    (c .closed-position3 .ensures)
 
 closed-position-returns-6 : (t : ℕ) → closed-position-lts.Need-returns-6 (
   unbound-reads.Asked,
@@ -223,6 +251,8 @@ closed-position-returns-6 : (t : ℕ) → closed-position-lts.Need-returns-6 (
   open-position.Post,
   closed-position-below t,
   closed-position.Post,
+  path-full-reads.Asked,
+  path-full-reads.Learnt,
 ) (closed-position-at t) closed-position.Post
 closed-position-returns-6 t c = scanned-leaf _ _ _ _ _ _ _ (c .before .before .before .before .before .if1 .left) (search needs)
     (c .before .before .before .if2 .left) (c .before .before .if3 .left) (c .before .if4 .left) (c .if5 .left)
@@ -234,6 +264,8 @@ open-position-returns : (t : ℕ) → open-position-lts.Need-returns (
   noted-reads.Learnt,
   open-position-below t,
   open-position.Post,
+  path-full-reads.Asked,
+  path-full-reads.Learnt,
   closed-position-below t,
   closed-position.Post,
 ) (open-position-at t) open-position.Post
@@ -246,6 +278,8 @@ open-position-returns-2 : (t : ℕ) → open-position-lts.Need-returns-2 (
   noted-reads.Learnt,
   open-position-below t,
   open-position.Post,
+  path-full-reads.Asked,
+  path-full-reads.Learnt,
   closed-position-below t,
   closed-position.Post,
 ) (open-position-at t) open-position.Post
@@ -261,6 +295,8 @@ open-position-returns-3 : (t : ℕ) → open-position-lts.Need-returns-3 (
   noted-reads.Learnt,
   open-position-below t,
   open-position.Post,
+  path-full-reads.Asked,
+  path-full-reads.Learnt,
   closed-position-below t,
   closed-position.Post,
 ) (open-position-at t) open-position.Post
@@ -274,12 +310,29 @@ open-position-returns-4 : (t : ℕ) → open-position-lts.Need-returns-4 (
   noted-reads.Learnt,
   open-position-below t,
   open-position.Post,
+  path-full-reads.Asked,
+  path-full-reads.Learnt,
   closed-position-below t,
   closed-position.Post,
 ) (open-position-at t) open-position.Post
 open-position-returns-4 t c = scanned-conjunction _ _ _ _ _ _ _ _ _ (c .before .before .open-position2 .result) _
     (c .before .before .before .before .before .before .before .before .if1 .left) (c .before .before .before .before .if4 .taken)
     (c .before .before .open-position2 .ensures) (c .open-position3 .ensures)
+
+open-position-closed-position-requires : (t : ℕ) → open-position-lts.Need-closed-position-requires (
+  unbound-reads.Asked,
+  unbound-reads.Learnt,
+  noted-reads.Asked,
+  noted-reads.Learnt,
+  open-position-below t,
+  open-position.Post,
+  path-full-reads.Asked,
+  path-full-reads.Learnt,
+  closed-position-below t,
+  closed-position.Post,
+) (open-position-at t) open-position.Post
+open-position-closed-position-requires t c κs =
+    (search needs, (search needs, search needs, search needs, simp length-set (search needs)))
 
 open-position-returns-5 : (t : ℕ) → open-position-lts.Need-returns-5 (
   unbound-reads.Asked,
@@ -288,11 +341,19 @@ open-position-returns-5 : (t : ℕ) → open-position-lts.Need-returns-5 (
   noted-reads.Learnt,
   open-position-below t,
   open-position.Post,
+  path-full-reads.Asked,
+  path-full-reads.Learnt,
   closed-position-below t,
   closed-position.Post,
 ) (open-position-at t) open-position.Post
-open-position-returns-5 t c = scanned-greatest _ _ _ _ _ _ _ _ _ (c .before .before .before .before .before .before .before .if1 .left)
-    (c .before .before .if5 .taken) (c .closed-position .ensures)
+open-position-returns-5 t c =
+    let b5 = c .before .before .before .before .before in
+    let a = b5 .before .before .before .before .before .before .args in
+    scanned-greatest _ _ (a .depth) 0 _ _ (a .faults .now) _ _ _ (b5 .before .before .before .before .before .if1 .left) (search needs)
+    (b5 .if5 .taken)
+    (subst (λ x. Keeps (cond x (some (a .at)) none) (getD (a .faults .now) 1 0) (c .before .before .noted2 .result))
+    (c .before .before .before .path-full .ensures) (c .before .before .noted2 .ensures))
+    (c .closed-position .ensures)
 
 open-position-returns-6 : (t : ℕ) → open-position-lts.Need-returns-6 (
   unbound-reads.Asked,
@@ -301,6 +362,8 @@ open-position-returns-6 : (t : ℕ) → open-position-lts.Need-returns-6 (
   noted-reads.Learnt,
   open-position-below t,
   open-position.Post,
+  path-full-reads.Asked,
+  path-full-reads.Learnt,
   closed-position-below t,
   closed-position.Post,
 ) (open-position-at t) open-position.Post
@@ -320,6 +383,8 @@ pub +closed-position+open-position-spec : {M : Type 1} → statement M
       open-position.Post,
       closed-position-below t,
       closed-position.Post,
+      path-full-reads.Asked,
+      path-full-reads.Learnt,
     )
     (closed-position-at t)
     closed-position.Post
@@ -349,6 +414,10 @@ pub +closed-position+open-position-spec : {M : Type 1} → statement M
     (closed-position-closed-position-requires-2 t)
     (closed-position-returns-4 t)
     (λ c. search needs)
+    (λ c κs. search needs)
+    (λ c κs. search needs)
+    (λ c. search needs)
+    (λ c. search needs)
     (λ c. search needs)
     (λ c. search needs)
     (λ c. search needs)
@@ -363,6 +432,8 @@ pub +closed-position+open-position-spec : {M : Type 1} → statement M
       noted-reads.Learnt,
       open-position-below t,
       open-position.Post,
+      path-full-reads.Asked,
+      path-full-reads.Learnt,
       closed-position-below t,
       closed-position.Post,
     )
@@ -389,9 +460,13 @@ pub +closed-position+open-position-spec : {M : Type 1} → statement M
     (λ c κs. search needs)
     (open-position-returns-4 t)
     (λ c. search needs)
-    (λ c. search needs)
-    (λ c. search needs)
     (λ c κs. search needs)
+    (λ c κs. search needs)
+    (λ c. search needs)
+    (λ c. search needs)
+    (λ c. search needs)
+    (λ c. search needs)
+    (open-position-closed-position-requires t)
     (open-position-returns-5 t)
     (λ c. search needs)
     (open-position-returns-6 t)

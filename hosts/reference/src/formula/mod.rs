@@ -1,4 +1,4 @@
-//! Rules: from bytes to a checked formula and back, refusals 5 to 9, and the formula semantics.
+//! Rules: from bytes to a checked formula and back, refusals 5 to 9 and 23, and the formula semantics.
 
 mod semantics;
 
@@ -10,6 +10,8 @@ use crate::Refusal;
 
 /// "1 to 256 nodes."
 pub const MAX_NODES: usize = 256;
+/// "twelve binders along one path. Make that the limit" (document 02, F-9).
+pub const MAX_BINDERS: usize = 12;
 /// "A node is three bytes: kind, first, second".
 pub const NODE_BYTES: usize = 3;
 
@@ -68,7 +70,7 @@ impl Node {
     }
 }
 
-/// A rule that 5 to 9 do not refuse: "a node, then its parts".
+/// A rule that 5 to 9 and 23 do not refuse: "a node, then its parts".
 #[derive(Clone, Debug, PartialEq, Eq)]
 pub struct Rule {
     nodes: Vec<Node>,
@@ -80,6 +82,8 @@ pub struct Rule {
 struct Position {
     /// The innermost V around it.
     binder: Option<usize>,
+    /// How many V nodes lie on its path from the root.
+    binders: usize,
     /// The innermost G above it.
     after: Option<usize>,
     /// The A whose second part it is.
@@ -87,7 +91,7 @@ struct Position {
 }
 
 impl Rule {
-    /// Checks a rule in bytes: refusals 5 to 9.
+    /// Checks a rule in bytes: refusals 5 to 8, 23, 9.
     pub fn from_bytes(set_up: &SetUp, bytes: &[u8]) -> Result<Rule, Refusal> {
         // 5: "no nodes, over 256, or bytes left over after the last whole node".
         if bytes.is_empty() || bytes.len() > MAX_NODES * NODE_BYTES || !bytes.len().is_multiple_of(NODE_BYTES) {
@@ -102,7 +106,7 @@ impl Rule {
         Rule::from_nodes(nodes)
     }
 
-    /// Refusals 7 to 9 on 1 to 256 nodes that 6 does not refuse.
+    /// Refusals 7, 8, 23, 9 on 1 to 256 nodes that 6 does not refuse.
     pub(crate) fn from_nodes(nodes: Vec<Node>) -> Result<Rule, Refusal> {
         check_count(&nodes)?;
         let links = link(&nodes)?;
@@ -161,19 +165,21 @@ fn check_count(nodes: &[Node]) -> Result<(), Refusal> {
     Ok(())
 }
 
-/// Finds second parts and binders of a finished tree: refusals 8 and 9, 8 on all variables first.
+/// Finds second parts and binders of a finished tree: refusals 8, 23 and 9, each over the whole tree before the next.
 fn link(nodes: &[Node]) -> Result<Vec<u16>, Refusal> {
     let mut links = vec![0; nodes.len()];
     // The binder around each V, so that a variable finds its own by going outwards.
     let mut around = vec![None; nodes.len()];
+    let mut most_binders = 0;
     let mut lowest_bare = None;
-    let mut waiting = vec![Position { binder: None, after: None, second_of: None }];
+    let mut waiting = vec![Position { binder: None, binders: 0, after: None, second_of: None }];
     for (number, &node) in nodes.iter().enumerate() {
         let position = waiting.pop().expect("7 has been tested");
         if let Some(both) = position.second_of {
             links[both] = number as u16;
         }
-        let Position { binder, after, .. } = position;
+        let Position { binder, binders, after, .. } = position;
+        most_binders = most_binders.max(binders);
         match node {
             Node::True | Node::Output(..) => {}
             Node::Variable(index) => {
@@ -188,16 +194,20 @@ fn link(nodes: &[Node]) -> Result<Vec<u16>, Refusal> {
                     lowest_bare = Some(number);
                 }
             }
-            Node::After(_) => waiting.push(Position { binder, after: Some(number), second_of: None }),
+            Node::After(_) => waiting.push(Position { binder, binders, after: Some(number), second_of: None }),
             Node::Both => {
-                waiting.push(Position { binder, after, second_of: Some(number) });
-                waiting.push(Position { binder, after, second_of: None });
+                waiting.push(Position { binder, binders, after, second_of: Some(number) });
+                waiting.push(Position { binder, binders, after, second_of: None });
             }
             Node::Greatest => {
                 around[number] = binder;
-                waiting.push(Position { binder: Some(number), after, second_of: None });
+                waiting.push(Position { binder: Some(number), binders: binders + 1, after, second_of: None });
             }
         }
+    }
+    // 23: "a path with more than twelve V nodes, after 8 and before 9 for a rule" (document 02, F-9).
+    if most_binders > MAX_BINDERS {
+        return Err(Refusal::new(23));
     }
     match lowest_bare {
         Some(place) => Err(Refusal::at(9, place)),

@@ -6,6 +6,7 @@ use std::collections::{BTreeSet, HashMap, HashSet};
 
 use super::{Node, Rule, MAX_NODES};
 use crate::values::SetUp;
+use crate::Refusal;
 
 /// A formula kept in [`Formulas`].
 #[derive(Clone, Copy, Debug, PartialEq, Eq, Hash, PartialOrd, Ord)]
@@ -73,7 +74,7 @@ impl Formulas {
         pop(&mut parts)
     }
 
-    /// A formula as a rule, or nothing where that takes over 256 nodes.
+    /// A formula as a rule, or nothing where that takes over 256 nodes or, as followers may, more than twelve binders on a path.
     pub fn to_rule(&self, id: Id) -> Option<Rule> {
         let mut nodes = Vec::new();
         let mut waiting = vec![id];
@@ -100,7 +101,10 @@ impl Formulas {
                 }
             });
         }
-        Some(Rule::from_nodes(nodes).expect("rules and their followers are closed and guarded"))
+        match Rule::from_nodes(nodes) {
+            Err(Refusal { number: 23, .. }) => None,
+            rule => Some(rule.expect("rules and their followers are closed and guarded")),
+        }
     }
 
     /// The value of a closed guarded formula on an event.

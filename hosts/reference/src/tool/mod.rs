@@ -93,7 +93,7 @@ impl Tool {
         Ok(Tool { set_up, channels: Default::default() })
     }
 
-    /// "load a rule (replaces, state 0)": refusals 17, 14, 5 to 10. "a refused loading changes neither its channel nor any
+    /// "load a rule (replaces, state 0)": refusals 17, 14, 5 to 8, 23, 9, 10. "a refused loading changes neither its channel nor any
     /// other".
     pub fn load(&mut self, channel: usize, rule: &[u8]) -> Result<(), Refusal> {
         let set_up = SetUp::new(self.set_up.clone()).map_err(|_| Refusal::new(17))?;
