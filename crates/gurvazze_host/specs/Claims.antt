@@ -80,7 +80,7 @@ file-replay-conditions c word old =
 -- They stand in an order of their own: a tool has its set-up before its events, but without the file's rule there are no events to be
 -- too large for. So 16 stands behind 10, and not before 4 as in document 01's order.
 unfoldable pub replay-order : List ℕ
-replay-order = 4 ∷ 1 ∷ 2 ∷ 3 ∷ 5 ∷ 6 ∷ 7 ∷ 8 ∷ 9 ∷ 10 ∷ 16 ∷ 13 ∷ []
+replay-order = 4 ∷ 1 ∷ 2 ∷ 3 ∷ 5 ∷ 6 ∷ 7 ∷ 8 ∷ 23 ∷ 9 ∷ 10 ∷ 16 ∷ 13 ∷ []
 
 -- What refusal's Judged says, in that order.
 pub record JudgedReplay (cs : List Condition) (answer : Option Refusal) : Type 0 where

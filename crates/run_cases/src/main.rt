@@ -1,4 +1,4 @@
-// Document 01's cases that are run and not proved: chains of rules and of tables, at and above the limits.
+// Document 01's cases that are run, as document 02, F-9, changes them: chains of rules and of tables, at and above the limits.
 ghost use mathlib.Core.Path.{_≡_};
 ghost use lib.ListN.{length};
 use libc::STDOUT_FILENO;
@@ -99,10 +99,14 @@ fn main() {
     let rule = chain_of_transitions();
     compile_chain(&rule[3..]);
     compile_chain(&rule);
-    let mut first = [0u8; 759];
-    let short = chain_of_states(1);
-    write_chain(&short[2..], 63, &mut first);
-    let mut second = [0u8; 768];
-    let long = chain_of_states(0);
-    write_chain(&long, 64, &mut second);
+    let mut exact = [0u8; 147];
+    let twelve = chain_of_states(52);
+    write_chain(&twelve[104..], 12, &mut exact);
+    let mut room = [0u8; 768];
+    let thirteen = chain_of_states(51);
+    write_chain(&thirteen[102..], 13, &mut room);
+    let sixty_three = chain_of_states(1);
+    write_chain(&sixty_three[2..], 63, &mut room);
+    let sixty_four = chain_of_states(0);
+    write_chain(&sixty_four, 64, &mut room);
 }
