@@ -6,7 +6,7 @@ use lib.ListN.{length}
 use Rattle.limits.specs.Limits.{event-limit, table-limit, node-limit}
 use Rattle.theory.specs.Formula.{size}
 use Rattle.theory.specs.MealyMachine.{States, Runs}
-use Rattle.theory.proofs.CharacteristicFormula.{written-writes, writes-well-formed}
+use Rattle.theory.proofs.CharacteristicFormula.{written-writes}
 use Rattle.refusal.specs.declared.{Refusal.{Refusal}, Counted.{Counted}}
 use Rattle.refusal.specs.declared.Judgement.the-variants.{Accepted, Refused}
 use Rattle.refusal.specs.declared.Counted.the-variants.{Refused as Uncounted}
@@ -14,7 +14,7 @@ use Rattle.refusal.specs.RefusalAnswers.{or-else, judgement, counted}
 use Rattle.refusal.specs.RefusalAnswers.{put-unless}
 use Rattle.refusal.proofs.Refusals.{judgement-accepted, judgement-refused}
 use Rattle.values.specs.declared.ValueKind.{ValueKind}
-use Rattle.values.specs.Setup.{Setup, setup-of-kind, SetupValue, ValueIn}
+use Rattle.values.specs.Setup.{Setup, setup-of-kind, SetupValue}
 use Rattle.values.specs.SetupInOrder.{AcceptedSetup}
 use Rattle.values.specs.SetupTests.{setup-refusal}
 use Rattle.values.proofs.Setups.{setup-accepted}
@@ -23,7 +23,7 @@ use Rattle.machines.specs.{TableBytes.{entry-width, machine-of, TableInOrder}, 
 use Rattle.machines.proofs.TableRefusals.{none-in-order, accepted-table}
 use Rattle.characteristic.specs.RuleOfTable.{IsRuleOf}
 use Rattle.characteristic.specs.RuleWriting.{output-refusal, rule-of, write-refusal, write-answer, write-contents}
-use Rattle.characteristic.specs.NodeOutput.{Answered, RuleWellFormed, Concluded}
+use Rattle.characteristic.specs.NodeOutput.{Answered, Concluded}
 use Rattle.characteristic.proofs.Outputs.{refused-answer}
 
 module _ (table-most node-most : ℕ) (s : Setup) (states start : ℕ) (table : List ℕ) where
@@ -132,12 +132,7 @@ module _ (events : ℕ) (kind : ValueKind) (states start : ℕ) (table old : Lis
     written-table a top meet e =
         answered table-limit node-limit (setup-of-kind events kind top meet) states start table old e (judgement-accepted _ d) a
 
-    -- What is asked of the rule, and of the start.
-    pub rule-well-formed : RuleWellFormed events kind start table
-    rule-well-formed φ w =
-        let ok = accepted-table table-limit events kind states start table (judgement-accepted _ d) in
-        writes-well-formed (machine-of kind events table) events (ValueIn kind) states (ok .runs) w (ok .start-in)
-
+    -- What the walk asks of the start.
     pub small-start : start < 256
     small-start =
         let ok = none-in-order table-limit events kind states start table (judgement-accepted _ d) in

@@ -4,23 +4,22 @@ use Prim.Native.Nat.{ℕ, _+_, _*_, _≤_, _<_}
 use native.Mathlib.{Nat.{zero-mul, mul-le-mul}, Numerals.{add-one}, Omega.{arith}}
 use lib.{ListN.{length, getD, take, set, replicate, length-take, length-replicate}, Seq.{take-suc}}
 use borrow.Author.Tests.{le-leb, lt-leb}
-use Rattle.limits.specs.Limits.{node-limit}
-use Rattle.theory.specs.{Formula.{Formula, size}, CharacteristicFormula.{Writes}}
+use Rattle.limits.specs.Limits.{node-limit, binder-limit}
+use Rattle.theory.specs.{Formula.{Formula, size}, FormulaClasses.{binder-depth}, CharacteristicFormula.{Writes}}
 use Rattle.refusal.specs.declared.Refusal.{Refusal}
 use Rattle.refusal.specs.declared.Refusal.the-variants.{Plain}
 use Rattle.refusal.specs.declared.Counted.the-variants.{Count, Refused}
-use Rattle.refusal.specs.declared.{Counted.{Counted}, Judgement.{Judgement}, Judgement.the-variants.{Accepted as Allowed, Refused as Denied}}
-use Rattle.refusal.specs.{Refusal.{put}, RefusalAnswers.{or-else, plain-unless, judgement, counted, put-unless}}
-use Rattle.refusal.proofs.Refusals.{judgement-accepted, judgement-refused}
+use Rattle.refusal.specs.declared.Counted.{Counted}
+use Rattle.refusal.specs.{Refusal.{put}, RefusalAnswers.{or-else, plain-unless, counted, put-unless}}
 use Rattle.values.specs.declared.ValueKind.{ValueKind}
 use Rattle.values.specs.declared.ValueKind.the-variants.{Numbered, Register}
-use Rattle.formulas.specs.{RuleConditions.{encode-formula, node-width, node-bytes}, RuleRefusal.{depth-refusal, rule-refusal}}
-use Rattle.formulas.proofs.{Prefix.{length-nodes}, RuleClaims.{well-formed-refusal}}
+use Rattle.formulas.specs.{RuleConditions.{encode-formula, node-width, node-bytes}, RuleRefusal.{depth-refusal}}
+use Rattle.formulas.proofs.Prefix.{length-nodes}
 use Rattle.machines.specs.TableBytes.{machine-of}
 use Rattle.machines.proofs.Stores.{put-snoc}
 use Rattle.characteristic.specs.RuleOfTable.{IsRuleOf}
 use Rattle.characteristic.specs.RuleWriting.{output-refusal}
-use Rattle.characteristic.specs.NodeOutput.{HasRoom, Ready, Walked, Listed, Answered, RuleWellFormed}
+use Rattle.characteristic.specs.NodeOutput.{HasRoom, Ready, Walked, Listed, Answered}
 use Rattle.characteristic.proofs.OpenPath.{path-empty}
 
 -- ---- a copy, byte by byte
@@ -40,7 +39,7 @@ copy-more from old i inside room =
 -- ---- the walk from the start, with no state open
 pub start-ready :
     {kind : ValueKind} {limit events start : ℕ} {to : List ℕ} (n : ℕ) → 256 ≤ n → HasRoom kind limit 0 to → events ≤ 256 → start < 256
-    → Ready kind limit events 0 start 0 (replicate n 0) to
+    → {longest : ℕ} → Ready kind limit events 0 start 0 longest (replicate n 0) to
 start-ready n long h few small =
     record {
       has-room = h;
@@ -48,16 +47,22 @@ start-ready n long h few small =
       path = [];
       held = path-empty n;
       shallow = omega arith;
+      counted = omega arith;
       few-events = few;
       small-state = small;
     }
 
 pub walk-listed :
-    {kind : ValueKind} {limit start r : ℕ} {table depths-after before after : List ℕ} (events n : ℕ)
-    → Walked kind limit (λ ps. Writes (machine-of kind events table) events ps start) 0 0 (replicate n 0) depths-after before after r
-    → Listed kind limit events start table before after r
-walk-listed events n w =
-    record { same-length = w .same-length; cut-off = w .within; listed = w .written [] (path-empty n) }
+    {kind : ValueKind} {limit start longest longest-after r : ℕ} {table depths-after before after : List ℕ} (events n : ℕ) → longest ≡ 0
+    → Walked kind limit (λ ps. Writes (machine-of kind events table) events ps start) 0 0 longest longest-after (replicate n 0) depths-after before after r
+    → Listed kind limit events start longest-after table before after r
+walk-listed events n none-yet w =
+    record {
+      same-length = w .same-length;
+      cut-off = w .within;
+      listed = w .written [] (path-empty n);
+      depth = λ φ x few. omega (arith, none-yet, w .longest-is [] (path-empty n) φ x few);
+    }
 
 -- The bytes of a rule within the limit fit the buffer of the walk's own.
 pub rule-room : (kind : ValueKind) {to : List ℕ} → length to ≡ node-limit * 6 → HasRoom kind node-limit 0 to
@@ -73,17 +78,17 @@ module _ (kind : ValueKind) (limit : ℕ) (φ : Formula ℕ) (room : ℕ) where
   unfolding output-refusal or-else plain-unless
   over-limit h = rw (lt-leb (size φ) limit h)
 
-  pub over-depth : (r : Refusal) → size φ ≤ limit → depth-refusal φ ≡ some r → output-refusal kind limit φ room ≡ some r
-  unfolding output-refusal or-else plain-unless
-  over-depth r h d = rw (le-leb (size φ) limit h, d)
+  pub over-depth : size φ ≤ limit → binder-limit < binder-depth φ → output-refusal kind limit φ room ≡ some (Plain 23)
+  unfolding output-refusal depth-refusal or-else plain-unless
+  over-depth h d = rw (le-leb (size φ) limit h, lt-leb (binder-depth φ) binder-limit d)
 
-  pub over-room : size φ ≤ limit → depth-refusal φ ≡ none → room < size φ * node-width kind → output-refusal kind limit φ room ≡ some (Plain 13)
-  unfolding output-refusal or-else plain-unless
-  over-room h d k = rw (le-leb (size φ) limit h, d, lt-leb (size φ * node-width kind) room k)
+  pub over-room : size φ ≤ limit → binder-depth φ ≤ binder-limit → room < size φ * node-width kind → output-refusal kind limit φ room ≡ some (Plain 13)
+  unfolding output-refusal depth-refusal or-else plain-unless
+  over-room h d k = rw (le-leb (size φ) limit h, le-leb (binder-depth φ) binder-limit d, lt-leb (size φ * node-width kind) room k)
 
-  pub fits-room : size φ ≤ limit → depth-refusal φ ≡ none → size φ * node-width kind ≤ room → output-refusal kind limit φ room ≡ none
-  unfolding output-refusal or-else plain-unless
-  fits-room h d k = rw (le-leb (size φ) limit h, d, le-leb (size φ * node-width kind) room k)
+  pub fits-room : size φ ≤ limit → binder-depth φ ≤ binder-limit → size φ * node-width kind ≤ room → output-refusal kind limit φ room ≡ none
+  unfolding output-refusal depth-refusal or-else plain-unless
+  fits-room h d k = rw (le-leb (size φ) limit h, le-leb (binder-depth φ) binder-limit d, le-leb (size φ * node-width kind) room k)
 
 -- A refusal leaves the buffer.
 pub refused-answer :
@@ -113,51 +118,45 @@ module _ {kind : ValueKind} {events start : ℕ} {table : List ℕ} (old : List 
       → Answered kind node-limit events start table old old (Refused r)
   refused-by r meets = given λ φ w. refused-answer r (size φ) (encode-formula (node-bytes kind) φ) old (meets φ w)
 
-module _ {kind : ValueKind} {events start count : ℕ} {table blank listed : List ℕ}
-    (l : Listed kind node-limit events start table blank listed count) where
+module _ {kind : ValueKind} {events start count longest : ℕ} {table blank listed : List ℕ}
+    (l : Listed kind node-limit events start longest table blank listed count) where
   pub too-many : {old : List ℕ} → node-limit < count → Answered kind node-limit events start table old old (Refused (Plain 12))
   too-many {old} h = refused-by old (Plain 12) λ φ w. over-limit kind node-limit φ (length old) (omega (arith, l .listed φ w .position, length-nodes φ))
 
-  -- Past 12, what is listed are the bytes of the rule; and of them 23 alone can be met.
-  module _ {width : ℕ} (width-is : width ≡ node-width kind) (h : count ≤ node-limit) where
+  -- Past 12 what is listed is the rule, and the longest path is its own.
+  module _ (h : count ≤ node-limit) where
     same : (φ : Formula ℕ) → IsRuleOf events kind start table φ → count ≡ size φ
     same φ w = omega (arith, h, l .listed φ w .position, length-nodes φ)
 
-    bytes : (φ : Formula ℕ) → IsRuleOf events kind start table φ → count * width ≡ size φ * node-width kind
-    bytes φ w = ap₂ _*_ (same φ w) width-is
+    pub too-deep : {old : List ℕ} → binder-limit < longest → Answered kind node-limit events start table old old (Refused (Plain 23))
+    too-deep {old} k =
+        refused-by old (Plain 23) λ φ w.
+        over-depth kind node-limit φ (length old) (omega (arith, h, same φ w)) (omega (arith, k, l .depth φ w h))
 
-    listed-bytes : (φ : Formula ℕ) → IsRuleOf events kind start table φ → take (count * width) listed ≡ encode-formula (node-bytes kind) φ
-    listed-bytes φ w =
-        ap (λ n. take (count * n) listed) width-is ∙ l .listed φ w .contents h
-        ∙ ap (λ n. take n blank ++ encode-formula (node-bytes kind) φ) (zero-mul (node-width kind))
+    module _ (few : longest ≤ binder-limit) {width : ℕ} (width-is : width ≡ node-width kind) where
+      shallow : (φ : Formula ℕ) → IsRuleOf events kind start table φ → binder-depth φ ≤ binder-limit
+      shallow φ w = omega (arith, few, l .depth φ w h)
 
-    module _ (well : RuleWellFormed events kind start table) {judged : Judgement}
-        (judged-is : judged ≡ judgement (rule-refusal events kind (take (count * width) listed))) where
-      depth-judged : (φ : Formula ℕ) → IsRuleOf events kind start table φ → judged ≡ judgement (depth-refusal φ)
-      depth-judged φ w =
-          judged-is ∙ ap (λ b. judgement (rule-refusal events kind b)) (listed-bytes φ w)
-          ∙ ap judgement (well-formed-refusal events kind φ (omega (arith, h, same φ w)) (well φ w))
+      bytes : (φ : Formula ℕ) → IsRuleOf events kind start table φ → count * width ≡ size φ * node-width kind
+      bytes φ w = ap₂ _*_ (same φ w) width-is
 
-      pub too-deep : {old : List ℕ} (r : Refusal) → judged ≡ Denied r → Answered kind node-limit events start table old old (Refused r)
-      too-deep {old} r e =
-          refused-by old r λ φ w.
-          over-depth kind node-limit φ (length old) r (omega (arith, h, same φ w)) (judgement-refused (depth-refusal φ) r (sym (depth-judged φ w) ∙ e))
+      pub too-short : {old : List ℕ} → length old < count * width → Answered kind node-limit events start table old old (Refused (Plain 13))
+      too-short {old} k =
+          refused-by old (Plain 13) λ φ w.
+          over-room kind node-limit φ (length old) (omega (arith, h, same φ w)) (shallow φ w) (omega (arith, k, bytes φ w))
 
-      module _ (e : judged ≡ Allowed) where
-        shallow : (φ : Formula ℕ) → IsRuleOf events kind start table φ → depth-refusal φ ≡ none
-        shallow φ w = judgement-accepted (depth-refusal φ) (sym (depth-judged φ w) ∙ e)
-
-        pub too-short : {old : List ℕ} → length old < count * width → Answered kind node-limit events start table old old (Refused (Plain 13))
-        too-short {old} k =
-            refused-by old (Plain 13) λ φ w.
-            over-room kind node-limit φ (length old) (omega (arith, h, same φ w)) (shallow φ w) (omega (arith, k, bytes φ w))
-
-        pub all-copied :
-            {old after : List ℕ} → count * width ≤ length old → after ≡ put (take (count * width) listed) old
-            → Answered kind node-limit events start table old after (Count count)
-        all-copied {old} k copied =
-            given old λ φ w.
-            let done =
-            accepted-answer (size φ) (encode-formula (node-bytes kind) φ) old
-            (fits-room kind node-limit φ (length old) (omega (arith, h, same φ w)) (shallow φ w) (omega (arith, k, bytes φ w))) in
-            (ap Count (same φ w) ∙ done .0, copied ∙ ap (λ b. put b old) (listed-bytes φ w) ∙ done .1)
+      pub all-copied :
+          {old after : List ℕ} → count * width ≤ length old → after ≡ put (take (count * width) listed) old
+          → Answered kind node-limit events start table old after (Count count)
+      all-copied {old} k copied =
+          given old λ φ w.
+          let done =
+          accepted-answer (size φ) (encode-formula (node-bytes kind) φ) old
+          (fits-room kind node-limit φ (length old) (omega (arith, h, same φ w)) (shallow φ w) (omega (arith, k, bytes φ w))) in (
+            ap Count (same φ w) ∙ done .0,
+            copied
+                ∙ ap (λ n. put (take (count * n) listed) old) width-is
+                ∙ ap (λ b. put b old)
+                (l .listed φ w .contents h ∙ ap (λ n. take n blank ++ encode-formula (node-bytes kind) φ) (zero-mul (node-width kind)))
+                ∙ done .1,
+          )

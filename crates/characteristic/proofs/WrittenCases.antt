@@ -3,15 +3,15 @@ use mathlib.Core.{Path.{_≡_, refl, _∙_, ap}, Option.{Option, none, some}, Li
 use Prim.Native.Nat.{ℕ, suc, _*_, _≤_, _<_}
 use native.Mathlib.Omega.{arith}
 use lib.{Dec.{lit≤}, ListN.{length}}
-use Rattle.limits.specs.Limits.{node-limit, table-limit}
-use Rattle.theory.specs.{Formula.{Formula, size}, ValueSetTests.{every}}
+use Rattle.limits.specs.Limits.{node-limit, binder-limit, table-limit}
+use Rattle.theory.specs.{Formula.{Formula, size}, FormulaClasses.{binder-depth}, ValueSetTests.{every}}
 use Rattle.refusal.specs.declared.{Refusal.{Refusal}, Refusal.the-variants.{Plain}}
 use Rattle.refusal.specs.declared.Counted.the-variants.{Count, Refused}
 use Rattle.refusal.specs.RefusalAnswers.{counted, plain-unless}
 use Rattle.values.specs.declared.ValueKind.the-variants.{Numbered}
 use Rattle.values.specs.{Setup.{Setup}, SetupTests.{setup-refusal}}
 use Rattle.values.proofs.Setups.{four-value-setup}
-use Rattle.formulas.specs.{RuleConditions.{node-width}, RuleRefusal.{depth-refusal}}
+use Rattle.formulas.specs.RuleConditions.{node-width}
 use Rattle.machines.specs.TableRefusal.{table-test, entry-test, table-refusal}
 use Rattle.characteristic.specs.RuleWriting.{output-refusal, rule-of, write-answer}
 use Rattle.characteristic.specs.WrittenCases.{four-values, chain-rows, ChainClaim}
@@ -32,7 +32,7 @@ module _ (s : Setup) (states start : ℕ) (rows old : List ℕ) (setup-passed : 
       (output-last table-limit node-limit s states start rows (length old) setup-passed table-passed ∙ e)
 
   answer-fits :
-      (k : ℕ) → size rule ≡ k → k ≤ node-limit → depth-refusal rule ≡ none → k * node-width (s .kind) ≤ length old
+      (k : ℕ) → size rule ≡ k → k ≤ node-limit → binder-depth rule ≤ binder-limit → k * node-width (s .kind) ≤ length old
       → write-answer table-limit node-limit s states start rows old ≡ Count k
   unfolding counted
   answer-fits k e few shallow room =
@@ -41,9 +41,9 @@ module _ (s : Setup) (states start : ℕ) (rows old : List ℕ) (setup-passed : 
       ∙ ap Count e
 
   answer-deep :
-      size rule ≤ node-limit → depth-refusal rule ≡ some (Plain 23) → write-answer table-limit node-limit s states start rows old ≡ Refused (Plain 23)
+      size rule ≤ node-limit → binder-limit < binder-depth rule → write-answer table-limit node-limit s states start rows old ≡ Refused (Plain 23)
   unfolding counted
-  answer-deep few deep = answer (over-depth (s .kind) node-limit rule (length old) (Plain 23) few deep)
+  answer-deep few deep = answer (over-depth (s .kind) node-limit rule (length old) few deep)
 
   answer-over : node-limit < size rule → write-answer table-limit node-limit s states start rows old ≡ Refused (Plain 12)
   unfolding counted
@@ -79,19 +79,18 @@ sizes : (size (chain-rule 11) ≡ 49) × (size (chain-rule 12) ≡ 53) × (size 
 unfolding chain-rows rule-of
 sizes = (refl, refl, refl, refl)
 
-depths :
-    (depth-refusal (chain-rule 11) ≡ none) × (depth-refusal (chain-rule 12) ≡ some (Plain 23)) × (depth-refusal (chain-rule 62) ≡ some (Plain 23))
-unfolding chain-rows rule-of depth-refusal plain-unless
+depths : (binder-depth (chain-rule 11) ≡ 12) × (binder-depth (chain-rule 12) ≡ 13) × (binder-depth (chain-rule 62) ≡ 63)
+unfolding chain-rows rule-of
 depths = (refl, refl, refl)
 
 pub chains : ChainClaim
 unfolding rule
 chains =
     record {
-      twelve = λ old room. answer-fits (four-values 1) 12 0 (chain-rows 11 0) old one-event passed-12 49 (sizes .0) (lit≤ tt) (depths .0) room;
+      twelve = λ old room. answer-fits (four-values 1) 12 0 (chain-rows 11 0) old one-event passed-12 49 (sizes .0) (lit≤ tt) (omega (arith, depths .0)) room;
       thirteen = λ old.
-          answer-deep (four-values 1) 13 0 (chain-rows 12 0) old one-event passed-13 (omega (arith, sizes .1)) (depths .1);
+          answer-deep (four-values 1) 13 0 (chain-rows 12 0) old one-event passed-13 (omega (arith, sizes .1)) (omega (arith, depths .1));
       sixty-three = λ old.
-          answer-deep (four-values 1) 63 0 (chain-rows 62 0) old one-event passed-63 (omega (arith, sizes .2)) (depths .2);
+          answer-deep (four-values 1) 63 0 (chain-rows 62 0) old one-event passed-63 (omega (arith, sizes .2)) (omega (arith, depths .2));
       sixty-four = λ old. answer-over (four-values 1) 64 0 (chain-rows 63 0) old one-event passed-64 (omega (arith, sizes .3));
     }

@@ -4,13 +4,14 @@ use formulas::GREATEST;
 use formulas::OUTPUT;
 use formulas::TRANSITION;
 use formulas::VARIABLE;
-use formulas::check_rule;
 use formulas::node_width;
+use limits::BINDER_LIMIT;
 use limits::NODE_LIMIT;
 use limits::TABLE_LIMIT;
 use machines::check_table;
 use machines::next_at;
 use machines::value_at;
+use refusal::BINDER_DEPTH;
 use refusal::BUFFER_LENGTH;
 use refusal::Counted;
 use refusal::Judgement;
@@ -20,7 +21,7 @@ use values::ValueKind;
 use values::check_setup;
 ghost use mathlib.Core.Path.{_≡_};
 ghost use mathlib.Core.List.{[], _∷_, _++_};
-ghost use Prim.Native.Nat.{_+_, _*_, _≤_, _<_};
+ghost use Prim.Native.Nat.{_+_, _*_, _≤_, _<_, max};
 ghost use lib.ListN.{length, take};
 ghost use lib.Seq.{sets};
 ghost use Rattle.limits.specs.Limits.{event-limit, table-limit, node-limit};
@@ -33,7 +34,7 @@ ghost use Rattle.values.specs.Setup.{setup};
 ghost use Rattle.machines.specs.TableBytes.{machine-of};
 ghost use Rattle.machines.specs.Claims.{OfBytes};
 ghost use Rattle.characteristic.specs.RuleWriting.{write-answer, write-contents};
-ghost use Rattle.characteristic.specs.NodeOutput.{Appends, AppendsOne, HasRoom, Ready, Walked, Listed, Answered, RuleWellFormed, Concluded};
+ghost use Rattle.characteristic.specs.NodeOutput.{Appends, AppendsOne, HasRoom, Ready, Walked, Listed, Answered, Concluded};
 
 // The bytes of all nodes that a rule may have, at six a node at most.
 const RULE_BYTES: usize = NODE_LIMIT * 6;
@@ -135,8 +136,15 @@ fn value_of(table: &[u8], events: usize, kind: ValueKind, state: usize, event: u
     value_at(kind, table, state * events + event)
 }
 
+// The greater of two numbers.
+fn greater(a: usize, b: usize) -> usize
+    ensures { λ r. ⌜ r ≡ max a b ⌝ }
+{
+    if a < b { b } else { a }
+}
+
 // Writes the rule of a state: X where it is open on the path; otherwise V and its rows, with the state open. Of each open state the
-// array has its depth on the path, from 1 on, and of each other state 0.
+// array has its depth on the path, from 1 on, and of each other state 0. `longest` is the length of the longest path so far.
 fn write_state(
     table: &[u8],
     events: usize,
@@ -147,10 +155,11 @@ fn write_state(
     state: usize,
     to: &mut [u8],
     at: usize,
+    longest: &mut usize,
 ) -> usize
-    requires { ⌜ Ready kind limit events depth state at (now depths) (now to) × (0 < events) ⌝ }
+    requires { ⌜ Ready kind limit events depth state at (now longest) (now depths) (now to) × (0 < events) ⌝ }
     ensures { λ r. ⌜ Walked kind limit (λ ps. Writes (machine-of kind events (now (table .entry))) events ps state) depth at
-        (now (depths .entry)) (now (depths .exit)) (now (to .entry)) (now (to .exit)) r ⌝ }
+        (now (longest .entry)) (now (longest .exit)) (now (depths .entry)) (now (depths .exit)) (now (to .entry)) (now (to .exit)) r ⌝ }
 {
     if limit <= at {
         return limit + 1;
@@ -161,6 +170,7 @@ fn write_state(
     }
     let part = put_node(kind, to, limit, at, GREATEST, 0, 0);
     depths[state] = depth + 1;
+    *longest = greater(*longest, depth + 1);
     let end = write_rows(
         table,
         events,
@@ -172,6 +182,7 @@ fn write_state(
         0,
         to,
         part,
+        longest,
     );
     depths[state] = 0;
     end
@@ -189,17 +200,29 @@ fn write_rows(
     event: usize,
     to: &mut [u8],
     at: usize,
+    longest: &mut usize,
 ) -> usize
-    requires { ⌜ Ready kind limit events depth state at (now depths) (now to) × (event < events) ⌝ }
+    requires { ⌜ Ready kind limit events depth state at (now longest) (now depths) (now to) × (event < events) ⌝ }
     ensures { λ r. ⌜ Walked kind limit (λ ps. Rows (machine-of kind events (now (table .entry))) events ps state event) depth at
-        (now (depths .entry)) (now (depths .exit)) (now (to .entry)) (now (to .exit)) r ⌝ }
+        (now (longest .entry)) (now (longest .exit)) (now (depths .entry)) (now (depths .exit)) (now (to .entry)) (now (to .exit)) r ⌝ }
 {
     if limit <= at {
         return limit + 1;
     }
     let part = put_transition(kind, to, limit, at, event);
     let next = next_state(table, events, kind, state, event);
-    let end = write_state(table, events, kind, limit, depths, depth, next, to, part);
+    let end = write_state(
+        table,
+        events,
+        kind,
+        limit,
+        depths,
+        depth,
+        next,
+        to,
+        part,
+        longest,
+    );
     let value = value_of(table, events, kind, state, event);
     if event + 1 == events {
         return put_node(kind, to, limit, end, OUTPUT, event, value);
@@ -216,10 +239,11 @@ fn write_rows(
         event + 1,
         to,
         rest,
+        longest,
     )
 }
 
-// The nodes of the rule of a table, to the front of a buffer.
+// The nodes of the rule of a table, to the front of a buffer, and the length of its longest path of open states.
 fn list_nodes(
     table: &[u8],
     events: usize,
@@ -227,12 +251,24 @@ fn list_nodes(
     start: usize,
     limit: usize,
     to: &mut [u8],
+    longest: &mut usize,
 ) -> usize
-    requires { ⌜ HasRoom kind limit 0 (now to) × (0 < events) × (events ≤ 256) × (start < 256) ⌝ }
-    ensures { λ r. ⌜ Listed kind limit events start (now (table .entry)) (now (to .entry)) (now (to .exit)) r ⌝ }
+    requires { ⌜ HasRoom kind limit 0 (now to) × (0 < events) × (events ≤ 256) × (start < 256) × (now longest ≡ 0) ⌝ }
+    ensures { λ r. ⌜ Listed kind limit events start (now (longest .exit)) (now (table .entry)) (now (to .entry)) (now (to .exit)) r ⌝ }
 {
     let mut depths = [0usize; 256];
-    write_state(table, events, kind, limit, &mut depths, 0, start, to, 0)
+    write_state(
+        table,
+        events,
+        kind,
+        limit,
+        &mut depths,
+        0,
+        start,
+        to,
+        0,
+        longest,
+    )
 }
 
 // Copies the first bytes of a buffer to the front of another.
@@ -245,21 +281,29 @@ fn copy_front(from: &[u8], count: usize, to: &mut [u8])
     }
 }
 
-// Writes the rule of a table that is in order: refusals 12, 23 and 13, and the output. Of a rule, 23 is all that it can meet.
+// Writes the rule of a table that is in order: refusals 12, 23 and 13, and the output.
 fn write_nodes(table: &[u8], events: usize, kind: ValueKind, start: usize, to: &mut [u8]) -> Counted
-    requires { ⌜ (0 < events) × (events ≤ 256) × (start < 256) × RuleWellFormed events kind start (now table) ⌝ }
+    requires { ⌜ (0 < events) × (events ≤ 256) × (start < 256) ⌝ }
     ensures { λ r. ⌜ Answered kind node-limit events start (now (table .entry)) (now (to .entry)) (now (to .exit)) r ⌝ }
 {
     let mut nodes = [0u8; RULE_BYTES];
-    let count = list_nodes(table, events, kind, start, NODE_LIMIT, &mut nodes);
+    let mut longest: usize = 0;
+    let count = list_nodes(
+        table,
+        events,
+        kind,
+        start,
+        NODE_LIMIT,
+        &mut nodes,
+        &mut longest,
+    );
     if NODE_LIMIT < count {
         return Counted::Refused(Refusal::Plain(WRITTEN_SIZE));
     }
-    let bytes = count * node_width(kind);
-    let judged = check_rule(events, kind, &nodes[..bytes]);
-    if let Judgement::Refused(reason) = judged {
-        return Counted::Refused(reason);
+    if BINDER_LIMIT < longest {
+        return Counted::Refused(Refusal::Plain(BINDER_DEPTH));
     }
+    let bytes = count * node_width(kind);
     if to.len() < bytes {
         return Counted::Refused(Refusal::Plain(BUFFER_LENGTH));
     }

@@ -20,7 +20,7 @@ use Rattle.formulas.specs.{NodeReading.{Reads}, RuleReading.{kind-of, fi
 use Rattle.formulas.specs.RuleRefusal.{depth-refusal, structure-refusal, misfit-place, nodes-refusal, kind-at, first-at, value-at, rule-refusal}
 use Rattle.formulas.specs.{RuleRefusal.{formula-of}, NodeWalks.{field}, NodeArrays.{padded, decoded-count, decoded}}
 use Rattle.formulas.specs.RuleConditions.{byte-conditions}
-use Rattle.formulas.specs.Claims.{RuleRefusalClaim, AcceptedClaim, WellFormedRefusalClaim, DepthClaim, TooDeepClaim, ProtectedClaim, FormulaOfClaim}
+use Rattle.formulas.specs.Claims.{RuleRefusalClaim, AcceptedClaim, DepthClaim, TooDeepClaim, ProtectedClaim, FormulaOfClaim}
 use Rattle.formulas.specs.Claims.{AcceptedFormulaClaim, DecodedClaim, DecodedRefusalClaim, ReadsClaim, ReadsBackClaim, ReadsUniqueClaim}
 use Rattle.formulas.proofs.{Padding.{padded-field}, Answers.{from-same}, Prefix.{length-nodes, first-is}}
 use Rattle.formulas.proofs.{Reading.{reads-nodes, reads-unique, whole-read}, Decoding.{decoded-refusal}}
@@ -199,12 +199,6 @@ accepted-claim events kind bytes = (
       (w .1 .accepted .within) (w .1 .accepted .well-formed))
       ∙ shallow-unmet (w .0) (w .1 .accepted .shallow),
 )
-
-pub well-formed-refusal : WellFormedRefusalClaim
-well-formed-refusal events kind φ within w =
-    let bytes = encode-formula (node-bytes kind) φ in
-    first-unique (byte-conditions events kind bytes) _ _ (first-of-rule events kind bytes)
-    (well-formed-first (node-width kind) (node-bytes kind) (node-code kind) node-limit events (ValueIn kind) bytes φ refl within w)
 
 pub too-deep-claim : TooDeepClaim
 too-deep-claim events kind φ within fit bound =

@@ -3,7 +3,7 @@ use mathlib.Core.{Path.{_≡_}, Logic.{_↔_}, Bool.{true}, Option.{none, some},
 use Prim.Native.Nat.{ℕ, _*_, _≤_, _<_}
 use lib.ListN.{length}
 use Rattle.theory.specs.Formula.{Formula, size, Node}
-use Rattle.theory.specs.FormulaClasses.{binder-depth, WellFormed, Accepted}
+use Rattle.theory.specs.FormulaClasses.{binder-depth, Accepted}
 use Rattle.values.specs.declared.ValueKind.{ValueKind}
 use Rattle.values.specs.Setup.{ValueIn}
 use Rattle.values.specs.ValueTests.{value-fits}
@@ -13,7 +13,7 @@ use Rattle.formulas.specs.NodeCode.{NodeCode, three-bytes, field-list, H
 use Rattle.formulas.specs.RuleConditions.{encode-formula, node-width, node-bytes, Unbound, TooDeep, Unprotected}
 use Rattle.formulas.specs.RuleConditions.{NodeAtFault, rule-conditions, byte-conditions}
 use Rattle.formulas.specs.{NodeReading.{Reads}, NodeWalks.{field}, NodeArrays.{decoded}}
-use Rattle.formulas.specs.RuleRefusal.{count-fits, depth-refusal, fields-refusal, kind-at, first-at, value-at, rule-refusal, formula-of}
+use Rattle.formulas.specs.RuleRefusal.{count-fits, fields-refusal, kind-at, first-at, value-at, rule-refusal, formula-of}
 
 -- With values of either kind, nodes are written in bytes so that equal bytes are of equal nodes.
 abbrev pub NodeCodeClaim : Type 0
@@ -47,12 +47,6 @@ abbrev pub AcceptedClaim : Type 0
 AcceptedClaim =
     (events : ℕ) (kind : ValueKind) (bytes : List ℕ)
     → (rule-refusal events kind bytes ≡ none) ↔ ((φ : Formula ℕ) × AcceptedFormula events kind bytes φ)
-
--- A well-formed formula within the limit of nodes meets 23 or nothing.
-abbrev pub WellFormedRefusalClaim : Type 0
-WellFormedRefusalClaim =
-    (events : ℕ) (kind : ValueKind) (φ : Formula ℕ) → size φ ≤ node-limit → WellFormed events (ValueIn kind) φ
-    → rule-refusal events kind (encode-formula (node-bytes kind) φ) ≡ depth-refusal φ
 
 -- A path has more than twelve V nodes exactly if the most on a path are more (document 02, F-9).
 abbrev pub DepthClaim : Type 1

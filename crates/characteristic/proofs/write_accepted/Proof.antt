@@ -2,7 +2,7 @@
 use mathlib.Core.Path.{sym, _∙_}
 use native.Mathlib.Omega.{arith}
 use borrow.Author.Needs.{needs}
-use Rattle.characteristic.proofs.Answers.{refused-table, written-table, rule-well-formed, small-start}
+use Rattle.characteristic.proofs.Answers.{refused-table, written-table, small-start}
 use Rattle.characteristic.proofs.write_accepted.Statement.{statement}
 use Rattle.characteristic.proofs.write_accepted.Tie as tie
 
@@ -18,8 +18,6 @@ write-nodes-requires c κs =
       c .before .before .before .before .before .before .pre .0,
       omega (arith, c .before .before .before .before .before .before .pre .1),
       small-start (a .events) (a .kind) (a .states) (a .start) (a .table .now) (a .to .now)
-          (sym (c .before .before .before .check-table .ensures) ∙ c .before .enum-told .given .1),
-      rule-well-formed (a .events) (a .kind) (a .states) (a .start) (a .table .now) (a .to .now)
           (sym (c .before .before .before .check-table .ensures) ∙ c .before .enum-told .given .1),
     )
 
