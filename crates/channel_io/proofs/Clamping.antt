@@ -7,7 +7,8 @@ use lib.{Dec.{eqb, ltb, leb}, ListN.{length, getD, length-map, List·getD-map}}
 use borrow.Author.Tests.{ltb-true, ltb-false, lt-ltb, le-ltb, eqb-true, eqb-false, eq-eqb, ne-eqb}
 use Rattle.limits.specs.Limits.{event-limit, value-limit, node-limit, binder-limit}
 use Rattle.theory.specs.Formula.{Formula, truth, variable, transition, output, conjunction, greatest, size}
-use Rattle.theory.specs.FormulaClasses.{binder-depth, FreeBelow, Fits}
+use Rattle.theory.specs.FormulaClasses.{FreeBelow, Fits}
+use Rattle.theory.specs.BinderDepth.{binder-depth}
 use Rattle.theory.specs.Formula.{Node, truth-node, variable-node, transition-node, output-node, conjunction-node, greatest-node}
 use Rattle.theory.specs.ValueSets.{Below}
 use Rattle.theory.specs.ValueSetTests.{every, lawful}

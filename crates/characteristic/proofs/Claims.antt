@@ -6,7 +6,8 @@ use lib.{ListN.{length}, Dec.{leb}}
 use borrow.Author.Tests.{leb-true, leb-false}
 use Rattle.limits.specs.Limits.{node-limit, binder-limit, state-limit, table-limit}
 use Rattle.theory.specs.Formula.{Formula, size}
-use Rattle.theory.specs.FormulaClasses.{binders, binder-depth, Accepted}
+use Rattle.theory.specs.FormulaClasses.{binders, Accepted}
+use Rattle.theory.specs.BinderDepth.{binder-depth}
 use Rattle.theory.specs.ReachableStates.{StatesAtMost}
 use Rattle.theory.proofs.{Claims.{characteristic}, CharacteristicFormula.{writes-one, writes-accepted, few-binders}}
 use Rattle.refusal.specs.Refusal.{plain, First, has-place, condition-numbers, right-places, part-of, order}
@@ -58,8 +59,8 @@ module _ (table-most node-most : ℕ) (s : Setup) (states start : ℕ) (table : 
         (depth-refusal φ)
         (plain-unless (leb (size φ * node-width (s .kind)) room) 13)
         (plain-first 23 _ (leb (binder-depth φ) binder-limit)
-        (λ e. (φ, w, depth-claim ℕ φ .1 (leb-false (binder-depth φ) binder-limit e)))
-        (λ e (χ, v, h). omega (arith, leb-true (binder-depth φ) binder-limit e, depth-claim ℕ χ .0 h, ap binder-depth (same-rule χ v))))
+        (λ e. (φ, w, depth-claim ℕ φ binder-limit .1 (leb-false (binder-depth φ) binder-limit e)))
+        (λ e (χ, v, h). omega (arith, leb-true (binder-depth φ) binder-limit e, depth-claim ℕ χ binder-limit .0 h, ap binder-depth (same-rule χ v))))
         (plain-first 13 _ (leb (size φ * node-width (s .kind)) room)
         (λ e. (φ, w, omega (arith, leb-false (size φ * node-width (s .kind)) room e, bytes-of φ)))
         (λ e (χ, v, h).

@@ -5,7 +5,7 @@ use native.Mathlib.{Nat.{zero-mul, mul-le-mul}, Numerals.{add-one}, Omega.{arith
 use lib.{ListN.{length, getD, take, set, replicate, length-take, length-replicate}, Seq.{take-suc}}
 use borrow.Author.Tests.{le-leb, lt-leb}
 use Rattle.limits.specs.Limits.{node-limit, binder-limit}
-use Rattle.theory.specs.{Formula.{Formula, size}, FormulaClasses.{binder-depth}, CharacteristicFormula.{Writes}}
+use Rattle.theory.specs.{Formula.{Formula, size}, BinderDepth.{binder-depth}, CharacteristicFormula.{Writes}}
 use Rattle.refusal.specs.declared.Refusal.{Refusal}
 use Rattle.refusal.specs.declared.Refusal.the-variants.{Plain}
 use Rattle.refusal.specs.declared.Counted.the-variants.{Count, Refused}

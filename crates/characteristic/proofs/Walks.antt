@@ -3,7 +3,7 @@ use mathlib.Core.{Path.{_≡_, refl, sym, _∙_, ap, subst}, List.{List, [], _�
 use Prim.Native.Nat.{ℕ, zero, suc, max, _+_, _-_, _≤_, _<_}
 use native.Mathlib.Omega.{arith}
 use lib.ListN.{length, getD, set, length-set}
-use Rattle.theory.specs.{Formula.{Formula}, FormulaClasses.{binder-depth}, MealyMachine.{Machine}}
+use Rattle.theory.specs.{Formula.{Formula}, BinderDepth.{binder-depth}, MealyMachine.{Machine}}
 use Rattle.theory.specs.Formula.{Node, variable-node, transition-node, output-node, conjunction-node, greatest-node, nodes}
 use Rattle.theory.specs.CharacteristicFormula.{OpenAt, Writes, already-open, opened, Rows, last-row, row}
 use Rattle.theory.proofs.{CharacteristicFormula.{open-one}, PrefixCode.{size-positive}}

@@ -4,7 +4,7 @@ use Prim.Native.Nat.{ℕ, suc, _*_, _≤_, _<_}
 use native.Mathlib.Omega.{arith}
 use lib.{Dec.{lit≤}, ListN.{length}}
 use Rattle.limits.specs.Limits.{node-limit, binder-limit, table-limit}
-use Rattle.theory.specs.{Formula.{Formula, size}, FormulaClasses.{binder-depth}, ValueSetTests.{every}}
+use Rattle.theory.specs.{Formula.{Formula, size}, BinderDepth.{binder-depth}, ValueSetTests.{every}}
 use Rattle.refusal.specs.declared.{Refusal.{Refusal}, Refusal.the-variants.{Plain}}
 use Rattle.refusal.specs.declared.Counted.the-variants.{Count, Refused}
 use Rattle.refusal.specs.RefusalAnswers.{counted, plain-unless}

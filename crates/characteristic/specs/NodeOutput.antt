@@ -3,7 +3,7 @@ use mathlib.Core.{Path.{_≡_}, Option.{none}, List.{List, [], _∷_, _++_}}
 use Prim.Native.Nat.{ℕ, _+_, _*_, _-_, _≤_, _<_, min, max}
 use lib.ListN.{length, getD, take}
 use Rattle.limits.specs.Limits.{table-limit, node-limit}
-use Rattle.theory.specs.{Formula.{Formula, size, Node, nodes}, FormulaClasses.{binder-depth}, CharacteristicFormula.{OpenAt}}
+use Rattle.theory.specs.{Formula.{Formula, size, Node, nodes}, BinderDepth.{binder-depth}, CharacteristicFormula.{OpenAt}}
 use Rattle.refusal.specs.{declared.Counted.{Counted}, RefusalAnswers.{counted, put-unless}}
 use Rattle.values.specs.{declared.ValueKind.{ValueKind}, Setup.{setup-of-kind}, SetupTests.{setup-refusal}}
 use Rattle.formulas.specs.{NodeCode.{kind-number, first-field, value-field}, RuleConditions.{encode-all, encode-formula, node-width, node-bytes}}

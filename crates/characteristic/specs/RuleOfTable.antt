@@ -5,6 +5,7 @@ use lib.ListN.{length}
 use Rattle.theory.specs.{Formula.{Formula, size, Answers}, MealyMachine.{Word, after}, CharacteristicFormula.{Writes}}
 use Rattle.refusal.specs.Refusal.{Condition, plain, First}
 use Rattle.values.specs.{declared.ValueKind.{ValueKind}, Setup.{Setup, SetupValue, setup-meet, setup-top, setup-conditions}}
+use Rattle.limits.specs.Limits.{binder-limit}
 use Rattle.formulas.specs.RuleConditions.{encode-formula, node-bytes, TooDeep, byte-conditions}
 use Rattle.machines.specs.TableBytes.{entry-width, machine-of, table-condition}
 
@@ -19,7 +20,7 @@ module _ (table-most node-most : ℕ) (s : Setup) (states start : ℕ) (table : 
 
   -- 23: "A written rule obeys it too": a path of it with more than twelve V nodes.
   abbrev pub WrittenTooDeep : Type 0
-  WrittenTooDeep = (φ : Formula ℕ) × IsRuleOf (s .events) (s .kind) start table φ × TooDeep φ
+  WrittenTooDeep = (φ : Formula ℕ) × IsRuleOf (s .events) (s .kind) start table φ × TooDeep φ binder-limit
 
   -- 13: lent buffer shorter than the output.
   abbrev pub BufferTooShort : ℕ → Type 0

@@ -5,7 +5,7 @@ use Prim.Native.Nat.{ℕ, zero, suc, _+_, _≤_, _<_}
 use native.Mathlib.Omega.{arith}
 use lib.Dec.{ltb, leb}
 use borrow.Author.Tests.{not-false, lt-ltb, le-ltb, le-leb, lt-leb}
-use Rattle.theory.specs.{Formula.{Formula, size}, FormulaClasses.{binder-depth}}
+use Rattle.theory.specs.{Formula.{Formula, size}, BinderDepth.{binder-depth}}
 use Rattle.refusal.specs.RefusalAnswers.{or-else, plain-unless, at-found, judgement}
 use Rattle.refusal.specs.declared.Refusal.{Refusal}
 use Rattle.refusal.specs.declared.Refusal.the-variants.{Plain, At}
@@ -53,17 +53,17 @@ module _ (φ : Formula ℕ) where
   unfolding variables-refusal
   answer-unbound p e = first-answer (lowest-unbound 0 0 φ) 8 p (or-else (depth-refusal φ) (at-found (lowest-unprotected 0 0 φ) 9)) e
 
-  pub answer-deep : lowest-unbound 0 0 φ ≡ none → (p : ℕ) → lowest-deep 0 0 φ ≡ some p → variables-refusal φ ≡ some (Plain 23)
+  pub answer-deep : lowest-unbound 0 0 φ ≡ none → (p : ℕ) → lowest-deep binder-limit 0 0 φ ≡ some p → variables-refusal φ ≡ some (Plain 23)
   unfolding variables-refusal depth-refusal plain-unless or-else
   answer-deep e p d =
       later-answer (lowest-unbound 0 0 φ) 8 (or-else (depth-refusal φ) (at-found (lowest-unprotected 0 0 φ) 9)) e
-      ∙ ap (λ b. or-else (plain-unless b 23) (at-found (lowest-unprotected 0 0 φ) 9)) (lt-leb (binder-depth φ) binder-limit (found-deep φ p d))
+      ∙ ap (λ b. or-else (plain-unless b 23) (at-found (lowest-unprotected 0 0 φ) 9)) (lt-leb (binder-depth φ) binder-limit (found-deep binder-limit φ p d))
 
-  pub answer-unprotected : lowest-unbound 0 0 φ ≡ none → lowest-deep 0 0 φ ≡ none → variables-refusal φ ≡ at-found (lowest-unprotected 0 0 φ) 9
+  pub answer-unprotected : lowest-unbound 0 0 φ ≡ none → lowest-deep binder-limit 0 0 φ ≡ none → variables-refusal φ ≡ at-found (lowest-unprotected 0 0 φ) 9
   unfolding variables-refusal depth-refusal plain-unless or-else
   answer-unprotected e d =
       later-answer (lowest-unbound 0 0 φ) 8 (or-else (depth-refusal φ) (at-found (lowest-unprotected 0 0 φ) 9)) e
-      ∙ ap (λ b. or-else (plain-unless b 23) (at-found (lowest-unprotected 0 0 φ) 9)) (le-leb (binder-depth φ) binder-limit (clear-shallow φ d))
+      ∙ ap (λ b. or-else (plain-unless b 23) (at-found (lowest-unprotected 0 0 φ) 9)) (le-leb (binder-depth φ) binder-limit (clear-shallow binder-limit φ d))
 
 module _ (kind first value : ℕ → ℕ) (count : ℕ) where
   -- Where every kind is known and 7 is not met, the formula reads from node 0 on to the last node.

@@ -8,7 +8,8 @@ use lib.{Dec.{leb}, ListN.{length, take, drop}}
 use borrow.Author.Tests.{eq-eqb, lt-ltb, le-leb, leb-true, leb-false, not-true, not-false}
 use Rattle.limits.specs.Limits.{binder-limit}
 use Rattle.theory.specs.Formula.{Formula, truth, variable, transition, output, conjunction, greatest, size}
-use Rattle.theory.specs.FormulaClasses.{binder-depth, Fits, WellFormed, Accepted}
+use Rattle.theory.specs.FormulaClasses.{Fits, WellFormed, Accepted}
+use Rattle.theory.specs.BinderDepth.{binder-depth}
 use Rattle.theory.specs.Formula.{Node, nodes}
 use Rattle.refusal.specs.Refusal.{Condition, plain, at-lowest, Gives, First}
 use Rattle.refusal.specs.RefusalAnswers.{or-else, plain-unless, at-found}
@@ -110,12 +111,12 @@ module _ {B : Type 0} (width : ℕ) (encode : Node B → List ℕ) (code : NodeC
   of-formula φ e Met (χ, d, x) = subst Met (one-formula χ φ d e) x
 
   -- 23.
-  deep-first : (φ : Formula B) → bytes ≡ encode-formula encode φ → First (plain 23 (OfFormula encode bytes TooDeep) ∷ []) (depth-refusal φ)
+  deep-first : (φ : Formula B) → bytes ≡ encode-formula encode φ → First (plain 23 (OfFormula encode bytes (λ φ. TooDeep φ binder-limit)) ∷ []) (depth-refusal φ)
   unfolding depth-refusal
   deep-first φ e =
-      plain-first 23 (OfFormula encode bytes TooDeep) (leb (binder-depth φ) binder-limit)
-      (λ t. (φ, e, too-deep φ .1 (leb-false (binder-depth φ) binder-limit t)))
-      (λ t m. omega (arith, too-deep φ .0 (of-formula φ e TooDeep m), leb-true (binder-depth φ) binder-limit t))
+      plain-first 23 (OfFormula encode bytes (λ φ. TooDeep φ binder-limit)) (leb (binder-depth φ) binder-limit)
+      (λ t. (φ, e, too-deep binder-limit φ .1 (leb-false (binder-depth φ) binder-limit t)))
+      (λ t m. omega (arith, too-deep binder-limit φ .0 (of-formula φ e (λ χ. TooDeep χ binder-limit) m), leb-true (binder-depth φ) binder-limit t))
 
   -- What is found in the one formula is found of it.
   found-there :
@@ -126,7 +127,7 @@ module _ {B : Type 0} (width : ℕ) (encode : Node B → List ℕ) (code : NodeC
 
   -- 23, then 9, where every variable has a binder.
   abbrev pub last-two : List Condition
-  last-two = plain 23 (OfFormula encode bytes TooDeep) ∷ at-lowest 9 (λ i. OfFormula encode bytes (λ φ. Unprotected φ i)) ∷ []
+  last-two = plain 23 (OfFormula encode bytes (λ φ. TooDeep φ binder-limit)) ∷ at-lowest 9 (λ i. OfFormula encode bytes (λ φ. Unprotected φ i)) ∷ []
 
   abbrev last-answer : Formula B → Option Refusal
   last-answer φ = or-else (depth-refusal φ) (at-found (lowest-unprotected 0 0 φ) 9)
@@ -134,7 +135,7 @@ module _ {B : Type 0} (width : ℕ) (encode : Node B → List ℕ) (code : NodeC
   first-last : (φ : Formula B) → bytes ≡ encode-formula encode φ → ((j : ℕ) → ¬ Unbound φ j) → First last-two (last-answer φ)
   first-last φ e bound =
       let unprotected = found-there φ e Unprotected (lowest-unprotected 0 0 φ) (unprotected-answered φ bound) in
-      first-then (plain 23 (OfFormula encode bytes TooDeep) ∷ []) _ (depth-refusal φ) (at-found (lowest-unprotected 0 0 φ) 9) (deep-first φ e)
+      first-then (plain 23 (OfFormula encode bytes (λ φ. TooDeep φ binder-limit)) ∷ []) _ (depth-refusal φ) (at-found (lowest-unprotected 0 0 φ) 9) (deep-first φ e)
       (λ d.
       first-one _ (at-found (lowest-unprotected 0 0 φ) 9)
       (answered-met _ 9 (lowest-unprotected 0 0 φ) unprotected)
@@ -202,7 +203,7 @@ module _ {B : Type 0} (width : ℕ) (encode : Node B → List ℕ) (code : NodeC
     unfolding or-else
     depth-decides fit bound protected =
         past-eight fit bound (depth-refusal φ) (subst (First last-two) (alone (depth-refusal φ))
-        (first-then (plain 23 (OfFormula encode bytes TooDeep) ∷ []) _ (depth-refusal φ) none (deep-first φ written) (λ e. not-nine protected)))
+        (first-then (plain 23 (OfFormula encode bytes (λ φ. TooDeep φ binder-limit)) ∷ []) _ (depth-refusal φ) none (deep-first φ written) (λ e. not-nine protected)))
       where
         alone : (o : Option Refusal) → or-else o none ≡ o
         alone none = refl
@@ -211,7 +212,7 @@ module _ {B : Type 0} (width : ℕ) (encode : Node B → List ℕ) (code : NodeC
     -- Where 6 and 8 are not met, 23 is the answer exactly if a path is too deep, whatever 9 says.
     pub deep-exactly :
         ((i : ℕ) → ¬ NodeAtFault width encode bytes events In i) → ((i : ℕ) → ¬ Unbound φ i)
-        → First (rule-conditions width encode limit events In bytes) (some (Plain 23)) ↔ TooDeep φ
+        → First (rule-conditions width encode limit events In bytes) (some (Plain 23)) ↔ TooDeep φ binder-limit
     unfolding First depth-refusal plain-unless or-else at-found
     deep-exactly fit bound = (
       (λ h. by-depth (leb (binder-depth φ) binder-limit) refl
@@ -225,8 +226,8 @@ module _ {B : Type 0} (width : ℕ) (encode : Node B → List ℕ) (code : NodeC
 
         by-depth :
             (b : Bool) → leb (binder-depth φ) binder-limit ≡ b
-            → some (Plain 23) ≡ or-else (plain-unless (leb (binder-depth φ) binder-limit) 23) (at-found (lowest-unprotected 0 0 φ) 9) → TooDeep φ
-        by-depth false d e = too-deep φ .1 (leb-false (binder-depth φ) binder-limit d)
+            → some (Plain 23) ≡ or-else (plain-unless (leb (binder-depth φ) binder-limit) 23) (at-found (lowest-unprotected 0 0 φ) 9) → TooDeep φ binder-limit
+        by-depth false d e = too-deep binder-limit φ .1 (leb-false (binder-depth φ) binder-limit d)
         by-depth true d e =
             absurd (not-nine-found (lowest-unprotected 0 0 φ)
             (e ∙ ap (λ b. or-else (plain-unless b 23) (at-found (lowest-unprotected 0 0 φ) 9)) d))

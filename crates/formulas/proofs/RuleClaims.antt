@@ -6,7 +6,8 @@ use lib.{Dec.{leb}, ListN.{length, drop}}
 use borrow.Author.Tests.{le-leb, leb-true, leb-false}
 use Rattle.limits.specs.Limits.{node-limit, binder-limit}
 use Rattle.theory.specs.Formula.{Formula, size}
-use Rattle.theory.specs.FormulaClasses.{binder-depth, Accepted}
+use Rattle.theory.specs.FormulaClasses.{Accepted}
+use Rattle.theory.specs.BinderDepth.{binder-depth}
 use Rattle.theory.specs.Formula.{Node, nodes}
 use Rattle.values.specs.declared.ValueKind.{ValueKind}
 use Rattle.values.specs.Setup.{ValueIn}
@@ -206,14 +207,14 @@ too-deep-claim events kind φ within fit bound =
     fit bound
 
 pub depth-claim : DepthClaim
-depth-claim B φ = too-deep φ
+depth-claim B φ most = too-deep most φ
 
-not-deep : (φ : Formula ℕ) → ¬ TooDeep φ → binder-depth φ ≤ binder-limit
+not-deep : (φ : Formula ℕ) → ¬ TooDeep φ binder-limit → binder-depth φ ≤ binder-limit
 not-deep φ h = go (leb (binder-depth φ) binder-limit) refl
   where
     go : (b : Bool) → leb (binder-depth φ) binder-limit ≡ b → binder-depth φ ≤ binder-limit
     go true e = leb-true (binder-depth φ) binder-limit e
-    go false e = absurd (h (too-deep φ .1 (leb-false (binder-depth φ) binder-limit e)))
+    go false e = absurd (h (too-deep binder-limit φ .1 (leb-false (binder-depth φ) binder-limit e)))
 
 pub protected-claim : ProtectedClaim
 protected-claim events kind φ within fit bound shallow =

@@ -4,7 +4,7 @@ use Prim.Native.Nat.{ℕ, zero, suc, _+_, _-_, _≤_, _<_}
 use native.Mathlib.{Numerals.{add-one}, Omega.{arith}}
 use lib.{ListN.{length, getD, set, length-set}, Seq.{getD-set-same, getD-set-other}}
 use borrow.Author.Tests.{le-ltb}
-use Rattle.limits.specs.Limits.{node-limit}
+use Rattle.limits.specs.Limits.{node-limit, binder-limit}
 use Rattle.theory.specs.Formula.{Formula, truth, variable, transition, output, conjunction, greatest, size}
 use Rattle.formulas.specs.{NodeReading.{Reads}, RuleReading.{first-of, Search, lowest-fault, unbound-below, path-full, bound-near}}
 use Rattle.formulas.specs.{RuleReading.{unbound-search, deep-search, unprotected-search}, NodeWalks.{Noted, Keeps, WalkJudged, Scanned}}
@@ -146,7 +146,7 @@ module _ (kind first : ℕ → ℕ) (depth near at left : ℕ) (before : List �
         high = omega arith;
         sized = l;
         unbound = λ value. walk-none kind first value unbound-search at left depth _ _ at e;
-        deep = λ value. walk-none kind first value deep-search at left depth _ _ at e;
+        deep = λ value. walk-none kind first value (deep-search binder-limit) at left depth _ _ at e;
         unprotected = λ value. walk-none kind first value unprotected-search at left near _ _ at e;
       }
 
@@ -159,7 +159,7 @@ module _ (kind first : ℕ → ℕ) (depth near at left : ℕ) (before : List �
         high = omega (arith, e);
         sized = l;
         unbound = λ value. walk-leaf kind first value unbound-search at left depth _ k1 k2 k4 k5;
-        deep = λ value. walk-leaf kind first value deep-search at left depth _ k1 k2 k4 k5;
+        deep = λ value. walk-leaf kind first value (deep-search binder-limit) at left depth _ k1 k2 k4 k5;
         unprotected = λ value. walk-leaf kind first value unprotected-search at left near _ k1 k2 k4 k5;
       }
 
@@ -176,7 +176,7 @@ module _ (kind first : ℕ → ℕ) (depth near at left : ℕ) (before : List �
           high = omega (arith, e);
           sized = l;
           unbound = λ value. walk-variable kind first value unbound-search at left depth _ _ k u;
-          deep = λ value. walk-variable kind first value deep-search at left depth _ _ k d;
+          deep = λ value. walk-variable kind first value (deep-search binder-limit) at left depth _ _ k d;
           unprotected = λ value. walk-variable kind first value unprotected-search at left near _ _ k v;
         }
 
@@ -190,13 +190,13 @@ module _ (kind first : ℕ → ℕ) (depth near at left : ℕ) (before : List �
             high = omega (arith, e, w .high);
             sized = w .sized;
             unbound = λ value. walk-transition kind first value unbound-search at left depth _ _ r k (w .unbound value);
-            deep = λ value. walk-transition kind first value deep-search at left depth _ _ r k (w .deep value);
+            deep = λ value. walk-transition kind first value (deep-search binder-limit) at left depth _ _ r k (w .deep value);
             unprotected = λ value. walk-transition kind first value unprotected-search at left near _ _ r k (w .unprotected value);
           }
 
       -- The note of a V is the second.
       pub scanned-greatest :
-          (n : ℕ) → ¬ (left ≡ 0) → length before ≡ 3 → kind at ≡ 5 → Keeps (cond (path-full depth) (some at) none) (getD before 1 0) n
+          (n : ℕ) → ¬ (left ≡ 0) → length before ≡ 3 → kind at ≡ 5 → Keeps (cond (path-full binder-limit depth) (some at) none) (getD before 1 0) n
           → Scanned kind first (depth + 1) (near + 1) (at + 1) (left - 1) (set before 1 n) after r
           → Scanned kind first depth near at left before after r
       scanned-greatest n e l k u w =
@@ -208,8 +208,8 @@ module _ (kind first : ℕ → ℕ) (depth near at left : ℕ) (before : List �
                 walk-greatest kind first value unbound-search at left depth _ _ r _ k (other 0 (λ q. omega (arith, q)))
                 (rw (← (add-one depth)) (w .unbound value));
             deep = λ value.
-                walk-greatest kind first value deep-search at left depth _ _ r _ k
-                (subst (Keeps (cond (path-full depth) (some at) none) (getD before 1 0)) (sym (getD-set-same before 1 n 0 (omega (arith, l)))) u)
+                walk-greatest kind first value (deep-search binder-limit) at left depth _ _ r _ k
+                (subst (Keeps (cond (path-full binder-limit depth) (some at) none) (getD before 1 0)) (sym (getD-set-same before 1 n 0 (omega (arith, l)))) u)
                 (rw (← (add-one depth)) (w .deep value));
             unprotected = λ value.
                 walk-greatest kind first value unprotected-search at left near _ _ r _ k (other 2 (λ q. omega (arith, q)))
@@ -229,7 +229,7 @@ module _ (kind first : ℕ → ℕ) (depth near at left : ℕ) (before : List �
             sized = v .sized;
             unbound = λ value.
                 walk-conjunction kind first value unbound-search at left depth _ _ r m _ k (w .unbound value) (v .unbound value);
-            deep = λ value. walk-conjunction kind first value deep-search at left depth _ _ r m _ k (w .deep value) (v .deep value);
+            deep = λ value. walk-conjunction kind first value (deep-search binder-limit) at left depth _ _ r m _ k (w .deep value) (v .deep value);
             unprotected = λ value.
                 walk-conjunction kind first value unprotected-search at left near _ _ r m _ k (w .unprotected value) (v .unprotected value);
           }

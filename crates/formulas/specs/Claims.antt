@@ -3,7 +3,8 @@ use mathlib.Core.{Path.{_≡_}, Logic.{_↔_}, Bool.{true}, Option.{none, some},
 use Prim.Native.Nat.{ℕ, _*_, _≤_, _<_}
 use lib.ListN.{length}
 use Rattle.theory.specs.Formula.{Formula, size, Node}
-use Rattle.theory.specs.FormulaClasses.{binder-depth, Accepted}
+use Rattle.theory.specs.FormulaClasses.{Accepted}
+use Rattle.theory.specs.BinderDepth.{binder-depth}
 use Rattle.values.specs.declared.ValueKind.{ValueKind}
 use Rattle.values.specs.Setup.{ValueIn}
 use Rattle.values.specs.ValueTests.{value-fits}
@@ -48,9 +49,9 @@ AcceptedClaim =
     (events : ℕ) (kind : ValueKind) (bytes : List ℕ)
     → (rule-refusal events kind bytes ≡ none) ↔ ((φ : Formula ℕ) × AcceptedFormula events kind bytes φ)
 
--- A path has more than twelve V nodes exactly if the most on a path are more (document 02, F-9).
+-- A path has more V nodes than a limit exactly if the most on a path are more, for any limit (document 02, F-9).
 abbrev pub DepthClaim : Type 1
-DepthClaim = (B : Type 0) (φ : Formula B) → TooDeep φ ↔ (binder-limit < binder-depth φ)
+DepthClaim = (B : Type 0) (φ : Formula B) (most : ℕ) → TooDeep φ most ↔ (most < binder-depth φ)
 
 -- Of a formula within the limit of nodes whose nodes fit and whose variables have binders, 23 is the answer exactly if a path has more
 -- than twelve V nodes.
@@ -59,7 +60,7 @@ TooDeepClaim =
     (events : ℕ) (kind : ValueKind) (φ : Formula ℕ) → size φ ≤ node-limit
     → ((i : ℕ) → ¬ NodeAtFault (node-width kind) (node-bytes kind) (encode-formula (node-bytes kind) φ) events (ValueIn kind) i)
     → ((i : ℕ) → ¬ Unbound φ i)
-    → First (byte-conditions events kind (encode-formula (node-bytes kind) φ)) (some (Plain 23)) ↔ TooDeep φ
+    → First (byte-conditions events kind (encode-formula (node-bytes kind) φ)) (some (Plain 23)) ↔ TooDeep φ binder-limit
 
 -- Of a formula within the limits whose nodes fit and whose variables have binders, the bytes are accepted exactly if a G lies between each
 -- variable and its own binder (document 02, F-2).
@@ -68,7 +69,7 @@ ProtectedClaim =
     (events : ℕ) (kind : ValueKind) (φ : Formula ℕ) → size φ ≤ node-limit
     → ((i : ℕ) → ¬ NodeAtFault (node-width kind) (node-bytes kind) (encode-formula (node-bytes kind) φ) events (ValueIn kind) i)
     → ((i : ℕ) → ¬ Unbound φ i)
-    → ¬ TooDeep φ
+    → ¬ TooDeep φ binder-limit
     → (rule-refusal events kind (encode-formula (node-bytes kind) φ) ≡ none) ↔ ((i : ℕ) → ¬ Unprotected φ i)
 
 -- Bytes are the code of one formula at most, and that one is `formula-of`.

@@ -6,7 +6,7 @@ use Rattle.theory.specs.Formula.{Formula, size}
 use Rattle.refusal.specs.{RefusalAnswers.{judgement}, declared.Judgement.{Judgement}}
 use Rattle.formulas.specs.{NodeReading.{Reads}, RuleReading.{first-of, lowest-unbound, lowest-deep, lowest-unprotected}}
 use Rattle.formulas.specs.RuleRefusal.{variables-refusal}
-use Rattle.limits.specs.Limits.{node-limit}
+use Rattle.limits.specs.Limits.{node-limit, binder-limit}
 
 -- A note: the number of a node, or the limit, which is above every node's, where nothing is noted.
 unfoldable pub Noted : Option ℕ → ℕ → Type 0
@@ -29,7 +29,7 @@ pub record Scanned (kind first : ℕ → ℕ) (depth near at left : ℕ) (before
   pub high : r ≤ at + left
   pub sized : length after ≡ 3
   pub unbound : (value : ℕ → ℕ) → WalkJudged kind first value (lowest-unbound depth) at left (getD before 0 0) (getD after 0 0) r
-  pub deep : (value : ℕ → ℕ) → WalkJudged kind first value (lowest-deep depth) at left (getD before 1 0) (getD after 1 0) r
+  pub deep : (value : ℕ → ℕ) → WalkJudged kind first value (lowest-deep binder-limit depth) at left (getD before 1 0) (getD after 1 0) r
   pub unprotected : (value : ℕ → ℕ) → WalkJudged kind first value (lowest-unprotected near) at left (getD before 2 0) (getD after 2 0) r
 
 -- The answer of 8, 23 and 9, for the formula whose nodes these are.

@@ -11,7 +11,7 @@ pub record RuleCase : Type 0 where
   pub answer : Option Refusal
 
 -- So many V nodes in a row, and what follows.
-abbrev below-binders : ℕ → List (Node ℕ) → List (Node ℕ)
+abbrev pub below-binders : ℕ → List (Node ℕ) → List (Node ℕ)
 below-binders zero ns = ns
 below-binders (suc n) ns = greatest-node ∷ below-binders n ns
 

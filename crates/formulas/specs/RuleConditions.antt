@@ -37,17 +37,17 @@ node-bytes kind n = node-fields n .0 ∷ node-fields n .1 ∷ value-bytes kind (
 pub data Mark : Type 0 where
   binder-mark transition-mark : Mark
 
--- "a G lies between it and its own binder" (document 02, F-2): on the way up from variable n a G comes before its own binder, the V after
--- n others.
-pub data Protected : List Mark → ℕ → Type 0 where
-  by-transition : {ms : List Mark} {n : ℕ} → Protected (transition-mark ∷ ms) n
-  past-binder : {ms : List Mark} {n : ℕ} → Protected ms n → Protected (binder-mark ∷ ms) (suc n)
-
 -- How many of them are V nodes.
 abbrev pub binders-above : List Mark → ℕ
 binders-above [] = zero
 binders-above (binder-mark ∷ ms) = suc (binders-above ms)
 binders-above (transition-mark ∷ ms) = binders-above ms
+
+-- "a G lies between it and its own binder" (document 02, F-2): on the way up from variable n a G comes before its own binder, the V after
+-- n others.
+pub data Protected : List Mark → ℕ → Type 0 where
+  by-transition : {ms : List Mark} {n : ℕ} → Protected (transition-mark ∷ ms) n
+  past-binder : {ms : List Mark} {n : ℕ} → Protected ms n → Protected (binder-mark ∷ ms) (suc n)
 
 -- `Placed i ms ψ`: the part ψ stands at node i, below these.
 module _ {B : Type 0} (φ : Formula B) where
@@ -62,9 +62,9 @@ module _ {B : Type 0} (φ : Formula B) where
   abbrev pub Unbound : ℕ → Type 0
   Unbound i = (bs : List ℕ) × (n : ℕ) × Stands φ i bs (variable n) × (length bs ≤ n)
 
-  -- "a path with more than twelve V nodes" (document 02, F-9): some part stands below more than twelve.
-  abbrev pub TooDeep : Type 0
-  TooDeep = (i : ℕ) × (ms : List Mark) × (ψ : Formula B) × Placed i ms ψ × (binder-limit < binders-above ms)
+  -- "a path with more than twelve V nodes" (document 02, F-9), for any limit: some part stands below more than `most`.
+  abbrev pub TooDeep : ℕ → Type 0
+  TooDeep most = (i : ℕ) × (ms : List Mark) × (ψ : Formula B) × Placed i ms ψ × (most < binders-above ms)
 
   -- Node i is a variable with no G between it and its own binder. 8 speaks first, of variables that have none.
   abbrev pub Unprotected : ℕ → Type 0
@@ -115,7 +115,7 @@ rule-conditions width encode limit events In bytes = plain 5 (CountAtFault width
     ∷ at-lowest 6 (NodeAtFault width encode bytes events In)
     ∷ at-lowest 7 (λ p. RunOut width encode bytes p ⊎ LeftOver encode bytes p)
     ∷ at-lowest 8 (λ i. OfFormula encode bytes (λ φ. Unbound φ i))
-    ∷ plain 23 (OfFormula encode bytes TooDeep)
+    ∷ plain 23 (OfFormula encode bytes (λ φ. TooDeep φ binder-limit))
     ∷ at-lowest 9 (λ i. OfFormula encode bytes (λ φ. Unprotected φ i))
     ∷ []
 

@@ -4,7 +4,6 @@
 use mathlib.Core.{Bool.{Bool, false, cond, not, _&&_}, Option.{Option, none, some}, List.{List, [], _∷_}}
 use Prim.Native.Nat.{ℕ, zero, suc, _+_}
 use lib.Dec.{eqb, ltb, leb}
-use Rattle.limits.specs.Limits.{binder-limit}
 use Rattle.theory.specs.Formula.{Formula, truth, variable, transition, output, conjunction, greatest, size, Node, truth-node, variable-node, transition-node}
 use Rattle.theory.specs.Formula.{output-node, conjunction-node, greatest-node}
 
@@ -124,8 +123,8 @@ unfoldable pub unbound-below : ℕ → ℕ → Bool
 unbound-below depth n = not (ltb n depth)
 
 -- 23: a V is at fault that stands below as many as a path may have, or more.
-unfoldable pub path-full : ℕ → Bool
-path-full depth = leb binder-limit depth
+unfoldable pub path-full : ℕ → ℕ → Bool
+path-full most depth = leb most depth
 
 -- 9: a variable is at fault that counts fewer binders than stand since the last G: its own is one of them.
 unfoldable pub bound-near : ℕ → ℕ → Bool
@@ -134,8 +133,8 @@ bound-near near n = ltb n near
 abbrev pub unbound-search : Search ℕ
 unbound-search = record { at-variable = unbound-below; at-greatest = λ depth. false; below-transition = λ depth. depth; below-greatest = suc }
 
-abbrev pub deep-search : Search ℕ
-deep-search = record { at-variable = λ depth n. false; at-greatest = path-full; below-transition = λ depth. depth; below-greatest = suc }
+abbrev pub deep-search : ℕ → Search ℕ
+deep-search most = record { at-variable = λ depth n. false; at-greatest = path-full most; below-transition = λ depth. depth; below-greatest = suc }
 
 abbrev pub unprotected-search : Search ℕ
 unprotected-search = record { at-variable = bound-near; at-greatest = λ near. false; below-transition = λ near. zero; below-greatest = suc }
@@ -145,9 +144,9 @@ module _ {B : Type 0} where
   abbrev pub lowest-unbound : ℕ → ℕ → Formula B → Option ℕ
   lowest-unbound = lowest-fault unbound-search
 
-  -- 23 from a node on, below so many binders: the lowest V that makes a path too long.
-  abbrev pub lowest-deep : ℕ → ℕ → Formula B → Option ℕ
-  lowest-deep = lowest-fault deep-search
+  -- 23 from a node on, below so many binders, where a path may have `most`: the lowest V that makes one longer.
+  abbrev pub lowest-deep : ℕ → ℕ → ℕ → Formula B → Option ℕ
+  lowest-deep most = lowest-fault (deep-search most)
 
   -- 9 from a node on, below so many binders since the last G: the lowest variable with no G between it and its own binder.
   abbrev pub lowest-unprotected : ℕ → ℕ → Formula B → Option ℕ

@@ -4,7 +4,7 @@
 use mathlib.Core.{Bool.{Bool, not, _&&_}, Option.{Option}, List.{List}}
 use Prim.Native.Nat.{ℕ, _+_, _*_, _/_, _%_}
 use lib.{Dec.{eqb, ltb, leb}, ListN.{length, getD}}
-use Rattle.theory.specs.{Formula.{Formula}, FormulaClasses.{binder-depth}}
+use Rattle.theory.specs.{Formula.{Formula}, BinderDepth.{binder-depth}}
 use Rattle.refusal.specs.{RefusalAnswers.{or-else, plain-unless, at-found}, declared.Refusal.{Refusal}}
 use Rattle.values.specs.{declared.ValueKind.{ValueKind}, ValueTests.{value-fits}, Setup.{value-from}}
 use Rattle.limits.specs.Limits.{node-limit, binder-limit}

@@ -24,7 +24,7 @@ use values::ValueKind;
 use values::value_fits;
 use values::value_from;
 ghost use Rattle.values.specs.ValueTests.{value-fits};
-ghost use Rattle.limits.specs.Limits.{node-limit};
+ghost use Rattle.limits.specs.Limits.{node-limit, binder-limit};
 
 // The kinds of node.
 pub const TRUTH: u8 = 0;
@@ -198,7 +198,7 @@ fn unbound(first: u8, depth: usize) -> bool
 
 // 23, for one V: so many others stand above it that a path has too many.
 fn path_full(depth: usize) -> bool
-    ensures { λ r. ⌜ r ≡ path-full depth ⌝ }
+    ensures { λ r. ⌜ r ≡ path-full binder-limit depth ⌝ }
 {
     BINDER_LIMIT <= depth
 }
@@ -314,10 +314,11 @@ fn check_variables(kinds: &[u8; NODE_LIMIT], firsts: &[u8; NODE_LIMIT], count: u
     if p < NODE_LIMIT {
         return Judgement::Refused(Refusal::At(UNBOUND_VARIABLE, p));
     }
-    if faults[1] < NODE_LIMIT {
+    let d = faults[1];
+    let q = faults[2];
+    if d < NODE_LIMIT {
         return Judgement::Refused(Refusal::Plain(BINDER_DEPTH));
     }
-    let q = faults[2];
     if q < NODE_LIMIT {
         return Judgement::Refused(Refusal::At(UNPROTECTED_VARIABLE, q));
     }

@@ -3,7 +3,7 @@ use Prim.Native.Nat.{ℕ, zero, suc, _+_, _/_, _≤_, _<_}
 use mathlib.Core.{Path.{_≡_, refl, subst}, List.{List}, Bool.{Bool, true, false, cond}, Option.{Option, none, some}}
 use native.Mathlib.Omega.{arith}
 use lib.{Dec.{leb}, ListN.{length}}
-use Rattle.theory.specs.{Formula.{Formula, size}, FormulaClasses.{binder-depth}}
+use Rattle.theory.specs.{Formula.{Formula, size}, BinderDepth.{binder-depth}}
 use Rattle.refusal.specs.declared.Refusal.{Refusal}
 use Rattle.refusal.specs.RefusalAnswers.{or-else, plain-unless, at-found}
 use Rattle.values.specs.declared.ValueKind.{ValueKind}

@@ -5,7 +5,7 @@ use native.Mathlib.Omega.{arith}
 use borrow.Author.Tests.{leb-true}
 use lib.{Dec.{leb}, ListN.{length}}
 use Rattle.limits.specs.Limits.{node-limit, binder-limit, device-limit, table-limit, word-limit}
-use Rattle.theory.specs.{Formula.{size}, FormulaClasses.{binder-depth}}
+use Rattle.theory.specs.{Formula.{size}, BinderDepth.{binder-depth}}
 use Rattle.refusal.specs.declared.Refusal.{Refusal}
 use Rattle.refusal.specs.RefusalAnswers.{plain-unless, counted}
 use Rattle.refusal.proofs.Refusals.{or-else-none, plain-none}

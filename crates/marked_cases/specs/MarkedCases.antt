@@ -7,9 +7,9 @@ use Rattle.theory.specs.Formula.{Formula, size, Answers, Node, truth-node, vari
 use Rattle.theory.specs.Formula.{nodes}
 use Rattle.theory.specs.{ReachableStates.{IsTableOf}, CharacteristicFormula.{Writes}}
 use Rattle.theory.specs.MealyMachine.{Machine, States, Simulated, SameValues, FirstCounterexample, Implies}
-use Rattle.refusal.specs.{declared.Refusal.{Refusal}, declared.Refusal.the-variants.{At}, Refusal.{First}}
+use Rattle.refusal.specs.{declared.Refusal.{Refusal}, declared.Refusal.the-variants.{Plain, At}, Refusal.{First}}
 use Rattle.values.specs.Setup.{Setup, setup, SetupValue, setup-meet, setup-top}
-use Rattle.formulas.specs.RuleConditions.{encode-all, node-bytes, byte-conditions}
+use Rattle.formulas.specs.{RuleConditions.{encode-all, node-bytes, byte-conditions}, RuleCases.{below-binders}}
 use Rattle.machines.specs.TableBytes.{table-bytes, entry-bytes, machine-of}
 use Rattle.text_format.specs.Texts.{ascii}
 use Rattle.table_report.specs.PrintedTable.{Prints}
@@ -171,6 +171,10 @@ request-cases =
     ∷ refused («V» ∷ G 0 ∷ «V» ∷ X 0 ∷ []) (At 9 3)
     ∷ refused («V» ∷ A ∷ G 0 ∷ X 0 ∷ X 0 ∷ []) (At 9 4)
     ∷ tabled («V» ∷ G 0 ∷ «V» ∷ X 1 ∷ []) 2 (3 ∷ 0 ∷ 3 ∷ 1 ∷ 3 ∷ 1 ∷ 3 ∷ 1 ∷ [])
+    -- F-9. twelve V nodes in a row; thirteen; and thirteen in the second part of an A
+    ∷ tabled (below-binders 12 (T ∷ [])) 1 (3 ∷ 0 ∷ 3 ∷ 0 ∷ [])
+    ∷ refused (below-binders 13 (T ∷ [])) (Plain 23)
+    ∷ refused (A ∷ T ∷ below-binders 13 (T ∷ [])) (Plain 23)
     ∷ []
 
 unfoldable pub AllHold : List Case → Type 1

@@ -3,7 +3,7 @@
 use mathlib.Core.{Path.{_≡_}, Logic.{_↔_, _⊎_}, List.{List, _++_}, Option.{none, some}}
 use Prim.Native.Nat.{ℕ, zero, _*_, _≤_, _<_}
 use lib.ListN.{length, take}
-use Rattle.limits.specs.Limits.{node-limit, state-limit, device-limit, table-limit, word-limit}
+use Rattle.limits.specs.Limits.{node-limit, binder-limit, state-limit, device-limit, table-limit, word-limit}
 use Rattle.theory.specs.{Formula.{Formula, conjunction, size, conjunction-node, Answers}, MealyMachine.{Machine, Word, after, Implies}}
 use Rattle.refusal.specs.{declared.Refusal.{Refusal}, declared.Refusal.the-variants.{Plain}, Refusal.{First, counted-refusal, count-of}}
 use Rattle.values.specs.declared.{ValueKind.{ValueKind}, Comparison.{Comparison}}
@@ -29,7 +29,7 @@ pub record InnerBinders : Type 0 where
   -- are not met, a rule is let through exactly if each variable is in order
   pub in-order : (s : Setup) (φ : Formula ℕ) → size φ ≤ node-limit →
       ((i : ℕ) → ¬ NodeAtFault (node-width (s .kind)) (node-bytes (s .kind)) (rule-bytes s φ) (s .events) (ValueIn (s .kind)) i) →
-      ((i : ℕ) → ¬ Unbound φ i) → ¬ TooDeep φ → LetThrough s (rule-bytes s φ) ↔ ((i : ℕ) → ¬ Unprotected φ i)
+      ((i : ℕ) → ¬ Unbound φ i) → ¬ TooDeep φ binder-limit → LetThrough s (rule-bytes s φ) ↔ ((i : ℕ) → ¬ Unprotected φ i)
   -- "everything promised about rules covers the wider class": of what is let through, `compile` refuses by 10 and 13 alone
   pub covered : (s : Setup) (rule to : List ℕ) → setup-refusal s ≡ none → LetThrough s rule →
       (r : Refusal) → counted-refusal (compile-answer state-limit s rule to) ≡ some r → (r ≡ Plain 10) ⊎ (r ≡ Plain 13)
@@ -40,11 +40,11 @@ pub record TwelveBinders : Type 0 where
   -- "23, a path with more than twelve V nodes, after 8 and before 9 for a rule": where 5, 6 and 8 are not met, whatever 9 says
   pub refused : (s : Setup) (φ : Formula ℕ) → size φ ≤ node-limit →
       ((i : ℕ) → ¬ NodeAtFault (node-width (s .kind)) (node-bytes (s .kind)) (rule-bytes s φ) (s .events) (ValueIn (s .kind)) i) →
-      ((i : ℕ) → ¬ Unbound φ i) → First (byte-conditions (s .events) (s .kind) (rule-bytes s φ)) (some (Plain 23)) ↔ TooDeep φ
+      ((i : ℕ) → ¬ Unbound φ i) → First (byte-conditions (s .events) (s .kind) (rule-bytes s φ)) (some (Plain 23)) ↔ TooDeep φ binder-limit
   -- "A written rule obeys it too"
   pub obeyed : (s : Setup) (states start : ℕ) (table old : List ℕ) (n : ℕ) →
       count-of (write-answer table-limit node-limit s states start table old) ≡ some n →
-      (φ : Formula ℕ) → IsRuleOf (s .events) (s .kind) start table φ → ¬ TooDeep φ
+      (φ : Formula ℕ) → IsRuleOf (s .events) (s .kind) start table φ → ¬ TooDeep φ binder-limit
 
 -- From a state the machine gives the rule's value (source 000, section 3) on every event sequence.
 abbrev pub MatchesRule : Setup → Formula ℕ → Machine ℕ ℕ → ℕ → Type 0

@@ -12,7 +12,7 @@ has-place n = eqb n 4 || (leb 6 n && leb n 9)
 
 -- Document 01's order: 17, 14, 15, 16, then 4, then 1 to 3, 5 to 10, 11, 12, and 13 last. Document 02 adds 18 to 25: 25 after 17 and,
 -- where a table is loaded, after 10; 19 after 16; 22 "first of all"; 20 "in the place of 2 and 3", then 18; 23 after 8 and, for a
--- written rule, after 12; 21 and 24 after 11.
+-- written rule, after 12; 21 and 24 after 11. "5 to 9" and "5 to 10" in comments are these stretches of the list, with 23 in them.
 unfoldable pub order : List ℕ
 order = 17 ∷ 25 ∷ 14 ∷ 15 ∷ 16 ∷ 19 ∷ 22 ∷ 4 ∷ 1 ∷ 2 ∷ 3 ∷ 20 ∷ 18 ∷ 5 ∷ 6 ∷ 7 ∷ 8 ∷ 23 ∷ 9 ∷ 10 ∷ 25 ∷ 11 ∷ 12 ∷ 23 ∷ 21 ∷ 24 ∷ 13 ∷ []
 

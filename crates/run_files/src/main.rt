@@ -61,6 +61,20 @@ fn rules() {
     show(b"events=2\nvalues=4\ntop=3\nmeet=0 0 0 0 0 1 0 1 0 0 2 2 0 1 2 3\nrule=V G0 X256\n");
     // 8 before 9, 8 at 4
     show(b"events=2\nvalues=4\ntop=3\nmeet=0 0 0 0 0 1 0 1 0 0 2 2 0 1 2 3\nrule=V A X0 G0 X5\n");
+    // thirteen binders in a row, and in the second part of an A, refusal 23; twelve have a table
+    show(
+        b"events=2\nvalues=4\ntop=3\nmeet=0 0 0 0 0 1 0 1 0 0 2 2 0 1 2 3\nrule=V V V V V V V V V V V V V T\n",
+    );
+    show(
+        b"events=2\nvalues=4\ntop=3\nmeet=0 0 0 0 0 1 0 1 0 0 2 2 0 1 2 3\nrule=A T V V V V V V V V V V V V V T\n",
+    );
+    show(
+        b"events=2\nvalues=4\ntop=3\nmeet=0 0 0 0 0 1 0 1 0 0 2 2 0 1 2 3\nrule=V V V V V V V V V V V V T\n",
+    );
+    // 23 before 9
+    show(
+        b"events=2\nvalues=4\ntop=3\nmeet=0 0 0 0 0 1 0 1 0 0 2 2 0 1 2 3\nrule=V V V V V V V V V V V V V X0\n",
+    );
     // 9 at 1
     show(b"events=2\nvalues=4\ntop=3\nmeet=0 0 0 0 0 1 0 1 0 0 2 2 0 1 2 3\nrule=V X0\n");
 }

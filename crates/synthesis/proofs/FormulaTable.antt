@@ -5,7 +5,8 @@ use native.Mathlib.Omega.{arith}
 use lib.ListN.{length}
 use Rattle.limits.specs.Limits.{node-limit, binder-limit}
 use Rattle.theory.specs.Formula.{Formula, size}
-use Rattle.theory.specs.FormulaClasses.{binder-depth, Closed, Guarded}
+use Rattle.theory.specs.FormulaClasses.{Closed, Guarded}
+use Rattle.theory.specs.BinderDepth.{binder-depth}
 use Rattle.theory.specs.MealyMachine.{Machine}
 use Rattle.theory.specs.ReachableStates.{value-of-set}
 use Rattle.theory.specs.Exploration.{explored, numbered, member, bits, same-bits, bit-machine, first-bits}

@@ -3,7 +3,8 @@ use mathlib.Core.{Path.{_≡_}, List.{List}}
 use Prim.Native.Nat.{ℕ, _+_, _-_, _≤_, _<_}
 use lib.ListN.{length, getD}
 use Rattle.limits.specs.Limits.{node-limit, binder-limit}
-use Rattle.theory.specs.{Formula.{Formula, size}, FormulaClasses.{binder-depth, FreeBelow}}
+use Rattle.theory.specs.{Formula.{Formula, size}, FormulaClasses.{FreeBelow}}
+use Rattle.theory.specs.BinderDepth.{binder-depth}
 use Rattle.formulas.specs.{NodeReading.{Reads}, NodeWalks.{field}}
 use Rattle.synthesis.specs.NodeWalks.{Ends, Binds}
 

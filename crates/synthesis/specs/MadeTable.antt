@@ -2,7 +2,8 @@
 use mathlib.Core.{Path.{_≡_}, List.{List}}
 use Prim.Native.Nat.{ℕ, suc, _*_, _≤_, _<_}
 use Rattle.limits.specs.Limits.{binder-limit}
-use Rattle.theory.specs.{Formula.{Formula, size}, FormulaClasses.{binder-depth, Closed, Guarded}}
+use Rattle.theory.specs.{Formula.{Formula, size}, FormulaClasses.{Closed, Guarded}}
+use Rattle.theory.specs.BinderDepth.{binder-depth}
 use Rattle.formulas.specs.{NodeReading.{Reads}, NodeWalks.{field}}
 use Rattle.synthesis.specs.{FormulaTable.{formula-states, formula-table}, Exploring.{Unchanged}, TableEntries.{EntriesTo}}
 

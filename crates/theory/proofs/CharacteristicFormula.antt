@@ -7,7 +7,8 @@ use native.Mathlib.{Nat.{mul-suc, mul-add, mul-assoc, suc-mul}, Omega.{arith}}
 use lib.{Dec.{eqb}, ListN.{length}}
 use borrow.Author.Tests.{eqb-true, eqb-false}
 use Rattle.theory.specs.Formula.{Formula, truth, variable, transition, output, conjunction, greatest, size}
-use Rattle.theory.specs.FormulaClasses.{binders, binder-depth, FreeBelow, OpenPosition}
+use Rattle.theory.specs.FormulaClasses.{binders, FreeBelow, OpenPosition}
+use Rattle.theory.specs.BinderDepth.{binder-depth}
 use Rattle.theory.specs.FormulaClasses.{ClosedPosition, Fits, WellFormed, Accepted}
 use Rattle.theory.specs.MealyMachine.{Machine, States, Runs}
 use Rattle.theory.specs.CharacteristicFormula.{OpenAt, here, above, Writes, already-open, opened, Rows, last-row, row}

@@ -1,8 +1,8 @@
 -- Classes of formulas: closed, of the grammar, guarded, within a set-up. What 5 to 9 and 23 let through is `Accepted`; the papers' own
 -- sentences are the conditions of `formulas`, and its claims say that the two agree.
 use mathlib.Core.Path.{_≡_}
-use Prim.Native.Nat.{ℕ, zero, suc, max, _+_, _≤_, _<_}
-use Rattle.theory.specs.Formula.{Formula, truth, variable, transition, output, conjunction, greatest, size}
+use Prim.Native.Nat.{ℕ, zero, suc, _+_, _≤_, _<_}
+use Rattle.theory.specs.{Formula.{Formula, truth, variable, transition, output, conjunction, greatest, size}, BinderDepth.{binder-depth}}
 
 module _ {B : Type 0} where
   -- How many V nodes it has.
@@ -13,15 +13,6 @@ module _ {B : Type 0} where
   binders (output e b) = zero
   binders (conjunction φ χ) = binders φ + binders χ
   binders (greatest φ) = suc (binders φ)
-
-  -- The most V nodes on a path from its root.
-  abbrev pub binder-depth : Formula B → ℕ
-  binder-depth truth = zero
-  binder-depth (variable n) = zero
-  binder-depth (transition e φ) = binder-depth φ
-  binder-depth (output e b) = zero
-  binder-depth (conjunction φ χ) = max (binder-depth φ) (binder-depth χ)
-  binder-depth (greatest φ) = suc (binder-depth φ)
 
   -- Each variable without a binder of its own in the formula is below n.
   abbrev pub FreeBelow : ℕ → Formula B → Type 0

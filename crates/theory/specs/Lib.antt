@@ -9,9 +9,10 @@ pub mod MealyMachine
 pub mod ReachableStates
 -- The formula of a table.
 pub mod CharacteristicFormula
--- What contracts compute with: the laws of a meet table, values and followers, demands, numbered states, the formula of a table, the first
--- failing word.
+-- What contracts compute with: the laws of a meet table, the depth of binders, values and followers, demands, numbered states, the formula
+-- of a table, the first failing word.
 pub mod ValueSetTests
+pub mod BinderDepth
 pub mod Evaluation
 pub mod DemandSets
 pub mod Exploration

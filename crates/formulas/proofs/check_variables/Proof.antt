@@ -38,5 +38,5 @@ returns-4 c = λ value φ d e.
     (kept-clear _ _ (w .unprotected value φ d (omega (arith, e)) .1) (c .if3 .left))))
 
 pub check-variables-spec : {M : Type 1} → statement M
-check-variables-spec = tie.close (tie.spec (λ c κs. search needs) (λ c. search needs) returns (λ c. search needs) returns-2 (λ c. search needs) returns-3
+check-variables-spec = tie.close (tie.spec (λ c κs. search needs) (λ c. search needs) returns (λ c. search needs) (λ c. search needs) returns-2 returns-3
     returns-4)
