@@ -26,8 +26,8 @@ use Rattle.formulas.specs.RuleConditions.{node-bytes, encode-formula}
 use Rattle.formulas.specs.RuleReading.{Kind, kind-T, kind-X, kind-G, kind-O, kind-A, kind-V, unknown-kind, kind-of, fields-fit}
 use Rattle.formulas.specs.RuleReading.{end-fault, awaited, first-of, node-of, nodes-from, with-parts, formulas, first-formula, formula-read}
 use Rattle.formulas.specs.RuleReading.{Search, lowest-fault, unbound-below, bound-near, unbound-search, unprotected-search, lowest-unbound, lowest-unprotected}
-use Rattle.formulas.specs.RuleRefusal.{count-fits, depth-refusal, variables-refusal, structure-refusal, misfit-place, nodes-refusal, kind-at, first-at, value-at}
-use Rattle.formulas.specs.RuleRefusal.{rule-refusal, formula-of}
+use Rattle.formulas.specs.RuleRefusal.{count-fits, depth-refusal, variables-refusal, structure-refusal, misfit-place, nodes-refusal, kind-at, first-at}
+use Rattle.formulas.specs.RuleRefusal.{value-at, rule-refusal, formula-of}
 use Rattle.formulas.proofs.{Search.{lowest-same}, Prefix.{length-from}, Decoding.{CountFits, count-facts}, RuleClaims.{accepted-formula-of}}
 use Rattle.channel_file.specs.ChannelFile.{Token, token-T, token-A, token-V, token-X, token-G, token-O, Contents}
 use Rattle.channel_file.specs.Bytes.{clamp, node, entry, meet-bytes, rule-bytes}

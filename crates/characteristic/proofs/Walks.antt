@@ -199,7 +199,8 @@ room-after h x =
 
 -- With one state more open.
 pub ready-rows :
-    {kind : ValueKind} {limit events depth state at part longest longest-now : ℕ} {n : Node ℕ} {depths before after : List ℕ} → Ready kind limit events depth state at longest depths before
+    {kind : ValueKind} {limit events depth state at part longest longest-now : ℕ} {n : Node ℕ} {depths before after : List ℕ}
+    → Ready kind limit events depth state at longest depths before
     → at < limit → Appends kind limit at (n ∷ []) before after part → longest-now ≡ max longest (depth + 1)
     → Ready kind limit events (depth + 1) state part longest-now (set depths state (depth + 1)) after
 ready-rows {depth = depth} {state = state} {depths = depths} h below x now-is =

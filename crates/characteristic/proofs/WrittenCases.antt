@@ -1,5 +1,5 @@
 -- The cases on the rule of a table, computed from the definitions.
-use mathlib.Core.{Path.{_≡_, refl, _∙_, ap}, Option.{Option, none, some}, List.{List}}
+use mathlib.Core.{Path.{_≡_, refl, _∙_, ap}, Option.{Option, none}, List.{List}}
 use Prim.Native.Nat.{ℕ, suc, _*_, _≤_, _<_}
 use native.Mathlib.Omega.{arith}
 use lib.{Dec.{lit≤}, ListN.{length}}

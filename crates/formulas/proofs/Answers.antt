@@ -16,7 +16,8 @@ use Rattle.formulas.specs.RuleReading.{first-of, kind-of, fields-fit, aw
 use Rattle.formulas.specs.RuleReading.{lowest-unbound, lowest-deep, lowest-unprotected}
 use Rattle.formulas.specs.RuleRefusal.{depth-refusal, variables-refusal, structure-refusal, misfit-place, tree-refusal, nodes-refusal, fields-refusal}
 use Rattle.formulas.specs.NodeWalks.{Noted, Keeps}
-use Rattle.formulas.proofs.{KindFacts.{fit-known}, Search.{lowest-clear, lowest-same}, Prefix.{no-fault}, Reading.{whole-read}, Depth.{found-deep, clear-shallow}}
+use Rattle.formulas.proofs.{KindFacts.{fit-known}, Search.{lowest-clear, lowest-same}, Prefix.{no-fault}, Reading.{whole-read}}
+use Rattle.formulas.proofs.Depth.{found-deep, clear-shallow}
 use Rattle.limits.specs.Limits.{node-limit, binder-limit}
 
 -- Every kind is known.

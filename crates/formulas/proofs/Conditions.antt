@@ -111,7 +111,10 @@ module _ {B : Type 0} (width : ℕ) (encode : Node B → List ℕ) (code : NodeC
   of-formula φ e Met (χ, d, x) = subst Met (one-formula χ φ d e) x
 
   -- 23.
-  deep-first : (φ : Formula B) → bytes ≡ encode-formula encode φ → First (plain 23 (OfFormula encode bytes (λ φ. TooDeep φ binder-limit)) ∷ []) (depth-refusal φ)
+  abbrev twenty-three : Condition
+  twenty-three = plain 23 (OfFormula encode bytes (λ φ. TooDeep φ binder-limit))
+
+  deep-first : (φ : Formula B) → bytes ≡ encode-formula encode φ → First (twenty-three ∷ []) (depth-refusal φ)
   unfolding depth-refusal
   deep-first φ e =
       plain-first 23 (OfFormula encode bytes (λ φ. TooDeep φ binder-limit)) (leb (binder-depth φ) binder-limit)
@@ -127,7 +130,7 @@ module _ {B : Type 0} (width : ℕ) (encode : Node B → List ℕ) (code : NodeC
 
   -- 23, then 9, where every variable has a binder.
   abbrev pub last-two : List Condition
-  last-two = plain 23 (OfFormula encode bytes (λ φ. TooDeep φ binder-limit)) ∷ at-lowest 9 (λ i. OfFormula encode bytes (λ φ. Unprotected φ i)) ∷ []
+  last-two = twenty-three ∷ at-lowest 9 (λ i. OfFormula encode bytes (λ φ. Unprotected φ i)) ∷ []
 
   abbrev last-answer : Formula B → Option Refusal
   last-answer φ = or-else (depth-refusal φ) (at-found (lowest-unprotected 0 0 φ) 9)
@@ -135,7 +138,7 @@ module _ {B : Type 0} (width : ℕ) (encode : Node B → List ℕ) (code : NodeC
   first-last : (φ : Formula B) → bytes ≡ encode-formula encode φ → ((j : ℕ) → ¬ Unbound φ j) → First last-two (last-answer φ)
   first-last φ e bound =
       let unprotected = found-there φ e Unprotected (lowest-unprotected 0 0 φ) (unprotected-answered φ bound) in
-      first-then (plain 23 (OfFormula encode bytes (λ φ. TooDeep φ binder-limit)) ∷ []) _ (depth-refusal φ) (at-found (lowest-unprotected 0 0 φ) 9) (deep-first φ e)
+      first-then (twenty-three ∷ []) _ (depth-refusal φ) (at-found (lowest-unprotected 0 0 φ) 9) (deep-first φ e)
       (λ d.
       first-one _ (at-found (lowest-unprotected 0 0 φ) 9)
       (answered-met _ 9 (lowest-unprotected 0 0 φ) unprotected)
@@ -203,7 +206,7 @@ module _ {B : Type 0} (width : ℕ) (encode : Node B → List ℕ) (code : NodeC
     unfolding or-else
     depth-decides fit bound protected =
         past-eight fit bound (depth-refusal φ) (subst (First last-two) (alone (depth-refusal φ))
-        (first-then (plain 23 (OfFormula encode bytes (λ φ. TooDeep φ binder-limit)) ∷ []) _ (depth-refusal φ) none (deep-first φ written) (λ e. not-nine protected)))
+        (first-then (twenty-three ∷ []) _ (depth-refusal φ) none (deep-first φ written) (λ e. not-nine protected)))
       where
         alone : (o : Option Refusal) → or-else o none ≡ o
         alone none = refl

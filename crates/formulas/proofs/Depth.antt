@@ -1,6 +1,7 @@
 -- 23, for any limit: a V is found with so many above it exactly if some part stands below more, and exactly if the most V nodes on a path are more.
-use mathlib.Core.{Path.{_≡_, refl, sym, ap, subst}, Logic.{_⊎_, inl, inr, _↔_}, Bool.{Bool, true, false}, Option.{Option, none, some, Option·some-ne-none}, List.{List, [], _∷_}}
-use Prim.Native.Nat.{ℕ, zero, suc, _+_, _≤_, _<_}
+use mathlib.Core.{Path.{_≡_, refl, sym, ap, subst}, Logic.{_⊎_, inl, inr, _↔_}, Bool.{Bool, true, false}, List.{List, [], _∷_}}
+use mathlib.Core.Option.{Option, none, some, Option·some-ne-none}
+use Prim.Native.Nat.{ℕ, suc, _+_, _≤_, _<_}
 use native.Mathlib.Omega.{arith}
 use lib.Dec.{leb}
 use borrow.Author.Tests.{le-leb, leb-true, leb-false}
@@ -9,8 +10,8 @@ use Rattle.formulas.specs.RuleConditions.Placed.{root as placed-root, pa
 use Rattle.formulas.specs.RuleConditions.Placed.{right-part as placed-right, part-of-greatest as placed-greatest}
 use Rattle.formulas.specs.RuleConditions.{Mark, binder-mark, transition-mark, binders-above, Placed, TooDeep}
 use Rattle.formulas.specs.RuleReading.{path-full, deep-search, lowest-deep}
-use Rattle.formulas.proofs.Faults.{Answered, false-not-true, FaultIn, lowest-answered, FaultyVariable, FaultyBinder, root, fault-up, fault-down, state-below}
-use Rattle.formulas.proofs.Faults.{placed-reached, reached-placed}
+use Rattle.formulas.proofs.Faults.{Answered, false-not-true, state-below, FaultIn, lowest-answered, FaultyVariable, FaultyBinder, root, fault-up}
+use Rattle.formulas.proofs.Faults.{fault-down, placed-reached, reached-placed}
 
 -- The state is the number of binders above.
 state-is : (most : ℕ) (ms : List Mark) → state-below (deep-search most) 0 ms ≡ binders-above ms

@@ -1,6 +1,6 @@
 -- A search for the lowest node at fault, whatever is at fault: it finds the lowest, and what stands there is placed below marks that lead to its state.
-use mathlib.Core.{Path.{_≡_, refl, sym, _∙_, ap, subst}, Logic.{_⊎_, inl, inr}, Bool.{Bool, true, false, cond}, Option.{Option, none, some, Option·some-ne-none}}
-use mathlib.Core.List.{List, [], _∷_}
+use mathlib.Core.{Path.{_≡_, refl, sym, _∙_, ap, subst}, Logic.{_⊎_, inl, inr}, Bool.{Bool, true, false, cond}}
+use mathlib.Core.{Option.{Option, none, some, Option·some-ne-none}, List.{List, [], _∷_}}
 use Prim.Native.Nat.{ℕ, zero, suc, _+_, _≤_, _<_}
 use native.Mathlib.Omega.{arith}
 use Rattle.theory.specs.Formula.{Formula, truth, variable, transition, output, conjunction, greatest, size}

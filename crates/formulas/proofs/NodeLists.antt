@@ -20,7 +20,8 @@ use Rattle.formulas.specs.RuleConditions.{NodeFits, node-count, node-at,
 use Rattle.formulas.specs.RuleReading.{kind-of, fields-fit, node-of}
 use Rattle.formulas.specs.RuleRefusal.{count-fits, structure-refusal, misfit-place, nodes-refusal, fields-refusal}
 use Rattle.formulas.specs.Claims.{NodesRefusalClaim}
-use Rattle.formulas.proofs.{Faults.{false-not-true}, Conditions.{first-refusal}, NodeFields.{fields-sound, fields-full}, NodeCodes.{fields-same, node-code}}
+use Rattle.formulas.proofs.{Faults.{false-not-true}, Conditions.{first-refusal}, NodeFields.{fields-sound, fields-full}}
+use Rattle.formulas.proofs.NodeCodes.{fields-same, node-code}
 
 -- ---- under any node code
 module _ (width : ℕ) (encode : Node ℕ → List ℕ) (code : NodeCode width encode) (events : ℕ) (kind : ValueKind) (k a v : ℕ → ℕ) (count : ℕ)

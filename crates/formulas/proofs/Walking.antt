@@ -1,6 +1,6 @@
 -- One step of a walk that notes the lowest node at fault, for each kind of node.
-use mathlib.Core.{Path.{_≡_, refl, sym, _∙_, subst}, Bool.{Bool, cond}, Option.{Option, none, some}, List.{List}}
-use Prim.Native.Nat.{ℕ, zero, suc, _+_, _-_, _≤_, _<_}
+use mathlib.Core.{Path.{_≡_, refl, sym, _∙_, subst}, Bool.{cond}, Option.{Option, none, some}, List.{List}}
+use Prim.Native.Nat.{ℕ, suc, _+_, _-_, _≤_, _<_}
 use native.Mathlib.{Numerals.{add-one}, Omega.{arith}}
 use lib.{ListN.{length, getD, set, length-set}, Seq.{getD-set-same, getD-set-other}}
 use borrow.Author.Tests.{le-ltb}

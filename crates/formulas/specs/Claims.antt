@@ -9,7 +9,8 @@ use Rattle.values.specs.declared.ValueKind.{ValueKind}
 use Rattle.values.specs.Setup.{ValueIn}
 use Rattle.values.specs.ValueTests.{value-fits}
 use Rattle.limits.specs.Limits.{node-limit, binder-limit}
-use Rattle.refusal.specs.{declared.Refusal.the-variants.{Plain}, declared.Judgement.{Judgement}, Refusal.{First, Judged, judgement-refusal}, RefusalAnswers.{judgement}}
+use Rattle.refusal.specs.{declared.Refusal.the-variants.{Plain}, declared.Judgement.{Judgement}}
+use Rattle.refusal.specs.{Refusal.{First, Judged, judgement-refusal}, RefusalAnswers.{judgement}}
 use Rattle.formulas.specs.NodeCode.{NodeCode, three-bytes, field-list, HoldsNodes}
 use Rattle.formulas.specs.RuleConditions.{encode-formula, node-width, node-bytes, Unbound, TooDeep, Unprotected}
 use Rattle.formulas.specs.RuleConditions.{NodeAtFault, rule-conditions, byte-conditions}

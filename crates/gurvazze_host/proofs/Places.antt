@@ -1,6 +1,6 @@
 -- Every refusal of a file and of a compiled rule has a place that has room in a code, if it has one.
-use Prim.Native.Nat.{ℕ, zero, suc, _+_, _/_, _≤_, _<_}
-use mathlib.Core.{Path.{_≡_, refl, subst}, List.{List}, Bool.{Bool, true, false, cond}, Option.{Option, none, some}}
+use Prim.Native.Nat.{ℕ, zero, suc, _+_, _/_, _≤_}
+use mathlib.Core.{Path.{_≡_, refl, subst}, List.{List}, Bool.{Bool, true, false}, Option.{Option, none, some}}
 use native.Mathlib.Omega.{arith}
 use lib.{Dec.{leb}, ListN.{length}}
 use Rattle.theory.specs.{Formula.{Formula, size}, BinderDepth.{binder-depth}}
@@ -12,8 +12,8 @@ use Rattle.values.specs.{Setup.{Setup}, ValueTests.{value-fits}}
 use Rattle.values.specs.SetupTests.{events-test, values-test, meet-test, lines-test, kind-refusal, setup-refusal}
 use Rattle.formulas.specs.RuleConditions.{node-width}
 use Rattle.formulas.specs.RuleReading.{kind-of, awaited, end-fault, formula-read, unbound-search, unprotected-search, lowest-unbound, lowest-unprotected}
-use Rattle.formulas.specs.RuleRefusal.{count-fits, depth-refusal, variables-refusal, structure-refusal, misfit-place, nodes-refusal, kind-at, first-at, value-at}
-use Rattle.formulas.specs.RuleRefusal.{rule-refusal}
+use Rattle.formulas.specs.RuleRefusal.{count-fits, depth-refusal, variables-refusal, structure-refusal, misfit-place, nodes-refusal, kind-at, first-at}
+use Rattle.formulas.specs.RuleRefusal.{value-at, rule-refusal}
 use Rattle.formulas.proofs.{Search.{lowest-found}, Faults.{found-within}, Decoding.{CountFits, count-facts}}
 use Rattle.text_format.specs.Format.{refused}
 use Rattle.text_format.specs.Texts.{Refused, at, early}

@@ -109,7 +109,8 @@ write-rows-value-of-requires t c κs =
 
 write-rows-add-if2 : (t : ℕ) → write-rows-lts.Need-add-if2 (rows-claims t) (write-rows-at t) write-rows.Post
 write-rows-add-if2 t c =
-    let b18 = c .before .before .before .before .before .before .before .before .before .before .before .before .before .before .before .before .before .before in
+    let b9 = c .before .before .before .before .before .before .before .before .before in
+    let b18 = b9 .before .before .before .before .before .before .before .before .before in
     let h = b18 .pre .1 in omega (arith, h .1, h .0 .few-events)
 
 write-rows-put-node-requires : (t : ℕ) → write-rows-lts.Need-put-node-requires (rows-claims t) (write-rows-at t) write-rows.Post
@@ -157,7 +158,8 @@ write-rows-put-output-requires t c κs =
 
 write-rows-add-write-rows : (t : ℕ) → write-rows-lts.Need-add-write-rows (rows-claims t) (write-rows-at t) write-rows.Post
 write-rows-add-write-rows t c =
-    let h = c .before .before .before .before .before .before .before .before .before .before .before .before .before .before .before .before .before .before .before .before .before .before .before .before .pre .1 in omega (arith, h .1, h .0 .few-events)
+    let b12 = c .before .before .before .before .before .before .before .before .before .before .before .before in
+    let h = b12 .before .before .before .before .before .before .before .before .before .before .before .before .pre .1 in omega (arith, h .1, h .0 .few-events)
 
 write-rows-write-rows-requires : (t : ℕ) → write-rows-lts.Need-write-rows-requires (rows-claims t) (write-rows-at t) write-rows.Post
 write-rows-write-rows-requires t c κs =
@@ -174,7 +176,8 @@ write-rows-write-rows-requires t c κs =
 
 write-rows-same-length-3 : (t : ℕ) → write-rows-lts.Need-same-length-3 (rows-claims t) (write-rows-at t) write-rows.Post
 write-rows-same-length-3 t c =
-    let b18 = c .before .before .before .before .before .before .before .before .before .before .before .before .before .before .before .before .before .before in
+    let b9 = c .before .before .before .before .before .before .before .before .before in
+    let b18 = b9 .before .before .before .before .before .before .before .before .before in
     ap length (c .before .before .before .before .write-rows .ensures .same-depths ∙ b18 .write-state .ensures .same-depths)
 
 write-rows-same-length-4 : (t : ℕ) → write-rows-lts.Need-same-length-4 (rows-claims t) (write-rows-at t) write-rows.Post
@@ -269,12 +272,14 @@ write-state-write-rows-requires t c κs =
 
 write-state-mul-depths-2 : (t : ℕ) → write-state-lts.Need-mul-depths-2 (state-claims t) (write-state-at t) write-state.Post
 write-state-mul-depths-2 t c =
-    let b20 = c .before .before .before .before .before .before .before .before .before .before .before .before .before .before .before .before .before .before .before .before in
+    let b10 = c .before .before .before .before .before .before .before .before .before .before in
+    let b20 = b10 .before .before .before .before .before .before .before .before .before .before in
     omega (arith, b20 .pre .1 .0 .small-state)
 
 write-state-slice-write-depths-2 : (t : ℕ) → write-state-lts.Need-slice-write-depths-2 (state-claims t) (write-state-at t) write-state.Post
 write-state-slice-write-depths-2 t c =
-    let b20 = c .before .before .before .before .before .before .before .before .before .before .before .before .before .before .before .before .before .before .before .before in
+    let b10 = c .before .before .before .before .before .before .before .before .before .before in
+    let b20 = b10 .before .before .before .before .before .before .before .before .before .before in
     let h = b20 .pre .1 .0 in
     let l = c .before .before .before .before .write-rows .kept .1 .1 .1 .1 .0 in
     omega (arith, h .small-state, h .depths-room, simp length-set at l)

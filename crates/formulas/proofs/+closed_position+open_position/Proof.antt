@@ -315,7 +315,9 @@ open-position-returns-4 : (t : ℕ) → open-position-lts.Need-returns-4 (
   closed-position-below t,
   closed-position.Post,
 ) (open-position-at t) open-position.Post
-open-position-returns-4 t c = scanned-conjunction _ _ _ _ _ _ _ _ _ (c .before .before .open-position2 .result) _
+open-position-returns-4 t c =
+    let a = c .before .before .before .before .before .before .before .before .before .args in
+    scanned-conjunction _ _ (a .depth) 0 _ _ _ _ _ (c .before .before .open-position2 .result) _
     (c .before .before .before .before .before .before .before .before .if1 .left) (c .before .before .before .before .if4 .taken)
     (c .before .before .open-position2 .ensures) (c .open-position3 .ensures)
 
