@@ -52,7 +52,7 @@ module _ (s : Setup) (states start : ℕ) (rows old : List ℕ) (setup-passed : 
 one-event : setup-refusal (four-values 1) ≡ none
 one-event = four-value-setup 1 (lit≤ tt) (lit≤ tt)
 
--- The chain of c + 1 states is in order, whatever its length; its rule's size and depth are computed.
+-- The chain of c + 1 states is in order; and its rule, whose size and depth are computed.
 abbrev Passed : ℕ → Type 0
 Passed c = table-refusal table-limit 1 (Numbered 4) (suc c) 0 (chain-rows c 0) ≡ none
 

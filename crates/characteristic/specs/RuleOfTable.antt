@@ -1,4 +1,4 @@
--- Document 01, "Rule of a table", refusals 12, 23 (document 02, F-9) and 13: the conditions that writing a rule meets, and what is written, at any limits.
+-- Document 01, "Rule of a table", refusals 12, 23 (document 02, F-9) and 13: the conditions that writing a rule meets at any limits of states and nodes.
 use mathlib.Core.{Path.{_≡_}, List.{List, [], _∷_, _++_}, Option.{none}}
 use Prim.Native.Nat.{ℕ, _<_}
 use lib.ListN.{length}
