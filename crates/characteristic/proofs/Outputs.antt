@@ -103,35 +103,35 @@ accepted-answer :
 unfolding counted put-unless
 accepted-answer count output old e = (ap (λ o. counted o count) (sym e), ap (λ o. put-unless o output old) (sym e))
 
-module _ {kind : ValueKind} {events start : ℕ} {table : List ℕ} (old : List ℕ) where
+module _ {kind : ValueKind} {limit events start : ℕ} {table : List ℕ} (old : List ℕ) where
   -- The answer and the buffer, from what is said of the rule of the table.
   given :
       {r : Counted} {after : List ℕ}
       → ((φ : Formula ℕ) → IsRuleOf events kind start table φ
-      → (r ≡ counted (output-refusal kind node-limit φ (length old)) (size φ))
-      × (after ≡ put-unless (output-refusal kind node-limit φ (length old)) (encode-formula (node-bytes kind) φ) old))
-      → Answered kind node-limit events start table old after r
+      → (r ≡ counted (output-refusal kind limit φ (length old)) (size φ))
+      × (after ≡ put-unless (output-refusal kind limit φ (length old)) (encode-formula (node-bytes kind) φ) old))
+      → Answered kind limit events start table old after r
   given both = record { answer = λ φ w. both φ w .0; contents = λ φ w. both φ w .1 }
 
   refused-by :
-      (r : Refusal) → ((φ : Formula ℕ) → IsRuleOf events kind start table φ → output-refusal kind node-limit φ (length old) ≡ some r)
-      → Answered kind node-limit events start table old old (Refused r)
+      (r : Refusal) → ((φ : Formula ℕ) → IsRuleOf events kind start table φ → output-refusal kind limit φ (length old) ≡ some r)
+      → Answered kind limit events start table old old (Refused r)
   refused-by r meets = given λ φ w. refused-answer r (size φ) (encode-formula (node-bytes kind) φ) old (meets φ w)
 
-module _ {kind : ValueKind} {events start count longest : ℕ} {table blank listed : List ℕ}
-    (l : Listed kind node-limit events start longest table blank listed count) where
-  pub too-many : {old : List ℕ} → node-limit < count → Answered kind node-limit events start table old old (Refused (Plain 12))
-  too-many {old} h = refused-by old (Plain 12) λ φ w. over-limit kind node-limit φ (length old) (omega (arith, l .listed φ w .position, length-nodes φ))
+module _ {kind : ValueKind} {limit events start count longest : ℕ} {table blank listed : List ℕ}
+    (l : Listed kind limit events start longest table blank listed count) where
+  pub too-many : {old : List ℕ} → limit < count → Answered kind limit events start table old old (Refused (Plain 12))
+  too-many {old} h = refused-by old (Plain 12) λ φ w. over-limit kind limit φ (length old) (omega (arith, l .listed φ w .position, length-nodes φ))
 
   -- Past 12 what is listed is the rule, and the longest path is its own.
-  module _ (h : count ≤ node-limit) where
+  module _ (h : count ≤ limit) where
     same : (φ : Formula ℕ) → IsRuleOf events kind start table φ → count ≡ size φ
     same φ w = omega (arith, h, l .listed φ w .position, length-nodes φ)
 
-    pub too-deep : {old : List ℕ} → binder-limit < longest → Answered kind node-limit events start table old old (Refused (Plain 23))
-    too-deep {old} k =
+    pub path-too-long : {old : List ℕ} → binder-limit < longest → Answered kind limit events start table old old (Refused (Plain 23))
+    path-too-long {old} k =
         refused-by old (Plain 23) λ φ w.
-        over-depth kind node-limit φ (length old) (omega (arith, h, same φ w)) (omega (arith, k, l .depth φ w h))
+        over-depth kind limit φ (length old) (omega (arith, h, same φ w)) (omega (arith, k, l .depth φ w h))
 
     module _ (few : longest ≤ binder-limit) {width : ℕ} (width-is : width ≡ node-width kind) where
       shallow : (φ : Formula ℕ) → IsRuleOf events kind start table φ → binder-depth φ ≤ binder-limit
@@ -140,19 +140,19 @@ module _ {kind : ValueKind} {events start count longest : ℕ} {table blank list
       bytes : (φ : Formula ℕ) → IsRuleOf events kind start table φ → count * width ≡ size φ * node-width kind
       bytes φ w = ap₂ _*_ (same φ w) width-is
 
-      pub too-short : {old : List ℕ} → length old < count * width → Answered kind node-limit events start table old old (Refused (Plain 13))
+      pub too-short : {old : List ℕ} → length old < count * width → Answered kind limit events start table old old (Refused (Plain 13))
       too-short {old} k =
           refused-by old (Plain 13) λ φ w.
-          over-room kind node-limit φ (length old) (omega (arith, h, same φ w)) (shallow φ w) (omega (arith, k, bytes φ w))
+          over-room kind limit φ (length old) (omega (arith, h, same φ w)) (shallow φ w) (omega (arith, k, bytes φ w))
 
       pub all-copied :
           {old after : List ℕ} → count * width ≤ length old → after ≡ put (take (count * width) listed) old
-          → Answered kind node-limit events start table old after (Count count)
+          → Answered kind limit events start table old after (Count count)
       all-copied {old} k copied =
           given old λ φ w.
           let done =
           accepted-answer (size φ) (encode-formula (node-bytes kind) φ) old
-          (fits-room kind node-limit φ (length old) (omega (arith, h, same φ w)) (shallow φ w) (omega (arith, k, bytes φ w))) in (
+          (fits-room kind limit φ (length old) (omega (arith, h, same φ w)) (shallow φ w) (omega (arith, k, bytes φ w))) in (
             ap Count (same φ w) ∙ done .0,
             copied
                 ∙ ap (λ n. put (take (count * n) listed) old) width-is

@@ -53,27 +53,15 @@ one-event : setup-refusal (four-values 1) ≡ none
 one-event = four-value-setup 1 (lit≤ tt) (lit≤ tt)
 
 -- The chain of c + 1 states is in order; and its rule, whose size and depth are computed.
-abbrev Passed : ℕ → Type 0
-Passed c = table-refusal table-limit 1 (Numbered 4) (suc c) 0 (chain-rows c 0) ≡ none
+abbrev ChainInOrder : ℕ → Type 0
+ChainInOrder c = table-refusal table-limit 1 (Numbered 4) (suc c) 0 (chain-rows c 0) ≡ none
 
 abbrev chain-rule : ℕ → Formula ℕ
 chain-rule c = rule-of (four-values 1) (suc c) 0 (chain-rows c 0)
 
-passed-12 : Passed 11
+in-order : ChainInOrder 11 × ChainInOrder 12 × ChainInOrder 62 × ChainInOrder 63
 unfolding chain-rows table-refusal table-test every entry-test plain-unless
-passed-12 = refl
-
-passed-13 : Passed 12
-unfolding chain-rows table-refusal table-test every entry-test plain-unless
-passed-13 = refl
-
-passed-63 : Passed 62
-unfolding chain-rows table-refusal table-test every entry-test plain-unless
-passed-63 = refl
-
-passed-64 : Passed 63
-unfolding chain-rows table-refusal table-test every entry-test plain-unless
-passed-64 = refl
+in-order = (refl, refl, refl, refl)
 
 sizes : (size (chain-rule 11) ≡ 49) × (size (chain-rule 12) ≡ 53) × (size (chain-rule 62) ≡ 253) × (size (chain-rule 63) ≡ 257)
 unfolding chain-rows rule-of
@@ -87,10 +75,11 @@ pub chains : ChainClaim
 unfolding rule
 chains =
     record {
-      twelve = λ old room. answer-fits (four-values 1) 12 0 (chain-rows 11 0) old one-event passed-12 49 (sizes .0) (lit≤ tt) (omega (arith, depths .0)) room;
+      twelve = λ old room.
+          answer-fits (four-values 1) 12 0 (chain-rows 11 0) old one-event (in-order .0) 49 (sizes .0) (lit≤ tt) (omega (arith, depths .0)) room;
       thirteen = λ old.
-          answer-deep (four-values 1) 13 0 (chain-rows 12 0) old one-event passed-13 (omega (arith, sizes .1)) (omega (arith, depths .1));
+          answer-deep (four-values 1) 13 0 (chain-rows 12 0) old one-event (in-order .1) (omega (arith, sizes .1)) (omega (arith, depths .1));
       sixty-three = λ old.
-          answer-deep (four-values 1) 63 0 (chain-rows 62 0) old one-event passed-63 (omega (arith, sizes .2)) (omega (arith, depths .2));
-      sixty-four = λ old. answer-over (four-values 1) 64 0 (chain-rows 63 0) old one-event passed-64 (omega (arith, sizes .3));
+          answer-deep (four-values 1) 63 0 (chain-rows 62 0) old one-event (in-order .2) (omega (arith, sizes .2)) (omega (arith, depths .2));
+      sixty-four = λ old. answer-over (four-values 1) 64 0 (chain-rows 63 0) old one-event (in-order .3) (omega (arith, sizes .3));
     }

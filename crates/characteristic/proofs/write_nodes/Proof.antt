@@ -5,7 +5,7 @@ use native.Mathlib.Omega.{arith}
 use lib.ListN.{length-replicate}
 use borrow.Author.Needs.{needs}
 use Rattle.limits.specs.Limits.{node-limit}
-use Rattle.characteristic.proofs.Outputs.{rule-room, rule-bytes, too-many, too-deep, too-short, all-copied}
+use Rattle.characteristic.proofs.Outputs.{rule-room, rule-bytes, too-many, path-too-long, too-short, all-copied}
 use Rattle.characteristic.proofs.write_nodes.Statement.{statement}
 use Rattle.characteristic.proofs.write_nodes.Tie as tie
 
@@ -19,7 +19,7 @@ returns : tie.Need-returns
 returns c = too-many (c .before .before .list-nodes .ensures) (c .if1 .taken)
 
 returns-2 : tie.Need-returns-2
-returns-2 c = too-deep (c .before .before .before .list-nodes .ensures) (c .before .if1 .left) (c .if2 .taken)
+returns-2 c = path-too-long (c .before .before .before .list-nodes .ensures) (c .before .if1 .left) (c .if2 .taken)
 
 mul-bytes : tie.Need-mul-bytes
 mul-bytes c = omega (arith, rule-bytes (c .before .before .if1 .left) (c .node-width .ensures .2))
