@@ -4,7 +4,8 @@ use Rattle.limits.specs.Limits.{device-limit, table-limit}
 use Rattle.values.proofs.Comparisons.{comparisons}
 use Rattle.conformance.proofs.TrialClaims.{trial-refused, trial-grades, two-passes}
 use Rattle.product_claims.specs.Requests.{SameOrStricter, Requests}
-use Rattle.product_claims.proofs.{InnerBinders.{inner-binders}, TwelveBinders.{twelve-binders}, Compiled.{rule-grade}, Covering.{covering}}
+use Rattle.product_claims.proofs.{InnerBinders.{inner-binders}, TwelveBinders.{twelve-binders}, GatheredDemands.{gathered-demands}}
+use Rattle.product_claims.proofs.{Compiled.{rule-grade}, Covering.{covering}}
 
 same-or-stricter : SameOrStricter
 same-or-stricter =
@@ -19,4 +20,10 @@ same-or-stricter =
 
 pub requests : Requests
 requests =
-    record { inner-binders = inner-binders; twelve-binders = twelve-binders; same-or-stricter = same-or-stricter; covering = covering }
+    record {
+      inner-binders = inner-binders;
+      twelve-binders = twelve-binders;
+      gathered-demands = gathered-demands;
+      same-or-stricter = same-or-stricter;
+      covering = covering;
+    }

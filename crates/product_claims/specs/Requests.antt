@@ -1,10 +1,11 @@
 -- Document 02's requests, each as one record over the definitions of both documents and the functions that contracts state; proved in
 -- proofs/Requests. F-1 stands in DemandThree (`fails`).
 use mathlib.Core.{Path.{_≡_}, Logic.{_↔_, _⊎_}, List.{List, _++_}, Option.{none, some}}
-use Prim.Native.Nat.{ℕ, zero, _*_, _≤_, _<_}
-use lib.ListN.{length, take}
+use Prim.Native.Nat.{ℕ, zero, suc, _*_, _≤_, _<_}
+use lib.{Dec.{T}, ListN.{length, take}}
 use Rattle.limits.specs.Limits.{node-limit, binder-limit, state-limit, device-limit, table-limit, word-limit}
-use Rattle.theory.specs.{Formula.{Formula, conjunction, size, conjunction-node, Answers}, MealyMachine.{Machine, Word, after, Implies}}
+use Rattle.theory.specs.Formula.{Formula, transition, conjunction, size, conjunction-node, Stands, Answers}
+use Rattle.theory.specs.{MealyMachine.{Machine, Word, after, Implies}, ReachableStates.{NodeSet, Demands, IsSetMachine}}
 use Rattle.refusal.specs.{declared.Refusal.{Refusal}, declared.Refusal.the-variants.{Plain}, Refusal.{First, counted-refusal, count-of}}
 use Rattle.values.specs.declared.{ValueKind.{ValueKind}, Comparison.{Comparison}}
 use Rattle.values.specs.{Setup.{Setup, SetupValue, ValueIn, setup-meet, setup-top, meetOf, ComparesAs}, SetupTests.{setup-refusal}, ValueTests.{comparison}}
@@ -12,7 +13,7 @@ use Rattle.conformance.specs.declared.{Grade.the-variants.{Same, Stricter}, Ver
 use Rattle.conformance.specs.{Trial.{TrialInput, DeviceInOrder, Passes, EndsSame, refusal-of, Passed, grade}, TrialAnswer.{trial-answer}}
 use Rattle.machines.specs.TableBytes.{entry-width, machine-of}
 use Rattle.formulas.specs.RuleConditions.{encode-formula, node-width, node-bytes, Unbound, TooDeep, Unprotected, NodeAtFault, byte-conditions}
-use Rattle.synthesis.specs.Compilation.{compile-answer, compile-contents}
+use Rattle.synthesis.specs.{Compilation.{compile-answer, compile-contents}, KeptSets.{kept-set}}
 use Rattle.characteristic.specs.{RuleOfTable.{IsRuleOf}, RuleWriting.{write-answer}}
 use Rattle.product_claims.specs.Demands.{rule-trial-input}
 
@@ -45,6 +46,17 @@ pub record TwelveBinders : Type 0 where
   pub obeyed : (s : Setup) (states start : ℕ) (table old : List ℕ) (n : ℕ) →
       count-of (write-answer table-limit node-limit s states start table old) ≡ some n →
       (φ : Formula ℕ) → IsRuleOf (s .events) (s .kind) start table φ → ¬ TooDeep φ binder-limit
+
+-- F-3: demands gathered before the walk. `kept-set φ i` is what the row of node i is, by the contract of synthesis `keep_demands`; the walk
+-- over states looks up these rows. Both hold of rules that 10 refuses too.
+pub record GatheredDemands : Type 0 where
+  -- "The set kept for each node is proved to be its demands by document 01, for every rule that 5 to 9 let through"
+  pub kept : (s : Setup) (φ : Formula ℕ) → LetThrough s (rule-bytes s φ) → (i : ℕ) (bs : List ℕ) (ψ : Formula ℕ) → Stands φ i bs ψ →
+      (d : ℕ) → T (kept-set φ i d) ↔ Demands φ i d
+  -- "and every next state to be a union of kept sets": of those of the parts of the state's G nodes for the event
+  pub united : (s : Setup) (φ : Formula ℕ) → LetThrough s (rule-bytes s φ) →
+      (m : Machine NodeSet ℕ) (first : NodeSet) → IsSetMachine (setup-meet s) (setup-top s) φ m first → (D : NodeSet) (e d : ℕ) →
+      T (m .next D e d) ↔ ((i : ℕ) × (bs : List ℕ) × (ψ : Formula ℕ) × T (D i) × Stands φ i bs (transition e ψ) × T (kept-set φ (suc i) d))
 
 -- From a state the machine gives the rule's value (source 000, section 3) on every event sequence.
 abbrev pub MatchesRule : Setup → Formula ℕ → Machine ℕ ℕ → ℕ → Type 0
@@ -115,5 +127,6 @@ pub record Covering : Type 1 where
 pub record Requests : Type 1 where
   pub inner-binders : InnerBinders
   pub twelve-binders : TwelveBinders
+  pub gathered-demands : GatheredDemands
   pub same-or-stricter : SameOrStricter
   pub covering : Covering

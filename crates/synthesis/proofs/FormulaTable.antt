@@ -3,24 +3,21 @@ use mathlib.Core.{Path.{_≡_, refl, sym, _∙_, ap, ap₂, subst, fun-ext}, Boo
 use Prim.Native.Nat.{ℕ, _*_, _/_, _%_, _<_, _≤_}
 use native.Mathlib.Omega.{arith}
 use lib.ListN.{length}
-use Rattle.limits.specs.Limits.{node-limit, binder-limit}
+use Rattle.limits.specs.Limits.{node-limit}
 use Rattle.theory.specs.Formula.{Formula, size}
-use Rattle.theory.specs.FormulaClasses.{Closed, Guarded}
-use Rattle.theory.specs.BinderDepth.{binder-depth}
 use Rattle.theory.specs.MealyMachine.{Machine}
 use Rattle.theory.specs.ReachableStates.{value-of-set}
 use Rattle.theory.specs.Exploration.{explored, numbered, member, bits, same-bits, bit-machine, first-bits}
 use Rattle.formulas.specs.{NodeReading.{Reads}, NodeWalks.{field}}
-use Rattle.synthesis.specs.{NodeWords.{set-at, bits-at}, NodeWalks.{Binds}, Binding.{AllBound}, DemandRows.{RowsTo}}
+use Rattle.formulas.proofs.Walking.{size-positive}
+use Rattle.synthesis.specs.{NodeWords.{set-at, bits-at}, KeptDemands.{RowsKept, KeepsDemands}}
 use Rattle.synthesis.specs.{Exploring.{next-bits, Unchanged, Kept, Counted, sequences}, TableEntries.{state-value, EntriesTo}}
 use Rattle.synthesis.specs.{FormulaTable.{formula-states, formula-table}, MadeTable.{Tabled, Tables}}
-use Rattle.synthesis.proofs.{NodeWords.{member-bits-at}, DemandRows.{unguarded-row}, Stepping.{stepped-moved}, TableEntries.{value-from}}
+use Rattle.synthesis.proofs.{NodeWords.{member-bits-at}, KeptSets.{kept-first}, Stepping.{stepped-moved}, TableEntries.{value-from}}
 
 -- What the parts of the code answer, for some count of nodes.
-pub record Parts (kinds firsts fields stack b rows states : List ℕ) (meet : ℕ → ℕ → ℕ) (top events limit n : ℕ)
+pub record Parts (kinds firsts fields rows states : List ℕ) (meet : ℕ → ℕ → ℕ) (top events limit n : ℕ)
     (values nexts values′ nexts′ : List ℕ) (count : ℕ) : Type 0 where
-  pub bound : AllBound kinds firsts 0 count 0 stack b
-  pub filled : RowsTo kinds b count rows count
   pub counted :
       Counted (next-bits kinds firsts rows count) (bits-at rows 0) events limit
       (sequences (next-bits kinds firsts rows count) (bits-at rows 0) events limit) n (n * events) states nexts′
@@ -28,14 +25,9 @@ pub record Parts (kinds firsts fields stack b rows states : List ℕ) (meet : �
   pub values-kept : n ≤ limit → Unchanged (n * events) values values′
   pub nexts-kept : n ≤ limit → Unchanged (n * events) nexts nexts′
 
-module _ (kinds firsts fields stack b rows states : List ℕ) (meet : ℕ → ℕ → ℕ) (top events limit n : ℕ)
-    (values nexts values′ nexts′ : List ℕ) (φ : Formula ℕ) (d : Reads (field kinds) (field firsts) (field fields) 0 φ)
-    (shallow : binder-depth φ ≤ binder-limit) (closed : Closed φ) (guarded : Guarded φ)
-    (p : Parts kinds firsts fields stack b rows states meet top events limit n values nexts values′ nexts′ (size φ)) where
-  binds : Binds (field b) [] 0 φ
-  unfolding AllBound
-  binds = p .bound (field fields) φ [] d (omega arith) closed (omega (arith, shallow)) (record { deep = refl; at = λ k h. absurd (omega arith) })
-
+module _ (kinds firsts fields rows states : List ℕ) (meet : ℕ → ℕ → ℕ) (top events limit n : ℕ)
+    (values nexts values′ nexts′ : List ℕ) (φ : Formula ℕ) (d : Reads (field kinds) (field firsts) (field fields) 0 φ) (kept : RowsKept rows φ)
+    (p : Parts kinds firsts fields rows states meet top events limit n values nexts values′ nexts′ (size φ)) where
   abbrev next : List Bool → ℕ → List Bool
   next = next-bits kinds firsts rows (size φ)
 
@@ -46,13 +38,11 @@ module _ (kinds firsts fields stack b rows states : List ℕ) (meet : ℕ → �
   unfolding next-bits
   next-is =
       fun-ext λ L. fun-ext λ e.
-      ap (bits node-limit 0) (stepped-moved kinds firsts b rows (field fields) φ (p .filled) d guarded binds (member L) e)
+      ap (bits node-limit 0) (stepped-moved kinds firsts rows (field fields) φ d kept (member L) e)
 
   start-is : start ≡ first-bits node-limit meet top φ
   unfolding bits-at
-  start-is =
-      ap (bits node-limit 0)
-      (unguarded-row rows [] 0 φ (p .filled .root (field firsts) (field fields) φ [] d (omega arith) guarded binds tt))
+  start-is = ap (bits node-limit 0) (kept 0 (size-positive φ) ∙ kept-first [] 0 φ)
 
   abbrev m : Machine (List Bool) ℕ
   m = record { value = bit-machine node-limit meet top φ .value; next = next }
@@ -98,15 +88,14 @@ module _ (kinds firsts fields stack b rows states : List ℕ) (meet : ℕ → �
       }
 
 pub tables :
-    (kinds firsts fields stack b rows states : List ℕ) (meet : ℕ → ℕ → ℕ) (top events limit n count : ℕ)
-    (values nexts values′ nexts′ : List ℕ) →
-    AllBound kinds firsts 0 count 0 stack b → RowsTo kinds b count rows count →
+    (kinds firsts fields rows states : List ℕ) (meet : ℕ → ℕ → ℕ) (top events limit n count : ℕ) (values nexts values′ nexts′ : List ℕ) →
+    KeepsDemands kinds firsts count rows →
     Counted (next-bits kinds firsts rows count) (bits-at rows 0) events limit
     (sequences (next-bits kinds firsts rows count) (bits-at rows 0) events limit) n (n * events) states nexts′ →
     (n ≤ limit → EntriesTo (state-value meet top kinds firsts fields count states) events (n * events) values′) →
     (n ≤ limit → Unchanged (n * events) values values′) → (n ≤ limit → Unchanged (n * events) nexts nexts′) →
     Tables kinds firsts fields count meet top events limit values nexts values′ nexts′ n
-tables kinds firsts fields stack b rows states meet top events limit n count values nexts values′ nexts′ bo fi co va vk nk φ d q shallow closed guarded =
-    tabled kinds firsts fields stack b rows states meet top events limit n values nexts values′ nexts′ φ d shallow closed guarded
-    (subst (Parts kinds firsts fields stack b rows states meet top events limit n values nexts values′ nexts′) (sym q)
-    (record { bound = bo; filled = fi; counted = co; valued = va; values-kept = vk; nexts-kept = nk }))
+tables kinds firsts fields rows states meet top events limit n count values nexts values′ nexts′ keeps co va vk nk φ d q shallow closed guarded =
+    tabled kinds firsts fields rows states meet top events limit n values nexts values′ nexts′ φ d (keeps (field fields) φ d q shallow closed guarded)
+    (subst (Parts kinds firsts fields rows states meet top events limit n values nexts values′ nexts′) (sym q)
+    (record { counted = co; valued = va; values-kept = vk; nexts-kept = nk }))

@@ -5,6 +5,7 @@ pub mod NodeSetLaws
 pub mod NodeWalks
 pub mod Binding
 pub mod DemandRows
+pub mod KeptSets
 pub mod Stepping
 pub mod KeptDemands
 pub mod Exploring

@@ -1,18 +1,17 @@
 -- The next set, node by node from the rows, is the next set of the formula's machine.
 use mathlib.Core.{Path.{_≡_, refl, sym, _∙_, ap, ap₂, subst, fun-ext}, Bool.{Bool, true, false, _||_, _&&_, cond, or-false, or-assoc, and-false}}
-use mathlib.Core.List.{List, [], _∷_, map}
+use mathlib.Core.List.{List, [], _∷_}
 use Prim.Native.Nat.{ℕ, zero, suc, _+_, _-_, _≤_, _<_}
 use native.Mathlib.{Numerals.{add-one}, Decide.{ℕ-discrete}, Omega.{arith}}
 use borrow.Author.Tests.{eq-eqb, ne-eqb}
 use lib.Dec.{eqb}
 use Rattle.theory.specs.Formula.{Formula, truth, variable, transition, output, conjunction, greatest, size}
-use Rattle.theory.specs.FormulaClasses.{Guarded}
 use Rattle.theory.specs.ReachableStates.{NodeSet}
 use Rattle.theory.specs.DemandSets.{empty, union, demands, moved}
 use Rattle.formulas.specs.{NodeReading.{Reads}, NodeWalks.{field}}
-use Rattle.synthesis.specs.{NodeWords.{row, United}, NodeWalks.{Binds}, DemandRows.{AllBelow, UnguardedRows, RowsTo}}
-use Rattle.synthesis.specs.Exploring.{some-in, for-event, brings, stepped, PassedStates}
-use Rattle.synthesis.proofs.DemandRows.{below-later, unguarded-row}
+use Rattle.formulas.proofs.Walking.{size-positive}
+use Rattle.synthesis.specs.{NodeWords.{row, United}, Exploring.{some-in, for-event, brings, stepped, PassedStates}, KeptDemands.{RowsKept}}
+use Rattle.synthesis.proofs.KeptSets.{kept-of, kept-first, kept-left, kept-right}
 
 some-split : (p : ℕ → Bool) (i n m : ℕ) → some-in p i (n + m) ≡ some-in p i n || some-in p (i + n) m
 some-split p i zero m =
@@ -125,8 +124,11 @@ module _ (kinds firsts rows : List ℕ) (events i : ℕ) (before : List ℕ) whe
           x .others e d
           ∙ sym (ap (came e) (same-kind kinds firsts 2 e i k ∙ ne-eqb (field firsts i) e (λ z. d (sym z ∙ sym q))))
 
-module _ (kinds firsts b : List ℕ) (total : ℕ) (rows : List ℕ) (ok : RowsTo kinds b total rows total) (value : ℕ → ℕ)
-    (D : NodeSet) (e : ℕ) where
+-- The rows from i on are the sets kept for the formula at i.
+abbrev pub KeptFrom : List ℕ → List NodeSet → ℕ → Formula ℕ → Type 0
+KeptFrom rows ρ i φ = (n : ℕ) → n < size φ → row rows (i + n) ≡ kept-of ρ i φ n
+
+module _ (kinds firsts rows : List ℕ) (value : ℕ → ℕ) (D : NodeSet) (e : ℕ) where
   brings-not : (i k : ℕ) → ¬ (field kinds i ≡ 2) → brings kinds firsts rows D e k i ≡ false
   brings-not i k h =
       ap (λ t. t && row rows (suc i) k) (ap (λ t. D i && t) (other-kind kinds firsts 2 e i h) ∙ and-false (D i))
@@ -137,43 +139,39 @@ module _ (kinds firsts b : List ℕ) (total : ℕ) (rows : List ℕ) (ok : RowsT
   cond-at false C k = refl
 
   moved-rows :
-      (φ : Formula ℕ) (σ : List ℕ) (i : ℕ) → Reads (field kinds) (field firsts) value i φ → i + size φ ≤ total → Guarded φ →
-      Binds (field b) σ i φ → AllBelow i σ → UnguardedRows rows (map (row rows) σ) i φ → (k : ℕ) →
-      moved D e (map (row rows) σ) i φ k ≡ some-in (brings kinds firsts rows D e k) i (size φ)
+      (φ : Formula ℕ) (ρ : List NodeSet) (i : ℕ) → Reads (field kinds) (field firsts) value i φ → KeptFrom rows ρ i φ → (k : ℕ) →
+      moved D e ρ i φ k ≡ some-in (brings kinds firsts rows D e k) i (size φ)
   unfolding empty union
-  moved-rows truth σ i d h w n u v k = sym (ap (λ t. t || false) (brings-not i k (λ q. omega (arith, q, d))))
-  moved-rows (variable m) σ i d h w n u v k = sym (ap (λ t. t || false) (brings-not i k (λ q. omega (arith, q, d .0))))
-  moved-rows (transition a φ) σ i d h w n u v k =
-      let o : AllBelow (suc i) σ = below-later i (suc i) σ (omega arith) u in
-      let part : UnguardedRows rows (map (row rows) σ) (suc i) φ
-      = ok .parts i (omega arith) (d .0) (field firsts) value φ σ (d .2) (omega arith) w n o in
+  moved-rows truth ρ i d v k = sym (ap (λ t. t || false) (brings-not i k (λ q. omega (arith, q, d))))
+  moved-rows (variable m) ρ i d v k = sym (ap (λ t. t || false) (brings-not i k (λ q. omega (arith, q, d .0))))
+  moved-rows (transition a φ) ρ i d v k =
+      let part : KeptFrom rows ρ (suc i) φ = λ n h. ap (row rows) (omega arith) ∙ v (suc n) (omega (arith, h)) in
+      let its : row rows (suc i) ≡ demands ρ (suc i) φ
+      = ap (row rows) (omega arith) ∙ part 0 (size-positive φ) ∙ kept-first ρ (suc i) φ in
       ap₂ (λ x y. x || y)
-      (cond-at (D i && eqb a e) (demands (map (row rows) σ) (suc i) φ) k
+      (cond-at (D i && eqb a e) (demands ρ (suc i) φ) k
       ∙ ap₂ (λ x y. x && y)
       (ap (λ t. D i && t) (sym (same-kind kinds firsts 2 e i (d .0) ∙ ap (λ x. eqb x e) (d .1))))
-      (ap (λ C. C k) (sym (unguarded-row rows (map (row rows) σ) (suc i) φ part))))
-      (moved-rows φ σ (suc i) (d .2) (omega arith) w n o part k)
-  moved-rows (output a c) σ i d h w n u v k = sym (ap (λ t. t || false) (brings-not i k (λ q. omega (arith, q, d .0))))
-  moved-rows (conjunction φ χ) σ i d h w n u v k =
+      (ap (λ C. C k) (sym its)))
+      (moved-rows φ ρ (suc i) (d .2) part k)
+  moved-rows (output a c) ρ i d v k = sym (ap (λ t. t || false) (brings-not i k (λ q. omega (arith, q, d .0))))
+  moved-rows (conjunction φ χ) ρ i d v k =
       ap₂ (λ x y. x || y)
-      (moved-rows φ σ (suc i) (d .1) (omega arith) (w .0) (n .0) (below-later i (suc i) σ (omega arith) u) (v .1) k)
-      (moved-rows χ σ (suc i + size φ) (d .2) (omega arith) (w .1) (n .1) (below-later i (suc i + size φ) σ (omega arith) u) (v .2) k)
+      (moved-rows φ ρ (suc i) (d .1) (λ n h. ap (row rows) (omega arith) ∙ v (suc n) (omega (arith, h)) ∙ kept-left ρ i φ χ n h) k)
+      (moved-rows χ ρ (suc i + size φ) (d .2)
+      (λ n h. ap (row rows) (omega arith) ∙ v (suc (size φ + n)) (omega (arith, h)) ∙ kept-right ρ i φ χ n) k)
       ∙ sym (some-split (brings kinds firsts rows D e k) (suc i) (size φ) (size χ))
       ∙ sym (ap (λ t. t || some-in (brings kinds firsts rows D e k) (suc i) (size φ + size χ))
       (brings-not i k (λ z. omega (arith, z, d .0))))
-  moved-rows (greatest φ) σ i d h w n u v k =
-      ap (λ C. moved D e (C ∷ map (row rows) σ) (suc i) φ k) (sym (v .0))
-      ∙ moved-rows φ (i ∷ σ) (suc i) (d .1) (omega arith) (w .1) n (omega arith, below-later i (suc i) σ (omega arith) u) (v .1) k
+  moved-rows (greatest φ) ρ i d v k =
+      moved-rows φ (demands ρ i (greatest φ) ∷ ρ) (suc i) (d .1) (λ n h. ap (row rows) (omega arith) ∙ v (suc n) (omega (arith, h))) k
       ∙ sym (ap (λ t. t || some-in (brings kinds firsts rows D e k) (suc i) (size φ))
       (brings-not i k (λ q. omega (arith, q, d .0))))
 
 -- For a whole formula.
 pub stepped-moved :
-    (kinds firsts b rows : List ℕ) (value : ℕ → ℕ) (φ : Formula ℕ) → RowsTo kinds b (size φ) rows (size φ) →
-    Reads (field kinds) (field firsts) value 0 φ → Guarded φ → Binds (field b) [] 0 φ →
+    (kinds firsts rows : List ℕ) (value : ℕ → ℕ) (φ : Formula ℕ) → Reads (field kinds) (field firsts) value 0 φ → RowsKept rows φ →
     (D : NodeSet) (e : ℕ) → stepped kinds firsts rows (size φ) D e ≡ moved D e [] 0 φ
 unfolding stepped
-stepped-moved kinds firsts b rows value φ ok d w n D e =
-    fun-ext λ k. sym
-    (moved-rows kinds firsts b (size φ) rows ok value D e φ [] 0 d (omega arith) w n tt
-    (ok .root (field firsts) value φ [] d (omega arith) w n tt) k)
+stepped-moved kinds firsts rows value φ d kept D e =
+    fun-ext λ k. sym (moved-rows kinds firsts rows value D e φ [] 0 d (λ n h. ap (row rows) (omega arith) ∙ kept n h) k)

@@ -1,29 +1,38 @@
--- Demands gathered before the walk over states (document 02, F-3): what the rows are that the compiler keeps, and what it makes of
--- them. Each claim is a proposition, inhabited in proofs/.
-use mathlib.Core.{Path.{_≡_}, Logic.{_↔_}, Option.{none}, List.{List}}
-use Prim.Native.Nat.{ℕ, suc}
+-- Demands gathered before the walk over states (document 02, F-3): what is promised of the rows that the walk looks up, and what is
+-- claimed of them. Each claim is a proposition, inhabited in proofs/.
+use mathlib.Core.{Path.{_≡_}, Logic.{_↔_}, List.{List}}
+use Prim.Native.Nat.{ℕ, suc, _≤_, _<_}
 use lib.Dec.{T}
-use Rattle.theory.specs.{Formula.{Formula, transition, Stands}, ReachableStates.{NodeSet, Demands}}
-use Rattle.values.specs.declared.ValueKind.{ValueKind}
-use Rattle.formulas.specs.{NodeArrays.{decoded}, RuleRefusal.{rule-refusal, formula-of}}
-use Rattle.synthesis.specs.{NodeWords.{row}, Binding.{AllBound}, DemandRows.{RowsTo}, Exploring.{stepped}}
+use Rattle.limits.specs.Limits.{binder-limit}
+use Rattle.theory.specs.{Formula.{Formula, transition, size, Stands}, FormulaClasses.{Closed, Guarded}, BinderDepth.{binder-depth}}
+use Rattle.theory.specs.ReachableStates.{NodeSet, Demands}
+use Rattle.formulas.specs.{NodeReading.{Reads}, NodeWalks.{field}}
+use Rattle.synthesis.specs.{NodeWords.{row}, Exploring.{stepped}, KeptSets.{kept-set}}
 
--- The rows kept for the nodes of a rule: what `bind` and `fill_rows` promise of them.
-pub record KeptRows (kind : ValueKind) (rule stack binders rows : List ℕ) : Type 0 where
-  pub bound : AllBound (decoded kind rule .kinds) (decoded kind rule .firsts) 0 (decoded kind rule .count) 0 stack binders
-  pub filled : RowsTo (decoded kind rule .kinds) binders (decoded kind rule .count) rows (decoded kind rule .count)
+-- The rows of a formula's nodes are the sets kept for them.
+abbrev pub RowsKept : List ℕ → Formula ℕ → Type 0
+RowsKept rows φ = (i : ℕ) → i < size φ → row rows i ≡ kept-set φ i
 
--- "The set kept for each node is proved to be its demands by document 01, for every rule that 5 to 9 let through".
+-- So for each formula in order whose nodes these are, whether or not 10 refuses it: what `keep_demands` promises.
+abbrev pub KeepsDemands : List ℕ → List ℕ → ℕ → List ℕ → Type 0
+KeepsDemands kinds firsts count rows =
+    (value : ℕ → ℕ) (φ : Formula ℕ) → Reads (field kinds) (field firsts) value 0 φ → size φ ≡ count → binder-depth φ ≤ binder-limit →
+    Closed φ → Guarded φ → RowsKept rows φ
+
+-- "The set kept for each node is proved to be its demands by document 01", and no other set is.
+pub record IsKeptSet (φ : Formula ℕ) (i : ℕ) (D : NodeSet) : Type 0 where
+  pub demanded : (d : ℕ) → T (D d) ↔ Demands φ i d
+  pub only : (C : NodeSet) → ((d : ℕ) → T (C d) ↔ Demands φ i d) → C ≡ D
+
 abbrev pub KeptDemandsClaim : Type 0
 KeptDemandsClaim =
-    (events : ℕ) (kind : ValueKind) (rule stack binders rows : List ℕ) → rule-refusal events kind rule ≡ none → KeptRows kind rule stack binders rows →
-    (i : ℕ) (bs : List ℕ) (ψ : Formula ℕ) → Stands (formula-of kind rule) i bs ψ → (d : ℕ) → T (row rows i d) ↔ Demands (formula-of kind rule) i d
+    (φ : Formula ℕ) → Guarded φ → (i : ℕ) (bs : List ℕ) (ψ : Formula ℕ) → Stands φ i bs ψ → IsKeptSet φ i (kept-set φ i)
 
--- "And every next state to be a union of kept sets": of those of the parts of the state's G nodes for the event. The next state is
+-- "And every next state to be a union of kept sets": of the rows of the parts of the state's G nodes for the event. The next state is
 -- `stepped`, as `advance` promises.
 abbrev pub KeptUnionClaim : Type 0
 KeptUnionClaim =
-    (events : ℕ) (kind : ValueKind) (rule stack binders rows : List ℕ) → rule-refusal events kind rule ≡ none → KeptRows kind rule stack binders rows →
+    (kinds firsts rows : List ℕ) (value : ℕ → ℕ) (φ : Formula ℕ) → Reads (field kinds) (field firsts) value 0 φ → Guarded φ → RowsKept rows φ →
     (D : NodeSet) (e d : ℕ) →
-    T (stepped (decoded kind rule .kinds) (decoded kind rule .firsts) rows (decoded kind rule .count) D e d)
-    ↔ ((i : ℕ) × (bs : List ℕ) × (ψ : Formula ℕ) × T (D i) × Stands (formula-of kind rule) i bs (transition e ψ) × T (row rows (suc i) d))
+    T (stepped kinds firsts rows (size φ) D e d)
+    ↔ ((i : ℕ) × (bs : List ℕ) × (ψ : Formula ℕ) × T (D i) × Stands φ i bs (transition e ψ) × T (kept-set φ (suc i) d))

@@ -3,6 +3,7 @@
 pub mod TableOfRule
 -- What the contracts of the compilers compute with, and what is claimed of it.
 pub mod FormulaTable
+pub mod KeptSets
 pub mod Compilation
 pub mod Claims
 -- What the private walks keep and answer: sets in words, binders, rows of demands, states, entries.

@@ -21,6 +21,7 @@ ghost use Rattle.synthesis.specs.NodeWords.{row-words, row};
 ghost use Rattle.synthesis.specs.NodeWalks.{EndsHere, EndsFrom};
 ghost use Rattle.synthesis.specs.Binding.{OwnBinder, Bound};
 ghost use Rattle.synthesis.specs.DemandRows.{RowStored, Gathered, RowsTo};
+ghost use Rattle.synthesis.specs.KeptDemands.{KeepsDemands};
 
 // The node after the formula at a node, those of the nodes behind it being known.
 fn end_of(kinds: &[u8; NODE_LIMIT], ends: &[usize; NODE_LIMIT + 1], at: usize) -> usize
@@ -42,7 +43,7 @@ fn end_of(kinds: &[u8; NODE_LIMIT], ends: &[usize; NODE_LIMIT + 1], at: usize) -
 }
 
 // The node after the formula at each node, from the last node down.
-pub fn fill_ends(kinds: &[u8; NODE_LIMIT], count: usize, ends: &mut [usize; NODE_LIMIT + 1])
+fn fill_ends(kinds: &[u8; NODE_LIMIT], count: usize, ends: &mut [usize; NODE_LIMIT + 1])
     requires { ⌜ (count ≤ node-limit) × (length (now kinds) ≡ node-limit) × (length (now ends) ≡ node-limit + 1) ⌝ }
     ensures { λ _. ⌜ (length (now (ends .exit)) ≡ node-limit + 1) × EndsFrom (now (kinds .entry)) count (now (ends .exit)) 0 ⌝ }
 {
@@ -71,7 +72,7 @@ fn own_binder(stack: &[u8; BINDER_LIMIT], depth: usize, first: usize) -> u8
 
 // Gives each variable of the formula at a node its binder's node. The stack has the binders around, the innermost last: twelve cells, since
 // a rule that 23 lets through has no more on a path.
-pub fn bind(
+fn bind(
     kinds: &[u8; NODE_LIMIT],
     firsts: &[u8; NODE_LIMIT],
     at: usize,
@@ -163,7 +164,7 @@ fn store_copy(rows: &mut [u64; ROW_WORDS], at: usize, from: usize)
 }
 
 // Gives each node of the formula at a node its demands, except below its G nodes; the answer is the node after that formula.
-pub fn gather(
+fn gather(
     kinds: &[u8; NODE_LIMIT],
     binders: &[u8; NODE_LIMIT],
     ends: &[usize; NODE_LIMIT + 1],
@@ -209,7 +210,7 @@ pub fn gather(
 
 // Each node's row gets its demands: the root's formula, then the part of each G in rising order. A G lies between a variable and its
 // binder, so that the binder's row is there before.
-pub fn fill_rows(
+fn fill_rows(
     kinds: &[u8; NODE_LIMIT],
     binders: &[u8; NODE_LIMIT],
     ends: &[usize; NODE_LIMIT + 1],
@@ -229,4 +230,23 @@ pub fn fill_rows(
         }
         i += 1;
     }
+}
+
+// Each node's row gets its demands, before the walk over states looks them up (document 02, F-3).
+pub fn keep_demands(
+    kinds: &[u8; NODE_LIMIT],
+    firsts: &[u8; NODE_LIMIT],
+    count: usize,
+    rows: &mut [u64; ROW_WORDS],
+)
+    requires { ⌜ (count ≤ node-limit) × (length (now kinds) ≡ node-limit) × (length (now firsts) ≡ node-limit) × (length (now rows) ≡ row-words) ⌝ }
+    ensures { λ _. ⌜ (length (now (rows .exit)) ≡ row-words)
+        × KeepsDemands (now (kinds .entry)) (now (firsts .entry)) count (now (rows .exit)) ⌝ }
+{
+    let mut stack = [0u8; BINDER_LIMIT];
+    let mut binders = [0u8; NODE_LIMIT];
+    bind(kinds, firsts, 0, count, 0, &mut stack, &mut binders);
+    let mut ends = [0usize; NODE_LIMIT + 1];
+    fill_ends(kinds, count, &mut ends);
+    fill_rows(kinds, &binders, &ends, count, rows);
 }

@@ -1,11 +1,8 @@
 // The table of the formula whose nodes these are (document 01, "Table of a rule").
-use crate::demands::bind;
-use crate::demands::fill_ends;
-use crate::demands::fill_rows;
+use crate::demands::keep_demands;
 use crate::entries::fill_values;
 use crate::exploration::explore;
 use crate::node_sets::ROW_WORDS;
-use limits::BINDER_LIMIT;
 use limits::NODE_LIMIT;
 use values::ValueKind;
 ghost use mathlib.Core.Path.{_≡_};
@@ -39,13 +36,8 @@ pub fn table_of<'a>(
         × Tables (now (kinds .entry)) (now (firsts .entry)) (now (fields .entry)) count (meetOf kind (now (meet .entry))) top events limit
         (now (values .entry)) (now (nexts .entry)) (now (values .exit)) (now (nexts .exit)) r ⌝ }
 {
-    let mut stack = [0u8; BINDER_LIMIT];
-    let mut binders = [0u8; NODE_LIMIT];
-    bind(kinds, firsts, 0, count, 0, &mut stack, &mut binders);
-    let mut ends = [0usize; NODE_LIMIT + 1];
-    fill_ends(kinds, count, &mut ends);
     let mut rows = [0u64; ROW_WORDS];
-    fill_rows(kinds, &binders, &ends, count, &mut rows);
+    keep_demands(kinds, firsts, count, &mut rows);
     let n = explore(kinds, firsts, count, &rows, events, limit, states, nexts);
     if limit < n {
         return n;
