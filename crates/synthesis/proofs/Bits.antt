@@ -1,12 +1,12 @@
--- Single bits of numbers: of a union, of a power of two, that they determine the number, and the first and the last that are set.
-use mathlib.Core.{Path.{_≡_, refl, sym, ap, ap₂, _∙_, subst}, Bool.{false, _||_}, Logic.{_⊎_, inl, inr}}
-use Prim.Native.Nat.{ℕ, zero, suc, _+_, _-_, _*_, _/_, _%_, _^_, _≤_, _<_, max}
+-- Single bits of numbers: of a bitwise or and and, of a power of two, that they determine the number, and the last that is set.
+use mathlib.Core.{Path.{_≡_, refl, sym, ap, ap₂, _∙_, subst}, Bool.{false, _||_, _&&_}, Logic.{_⊎_, inl, inr}}
+use Prim.Native.Nat.{ℕ, zero, suc, _+_, _-_, _*_, _/_, _%_, _^_, _≤_, _<_, max, min}
 use native.Mathlib.Nat.{mod-lt, zero-lt-suc, lt-of-le-of-lt, lt-trans, le-of-suc-le-suc, max-le, div-self, div-eq-of-lt, div-one, one-mul, add-comm}
 use native.Mathlib.{Nat.{div-add-mod', zero-div, div-lt-iff-lt-mul, pow-suc}, Decide.{decLt}, Omega.{arith}}
 use borrow.Author.Tests.{eq-eqb, ne-eqb, eqb-true}
-use lib.{Bits.{bitOr, or-step, or-shr, shifted-even}, Pow.{pow-add, shl-shr, shr-shr, shr-le, pow-pos, pow-lt, field, mod-mod-pow}}
-use lib.{Count.{trailingZeros, under, leadingZeros, leading-length}, Dec.{eqb, lit<}, Arith.{digits-div, digits-mod}}
-use Rattle.synthesis.specs.NodeWords.{bit-at, FirstBit, LastBit}
+use lib.{Bits.{bitOr, or-step, or-shr, bitAnd, and-step, and-shr, shifted-even}, Pow.{pow-add, shl-shr, shr-shr, pow-pos, pow-lt, field, mod-mod-pow}}
+use lib.{Count.{leadingZeros, leading-length}, Dec.{eqb, lit<}, Arith.{digits-div, digits-mod}}
+use Rattle.synthesis.specs.{NodeWords.{bit-at, LastBit}, MarkedNodes.{LastSet}}
 
 pub bit-small : (a k : ℕ) → bit-at a k < 2
 unfolding bit-at
@@ -40,6 +40,25 @@ unfolding bit-at
 or-bit x y k =
     ap (λ n. eqb n 1) (ap (λ (n : ℕ). n % 2) (or-shr x y k) ∙ or-odd (x / 2 ^ k) (y / 2 ^ k))
     ∙ max-or (bit-at x k) (bit-at y k) (bit-small x k) (bit-small y k)
+
+min-and : (x y : ℕ) → x < 2 → y < 2 → eqb (min x y) 1 ≡ eqb x 1 && eqb y 1
+min-and x y h k = go (zero-or-one x h) (zero-or-one y k)
+  where
+    go : (x ≡ 0) ⊎ (x ≡ 1) → (y ≡ 0) ⊎ (y ≡ 1) → eqb (min x y) 1 ≡ eqb x 1 && eqb y 1
+    go (inl p) (inl q) = rw (p, q)
+    go (inl p) (inr q) = rw (p, q)
+    go (inr p) (inl q) = rw (p, q)
+    go (inr p) (inr q) = rw (p, q)
+
+-- A bit of the bitwise and.
+pub and-bit : (x y k : ℕ) → eqb (bit-at (bitAnd x y) k) 1 ≡ eqb (bit-at x k) 1 && eqb (bit-at y k) 1
+unfolding bit-at
+and-bit x y k =
+    ap (λ n. eqb n 1) (ap (λ (n : ℕ). n % 2) (and-shr x y k) ∙ odd (x / 2 ^ k) (y / 2 ^ k))
+    ∙ min-and (bit-at x k) (bit-at y k) (bit-small x k) (bit-small y k)
+  where
+    odd : (a b : ℕ) → bitAnd a b % 2 ≡ min (a % 2) (b % 2)
+    odd a b = omega (arith, and-step a b)
 
 -- The bits of a power of two.
 pub power-bit : (m n : ℕ) → eqb (bit-at (2 ^ m) n) 1 ≡ eqb m n
@@ -116,59 +135,8 @@ same-number (suc n) x y h l f =
     = sym (low-bit x) ∙ same-bit (bit-at x 0) (bit-at y 0) (bit-small x 0) (bit-small y 0) (f 0 (omega arith)) ∙ low-bit y in
     sym (div-add-mod' x 2) ∙ ap₂ (λ a b. a * 2 + b) ih d ∙ div-add-mod' y 2
 
--- The bits below the lowest that is set, and that bit.
-trailing-below : (k n j : ℕ) → j < trailingZeros k n → bit-at n j ≡ 0
-unfolding trailingZeros
-trailing-below zero n j h = absurd (omega arith)
-trailing-below (suc k) n j h = go (trailing-below k (n / 2)) (n % 2) refl j h
-  where
-    go :
-        ((j : ℕ) → j < trailingZeros k (n / 2) → bit-at (n / 2) j ≡ 0) →
-        (d : ℕ) → n % 2 ≡ d → (j : ℕ) → j < under d (trailingZeros k (n / 2)) → bit-at n j ≡ 0
-    go ih zero e zero u = low-bit n ∙ e
-    go ih zero e (suc j) u = sym (half-bit n j) ∙ ih j (omega arith)
-    go ih (suc d) e j u = absurd (omega arith)
-
-trailing-here : (k n : ℕ) → n < 2 ^ k → ¬ (n ≡ 0) → bit-at n (trailingZeros k n) ≡ 1
-unfolding trailingZeros
-trailing-here zero n h s = absurd (s (omega arith))
-trailing-here (suc k) n h s = go (trailing-here k (n / 2)) (n % 2) refl
-  where
-    go :
-        (n / 2 < 2 ^ k → ¬ (n / 2 ≡ 0) → bit-at (n / 2) (trailingZeros k (n / 2)) ≡ 1) →
-        (d : ℕ) → n % 2 ≡ d → bit-at n (under d (trailingZeros k (n / 2))) ≡ 1
-    go ih zero e = sym (half-bit n (trailingZeros k (n / 2))) ∙ ih (half-lt n k h) (λ q. s (omega (arith, e, q)))
-    go ih (suc zero) e = low-bit n ∙ e
-    go ih (suc (suc d)) e = absurd (omega (arith, e, mod-lt n (zero-lt-suc 1)))
-
--- The first set bit of a word from k on.
-pub first-none : (w k : ℕ) → k < 64 → w / 2 ^ k ≡ 0 → FirstBit w k 64
-first-none w k h e =
-    record { low = omega arith; high = omega arith; before = λ j u v. no-rest w k j e u; here = λ u. absurd (omega arith) }
-
-pub first-some : (w k : ℕ) → w < 2 ^ 64 → ¬ (w / 2 ^ k ≡ 0) → FirstBit w k (k + trailingZeros 64 (w / 2 ^ k))
-first-some w k h s =
-    record {
-      low = omega arith;
-      high = inside (decLt 64 (k + t));
-      before = λ j u v.
-          let z : j ≡ k + (j - k) = omega arith in
-          ap (bit-at w) z ∙ sym (shifted-bit w k (j - k)) ∙ trailing-below 64 (w / 2 ^ k) (j - k) (omega arith);
-      here = λ u. set-there;
-    }
-  where
-    t : ℕ
-    t = trailingZeros 64 (w / 2 ^ k)
-
-    set-there : bit-at w (k + t) ≡ 1
-    set-there = sym (shifted-bit w k t) ∙ trailing-here 64 (w / 2 ^ k) (lt-of-le-of-lt (shr-le w k) h) s
-
-    inside : Dec (64 < k + t) → k + t ≤ 64
-    inside (yes u) = absurd (omega (arith, set-there, no-rest w 64 (k + t) (div-eq-of-lt h) (omega arith)))
-    inside (no u) = omega arith
-
 -- The k lowest bits, and the bits of a number of m binary digits.
-low-bits : (a k j : ℕ) → j < k → bit-at (a % 2 ^ k) j ≡ bit-at a j
+pub low-bits : (a k j : ℕ) → j < k → bit-at (a % 2 ^ k) j ≡ bit-at a j
 unfolding bit-at
 low-bits a k j h =
     let z : k ≡ (k - j - 1 + 1) + j = omega arith in
@@ -181,6 +149,24 @@ highest-bit a m h l =
     let d : 2 ^ suc m ≡ p * 2 = pow-suc 2 m in
     let z : a ≡ 1 * p + (a - p) = omega (arith, d, l) in
     ap (λ x. x % 2) (ap (λ x. x / p) z ∙ digits-div 1 {m = p} (omega (arith, d, h, l)))
+
+-- The last set bit of a word, by the zeros in front of it.
+pub last-set : (w : ℕ) → 0 < w → w < 2 ^ 64 → (leadingZeros 64 w ≤ 63) × LastSet w (63 - leadingZeros 64 w)
+last-set w some small = go (sized .0) (sized .1) (sized .2) (sized .3)
+  where
+    sized : (m : ℕ) × (leadingZeros 64 w + m ≡ 64) × (w < 2 ^ m) × (2 ^ m ≤ 2 * w + 1)
+    sized = leading-length 64 w small
+
+    go :
+        (m : ℕ) → leadingZeros 64 w + m ≡ 64 → w < 2 ^ m → 2 ^ m ≤ 2 * w + 1 →
+        (leadingZeros 64 w ≤ 63) × LastSet w (63 - leadingZeros 64 w)
+    go zero e h l = absurd (omega arith)
+    go (suc m) e h l =
+        let z : m ≡ 63 - leadingZeros 64 w = omega arith in (
+          omega arith,
+          subst (LastSet w) z
+              (record { low = omega arith; here = highest-bit w m h l; after = λ j u v. no-rest w (suc m) j (div-eq-of-lt h) u }),
+        )
 
 -- The last set bit of a word at or below k: bit k, or the highest of the k lowest bits.
 pub last-here : (w k : ℕ) → bit-at w k ≡ 1 → LastBit w k (k + 1)

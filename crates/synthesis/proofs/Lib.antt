@@ -1,12 +1,14 @@
 -- In the order in which they build on each other.
 pub mod Bits
 pub mod NodeWords
+pub mod MarkedNodes
 pub mod NodeSetLaws
 pub mod NodeWalks
 pub mod Binding
 pub mod DemandRows
 pub mod KeptSets
 pub mod Stepping
+pub mod NextSets
 pub mod KeptDemands
 pub mod Exploring
 pub mod TableEntries

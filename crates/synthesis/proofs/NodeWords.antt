@@ -7,7 +7,7 @@ use lib.{Arith.{digits-div, digits-mod}, Bits.{bitOr}, Dec.{eqb}, ListN.{length,
 use Rattle.limits.specs.Limits.{node-limit}
 use Rattle.theory.specs.{DemandSets.{empty, union, only}, Exploration.{member, bits}}
 use Rattle.theory.proofs.BitSets.{member-bits}
-use Rattle.synthesis.specs.NodeWords.{bit-at, set-at, row, bits-at, WordsTo, Stored, FirstBit, LastBit}
+use Rattle.synthesis.specs.NodeWords.{bit-at, set-at, row, bits-at, WordsTo, Stored, LastBit}
 use Rattle.synthesis.proofs.Bits.{or-bit, power-bit, zero-bit, same-number}
 
 pub in-words : (l : List ℕ) (b j : ℕ) → j < node-limit → set-at l b j ≡ eqb (bit-at (getD l (b + j / 64) 0) (j % 64)) 1
@@ -107,26 +107,6 @@ in-word l b k j i v h e u q =
     in-words l b j (omega arith)
     ∙ ap₂ (λ x y. eqb (bit-at (getD l (b + x) 0) y) 1) d m
     ∙ ap (λ x. eqb x 1) q
-
--- From node k on: the first set bit of its word.
-module _ (l : List ℕ) (b k bit : ℕ) (small : k < node-limit) (found : FirstBit (getD l (b + k / 64) 0) (k % 64) bit) where
-  word-before : (j : ℕ) → k ≤ j → j < k / 64 * 64 + bit → set-at l b j ≡ false
-  word-before j h u =
-      in-word l b k j (j % 64) 0 small (omega (arith, found .high)) (omega arith)
-      (found .before (j % 64) (omega (arith, found .high)) (omega (arith, found .high)))
-
-  -- The nodes in front of it are not in the set, where those in front of k are not.
-  pub word-passed :
-      (from end : ℕ) → ((j : ℕ) → j < k → from ≤ j → j < end → set-at l b j ≡ false) →
-      (j : ℕ) → j < k / 64 * 64 + bit → from ≤ j → j < end → set-at l b j ≡ false
-  word-passed from end f j u h v = go (decLt j k)
-    where
-      go : Dec (j < k) → set-at l b j ≡ false
-      go (yes w) = f j w h v
-      go (no w) = word-before j (omega arith) u
-
-  pub word-here : bit < 64 → set-at l b (k / 64 * 64 + bit) ≡ true
-  word-here h = in-word l b k (k / 64 * 64 + bit) bit 1 small refl h (found .here h)
 
 -- Down from node k: the last set bit of its word.
 module _ (l : List ℕ) (b k bit : ℕ) (small : k < node-limit) (found : LastBit (getD l (b + k / 64) 0) (k % 64) bit) where

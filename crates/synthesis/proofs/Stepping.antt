@@ -1,8 +1,8 @@
 -- The next set, node by node from the rows, is the next set of the formula's machine.
-use mathlib.Core.{Path.{_≡_, refl, sym, _∙_, ap, ap₂, subst, fun-ext}, Bool.{Bool, true, false, _||_, _&&_, cond, or-false, or-assoc, and-false}}
+use mathlib.Core.{Path.{_≡_, refl, sym, _∙_, ap, ap₂, fun-ext}, Bool.{Bool, true, false, _||_, _&&_, cond, or-assoc, and-false}}
 use mathlib.Core.List.{List, [], _∷_}
-use Prim.Native.Nat.{ℕ, zero, suc, _+_, _-_, _≤_, _<_}
-use native.Mathlib.{Numerals.{add-one}, Decide.{ℕ-discrete}, Omega.{arith}}
+use Prim.Native.Nat.{ℕ, zero, suc, _+_, _<_}
+use native.Mathlib.Omega.{arith}
 use borrow.Author.Tests.{eq-eqb, ne-eqb}
 use lib.Dec.{eqb}
 use Rattle.theory.specs.Formula.{Formula, truth, variable, transition, output, conjunction, greatest, size}
@@ -10,7 +10,7 @@ use Rattle.theory.specs.ReachableStates.{NodeSet}
 use Rattle.theory.specs.DemandSets.{empty, union, demands, moved}
 use Rattle.formulas.specs.{NodeReading.{Reads}, NodeWalks.{field}}
 use Rattle.formulas.proofs.Walking.{size-positive}
-use Rattle.synthesis.specs.{NodeWords.{row, United}, Exploring.{some-in, for-event, brings, stepped, PassedStates}, KeptDemands.{RowsKept}}
+use Rattle.synthesis.specs.{NodeWords.{row}, Exploring.{some-in, for-event, brings, stepped}, KeptDemands.{RowsKept}}
 use Rattle.synthesis.proofs.KeptSets.{kept-of, kept-first, kept-left, kept-right}
 
 some-split : (p : ℕ → Bool) (i n m : ℕ) → some-in p i (n + m) ≡ some-in p i n || some-in p (i + n) m
@@ -24,72 +24,6 @@ some-split p i (suc n) m =
     ∙ ap (λ x. p i || x) (some-split p (suc i) n m ∙ ap (λ x. some-in p (suc i) n || some-in p x m) (omega arith))
     ∙ sym (or-assoc (p i) (some-in p (suc i) n) (some-in p (i + suc n) m))
 
-some-last : (p : ℕ → Bool) (n : ℕ) → some-in p 0 (n + 1) ≡ some-in p 0 n || p n
-some-last p n = some-split p 0 n 1 ∙ ap (λ x. some-in p 0 n || x) (or-false (p (0 + n)) ∙ ap p (omega arith))
-
--- One more node.
-module _ (kinds firsts rows : List ℕ) (n : ℕ) (D : NodeSet) (e : ℕ) where
-  pub stepped-none : stepped kinds firsts rows 0 D e ≡ empty
-  unfolding stepped empty
-  stepped-none = refl
-
-  stepped-yes :
-      D n && for-event kinds firsts 2 e n ≡ true →
-      stepped kinds firsts rows (n + 1) D e ≡ union (stepped kinds firsts rows n D e) (row rows (n + 1))
-  unfolding stepped union
-  stepped-yes h =
-      fun-ext λ k. some-last (brings kinds firsts rows D e k) n
-      ∙ ap (λ x. some-in (brings kinds firsts rows D e k) 0 n || x)
-      (ap (λ t. t && row rows (suc n) k) h ∙ ap (λ m. row rows m k) (sym (add-one n)))
-
-  stepped-no :
-      D n && for-event kinds firsts 2 e n ≡ false → stepped kinds firsts rows (n + 1) D e ≡ stepped kinds firsts rows n D e
-  unfolding stepped
-  stepped-no h =
-      fun-ext λ k. some-last (brings kinds firsts rows D e k) n
-      ∙ ap (λ x. some-in (brings kinds firsts rows D e k) 0 n || x) (ap (λ t. t && row rows (suc n) k) h)
-      ∙ or-false (some-in (brings kinds firsts rows D e k) 0 n)
-
--- Nodes that are not in the set, and one that is.
-module _ (kinds firsts rows : List ℕ) (D : NodeSet) (e : ℕ) where
-  skip-by :
-      (m d : ℕ) → ((j : ℕ) → m ≤ j → j < m + d → D j ≡ false) →
-      stepped kinds firsts rows (m + d) D e ≡ stepped kinds firsts rows m D e
-  skip-by m zero f =
-      let z : m + zero ≡ m = omega arith in
-      ap (λ x. stepped kinds firsts rows x D e) z
-  skip-by m (suc d) f =
-      let z : m + suc d ≡ m + d + 1 = omega arith in
-      ap (λ x. stepped kinds firsts rows x D e) z
-      ∙ stepped-no kinds firsts rows (m + d) D e
-      (ap (λ t. t && for-event kinds firsts 2 e (m + d)) (f (m + d) (omega arith) (omega arith)))
-      ∙ skip-by m d (λ j h u. f j h (omega arith))
-
-  pub stepped-skip :
-      (m n : ℕ) → m ≤ n → ((j : ℕ) → m ≤ j → j < n → D j ≡ false) →
-      stepped kinds firsts rows n D e ≡ stepped kinds firsts rows m D e
-  stepped-skip m n h f =
-      let z : n ≡ m + (n - m) = omega arith in
-      ap (λ x. stepped kinds firsts rows x D e) z ∙ skip-by m (n - m) (λ j u v. f j u (omega arith))
-
-  pub stepped-member :
-      (n : ℕ) (before after : List ℕ) → D n ≡ true → row before e ≡ stepped kinds firsts rows n D e →
-      row after e ≡ cond (for-event kinds firsts 2 e n) (union (row before e) (row rows (n + 1))) (row before e) →
-      row after e ≡ stepped kinds firsts rows (n + 1) D e
-  stepped-member n before after d p q = go (for-event kinds firsts 2 e n) refl
-    where
-      go : (b : Bool) → for-event kinds firsts 2 e n ≡ b → row after e ≡ stepped kinds firsts rows (n + 1) D e
-      go true h =
-          q
-          ∙ ap (λ t. cond t (union (row before e) (row rows (n + 1))) (row before e)) h
-          ∙ ap (λ C. union C (row rows (n + 1))) p
-          ∙ sym (stepped-yes kinds firsts rows n D e (ap₂ (λ a b. a && b) d h))
-      go false h =
-          q
-          ∙ ap (λ t. cond t (union (row before e) (row rows (n + 1))) (row before e)) h
-          ∙ p
-          ∙ sym (stepped-no kinds firsts rows n D e (ap₂ (λ a b. a && b) d h))
-
 -- A node of another kind, and a node of the kind.
 module _ (kinds firsts : List ℕ) (k e i : ℕ) where
   pub other-kind : ¬ (field kinds i ≡ k) → for-event kinds firsts k e i ≡ false
@@ -99,30 +33,6 @@ module _ (kinds firsts : List ℕ) (k e i : ℕ) where
   pub same-kind : field kinds i ≡ k → for-event kinds firsts k e i ≡ eqb (field firsts i) e
   unfolding for-event
   same-kind h = ap (λ t. t && eqb (field firsts i) e) (eq-eqb (field kinds i) k h)
-
--- What a node does to the next sets: no G, a G for no event of the table, a G for an event.
-module _ (kinds firsts rows : List ℕ) (events i : ℕ) (before : List ℕ) where
-  abbrev came : ℕ → Bool → NodeSet
-  came e t = cond t (union (row before e) (row rows (i + 1))) (row before e)
-
-  pub passed-other : ¬ (field kinds i ≡ 2) → PassedStates kinds firsts rows events i before before
-  passed-other h e u = sym (ap (came e) (other-kind kinds firsts 2 e i h))
-
-  pub passed-far : field kinds i ≡ 2 → events ≤ field firsts i → PassedStates kinds firsts rows events i before before
-  passed-far k h e u = sym (ap (came e) (same-kind kinds firsts 2 e i k ∙ ne-eqb (field firsts i) e (λ q. omega (arith, q))))
-
-  pub passed-here :
-      (after : List ℕ) (event : ℕ) → field kinds i ≡ 2 → event ≡ field firsts i →
-      United before after event (row rows (i + 1)) → PassedStates kinds firsts rows events i before after
-  passed-here after event k q x e u = go (ℕ-discrete e event)
-    where
-      go : Dec (e ≡ event) → row after e ≡ came e (for-event kinds firsts 2 e i)
-      go (yes d) =
-          subst (λ y. row after y ≡ came y (for-event kinds firsts 2 y i)) (sym d)
-          (x .there ∙ sym (ap (came event) (same-kind kinds firsts 2 event i k ∙ eq-eqb (field firsts i) event (sym q))))
-      go (no d) =
-          x .others e d
-          ∙ sym (ap (came e) (same-kind kinds firsts 2 e i k ∙ ne-eqb (field firsts i) e (λ z. d (sym z ∙ sym q))))
 
 -- The rows from i on are the sets kept for the formula at i.
 abbrev pub KeptFrom : List ℕ → List NodeSet → ℕ → Formula ℕ → Type 0

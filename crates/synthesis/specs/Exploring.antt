@@ -4,7 +4,7 @@ use mathlib.Core.{Path.{_≡_}, Bool.{Bool, false, _&&_, _||_, cond}, List.{List
 use Prim.Native.Nat.{ℕ, zero, suc, _+_, _*_, _/_, _%_, _≤_, _<_}
 use lib.{Dec.{eqb}, ListN.{length, getD}}
 use Rattle.limits.specs.Limits.{node-limit}
-use Rattle.synthesis.specs.NodeWords.{set-words, row, bits-at}
+use Rattle.synthesis.specs.{NodeWords.{set-words, row, bits-at}, MarkedNodes.{Marks}}
 use Rattle.theory.specs.{ReachableStates.{NodeSet}, DemandSets.{union}, Exploration.{reached, add, explored, index, member, bits, same-bits}}
 use Rattle.formulas.specs.NodeWalks.{field}
 
@@ -25,15 +25,15 @@ brings kinds firsts rows D e d i = (D i && for-event kinds firsts 2 e i) && row 
 unfoldable pub stepped : List ℕ → List ℕ → List ℕ → ℕ → NodeSet → ℕ → NodeSet
 stepped kinds firsts rows n D e d = some-in (brings kinds firsts rows D e d) 0 n
 
--- Node i was passed: where it is a G, the demands of its part came into the set of its event.
-abbrev pub PassedStates : List ℕ → List ℕ → List ℕ → ℕ → ℕ → List ℕ → List ℕ → Type 0
-PassedStates kinds firsts rows events i before after =
-    (e : ℕ) → e < events →
-    row after e ≡ cond (for-event kinds firsts 2 e i) (union (row before e) (row rows (i + 1))) (row before e)
+-- Node i was passed: the demands of its part came into the set of its event.
+abbrev pub PassedStates : List ℕ → List ℕ → ℕ → ℕ → List ℕ → List ℕ → Type 0
+PassedStates firsts rows events i before after =
+    (e : ℕ) → e < events → row after e ≡ cond (eqb (field firsts i) e) (union (row before e) (row rows (i + 1))) (row before e)
 
--- Set e of the sets is the next set on e of what D has among the first n nodes, for each event.
-abbrev pub NextSets : List ℕ → List ℕ → List ℕ → ℕ → NodeSet → ℕ → List ℕ → Type 0
-NextSets kinds firsts rows n D events sets = (e : ℕ) → e < events → row sets e ≡ stepped kinds firsts rows n D e
+-- Set e of the sets is the next set of D on e, for each event, by each rule whose G nodes are marked.
+abbrev pub NextSets : List ℕ → List ℕ → List ℕ → NodeSet → ℕ → List ℕ → Type 0
+NextSets marks firsts rows D events sets =
+    (kinds : List ℕ) (n : ℕ) → Marks kinds n 2 marks → (e : ℕ) → e < events → row sets e ≡ stepped kinds firsts rows n D e
 
 unfoldable pub next-bits : List ℕ → List ℕ → List ℕ → ℕ → List Bool → ℕ → List Bool
 next-bits kinds firsts rows n L e = bits node-limit 0 (stepped kinds firsts rows n (member L) e)
@@ -83,6 +83,13 @@ abbrev pub Expanded :
 Expanded next events limit i n states nexts r states′ nexts′ =
     (start : List Bool) (P : List (List ℕ)) → Kept next start events P n (i * events) states nexts →
     Counted next start events limit (events-to next start events P (getD P i [])) r (i * events + events) states′ nexts′
+
+-- The same for each rule whose G nodes are marked.
+abbrev pub MarkedExpanded :
+    List ℕ → List ℕ → List ℕ → ℕ → ℕ → ℕ → ℕ → List ℕ → List ℕ → ℕ → List ℕ → List ℕ → Type 0
+MarkedExpanded marks firsts rows events limit i n states nexts r states′ nexts′ =
+    (kinds : List ℕ) (count : ℕ) → Marks kinds count 2 marks →
+    Expanded (next-bits kinds firsts rows count) events limit i n states nexts r states′ nexts′
 
 -- The first sequence to each state, in order; more than `limit` where there are more.
 unfoldable pub sequences : (List Bool → ℕ → List Bool) → List Bool → ℕ → ℕ → List (List ℕ)

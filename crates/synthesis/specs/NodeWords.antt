@@ -49,25 +49,11 @@ pub record United (before after : List ℕ) (i : ℕ) (D : NodeSet) : Type 0 whe
   pub there : row after i ≡ union (row before i) D
   pub others : (j : ℕ) → ¬ (j ≡ i) → row after j ≡ row before j
 
--- r is the first set bit of a word of 64 bits from k on, or 64.
-pub record FirstBit (word k r : ℕ) : Type 0 where
-  pub low : k ≤ r
-  pub high : r ≤ 64
-  pub before : (j : ℕ) → k ≤ j → j < r → bit-at word j ≡ 0
-  pub here : r < 64 → bit-at word r ≡ 1
-
 -- r is one above the last set bit of a word at or below bit k, or 0.
 pub record LastBit (word k r : ℕ) : Type 0 where
   pub high : r ≤ k + 1
   pub after : (j : ℕ) → r ≤ j → j ≤ k → bit-at word j ≡ 0
   pub here : 0 < r → bit-at word (r - 1) ≡ 1
-
--- r is the first node of D from `from` on and below `end`, or `end`.
-pub record FirstMember (D : NodeSet) (from end r : ℕ) : Type 0 where
-  pub low : from ≤ r
-  pub high : r ≤ end
-  pub before : (j : ℕ) → from ≤ j → j < r → D j ≡ false
-  pub here : r < end → D r ≡ true
 
 -- r is the node after the last node of D below `end`, or 0.
 pub record LastMember (D : NodeSet) (end r : ℕ) : Type 0 where

@@ -2,7 +2,9 @@
 use crate::node_sets::NEXT_WORDS;
 use crate::node_sets::ROW_WORDS;
 use crate::node_sets::copy_row;
-use crate::node_sets::next_member;
+use crate::node_sets::last_set;
+use crate::node_sets::marks_of;
+use crate::node_sets::power;
 use crate::node_sets::same;
 use crate::node_sets::store;
 use crate::node_sets::unite_row;
@@ -19,26 +21,22 @@ ghost use Rattle.theory.specs.DemandSets.{empty};
 ghost use Rattle.limits.specs.Limits.{event-limit, node-limit};
 ghost use Rattle.synthesis.specs.NodeWords.{set-words};
 ghost use Rattle.synthesis.specs.NodeWords.{row-words, next-words, set-at, row, bits-at};
-ghost use Rattle.synthesis.specs.Exploring.{PassedStates, NextSets, next-bits, Found, Counted, Expanded, sequences, Unchanged};
+ghost use Rattle.synthesis.specs.Exploring.{PassedStates, NextSets, next-bits, Found, Counted, MarkedExpanded, sequences, Unchanged};
+ghost use Rattle.synthesis.specs.MarkedNodes.{word-set, Came};
 
-// A node of a set is passed: where it is a G, the demands of its part come into the next set on its event.
+// A G node of a set is passed: the demands of its part come into the next set on its event.
 fn advance_node(
-    kinds: &[u8; NODE_LIMIT],
     firsts: &[u8; NODE_LIMIT],
     rows: &[u64; ROW_WORDS],
     events: usize,
     node: usize,
     sets: &mut [u64; NEXT_WORDS],
 )
-    requires { ⌜ (node < node-limit) × (events ≤ event-limit) × (length (now kinds) ≡ node-limit) × (length (now firsts) ≡ node-limit)
-        × (length (now rows) ≡ row-words)
+    requires { ⌜ (node < node-limit) × (events ≤ event-limit) × (length (now firsts) ≡ node-limit) × (length (now rows) ≡ row-words)
         × (length (now sets) ≡ next-words) ⌝ }
     ensures { λ _. ⌜ (length (now (sets .exit)) ≡ next-words)
-        × PassedStates (now (kinds .entry)) (now (firsts .entry)) (now (rows .entry)) events node (now (sets .entry)) (now (sets .exit)) ⌝ }
+        × PassedStates (now (firsts .entry)) (now (rows .entry)) events node (now (sets .entry)) (now (sets .exit)) ⌝ }
 {
-    if kinds[node] != TRANSITION {
-        return;
-    }
     let event = wide(firsts[node]);
     if event < events {
         unite_row(sets, event, rows, (node + 1) * SET_WORDS);
@@ -57,28 +55,51 @@ fn clear(sets: &mut [u64; NEXT_WORDS], n: usize)
     }
 }
 
-// The next sets of a state, one for each event: the demands of the parts of the set's G nodes for the event.
-fn advance(
-    kinds: &[u8; NODE_LIMIT],
+// The nodes of one word, the first of which is base, are passed, the last node first. Each turn takes the last bit off what is left.
+fn advance_word(
     firsts: &[u8; NODE_LIMIT],
-    count: usize,
+    rows: &[u64; ROW_WORDS],
+    events: usize,
+    word: u64,
+    base: usize,
+    sets: &mut [u64; NEXT_WORDS],
+)
+    requires { ⌜ (base + 64 ≤ node-limit) × (events ≤ event-limit) × (length (now firsts) ≡ node-limit) × (length (now rows) ≡ row-words)
+        × (length (now sets) ≡ next-words) ⌝ }
+    ensures { λ _. ⌜ (length (now (sets .exit)) ≡ next-words)
+        × Came (PassedStates (now (firsts .entry)) (now (rows .entry)) events) (word-set word base) (base + 64) (now (sets .entry)) base
+        (now (sets .exit)) ⌝ }
+{
+    let mut rest = word;
+    let mut end: usize = 64;
+    while 0 < rest {
+        end = last_set(rest);
+        rest = rest % power(end);
+        advance_node(firsts, rows, events, base + end, sets);
+    }
+}
+
+// The next sets of a state, one for each event: the demands of the parts of the set's G nodes, which are marked, for the event.
+fn advance(
+    firsts: &[u8; NODE_LIMIT],
+    marks: &[u64; SET_WORDS],
     rows: &[u64; ROW_WORDS],
     states: &[u64],
     base: usize,
     events: usize,
     sets: &mut [u64; NEXT_WORDS],
 )
-    requires { ⌜ (count ≤ node-limit) × (base + set-words ≤ length (now states)) × (events ≤ event-limit) × (length (now kinds) ≡ node-limit)
-        × (length (now firsts) ≡ node-limit)
-        × (length (now rows) ≡ row-words) × (length (now sets) ≡ next-words) ⌝ }
+    requires { ⌜ (base + set-words ≤ length (now states)) × (events ≤ event-limit) × (length (now firsts) ≡ node-limit)
+        × (length (now marks) ≡ set-words) × (length (now rows) ≡ row-words) × (length (now sets) ≡ next-words) ⌝ }
     ensures { λ _. ⌜ (length (now (sets .exit)) ≡ next-words)
-        × NextSets (now (kinds .entry)) (now (firsts .entry)) (now (rows .entry)) count (set-at (now (states .entry)) base) events (now (sets .exit)) ⌝ }
+        × NextSets (now (marks .entry)) (now (firsts .entry)) (now (rows .entry)) (set-at (now (states .entry)) base) events (now (sets .exit)) ⌝ }
 {
     clear(sets, events);
-    let mut node = next_member(states, base, 0, count);
-    while node < count {
-        advance_node(kinds, firsts, rows, events, node, sets);
-        node = next_member(states, base, node + 1, count);
+    let mut w: usize = SET_WORDS;
+    while 0 < w {
+        w -= 1;
+        let word = states[base + w] & marks[w];
+        advance_word(firsts, rows, events, word, w * 64, sets);
     }
 }
 
@@ -100,9 +121,8 @@ fn find(states: &[u64], n: usize, set: &[u64; SET_WORDS]) -> usize
 // The states that the events lead to from state i come after the n there are, and the entries of state i get their numbers;
 // the limit and one where there are more. The sets are room for the next sets.
 fn expand(
-    kinds: &[u8; NODE_LIMIT],
     firsts: &[u8; NODE_LIMIT],
-    count: usize,
+    marks: &[u64; SET_WORDS],
     rows: &[u64; ROW_WORDS],
     events: usize,
     limit: usize,
@@ -112,25 +132,15 @@ fn expand(
     nexts: &mut [u8],
     sets: &mut [u64; NEXT_WORDS],
 ) -> usize
-    requires { ⌜ (count ≤ node-limit) × (i < n) × (n ≤ limit) × (limit ≤ 256) × (events ≤ event-limit) × (length (now kinds) ≡ node-limit)
-        × (length (now firsts) ≡ node-limit)
-        × (length (now rows) ≡ row-words) × (limit * set-words ≤ length (now states)) × (limit * events ≤ length (now nexts))
+    requires { ⌜ (i < n) × (n ≤ limit) × (limit ≤ 256) × (events ≤ event-limit) × (length (now firsts) ≡ node-limit)
+        × (length (now marks) ≡ set-words) × (length (now rows) ≡ row-words) × (limit * set-words ≤ length (now states)) × (limit * events ≤ length (now nexts))
         × (length (now sets) ≡ next-words) ⌝ }
     ensures { λ r. ⌜ (length (now (states .exit)) ≡ length (now (states .entry))) × (length (now (nexts .exit)) ≡ length (now (nexts .entry))) × (n ≤ r)
         × Unchanged (i * events + events) (now (nexts .entry)) (now (nexts .exit))
-        × Expanded (next-bits (now (kinds .entry)) (now (firsts .entry)) (now (rows .entry)) count) events limit i n
+        × MarkedExpanded (now (marks .entry)) (now (firsts .entry)) (now (rows .entry)) events limit i n
         (now (states .entry)) (now (nexts .entry)) r (now (states .exit)) (now (nexts .exit)) × (length (now (sets .exit)) ≡ next-words) ⌝ }
 {
-    advance(
-        kinds,
-        firsts,
-        count,
-        rows,
-        &*states,
-        i * SET_WORDS,
-        events,
-        sets,
-    );
+    advance(firsts, marks, rows, &*states, i * SET_WORDS, events, sets);
     let mut k = n;
     let mut event: usize = 0;
     while event < events {
@@ -184,15 +194,15 @@ pub fn explore(
         (sequences (next-bits (now (kinds .entry)) (now (firsts .entry)) (now (rows .entry)) count) (bits-at (now (rows .entry)) 0) events limit)
         r (r * events) (now (states .exit)) (now (nexts .exit)) ⌝ }
 {
+    let marks = marks_of(kinds, count, TRANSITION);
     copy_first(states, rows);
     let mut sets = [0u64; NEXT_WORDS];
     let mut n: usize = 1;
     let mut i: usize = 0;
     while i < n {
         let m = expand(
-            kinds,
             firsts,
-            count,
+            &marks,
             rows,
             events,
             limit,

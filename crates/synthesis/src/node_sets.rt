@@ -9,7 +9,8 @@ ghost use Prim.Native.Nat.{_+_, _*_, _<_, _≤_, _^_};
 ghost use lib.ListN.{length};
 ghost use Rattle.limits.specs.Limits.{event-limit, node-limit};
 ghost use Rattle.synthesis.specs.NodeWords.{set-words};
-ghost use Rattle.synthesis.specs.NodeWords.{row-words, next-words, set-at, row, bits-at, Stored, United, FirstBit, LastBit, FirstMember, LastMember};
+ghost use Rattle.synthesis.specs.NodeWords.{row-words, next-words, set-at, row, bits-at, Stored, United, LastBit, LastMember};
+ghost use Rattle.synthesis.specs.MarkedNodes.{LastSet, Marks};
 
 // The words of a row for each node and of an empty one; and of a next set for each event.
 pub const ROW_WORDS: usize = (NODE_LIMIT + 1) * SET_WORDS;
@@ -60,33 +61,27 @@ pub fn store(states: &mut [u64], base: usize, set: &[u64; SET_WORDS])
     }
 }
 
-// The first set bit of a word from k on, or 64.
-fn first_bit(word: u64, k: usize) -> usize
-    requires { ⌜ k < 64 ⌝ }
-    ensures { λ r. ⌜ FirstBit word k r ⌝ }
+// The last set bit of a word that is not 0.
+pub fn last_set(word: u64) -> usize
+    requires { ⌜ 0 < word ⌝ }
+    ensures { λ r. ⌜ LastSet word r ⌝ }
 {
-    let rest = word >> (k as u64);
-    if rest == 0 {
-        return 64;
-    }
-    k + u64::trailing_zeros(rest) as usize
+    63 - u64::leading_zeros(word) as usize
 }
 
-// The first node from `from` on and below `end` that is in the set from base on, or `end`. A word is looked at once.
-pub fn next_member(states: &[u64], base: usize, from: usize, end: usize) -> usize
-    requires { ⌜ (base + set-words ≤ length (now states)) × (from ≤ end) × (end ≤ node-limit) ⌝ }
-    ensures { λ r. ⌜ FirstMember (set-at (now (states .entry)) base) from end r ⌝ }
+// The marks of the nodes of one kind among the first n.
+pub fn marks_of(kinds: &[u8; NODE_LIMIT], n: usize, kind: u8) -> [u64; SET_WORDS]
+    requires { ⌜ (n ≤ node-limit) × (length (now kinds) ≡ node-limit) ⌝ }
+    ensures { λ r. ⌜ (length r ≡ set-words) × Marks (now (kinds .entry)) n kind r ⌝ }
 {
-    let mut node = from;
-    while node < end {
-        let bit = first_bit(states[base + node / 64], node % 64);
-        let first = node / 64 * 64 + bit;
-        if bit < 64 {
-            return if first < end { first } else { end };
+    let mut marks = [0u64; SET_WORDS];
+    for i in 0..n {
+        if kinds[i] == kind {
+            let w = i / 64;
+            marks[w] = marks[w] | power(i % 64);
         }
-        node = first;
     }
-    end
+    marks
 }
 
 // One above the last set bit of a word at or below bit k, or 0.

@@ -1,26 +1,27 @@
--- `expand` meets its contract. The loop's invariant: state i is as before; and for every list of sequences that the states were kept
--- for, they are kept for it with the events passed, and the entries passed are right.
+-- `expand` meets its contract. The loop's invariant: state i is as before; and for every rule whose G nodes are marked and every list of
+-- sequences that the states were kept for, they are kept for it with the events passed, and the entries passed are right.
 use borrow.Author.Needs.{needs}
 use Prim.Native.Nat.{ℕ, _≤_, _<_, _-_, _+_, _*_}
 use mathlib.Core.{Path.{_≡_, refl, sym, _∙_, ap, subst}, Bool.{Bool}, Logic.{⊎-elim}, List.{List, []}}
 use native.Mathlib.Omega.{arith}
 use Rattle.machines.proofs.EntryIndex.{index-below}
 use lib.{ListN.{length, getD, set, length-set}, Seq.{getD-set-other}}
-use Rattle.synthesis.specs.{NodeWords.{row}, Exploring.{stepped, next-bits, Unchanged, Kept, events-to}}
+use Rattle.synthesis.specs.{NodeWords.{row}, MarkedNodes.{Marks}, Exploring.{stepped, next-bits, Unchanged, Kept, events-to}}
 use Rattle.synthesis.proofs.{NodeWords.{set-else}, Exploring.{candidate-old, candidate-new, candidate-many, below}}
 use Rattle.synthesis.proofs.exploration.expand.Statement.{statement}
 use Rattle.synthesis.proofs.exploration.expand.Tie as tie
 
 abbrev Inv-loop : tie.InvT-loop
-Inv-loop kinds firsts count rows events limit i n states₀ nexts₀ sets k₀ event₀ states nexts k event =
+Inv-loop firsts marks rows events limit i n states₀ nexts₀ sets k₀ event₀ states nexts k event =
     (event ≤ events) × (n ≤ k) × (k ≤ limit) × (length states ≡ length states₀) × (length nexts ≡ length nexts₀)
     × Unchanged (i * events + events) nexts₀ nexts × (row states i ≡ row states₀ i)
-    × ((start : List Bool) (P : List (List ℕ)) → Kept (next-bits kinds firsts rows count) start events P n (i * events) states₀ nexts₀ →
+    × ((kinds : List ℕ) (count : ℕ) → Marks kinds count 2 marks → (start : List Bool) (P : List (List ℕ)) →
+    Kept (next-bits kinds firsts rows count) start events P n (i * events) states₀ nexts₀ →
     Kept (next-bits kinds firsts rows count) start events (events-to (next-bits kinds firsts rows count) start event P (getD P i []))
     k (i * events + event) states nexts)
 
 abbrev μ-loop : tie.MeasureT-loop
-μ-loop kinds firsts count rows events limit i n states₀ nexts₀ sets k₀ event₀ states nexts k event = events - event
+μ-loop firsts marks rows events limit i n states₀ nexts₀ sets k₀ event₀ states nexts k event = events - event
 
 loop-holds : tie.Need-loop-holds Inv-loop μ-loop
 loop-holds c =
@@ -33,7 +34,7 @@ loop-holds c =
       search needs,
       (λ x h. refl),
       refl,
-      λ start P old. subst (λ m. Kept (next-bits (a .kinds .now) (a .firsts .now) (a .rows .now) (a .count)) start (a .events) P (a .n) m (a .states .now)
+      λ kinds count marked start P old. subst (λ m. Kept (next-bits kinds (a .firsts .now) (a .rows .now) count) start (a .events) P (a .n) m (a .states .now)
           (a .nexts .now)) z old,
     )
 
@@ -47,17 +48,18 @@ returns c =
       v .4,
       search needs,
       v .5,
-      (λ start P old. record {
+      (λ kinds count marked start P old. record {
         at-most = search needs;
         all = λ h. absurd (omega (arith, h));
         more = λ h. omega (
           arith,
           c .if2 .taken,
-          candidate-many (a .kinds .now) (a .firsts .now) (a .rows .now) (a .count) (a .events) (a .i) (a .n) (l .k) (l .event) (a .states .now)
+          candidate-many kinds (a .firsts .now) (a .rows .now) count (a .events) (a .i) (a .n) (l .k) (l .event) (a .states .now)
               (a .nexts .now) (l .states) (l .nexts) _ (search needs) (v .1) event
               (c .before .before .before .before .before .copy-row .ensures .1
-              ∙ c .before .before .before .before .before .before .before .before .before .before .advance .ensures .1 (l .event) event ∙ ap
-              (λ D. stepped (a .kinds .now) (a .firsts .now) (a .rows .now) (a .count) D (l .event)) (sym (v .6))) start P old (v .7 start P old)
+              ∙ c .before .before .before .before .before .before .before .before .before .before .advance .ensures .1 kinds count marked (l .event) event
+              ∙ ap (λ D. stepped kinds (a .firsts .now) (a .rows .now) count D (l .event)) (sym (v .6))) start P old
+              (v .7 kinds count marked start P old)
               (c .before .before .find .result) (c .before .if1 .taken) (c .before .before .find .ensures),
         );
       }),
@@ -68,7 +70,7 @@ narrow-requires : tie.Need-narrow-requires Inv-loop μ-loop
 narrow-requires c κs =
     let few = c .before .before .before .before .before .before .before .before .before .loop .inv .2 in
     let low = c .before .before .find .ensures .low in
-    let most = c .before .before .before .before .before .before .before .before .before .before .before .before .before .before .before .pre .3 in
+    let most = c .before .before .before .before .before .before .before .before .before .before .before .before .before .before .before .pre .2 in
     ⊎-elim (λ w. omega (arith, few, low, most, w .1 .left)) (λ w. omega (arith, few, low, most, w .0 .left)) (c .before .if1 .came)
 
 slice-write-nexts : tie.Need-slice-write-nexts Inv-loop μ-loop
@@ -105,12 +107,13 @@ loop-again c =
       sized,
       kept,
       ap (λ x. row x (a .i)) (w .7) ∙ set-else (l .states) _ (l .k) (a .i) (w .4 .ensures .below) (w .4 .ensures .above) (λ e. omega (arith, e, v .1)) ∙ v .6,
-      λ start P old. rw (w .7, w .8)
-          (candidate-new (a .kinds .now) (a .firsts .now) (a .rows .now) (a .count) (a .events) (a .i) (a .n) (l .k) (l .event) (a .states .now)
+      λ kinds count marked start P old. rw (w .7, w .8)
+          (candidate-new kinds (a .firsts .now) (a .rows .now) count (a .events) (a .i) (a .n) (l .k) (l .event) (a .states .now)
           (a .nexts .now) (l .states) (l .nexts) _ (search needs) (v .1) event
           (c .before .before .before .before .before .before .copy-row .ensures .1
-          ∙ c .before .before .before .before .before .before .before .before .before .before .before .advance .ensures .1 (l .event) event ∙ ap
-          (λ D. stepped (a .kinds .now) (a .firsts .now) (a .rows .now) (a .count) D (l .event)) (sym (v .6))) start P old (v .7 start P old) _
+          ∙ c .before .before .before .before .before .before .before .before .before .before .before .advance .ensures .1 kinds count marked (l .event) event
+          ∙ ap (λ D. stepped kinds (a .firsts .now) (a .rows .now) count D (l .event)) (sym (v .6))) start P old
+          (v .7 kinds count marked start P old) _
           (c .before .before .before .find .result) (c .before .entry-at .result) (c .narrow .result) (w .0 .taken)
           (c .before .before .before .find .ensures) (w .4 .ensures) at (c .narrow .ensures) fits),
     ))
@@ -122,12 +125,13 @@ loop-again c =
       sized,
       kept,
       ap (λ x. row x (a .i)) (w .1) ∙ v .6,
-      λ start P old. rw (w .1, w .2)
-          (candidate-old (a .kinds .now) (a .firsts .now) (a .rows .now) (a .count) (a .events) (a .i) (a .n) (l .k) (l .event) (a .states .now)
+      λ kinds count marked start P old. rw (w .1, w .2)
+          (candidate-old kinds (a .firsts .now) (a .rows .now) count (a .events) (a .i) (a .n) (l .k) (l .event) (a .states .now)
           (a .nexts .now) (l .states) (l .nexts) _ (search needs) (v .1) event
           (c .before .before .before .before .before .before .copy-row .ensures .1
-          ∙ c .before .before .before .before .before .before .before .before .before .before .before .advance .ensures .1 (l .event) event ∙ ap
-          (λ D. stepped (a .kinds .now) (a .firsts .now) (a .rows .now) (a .count) D (l .event)) (sym (v .6))) start P old (v .7 start P old)
+          ∙ c .before .before .before .before .before .before .before .before .before .before .before .advance .ensures .1 kinds count marked (l .event) event
+          ∙ ap (λ D. stepped kinds (a .firsts .now) (a .rows .now) count D (l .event)) (sym (v .6))) start P old
+          (v .7 kinds count marked start P old)
           (c .before .before .before .find .result) (c .before .entry-at .result) (c .narrow .result) (c .before .before .before .find .ensures)
           (below (c .before .before .before .find .ensures .low) (w .0 .left)) at (c .narrow .ensures) fits),
     ))
@@ -143,11 +147,11 @@ returns-2 c =
       v .4,
       v .1,
       v .5,
-      (λ start P old. record {
+      (λ kinds count marked start P old. record {
         at-most = search needs;
-        all = λ h. subst (λ x. Kept (next-bits (a .kinds .now) (a .firsts .now) (a .rows .now) (a .count)) start (a .events)
-            (events-to (next-bits (a .kinds .now) (a .firsts .now) (a .rows .now) (a .count)) start x P (getD P (a .i) [])) (l .k) (a .i * a .events + x)
-            (l .states) (l .nexts)) q (v .7 start P old);
+        all = λ h. subst (λ x. Kept (next-bits kinds (a .firsts .now) (a .rows .now) count) start (a .events)
+            (events-to (next-bits kinds (a .firsts .now) (a .rows .now) count) start x P (getD P (a .i) [])) (l .k) (a .i * a .events + x)
+            (l .states) (l .nexts)) q (v .7 kinds count marked start P old);
         more = λ h. absurd (omega (arith, h));
       }),
       c .before .before .advance .ensures .0,

@@ -10,17 +10,17 @@ use Rattle.synthesis.proofs.exploration.explore.Statement.{statement}
 use Rattle.synthesis.proofs.exploration.explore.Tie as tie
 
 abbrev Inv-loop : tie.InvT-loop
-Inv-loop kinds firsts count rows events limit states₀ nexts₀ sets₀ n₀ i₀ states nexts sets n i =
+Inv-loop kinds firsts count rows events limit states₀ nexts₀ marks sets₀ n₀ i₀ states nexts sets n i =
     (i ≤ n) × (n ≤ limit) × (length states ≡ length states₀) × (length nexts ≡ length nexts₀) × Unchanged (i * events) nexts₀ nexts
     × Kept (next-bits kinds firsts rows count) (bits-at rows 0) events (all-to (next-bits kinds firsts rows count) rows events i)
     n (i * events) states nexts × (length sets ≡ next-words)
 
 abbrev μ-loop : tie.MeasureT-loop
-μ-loop kinds firsts count rows events limit states₀ nexts₀ sets₀ n₀ i₀ states nexts sets n i = limit - i
+μ-loop kinds firsts count rows events limit states₀ nexts₀ marks sets₀ n₀ i₀ states nexts sets n i = limit - i
 
 loop-holds : tie.Need-loop-holds Inv-loop μ-loop
 loop-holds c =
-    let a = c .before .before .before .before .before .before .args in (
+    let a = c .before .before .before .before .before .before .before .args in (
       search needs,
       search needs,
       search needs,
@@ -33,22 +33,24 @@ loop-holds c =
 
 returns : tie.Need-returns Inv-loop μ-loop
 returns c =
-    let a = c .before .before .before .before .before .before .before .before .before .before .before .before .before .before .before .before .before .args in
-    let l = c .before .before .before .before .before .before .before .before .before .before .loop in
+    let at = c .before .before .before .before .before .before .before .before .before .before .before in
+    let a = at .before .before .before .before .before .before .before .before .args in
+    let l = at .loop in
     let v = l .inv in
     let x = c .before .before .before .before .before .expand .ensures in
+    let made = x .4 (a .kinds .now) (a .count) (at .before .before .before .before .before .marks-of .ensures .1) in
     let nb = next-bits (a .kinds .now) (a .firsts .now) (a .rows .now) (a .count) in (
-      x .0 ∙ v .2 ∙ c .before .before .before .before .before .before .before .before .before .before .before .before .before .copy-first .ensures .0,
+      x .0 ∙ v .2 ∙ at .before .before .before .copy-first .ensures .0,
       x .1 ∙ v .3,
       (λ h. absurd (omega (arith, h))),
       record {
         at-most = search needs;
         all = λ h. absurd (omega (arith, h));
         more = λ h. row-over nb (a .rows .now) (a .events) (a .limit) (l .i) (l .n) (c .before .before .before .before .before .expand .result) (l .states)
-            (l .nexts) _ _ (search needs) (v .5) (x .4) (omega (
+            (l .nexts) _ _ (search needs) (v .5) made (omega (
               arith,
               c .if1 .taken,
-              x .4 (bits-at (a .rows .now) 0)
+              made (bits-at (a .rows .now) 0)
                   (all-to nb (a .rows .now) (a .events) (l .i)) (v .5) .at-most,
             )) (search needs);
       },
@@ -56,10 +58,12 @@ returns c =
 
 loop-again : tie.Need-loop-again Inv-loop μ-loop
 loop-again c =
-    let a = c .before .before .before .before .before .before .before .before .before .before .before .before .before .before .before .before .before .args in
-    let l = c .before .before .before .before .before .before .before .before .before .before .loop in
+    let at = c .before .before .before .before .before .before .before .before .before .before .before in
+    let a = at .before .before .before .before .before .before .before .before .args in
+    let l = at .loop in
     let v = l .inv in
     let x = c .before .before .before .before .before .expand .ensures in
+    let made = x .4 (a .kinds .now) (a .count) (at .before .before .before .before .before .marks-of .ensures .1) in
     let nb = next-bits (a .kinds .now) (a .firsts .now) (a .rows .now) (a .count) in (
       search needs,
       search needs,
@@ -67,13 +71,13 @@ loop-again c =
       x .1 ∙ v .3,
       (λ y h. x .3 y (omega (arith, h, add-mul (l .i) 1 (a .events))) ∙ v .4 y (omega (arith, h, add-mul (l .i) 1 (a .events)))),
       row-kept nb (a .rows .now) (a .events) (a .limit) (l .i) (l .n) (c .before .before .before .before .before .expand .result) (l .states) (l .nexts) _
-          _ (search needs) (v .5) (x .4) (search needs),
+          _ (search needs) (v .5) made (search needs),
       x .5,
     )
 
 returns-2 : tie.Need-returns-2 Inv-loop μ-loop
 returns-2 c =
-    let a = c .before .before .before .before .before .before .before .before .args in
+    let a = c .before .before .before .before .before .before .before .before .before .args in
     let l = c .before .loop in
     let v = l .inv in
     let q : l .n ≡ l .i = omega arith in
@@ -89,5 +93,5 @@ returns-2 c =
     )
 
 pub explore-spec : {M : Type 1} → statement M
-explore-spec = tie.close (tie.spec Inv-loop μ-loop (λ c κs. search needs) loop-holds (λ c κs. search needs) (λ c. search needs) (λ c. search needs)
-    (λ c. search needs) returns (λ c. search needs) (λ c. search needs) loop-again (λ c. search needs) (λ c. search needs) returns-2)
+explore-spec = tie.close (tie.spec Inv-loop μ-loop (λ c κs. search needs) (λ c κs. search needs) loop-holds (λ c κs. search needs) (λ c. search needs)
+    (λ c. search needs) (λ c. search needs) returns (λ c. search needs) (λ c. search needs) loop-again (λ c. search needs) (λ c. search needs) returns-2)
