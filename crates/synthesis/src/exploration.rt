@@ -20,8 +20,8 @@ ghost use lib.ListN.{length};
 ghost use Rattle.theory.specs.DemandSets.{empty};
 ghost use Rattle.limits.specs.Limits.{event-limit, node-limit};
 ghost use Rattle.synthesis.specs.NodeWords.{set-words};
-ghost use Rattle.synthesis.specs.NodeWords.{row-words, next-words, set-at, row, bits-at};
-ghost use Rattle.synthesis.specs.Exploring.{PassedStates, NextSets, next-bits, Found, Counted, MarkedExpanded, sequences, Unchanged};
+ghost use Rattle.synthesis.specs.NodeWords.{row-words, next-words, hint-count, set-at, row, bits-at};
+ghost use Rattle.synthesis.specs.Exploring.{PassedStates, NextSets, next-bits, Found, Different, Counted, MarkedExpanded, sequences, Unchanged};
 ghost use Rattle.synthesis.specs.MarkedNodes.{word-set, Came};
 
 // A G node of a set is passed: the demands of its part come into the next set on its event.
@@ -118,8 +118,40 @@ fn find(states: &[u64], n: usize, set: &[u64; SET_WORDS]) -> usize
     n
 }
 
+// How many hints are kept. 2 is of order 130 modulo 131, so that sets of one node in a word have places of their own.
+const HINTS: usize = 131;
+
+// The place of the hint for a set.
+fn place_of(set: &[u64; SET_WORDS]) -> usize
+    requires { ⌜ length (now set) ≡ set-words ⌝ }
+    ensures { λ r. ⌜ r < hint-count ⌝ }
+{
+    let mixed = set[0] ^ (set[1] >> 1) ^ (set[2] >> 2) ^ (set[3] >> 3);
+    (mixed % HINTS as u64) as usize
+}
+
+// The first of n different states that is the set, or n. The state which the hint names is looked at before all others; the answer is
+// the hint from then on.
+fn look_up(states: &[u64], n: usize, set: &[u64; SET_WORDS], hints: &mut [u8; HINTS]) -> usize
+    requires { ⌜ (n * set-words ≤ length (now states)) × (length (now set) ≡ set-words) × (length (now hints) ≡ hint-count) × Different n (now states) ⌝ }
+    ensures { λ r. ⌜ (length (now (hints .exit)) ≡ hint-count) × Found (now (states .entry)) n (now (set .entry)) r ⌝ }
+{
+    let place = place_of(set);
+    let hint = wide(hints[place]);
+    if hint < n {
+        if same(states, hint * SET_WORDS, set) {
+            return hint;
+        }
+    }
+    let j = find(states, n, set);
+    if j < 256 {
+        hints[place] = narrow(j);
+    }
+    j
+}
+
 // The states that the events lead to from state i come after the n there are, and the entries of state i get their numbers;
-// the limit and one where there are more. The sets are room for the next sets.
+// the limit and one where there are more. The sets are room for the next sets, and the hints tell where a set may be found.
 fn expand(
     firsts: &[u8; NODE_LIMIT],
     marks: &[u64; SET_WORDS],
@@ -131,14 +163,16 @@ fn expand(
     states: &mut [u64],
     nexts: &mut [u8],
     sets: &mut [u64; NEXT_WORDS],
+    hints: &mut [u8; HINTS],
 ) -> usize
     requires { ⌜ (i < n) × (n ≤ limit) × (limit ≤ 256) × (events ≤ event-limit) × (length (now firsts) ≡ node-limit)
         × (length (now marks) ≡ set-words) × (length (now rows) ≡ row-words) × (limit * set-words ≤ length (now states)) × (limit * events ≤ length (now nexts))
-        × (length (now sets) ≡ next-words) ⌝ }
+        × (length (now sets) ≡ next-words) × (length (now hints) ≡ hint-count) × Different n (now states) ⌝ }
     ensures { λ r. ⌜ (length (now (states .exit)) ≡ length (now (states .entry))) × (length (now (nexts .exit)) ≡ length (now (nexts .entry))) × (n ≤ r)
         × Unchanged (i * events + events) (now (nexts .entry)) (now (nexts .exit))
         × MarkedExpanded (now (marks .entry)) (now (firsts .entry)) (now (rows .entry)) events limit i n
-        (now (states .entry)) (now (nexts .entry)) r (now (states .exit)) (now (nexts .exit)) × (length (now (sets .exit)) ≡ next-words) ⌝ }
+        (now (states .entry)) (now (nexts .entry)) r (now (states .exit)) (now (nexts .exit)) × (length (now (sets .exit)) ≡ next-words)
+        × (length (now (hints .exit)) ≡ hint-count) × (r ≤ limit → Different r (now (states .exit))) ⌝ }
 {
     advance(firsts, marks, rows, &*states, i * SET_WORDS, events, sets);
     let mut k = n;
@@ -146,7 +180,7 @@ fn expand(
     while event < events {
         let mut set = [0u64; SET_WORDS];
         copy_row(&mut set, &*sets, event);
-        let j = find(&*states, k, &set);
+        let j = look_up(&*states, k, &set, hints);
         if j == k {
             if k == limit {
                 return limit + 1;
@@ -197,6 +231,7 @@ pub fn explore(
     let marks = marks_of(kinds, count, TRANSITION);
     copy_first(states, rows);
     let mut sets = [0u64; NEXT_WORDS];
+    let mut hints = [0u8; HINTS];
     let mut n: usize = 1;
     let mut i: usize = 0;
     while i < n {
@@ -211,6 +246,7 @@ pub fn explore(
             states,
             nexts,
             &mut sets,
+            &mut hints,
         );
         if limit < m {
             return limit + 1;

@@ -1,27 +1,30 @@
 -- `expand` meets its contract. The loop's invariant: state i is as before; and for every rule whose G nodes are marked and every list of
--- sequences that the states were kept for, they are kept for it with the events passed, and the entries passed are right.
+-- sequences that the states were kept for, they are kept for it with the events passed, and the entries passed are right. No two states
+-- are the same.
 use borrow.Author.Needs.{needs}
 use Prim.Native.Nat.{ℕ, _≤_, _<_, _-_, _+_, _*_}
 use mathlib.Core.{Path.{_≡_, refl, sym, _∙_, ap, subst}, Bool.{Bool}, Logic.{⊎-elim}, List.{List, []}}
 use native.Mathlib.Omega.{arith}
 use Rattle.machines.proofs.EntryIndex.{index-below}
 use lib.{ListN.{length, getD, set, length-set}, Seq.{getD-set-other}}
-use Rattle.synthesis.specs.{NodeWords.{row}, MarkedNodes.{Marks}, Exploring.{stepped, next-bits, Unchanged, Kept, events-to}}
-use Rattle.synthesis.proofs.{NodeWords.{set-else}, Exploring.{candidate-old, candidate-new, candidate-many, below}}
+use Rattle.synthesis.specs.{NodeWords.{row, hint-count}, MarkedNodes.{Marks}}
+use Rattle.synthesis.specs.Exploring.{stepped, next-bits, Found, Different, Unchanged, Kept, events-to}
+use Rattle.synthesis.proofs.{NodeWords.{set-else}, Exploring.{candidate-old, candidate-new, candidate-many, different-more, below}}
 use Rattle.synthesis.proofs.exploration.expand.Statement.{statement}
 use Rattle.synthesis.proofs.exploration.expand.Tie as tie
 
 abbrev Inv-loop : tie.InvT-loop
-Inv-loop firsts marks rows events limit i n states₀ nexts₀ sets k₀ event₀ states nexts k event =
+Inv-loop firsts marks rows events limit i n states₀ nexts₀ sets hints₀ k₀ event₀ states nexts hints k event =
     (event ≤ events) × (n ≤ k) × (k ≤ limit) × (length states ≡ length states₀) × (length nexts ≡ length nexts₀)
     × Unchanged (i * events + events) nexts₀ nexts × (row states i ≡ row states₀ i)
     × ((kinds : List ℕ) (count : ℕ) → Marks kinds count 2 marks → (start : List Bool) (P : List (List ℕ)) →
     Kept (next-bits kinds firsts rows count) start events P n (i * events) states₀ nexts₀ →
     Kept (next-bits kinds firsts rows count) start events (events-to (next-bits kinds firsts rows count) start event P (getD P i []))
     k (i * events + event) states nexts)
+    × (length hints ≡ hint-count) × Different k states
 
 abbrev μ-loop : tie.MeasureT-loop
-μ-loop firsts marks rows events limit i n states₀ nexts₀ sets k₀ event₀ states nexts k event = events - event
+μ-loop firsts marks rows events limit i n states₀ nexts₀ sets hints₀ k₀ event₀ states nexts hints k event = events - event
 
 loop-holds : tie.Need-loop-holds Inv-loop μ-loop
 loop-holds c =
@@ -36,14 +39,16 @@ loop-holds c =
       refl,
       λ kinds count marked start P old. subst (λ m. Kept (next-bits kinds (a .firsts .now) (a .rows .now) count) start (a .events) P (a .n) m (a .states .now)
           (a .nexts .now)) z old,
+      search needs,
+      c .before .before .before .before .before .pre .11,
     )
 
 returns : tie.Need-returns Inv-loop μ-loop
 returns c =
-    let a = c .before .before .before .before .before .before .before .before .before .before .before .before .before .before .before .args in
-    let l = c .before .before .before .before .before .before .before .before .before .loop in
+    let a = c .before .before .before .before .before .before .before .before .before .before .before .before .before .before .before .before .args in
+    let l = c .before .before .before .before .before .before .before .before .before .before .loop in
     let v = l .inv in
-    let event = c .before .before .before .before .before .before .before .before .loop-test .taken in (
+    let event = c .before .before .before .before .before .before .before .before .before .loop-test .taken in (
       v .3,
       v .4,
       search needs,
@@ -56,41 +61,43 @@ returns c =
           c .if2 .taken,
           candidate-many kinds (a .firsts .now) (a .rows .now) count (a .events) (a .i) (a .n) (l .k) (l .event) (a .states .now)
               (a .nexts .now) (l .states) (l .nexts) _ (search needs) (v .1) event
-              (c .before .before .before .before .before .copy-row .ensures .1
-              ∙ c .before .before .before .before .before .before .before .before .before .before .advance .ensures .1 kinds count marked (l .event) event
+              (c .before .before .before .before .before .before .copy-row .ensures .1
+              ∙ c .before .before .before .before .before .before .before .before .before .before .before .advance .ensures .1 kinds count marked (l .event) event
               ∙ ap (λ D. stepped kinds (a .firsts .now) (a .rows .now) count D (l .event)) (sym (v .6))) start P old
               (v .7 kinds count marked start P old)
-              (c .before .before .find .result) (c .before .if1 .taken) (c .before .before .find .ensures),
+              (c .before .before .look-up .result) (c .before .if1 .taken) (c .before .before .look-up .ensures .1),
         );
       }),
-      c .before .before .before .before .before .before .before .before .before .before .advance .ensures .0,
+      c .before .before .before .before .before .before .before .before .before .before .before .advance .ensures .0,
+      c .before .before .look-up .ensures .0,
+      λ h. absurd (omega (arith, h)),
     )
 
 narrow-requires : tie.Need-narrow-requires Inv-loop μ-loop
 narrow-requires c κs =
-    let few = c .before .before .before .before .before .before .before .before .before .loop .inv .2 in
-    let low = c .before .before .find .ensures .low in
-    let most = c .before .before .before .before .before .before .before .before .before .before .before .before .before .before .before .pre .2 in
+    let few = c .before .before .before .before .before .before .before .before .before .before .loop .inv .2 in
+    let low = c .before .before .look-up .ensures .1 .low in
+    let most = c .before .before .before .before .before .before .before .before .before .before .before .before .before .before .before .before .pre .2 in
     ⊎-elim (λ w. omega (arith, few, low, most, w .1 .left)) (λ w. omega (arith, few, low, most, w .0 .left)) (c .before .if1 .came)
 
 slice-write-nexts : tie.Need-slice-write-nexts Inv-loop μ-loop
 slice-write-nexts c =
-    let a = c .before .before .before .before .before .before .before .before .before .before .before .before .before .before .before .before .args in
-    let p = c .before .before .before .before .before .before .before .before .before .before .before .before .before .before .before .before .pre in
+    let a = c .before .before .before .before .before .before .before .before .before .before .before .before .before .before .before .before .before .args in
+    let p = c .before .before .before .before .before .before .before .before .before .before .before .before .before .before .before .before .before .pre in
     omega (
       arith,
       c .before .entry-at .ensures,
-      c .before .before .before .before .before .before .before .before .before .before .loop .inv .4,
-      index-below (a .events) (a .limit) (a .i) (c .before .before .before .before .before .before .before .before .before .before .loop .event)
-          (omega arith) (c .before .before .before .before .before .before .before .before .before .loop-test .taken),
+      c .before .before .before .before .before .before .before .before .before .before .before .loop .inv .4,
+      index-below (a .events) (a .limit) (a .i) (c .before .before .before .before .before .before .before .before .before .before .before .loop .event)
+          (omega arith) (c .before .before .before .before .before .before .before .before .before .before .loop-test .taken),
     )
 
 loop-again : tie.Need-loop-again Inv-loop μ-loop
 loop-again c =
-    let a = c .before .before .before .before .before .before .before .before .before .before .before .before .before .before .before .before .args in
-    let l = c .before .before .before .before .before .before .before .before .before .before .loop in
+    let a = c .before .before .before .before .before .before .before .before .before .before .before .before .before .before .before .before .before .args in
+    let l = c .before .before .before .before .before .before .before .before .before .before .before .loop in
     let v = l .inv in
-    let event = c .before .before .before .before .before .before .before .before .before .loop-test .taken in
+    let event = c .before .before .before .before .before .before .before .before .before .before .loop-test .taken in
     let at : c .before .entry-at .result ≡ a .i * a .events + l .event = c .before .entry-at .ensures in
     let fits : c .before .entry-at .result < length (l .nexts) =
     omega (arith, at, v .4, index-below (a .events) (a .limit) (a .i) (l .event) (omega arith) event) in
@@ -110,12 +117,15 @@ loop-again c =
       λ kinds count marked start P old. rw (w .7, w .8)
           (candidate-new kinds (a .firsts .now) (a .rows .now) count (a .events) (a .i) (a .n) (l .k) (l .event) (a .states .now)
           (a .nexts .now) (l .states) (l .nexts) _ (search needs) (v .1) event
-          (c .before .before .before .before .before .before .copy-row .ensures .1
-          ∙ c .before .before .before .before .before .before .before .before .before .before .before .advance .ensures .1 kinds count marked (l .event) event
+          (c .before .before .before .before .before .before .before .copy-row .ensures .1
+          ∙ c .before .before .before .before .before .before .before .before .before .before .before .before .advance .ensures .1 kinds count marked (l .event) event
           ∙ ap (λ D. stepped kinds (a .firsts .now) (a .rows .now) count D (l .event)) (sym (v .6))) start P old
           (v .7 kinds count marked start P old) _
-          (c .before .before .before .find .result) (c .before .entry-at .result) (c .narrow .result) (w .0 .taken)
-          (c .before .before .before .find .ensures) (w .4 .ensures) at (c .narrow .ensures) fits),
+          (c .before .before .before .look-up .result) (c .before .entry-at .result) (c .narrow .result) (w .0 .taken)
+          (c .before .before .before .look-up .ensures .1) (w .4 .ensures) at (c .narrow .ensures) fits),
+      c .before .before .before .look-up .ensures .0,
+      rw (w .7, w .8) (different-more (l .k) (l .states) _ _ (v .9) (subst (Found (l .states) (l .k) _) (w .0 .taken)
+          (c .before .before .before .look-up .ensures .1)) (w .4 .ensures)),
     ))
     (λ w. (
       search needs,
@@ -128,12 +138,14 @@ loop-again c =
       λ kinds count marked start P old. rw (w .1, w .2)
           (candidate-old kinds (a .firsts .now) (a .rows .now) count (a .events) (a .i) (a .n) (l .k) (l .event) (a .states .now)
           (a .nexts .now) (l .states) (l .nexts) _ (search needs) (v .1) event
-          (c .before .before .before .before .before .before .copy-row .ensures .1
-          ∙ c .before .before .before .before .before .before .before .before .before .before .before .advance .ensures .1 kinds count marked (l .event) event
+          (c .before .before .before .before .before .before .before .copy-row .ensures .1
+          ∙ c .before .before .before .before .before .before .before .before .before .before .before .before .advance .ensures .1 kinds count marked (l .event) event
           ∙ ap (λ D. stepped kinds (a .firsts .now) (a .rows .now) count D (l .event)) (sym (v .6))) start P old
           (v .7 kinds count marked start P old)
-          (c .before .before .before .find .result) (c .before .entry-at .result) (c .narrow .result) (c .before .before .before .find .ensures)
-          (below (c .before .before .before .find .ensures .low) (w .0 .left)) at (c .narrow .ensures) fits),
+          (c .before .before .before .look-up .result) (c .before .entry-at .result) (c .narrow .result) (c .before .before .before .look-up .ensures .1)
+          (below (c .before .before .before .look-up .ensures .1 .low) (w .0 .left)) at (c .narrow .ensures) fits),
+      c .before .before .before .look-up .ensures .0,
+      rw (w .1, w .2) (v .9),
     ))
     (c .before .before .if1 .came)
 
@@ -155,6 +167,8 @@ returns-2 c =
         more = λ h. absurd (omega (arith, h));
       }),
       c .before .before .advance .ensures .0,
+      v .8,
+      λ h. v .9,
     )
 
 pub expand-spec : {M : Type 1} → statement M

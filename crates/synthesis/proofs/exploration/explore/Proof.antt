@@ -1,22 +1,23 @@
--- `explore` meets its contract. The loop's invariant: the states kept and the entries are those of the sequences explored so far.
+-- `explore` meets its contract. The loop's invariant: the states kept and the entries are those of the sequences explored so far,
+-- and no two states are the same.
 use borrow.Author.Needs.{needs}
 use Prim.Native.Nat.{_≤_, _-_, _*_}
 use mathlib.Core.Path.{_≡_, refl, _∙_, subst}
 use native.Mathlib.{Nat.{add-mul}, Omega.{arith}}
 use lib.ListN.{length}
-use Rattle.synthesis.specs.{NodeWords.{next-words, bits-at}, Exploring.{next-bits, Unchanged, Kept}}
+use Rattle.synthesis.specs.{NodeWords.{next-words, hint-count, bits-at}, Exploring.{next-bits, Different, Unchanged, Kept}}
 use Rattle.synthesis.proofs.Exploring.{all-to, kept-start, row-kept, row-over, all-kept}
 use Rattle.synthesis.proofs.exploration.explore.Statement.{statement}
 use Rattle.synthesis.proofs.exploration.explore.Tie as tie
 
 abbrev Inv-loop : tie.InvT-loop
-Inv-loop kinds firsts count rows events limit states₀ nexts₀ marks sets₀ n₀ i₀ states nexts sets n i =
+Inv-loop kinds firsts count rows events limit states₀ nexts₀ marks sets₀ hints₀ n₀ i₀ states nexts sets hints n i =
     (i ≤ n) × (n ≤ limit) × (length states ≡ length states₀) × (length nexts ≡ length nexts₀) × Unchanged (i * events) nexts₀ nexts
     × Kept (next-bits kinds firsts rows count) (bits-at rows 0) events (all-to (next-bits kinds firsts rows count) rows events i)
-    n (i * events) states nexts × (length sets ≡ next-words)
+    n (i * events) states nexts × (length sets ≡ next-words) × (length hints ≡ hint-count) × Different n states
 
 abbrev μ-loop : tie.MeasureT-loop
-μ-loop kinds firsts count rows events limit states₀ nexts₀ marks sets₀ n₀ i₀ states nexts sets n i = limit - i
+μ-loop kinds firsts count rows events limit states₀ nexts₀ marks sets₀ hints₀ n₀ i₀ states nexts sets hints n i = limit - i
 
 loop-holds : tie.Need-loop-holds Inv-loop μ-loop
 loop-holds c =
@@ -29,11 +30,29 @@ loop-holds c =
       kept-start (next-bits (a .kinds .now) (a .firsts .now) (a .rows .now) (a .count)) (a .rows .now) (a .events) _ (a .nexts .now)
           (c .before .before .copy-first .ensures .1),
       search needs,
+      search needs,
+      λ j i h u. absurd (omega (arith, h, u)),
     )
+
+expand-requires : tie.Need-expand-requires Inv-loop μ-loop
+expand-requires c κs = (
+  search needs,
+  search needs,
+  search needs,
+  search needs,
+  search needs,
+  search needs,
+  search needs,
+  search needs,
+  search needs,
+  search needs,
+  search needs,
+  c .before .before .before .before .before .before .loop .inv .8,
+)
 
 returns : tie.Need-returns Inv-loop μ-loop
 returns c =
-    let at = c .before .before .before .before .before .before .before .before .before .before .before in
+    let at = c .before .before .before .before .before .before .before .before .before .before .before .before in
     let a = at .before .before .before .before .before .before .before .before .args in
     let l = at .loop in
     let v = l .inv in
@@ -58,7 +77,7 @@ returns c =
 
 loop-again : tie.Need-loop-again Inv-loop μ-loop
 loop-again c =
-    let at = c .before .before .before .before .before .before .before .before .before .before .before in
+    let at = c .before .before .before .before .before .before .before .before .before .before .before .before in
     let a = at .before .before .before .before .before .before .before .before .args in
     let l = at .loop in
     let v = l .inv in
@@ -73,6 +92,8 @@ loop-again c =
       row-kept nb (a .rows .now) (a .events) (a .limit) (l .i) (l .n) (c .before .before .before .before .before .expand .result) (l .states) (l .nexts) _
           _ (search needs) (v .5) made (search needs),
       x .5,
+      x .6,
+      x .7 (search needs),
     )
 
 returns-2 : tie.Need-returns-2 Inv-loop μ-loop
@@ -93,5 +114,5 @@ returns-2 c =
     )
 
 pub explore-spec : {M : Type 1} → statement M
-explore-spec = tie.close (tie.spec Inv-loop μ-loop (λ c κs. search needs) (λ c κs. search needs) loop-holds (λ c κs. search needs) (λ c. search needs)
+explore-spec = tie.close (tie.spec Inv-loop μ-loop (λ c κs. search needs) (λ c κs. search needs) loop-holds expand-requires (λ c. search needs)
     (λ c. search needs) (λ c. search needs) returns (λ c. search needs) (λ c. search needs) loop-again (λ c. search needs) (λ c. search needs) returns-2)
