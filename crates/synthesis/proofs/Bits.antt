@@ -1,64 +1,46 @@
 -- Single bits of numbers: of a bitwise or and and, of a power of two, that they determine the number, and the last that is set.
-use mathlib.Core.{Path.{_≡_, refl, sym, ap, ap₂, _∙_, subst}, Bool.{false, _||_, _&&_}, Logic.{_⊎_, inl, inr}}
+use mathlib.Core.{Path.{_≡_, refl, sym, ap, ap₂, _∙_, subst}, Bool.{Bool, false, _||_, _&&_, true≢false}}
 use Prim.Native.Nat.{ℕ, zero, suc, _+_, _-_, _*_, _/_, _%_, _^_, _≤_, _<_, max, min}
-use native.Mathlib.Nat.{mod-lt, zero-lt-suc, lt-of-le-of-lt, lt-trans, le-of-suc-le-suc, max-le, div-self, div-eq-of-lt, div-one, one-mul, add-comm}
+use native.Mathlib.Nat.{mod-lt, zero-lt-suc, div-self, div-eq-of-lt, div-one, one-mul, add-comm}
 use native.Mathlib.{Nat.{div-add-mod', zero-div, div-lt-iff-lt-mul, pow-suc}, Decide.{decLt}, Omega.{arith}}
-use borrow.Author.Tests.{eq-eqb, ne-eqb, eqb-true}
+use borrow.Author.Tests.{eq-eqb, ne-eqb}
 use lib.{Bits.{bitOr, or-step, or-shr, bitAnd, and-step, and-shr, shifted-even}, Pow.{pow-add, shl-shr, shr-shr, pow-pos, pow-lt, field, mod-mod-pow}}
-use lib.{Count.{leadingZeros, leading-length}, Dec.{eqb, lit<}, Arith.{digits-div, digits-mod}}
-use Rattle.synthesis.specs.{NodeWords.{bit-at, LastBit}, MarkedNodes.{LastSet}}
+use lib.{Count.{leadingZeros, leading-length}, Dec.{eqb}, Arith.{digits-div}}
+use Rattle.synthesis.specs.{NodeWords.{bit-at}, MarkedNodes.{LastSet}}
 
 pub bit-small : (a k : ℕ) → bit-at a k < 2
 unfolding bit-at
 bit-small a k = mod-lt (a / 2 ^ k) (zero-lt-suc 1)
 
-zero-or-one : (x : ℕ) → x < 2 → (x ≡ 0) ⊎ (x ≡ 1)
-zero-or-one zero h = inl refl
-zero-or-one (suc zero) h = inr refl
-zero-or-one (suc (suc x)) h = absurd (omega arith)
+-- What holds of each two bits.
+two-bits : (P : ℕ → ℕ → Type 0) → P 0 0 → P 0 1 → P 1 0 → P 1 1 → (x y : ℕ) → x < 2 → y < 2 → P x y
+two-bits P a b c d zero zero h k = a
+two-bits P a b c d zero (suc zero) h k = b
+two-bits P a b c d (suc zero) zero h k = c
+two-bits P a b c d (suc zero) (suc zero) h k = d
+two-bits P a b c d zero (suc (suc y)) h k = absurd (omega arith)
+two-bits P a b c d (suc zero) (suc (suc y)) h k = absurd (omega arith)
+two-bits P a b c d (suc (suc x)) y h k = absurd (omega arith)
 
-or-odd : (a b : ℕ) → bitOr a b % 2 ≡ max (a % 2) (b % 2)
-or-odd a b =
-    ap (λ (x : ℕ). x % 2) (or-step a b)
-    ∙ digits-mod (bitOr (a / 2) (b / 2)) (lt-of-le-of-lt (max-le (at-most-one a) (at-most-one b)) (lit< tt))
-  where
-    at-most-one : (x : ℕ) → x % 2 ≤ 1
-    at-most-one x = le-of-suc-le-suc (mod-lt x (zero-lt-suc 1))
+-- A bit of a bitwise operation, which is `one` on single bits and `test` on whether they are set.
+module _ (op one : ℕ → ℕ → ℕ) (test : Bool → Bool → Bool) (shr : (x y k : ℕ) → op x y / 2 ^ k ≡ op (x / 2 ^ k) (y / 2 ^ k))
+    (odd : (x y : ℕ) → op x y % 2 ≡ one (x % 2) (y % 2))
+    (tested : (x y : ℕ) → x < 2 → y < 2 → eqb (one x y) 1 ≡ test (eqb x 1) (eqb y 1)) where
+  op-bit : (x y k : ℕ) → eqb (bit-at (op x y) k) 1 ≡ test (eqb (bit-at x k) 1) (eqb (bit-at y k) 1)
+  unfolding bit-at
+  op-bit x y k =
+      ap (λ n. eqb n 1) (ap (λ (n : ℕ). n % 2) (shr x y k) ∙ odd (x / 2 ^ k) (y / 2 ^ k))
+      ∙ tested (bit-at x k) (bit-at y k) (bit-small x k) (bit-small y k)
 
-max-or : (x y : ℕ) → x < 2 → y < 2 → eqb (max x y) 1 ≡ eqb x 1 || eqb y 1
-max-or x y h k = go (zero-or-one x h) (zero-or-one y k)
-  where
-    go : (x ≡ 0) ⊎ (x ≡ 1) → (y ≡ 0) ⊎ (y ≡ 1) → eqb (max x y) 1 ≡ eqb x 1 || eqb y 1
-    go (inl p) (inl q) = rw (p, q)
-    go (inl p) (inr q) = rw (p, q)
-    go (inr p) (inl q) = rw (p, q)
-    go (inr p) (inr q) = rw (p, q)
-
--- A bit of the bitwise or.
 pub or-bit : (x y k : ℕ) → eqb (bit-at (bitOr x y) k) 1 ≡ eqb (bit-at x k) 1 || eqb (bit-at y k) 1
-unfolding bit-at
-or-bit x y k =
-    ap (λ n. eqb n 1) (ap (λ (n : ℕ). n % 2) (or-shr x y k) ∙ or-odd (x / 2 ^ k) (y / 2 ^ k))
-    ∙ max-or (bit-at x k) (bit-at y k) (bit-small x k) (bit-small y k)
+or-bit =
+    op-bit bitOr max _||_ or-shr (λ x y. omega (arith, or-step x y))
+    (two-bits (λ x y. eqb (max x y) 1 ≡ eqb x 1 || eqb y 1) refl refl refl refl)
 
-min-and : (x y : ℕ) → x < 2 → y < 2 → eqb (min x y) 1 ≡ eqb x 1 && eqb y 1
-min-and x y h k = go (zero-or-one x h) (zero-or-one y k)
-  where
-    go : (x ≡ 0) ⊎ (x ≡ 1) → (y ≡ 0) ⊎ (y ≡ 1) → eqb (min x y) 1 ≡ eqb x 1 && eqb y 1
-    go (inl p) (inl q) = rw (p, q)
-    go (inl p) (inr q) = rw (p, q)
-    go (inr p) (inl q) = rw (p, q)
-    go (inr p) (inr q) = rw (p, q)
-
--- A bit of the bitwise and.
 pub and-bit : (x y k : ℕ) → eqb (bit-at (bitAnd x y) k) 1 ≡ eqb (bit-at x k) 1 && eqb (bit-at y k) 1
-unfolding bit-at
-and-bit x y k =
-    ap (λ n. eqb n 1) (ap (λ (n : ℕ). n % 2) (and-shr x y k) ∙ odd (x / 2 ^ k) (y / 2 ^ k))
-    ∙ min-and (bit-at x k) (bit-at y k) (bit-small x k) (bit-small y k)
-  where
-    odd : (a b : ℕ) → bitAnd a b % 2 ≡ min (a % 2) (b % 2)
-    odd a b = omega (arith, and-step a b)
+and-bit =
+    op-bit bitAnd min _&&_ and-shr (λ x y. omega (arith, and-step x y))
+    (two-bits (λ x y. eqb (min x y) 1 ≡ eqb x 1 && eqb y 1) refl refl refl refl)
 
 -- The bits of a power of two.
 pub power-bit : (m n : ℕ) → eqb (bit-at (2 ^ m) n) 1 ≡ eqb m n
@@ -102,13 +84,8 @@ no-rest a k j e h =
     ap (bit-at a) z ∙ sym (shifted-bit a k (j - k)) ∙ ap (λ x. x / 2 ^ (j - k) % 2) e ∙ ap (λ x. x % 2) (zero-div (2 ^ (j - k)))
 
 same-bit : (x y : ℕ) → x < 2 → y < 2 → eqb x 1 ≡ eqb y 1 → x ≡ y
-same-bit x y h k e = go (zero-or-one x h) (zero-or-one y k)
-  where
-    go : (x ≡ 0) ⊎ (x ≡ 1) → (y ≡ 0) ⊎ (y ≡ 1) → x ≡ y
-    go (inl p) (inl q) = p ∙ sym q
-    go (inl p) (inr q) = absurd (omega (arith, p, eqb-true x 1 (e ∙ eq-eqb y 1 q)))
-    go (inr p) (inl q) = absurd (omega (arith, q, eqb-true y 1 (sym e ∙ eq-eqb x 1 p)))
-    go (inr p) (inr q) = p ∙ sym q
+same-bit =
+    two-bits (λ x y. eqb x 1 ≡ eqb y 1 → x ≡ y) (λ e. refl) (λ e. absurd (true≢false (sym e))) (λ e. absurd (true≢false e)) (λ e. refl)
 
 half-bit : (x k : ℕ) → bit-at (x / 2) k ≡ bit-at x (suc k)
 unfolding bit-at
@@ -167,55 +144,3 @@ last-set w some small = go (sized .0) (sized .1) (sized .2) (sized .3)
           subst (LastSet w) z
               (record { low = omega arith; here = highest-bit w m h l; after = λ j u v. no-rest w (suc m) j (div-eq-of-lt h) u }),
         )
-
--- The last set bit of a word at or below k: bit k, or the highest of the k lowest bits.
-pub last-here : (w k : ℕ) → bit-at w k ≡ 1 → LastBit w k (k + 1)
-last-here w k e =
-    let z : k + 1 - 1 ≡ k = omega arith in
-    record { high = omega arith; after = λ j u v. absurd (omega arith); here = λ u. ap (bit-at w) z ∙ e }
-
-pub last-below : (w k : ℕ) → k < 64 → ¬ (bit-at w k ≡ 1) → LastBit w k (64 - leadingZeros 64 (w % 2 ^ k))
-last-below w k h e = subst (LastBit w k) (omega (arith, sized .1)) (last (sized .0) (sized .2) (sized .3))
-  where
-    a : ℕ
-    a = w % 2 ^ k
-
-    small : a < 2 ^ k
-    small = mod-lt w (pow-pos k)
-
-    sized : (m : ℕ) × (leadingZeros 64 a + m ≡ 64) × (a < 2 ^ m) × (2 ^ m ≤ 2 * a + 1)
-    sized = leading-length 64 a (lt-trans small (pow-lt h))
-
-    last : (m : ℕ) → a < 2 ^ m → 2 ^ m ≤ 2 * a + 1 → LastBit w k m
-    last m u v =
-        record {
-          high = omega (arith, m≤k);
-          after = λ j x y. there j x (decLt j k) y;
-          here = λ x.
-              let z : m ≡ suc (m - 1) = omega arith in
-              sym (low-bits w k (m - 1) (omega (arith, m≤k))) ∙ top (m - 1) z;
-        }
-      where
-        top : (n : ℕ) → m ≡ suc n → bit-at a n ≡ 1
-        top n z = highest-bit a n (subst (λ x. a < 2 ^ x) z u) (subst (λ x. 2 ^ x ≤ 2 * a + 1) z v)
-
-        inside : (n : ℕ) → m ≡ suc n → Dec (n < k) → n < k
-        inside n z (yes x) = x
-        inside n z (no x) = absurd (omega (arith, top n z, no-rest a k n (div-eq-of-lt small) (omega arith)))
-
-        within : Dec (0 < m) → m ≤ k
-        within (yes x) = let z : m ≡ suc (m - 1) = omega arith in omega (arith, inside (m - 1) z (decLt (m - 1) k))
-        within (no x) = omega arith
-
-        m≤k : m ≤ k
-        m≤k = within (decLt 0 m)
-
-        there : (j : ℕ) → m ≤ j → Dec (j < k) → j ≤ k → bit-at w j ≡ 0
-        there j x (yes q) y = sym (low-bits w k j q) ∙ no-rest a m j (div-eq-of-lt u) x
-        there j x (no q) y =
-            let z : j ≡ k = omega arith in
-            ap (bit-at w) z ∙ other (zero-or-one (bit-at w k) (bit-small w k))
-          where
-            other : (bit-at w k ≡ 0) ⊎ (bit-at w k ≡ 1) → bit-at w k ≡ 0
-            other (inl p) = p
-            other (inr p) = absurd (e p)

@@ -1,6 +1,6 @@
 -- Walks over the nodes of a set, the last first: over the set bits of a word, over the words of marked nodes, and what all of them
 -- together have done; and how marks are made.
-use mathlib.Core.{Path.{_≡_, refl, sym, _∙_, ap, ap₂, subst}, Bool.{Bool, true, false, _&&_, _||_, true≢false, or-false}, List.{List}}
+use mathlib.Core.{Path.{_≡_, refl, sym, _∙_, ap, ap₂, subst}, Bool.{Bool, true, false, _&&_, _||_, true≢false, and-true, and-false, or-false}, List.{List}}
 use Prim.Native.Nat.{ℕ, zero, suc, _+_, _*_, _-_, _/_, _%_, _^_, _≤_, _<_}
 use native.Mathlib.{Decide.{decLt, ℕ-discrete}, Nat.{mod-lt, mod-eq-of-lt, div-eq-of-lt, zero-div}, Omega.{arith}}
 use borrow.Author.Tests.{lt-ltb, le-ltb, ltb-true, eq-eqb, ne-eqb}
@@ -213,44 +213,51 @@ module _ (kinds firsts : List ℕ) (count k : ℕ) (marks : List ℕ) (marked : 
   pub all-marked : (l : List ℕ) → P count before → Came step (marked-in D marks) node-limit before 0 l → P 0 l
   all-marked l start c = let z : upto 0 ≡ 0 = omega arith in subst (λ x. P x l) z (go start c)
 
--- ---- marks set one by one
-
-abbrev pub MarksTo : List ℕ → ℕ → List ℕ → ℕ → Type 0
-MarksTo kinds k marks i = (j : ℕ) → j < node-limit → set-at marks 0 j ≡ ltb j i && eqb (field kinds j) k
+-- ---- marks made one by one
 
 module _ (kinds : List ℕ) (k : ℕ) (marks : List ℕ) where
-  pub marks-none : ((w : ℕ) → w < set-words → getD marks (0 + w) 0 ≡ 0) → MarksTo kinds k marks 0
+  pub marks-none : ((w : ℕ) → w < set-words → getD marks (0 + w) 0 ≡ 0) → Marks kinds 0 k marks
   unfolding empty
-  marks-none f j h = ap (λ D. D j) (no-words marks 0 f) ∙ sym (ap (λ t. t && eqb (field kinds j) k) (le-ltb j 0 (omega arith)))
+  marks-none f =
+      record {
+        few = omega arith;
+        there = λ j h. ap (λ D. D j) (no-words marks 0 f) ∙ sym (ap (λ t. t && eqb (field kinds j) k) (le-ltb j 0 (omega arith)));
+      }
 
-  module _ (i : ℕ) (old : MarksTo kinds k marks i) where
+  -- Node i: marked where it is of the kind.
+  module _ (i : ℕ) (small : i < node-limit) (old : Marks kinds i k marks) where
+    more :
+        (after : List ℕ) → ((j : ℕ) → set-at after 0 j ≡ set-at marks 0 j || (eqb i j && eqb (field kinds i) k)) →
+        Marks kinds (i + 1) k after
+    more after f = record { few = omega arith; there = λ j h. f j ∙ ap (λ t. t || (eqb i j && eqb (field kinds i) k)) (old .there j h) ∙ one j }
+      where
+        one : (j : ℕ) → (ltb j i && eqb (field kinds j) k) || (eqb i j && eqb (field kinds i) k) ≡ ltb j (i + 1) && eqb (field kinds j) k
+        one j = go (decLt j i) (ℕ-discrete i j)
+          where
+            go :
+                Dec (j < i) → Dec (i ≡ j) →
+                (ltb j i && eqb (field kinds j) k) || (eqb i j && eqb (field kinds i) k) ≡ ltb j (i + 1) && eqb (field kinds j) k
+            go (yes u) q =
+                rw (lt-ltb j i u, lt-ltb j (i + 1) (omega arith), ne-eqb i j (λ e. omega (arith, e))) (or-false (eqb (field kinds j) k))
+            go (no u) (yes q) =
+                rw (le-ltb j i (omega arith), lt-ltb j (i + 1) (omega arith), eq-eqb i j q) (ap (λ x. eqb (field kinds x) k) q)
+            go (no u) (no q) = rw (le-ltb j i (omega arith), le-ltb j (i + 1) (omega (arith, q)), ne-eqb i j q)
+
     pub marks-with :
-        (p : ℕ) → length marks ≡ set-words → i < node-limit → p ≡ 2 ^ (i % 64) → field kinds i ≡ k →
-        MarksTo kinds k (set marks (i / 64) (bitOr (getD marks (i / 64) 0) p)) (i + 1)
+        (p : ℕ) → length marks ≡ set-words → p ≡ 2 ^ (i % 64) → field kinds i ≡ k →
+        Marks kinds (i + 1) k (set marks (i / 64) (bitOr (getD marks (i / 64) 0) p))
     unfolding union only
-    marks-with p sized small power here j h =
-        ap (λ x. set-at (set marks (i / 64) (bitOr (getD marks (i / 64) 0) x)) 0 j) power
-        ∙ ap (λ x. set-at (set marks x (bitOr (getD marks x 0) (2 ^ (i % 64)))) 0 j) z
+    marks-with p sized power here =
+        more (set marks (i / 64) (bitOr (getD marks (i / 64) 0) p))
+        (λ j. ap₂ (λ x y. set-at (set marks x (bitOr (getD marks x 0) y)) 0 j) z power
         ∙ ap (λ D. D j) (set-insert marks 0 i small (omega arith))
-        ∙ ap (λ t. t || eqb i j) (old j h)
-        ∙ one (decLt j i) (ℕ-discrete i j)
+        ∙ ap (λ t. set-at marks 0 j || t) (sym (ap (λ t. eqb i j && t) (eq-eqb (field kinds i) k here) ∙ and-true (eqb i j))))
       where
         z : i / 64 ≡ 0 + i / 64
         z = omega arith
 
-        one : Dec (j < i) → Dec (i ≡ j) → (ltb j i && eqb (field kinds j) k) || eqb i j ≡ ltb j (i + 1) && eqb (field kinds j) k
-        one (yes u) q = rw (lt-ltb j i u, lt-ltb j (i + 1) (omega arith), ne-eqb i j (λ e. omega (arith, e))) (or-false (eqb (field kinds j) k))
-        one (no u) (yes q) =
-            rw (le-ltb j i (omega arith), lt-ltb j (i + 1) (omega arith), eq-eqb i j q)
-            (sym (eq-eqb (field kinds j) k (ap (field kinds) (sym q) ∙ here)))
-        one (no u) (no q) = rw (le-ltb j i (omega arith), le-ltb j (i + 1) (omega (arith, q)), ne-eqb i j q)
-
-    pub marks-without : ¬ (field kinds i ≡ k) → MarksTo kinds k marks (i + 1)
-    marks-without other j h = old j h ∙ one (decLt j i) (ℕ-discrete i j)
-      where
-        one : Dec (j < i) → Dec (i ≡ j) → ltb j i && eqb (field kinds j) k ≡ ltb j (i + 1) && eqb (field kinds j) k
-        one (yes u) q = rw (lt-ltb j i u, lt-ltb j (i + 1) (omega arith))
-        one (no u) (yes q) =
-            rw (le-ltb j i (omega arith), lt-ltb j (i + 1) (omega arith))
-            (sym (ne-eqb (field kinds j) k (λ e. other (ap (field kinds) q ∙ e))))
-        one (no u) (no q) = rw (le-ltb j i (omega arith), le-ltb j (i + 1) (omega (arith, q)))
+    pub marks-without : ¬ (field kinds i ≡ k) → Marks kinds (i + 1) k marks
+    marks-without other =
+        more marks
+        (λ j. sym (ap (λ t. set-at marks 0 j || t) (ap (λ t. eqb i j && t) (ne-eqb (field kinds i) k other) ∙ and-false (eqb i j))
+        ∙ or-false (set-at marks 0 j)))

@@ -1,13 +1,13 @@
 -- Sets of nodes in words: what a store, an inserted node and a union make of them, and that equal sets have equal words.
-use mathlib.Core.{Path.{_≡_, refl, sym, _∙_, ap, ap₂, fun-ext}, Bool.{true, false, _||_, _&&_, or-false}, List.{List}}
-use Prim.Native.Nat.{ℕ, _+_, _*_, _-_, _/_, _%_, _^_, _≤_, _<_}
+use mathlib.Core.{Path.{_≡_, refl, sym, _∙_, ap, ap₂, fun-ext}, Bool.{false, _||_, _&&_, or-false}, List.{List}}
+use Prim.Native.Nat.{ℕ, _+_, _*_, _/_, _%_, _^_, _≤_, _<_}
 use native.Mathlib.{Nat.{div-add-mod'}, Decide.{decLt, ℕ-discrete}, Omega.{arith}}
 use borrow.Author.{Count.{below-more}, Tests.{lt-ltb, le-ltb, eq-eqb, ne-eqb}}
 use lib.{Arith.{digits-div, digits-mod}, Bits.{bitOr}, Dec.{eqb}, ListN.{length, getD, set, length-set}, Seq.{getD-set-same, getD-set-other}}
 use Rattle.limits.specs.Limits.{node-limit}
 use Rattle.theory.specs.{DemandSets.{empty, union, only}, Exploration.{member, bits}}
 use Rattle.theory.proofs.BitSets.{member-bits}
-use Rattle.synthesis.specs.NodeWords.{bit-at, set-at, row, bits-at, WordsTo, Stored, LastBit}
+use Rattle.synthesis.specs.NodeWords.{bit-at, set-at, row, bits-at, WordsTo, Stored}
 use Rattle.synthesis.proofs.Bits.{or-bit, power-bit, zero-bit, same-number}
 
 pub in-words : (l : List ℕ) (b j : ℕ) → j < node-limit → set-at l b j ≡ eqb (bit-at (getD l (b + j / 64) 0) (j % 64)) 1
@@ -96,38 +96,6 @@ no-words l base f = fun-ext λ j. go j (decLt j node-limit)
     go j (yes u) =
         in-words l base j u ∙ ap (λ x. eqb (bit-at x (j % 64)) 1) (f (j / 64) (omega arith)) ∙ zero-bit (j % 64)
     go j (no u) = past-words l base j (omega arith)
-
--- A node of the word that node k is in: k stands at k % 64 in it, and j at i.
-in-word :
-    (l : List ℕ) (b k j i v : ℕ) → k < node-limit → j ≡ k / 64 * 64 + i → i < 64 → bit-at (getD l (b + k / 64) 0) i ≡ v →
-    set-at l b j ≡ eqb v 1
-in-word l b k j i v h e u q =
-    let d : j / 64 ≡ k / 64 = omega arith in
-    let m : j % 64 ≡ i = omega arith in
-    in-words l b j (omega arith)
-    ∙ ap₂ (λ x y. eqb (bit-at (getD l (b + x) 0) y) 1) d m
-    ∙ ap (λ x. eqb x 1) q
-
--- Down from node k: the last set bit of its word.
-module _ (l : List ℕ) (b k bit : ℕ) (small : k < node-limit) (found : LastBit (getD l (b + k / 64) 0) (k % 64) bit) where
-  word-after : (j : ℕ) → k / 64 * 64 + bit ≤ j → j ≤ k → set-at l b j ≡ false
-  word-after j h u =
-      in-word l b k j (j % 64) 0 small (omega arith) (omega arith) (found .after (j % 64) (omega arith) (omega arith))
-
-  pub word-last : 0 < bit → set-at l b (k / 64 * 64 + bit - 1) ≡ true
-  word-last h =
-      in-word l b k (k / 64 * 64 + bit - 1) (bit - 1) 1 small (omega arith) (omega (arith, found .high)) (found .here h)
-
--- The nodes from it on are not in the set, where those from `node` on are not.
-pub word-left :
-    (l : List ℕ) (b node bit end : ℕ) → 0 < node → node ≤ node-limit → LastBit (getD l (b + (node - 1) / 64) 0) ((node - 1) % 64) bit →
-    ((j : ℕ) → node ≤ j → j < end → set-at l b j ≡ false) →
-    (j : ℕ) → (node - 1) / 64 * 64 + bit ≤ j → j < end → set-at l b j ≡ false
-word-left l b node bit end some small found f j h u = go (decLt j node)
-  where
-    go : Dec (j < node) → set-at l b j ≡ false
-    go (yes w) = word-after l b (node - 1) bit (omega arith) found j h (omega arith)
-    go (no w) = f j (omega arith) u
 
 -- Words stored one by one.
 pub words-none : (f : ℕ → ℕ) (base : ℕ) (l : List ℕ) → WordsTo f base 0 l l

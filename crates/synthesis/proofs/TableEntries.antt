@@ -1,14 +1,15 @@
 -- The value of a set, node by node, is the value of the set in the formula; the row of a state.
 use mathlib.Core.{Path.{_≡_, refl, sym, _∙_, ap, ap₂, subst}, Bool.{Bool, true, false, _&&_, cond, and-false}, List.{List, [], _∷_, _++_}}
-use Prim.Native.Nat.{ℕ, zero, suc, _+_, _*_, _-_, _/_, _%_, _≤_, _<_}
+use Prim.Native.Nat.{ℕ, suc, _+_, _*_, _-_, _/_, _%_, _≤_, _<_}
 use native.Mathlib.{Decide.{ℕ-discrete}, Nat.{not-suc-le-zero}, Numerals.{add-one}, Omega.{arith}}
 use lib.{Arith.{digits-div, digits-mod}, Dec.{eqb, ltb}, ListN.{length, getD, set, length-set}, Seq.{getD-set-same, getD-set-other}}
 use borrow.Author.Tests.{eq-eqb, ne-eqb, ltb-true, ltb-false}
+use Rattle.limits.specs.Limits.{node-limit}
 use Rattle.theory.specs.Formula.{Formula, truth, variable, transition, output, conjunction, greatest, size, Node, nodes}
 use Rattle.theory.specs.ReachableStates.{NodeSet, outputs, meet-all, value-of-set}
 use Rattle.formulas.specs.{NodeReading.{Reads}, NodeWalks.{field}}
-use Rattle.synthesis.specs.{Exploring.{for-event}, TableEntries.{meet-from, EntriesTo, RowTo, OpenRow, Met}}
-use Rattle.synthesis.proofs.Stepping.{other-kind, same-kind}
+use Rattle.synthesis.specs.{MarkedNodes.{Marks, marked-in, Came}, Exploring.{for-event}, TableEntries.{meet-from, EntriesTo, RowTo, Met}}
+use Rattle.synthesis.proofs.{MarkedNodes.{all-marked}, Stepping.{other-kind, same-kind}}
 
 module _ (meet : ℕ → ℕ → ℕ) (top : ℕ) (kinds firsts values : List ℕ) (D : NodeSet) (e : ℕ) where
   abbrev from : ℕ → ℕ → ℕ
@@ -16,38 +17,6 @@ module _ (meet : ℕ → ℕ → ℕ) (top : ℕ) (kinds firsts values : List �
 
   from-no : (i c : ℕ) → D i && for-event kinds firsts 3 e i ≡ false → from i (suc c) ≡ from (suc i) c
   from-no i c h = ap (λ t. cond t (meet (field values i) (from (suc i) c)) (from (suc i) c)) h
-
-  -- Nodes that are not in the set, and one that is.
-  skip-by : (d i c : ℕ) → ((j : ℕ) → i ≤ j → j < i + d → D j ≡ false) → from i (d + c) ≡ from (i + d) c
-  skip-by zero i c f =
-      let z : zero + c ≡ c = omega arith in
-      let y : i ≡ i + zero = omega arith in
-      ap (from i) z ∙ ap (λ x. from x c) y
-  skip-by (suc d) i c f =
-      let z : suc d + c ≡ suc (d + c) = omega arith in
-      let y : suc i + d ≡ i + suc d = omega arith in
-      ap (from i) z
-      ∙ from-no i (d + c) (ap (λ t. t && for-event kinds firsts 3 e i) (f i (omega arith) (omega arith)))
-      ∙ skip-by d (suc i) c (λ j h u. f j (omega arith) (omega arith))
-      ∙ ap (λ x. from x c) y
-
-  skip-nodes :
-      (count r node : ℕ) → r ≤ node → node ≤ count → ((j : ℕ) → r ≤ j → j < node → D j ≡ false) →
-      from node (count - node) ≡ from r (count - r)
-  skip-nodes count r node h u f =
-      let z : count - r ≡ (node - r) + (count - node) = omega arith in
-      let y : r + (node - r) ≡ node = omega arith in
-      sym
-      (ap (from r) z
-      ∙ skip-by (node - r) r (count - node) (λ j v w. f j v (omega arith))
-      ∙ ap (λ x. from x (count - node)) y)
-
-  meet-member :
-      (i c x : ℕ) → D i ≡ true → x ≡ from (suc i) c →
-      cond (for-event kinds firsts 3 e i) (meet (field values i) x) x ≡ from i (suc c)
-  meet-member i c x d q =
-      ap (λ y. cond (for-event kinds firsts 3 e i) (meet (field values i) y) y) q
-      ∙ ap (λ t. cond (t && for-event kinds firsts 3 e i) (meet (field values i) (from (suc i) c)) (from (suc i) c)) (sym d)
 
   silent : (i c : ℕ) → ¬ (field kinds i ≡ 3) → from i (suc c) ≡ from (suc i) c
   silent i c h = from-no i c (ap (λ t. D i && t) (other-kind kinds firsts 3 e i h) ∙ and-false (D i))
@@ -187,68 +156,68 @@ row-again f g events l before between to one two =
       above = λ x u. two .above x u ∙ one .above x u;
     }
 
--- What a node does to the row of a state: no O, an O for no event of the table, an O for an event.
-module _ (meet : ℕ → ℕ → ℕ) (kinds firsts values : List ℕ) (events l i : ℕ) (before : List ℕ) where
+-- What an O node does to the row of a state: one for no event of the table, one for an event.
+module _ (meet : ℕ → ℕ → ℕ) (firsts values : List ℕ) (events l i : ℕ) (before : List ℕ) where
   abbrev came : ℕ → Bool → ℕ
   came e t = cond t (meet (field values i) (getD before (l * events + e) 0)) (getD before (l * events + e) 0)
 
   same-row : RowTo (λ e. getD before (l * events + e) 0) events l events before before
   same-row = record { sized = refl; entries = λ e u. refl; below = λ x u. refl; above = λ x u. refl }
 
-  pub met-other : ¬ (field kinds i ≡ 3) → Met meet kinds firsts values events l i before before
-  met-other h = row-same _ _ events l before before (λ e u. sym (ap (came e) (other-kind kinds firsts 3 e i h))) same-row
-
-  pub met-far : field kinds i ≡ 3 → events ≤ field firsts i → Met meet kinds firsts values events l i before before
-  met-far k h =
-      row-same _ _ events l before before
-      (λ e u. sym (ap (came e) (same-kind kinds firsts 3 e i k ∙ ne-eqb (field firsts i) e (λ q. omega (arith, q))))) same-row
+  pub met-far : events ≤ field firsts i → Met meet firsts values events l i before before
+  met-far h =
+      row-same _ _ events l before before (λ e u. sym (ap (came e) (ne-eqb (field firsts i) e (λ q. omega (arith, q))))) same-row
 
   pub met-here :
-      (event at v : ℕ) → field kinds i ≡ 3 → event ≡ field firsts i → event < events → at ≡ l * events + event →
-      at < length before → v ≡ meet (field values i) (getD before at 0) →
-      Met meet kinds firsts values events l i before (set before at v)
-  met-here event at v k q u a fits m =
+      (event at v : ℕ) → event ≡ field firsts i → event < events → at ≡ l * events + event → at < length before →
+      v ≡ meet (field values i) (getD before at 0) → Met meet firsts values events l i before (set before at v)
+  met-here event at v q u a fits m =
       row-set _ _ events l event at v before before u a fits
       (m
       ∙ ap (λ x. meet (field values i) (getD before x 0)) a
-      ∙ sym (ap (came event) (same-kind kinds firsts 3 event i k ∙ eq-eqb (field firsts i) event (sym q))))
-      (λ e w d. sym (ap (came e) (same-kind kinds firsts 3 e i k ∙ ne-eqb (field firsts i) e (λ z. d (sym z ∙ sym q))))) same-row
+      ∙ sym (ap (came event) (eq-eqb (field firsts i) event (sym q))))
+      (λ e w d. sym (ap (came e) (ne-eqb (field firsts i) e (λ z. d (sym z ∙ sym q))))) same-row
 
--- The nodes of a set come to the row of a state, from the last to the first.
+-- The row with the nodes from n on: from the last node, one node more, all nodes.
 module _ (meet : ℕ → ℕ → ℕ) (top : ℕ) (kinds firsts values : List ℕ) (D : NodeSet) (count events l : ℕ) (before : List ℕ) where
-  -- The row with the nodes from `node` on.
-  abbrev pub RowFrom : ℕ → List ℕ → Type 0
-  RowFrom node to = RowTo (λ e. meet-from meet top kinds firsts values D e node (count - node)) events l events before to
+  abbrev all-from : ℕ → ℕ → ℕ → ℕ
+  all-from e n c = meet-from meet top kinds firsts values D e n c
 
-  pub row-open : OpenRow top events l before → RowFrom count before
+  abbrev RowFrom : ℕ → List ℕ → Type 0
+  RowFrom n to = RowTo (λ e. all-from e n (count - n)) events l events before to
+
+  row-open : ((e : ℕ) → e < events → getD before (l * events + e) 0 ≡ top) → RowFrom count before
   row-open h =
       let z : 0 ≡ count - count = omega arith in
-      record {
-        sized = refl;
-        entries = λ e u. h e u ∙ ap (meet-from meet top kinds firsts values D e count) z;
-        below = λ x u. refl;
-        above = λ x u. refl;
-      }
+      record { sized = refl; entries = λ e u. h e u ∙ ap (all-from e count) z; below = λ x u. refl; above = λ x u. refl }
 
-  pub row-skip :
-      (r node : ℕ) (to : List ℕ) → r ≤ node → node ≤ count → ((j : ℕ) → r ≤ j → j < node → D j ≡ false) →
-      RowFrom node to → RowFrom r to
-  row-skip r node to h u f old =
-      row-same _ _ events l before to (λ e v. skip-nodes meet top kinds firsts values D e count r node h u f) old
+  row-pass :
+      (n : ℕ) (to : List ℕ) → n < count → ((e : ℕ) → D n && for-event kinds firsts 3 e n ≡ false) → RowFrom (suc n) to → RowFrom n to
+  row-pass n to h f old =
+      let z : suc (count - suc n) ≡ count - n = omega arith in
+      row-same _ _ events l before to
+      (λ e u. sym (from-no meet top kinds firsts values D e n (count - suc n) (f e)) ∙ ap (all-from e n) z) old
 
-  pub row-member :
-      (node : ℕ) (to after : List ℕ) → 0 < node → node ≤ count → D (node - 1) ≡ true → RowFrom node to →
-      Met meet kinds firsts values events l (node - 1) to after → RowFrom (node - 1) after
-  row-member node to after some small d old new =
-      let z : node ≡ suc (node - 1) = omega arith in
-      let y : suc (count - node) ≡ count - (node - 1) = omega arith in
+  row-come :
+      (n : ℕ) (to after : List ℕ) → n < count → ((e : ℕ) → D n && for-event kinds firsts 3 e n ≡ eqb (field firsts n) e) →
+      Met meet firsts values events l n to after → RowFrom (suc n) to → RowFrom n after
+  row-come n to after h f new old =
+      let z : suc (count - suc n) ≡ count - n = omega arith in
       record {
         sized = new .sized ∙ old .sized;
         entries = λ e u.
             new .entries e u
-            ∙ meet-member meet top kinds firsts values D e (node - 1) (count - node) (getD to (l * events + e) 0) d
-            (old .entries e u ∙ ap (λ x. meet-from meet top kinds firsts values D e x (count - node)) z)
-            ∙ ap (meet-from meet top kinds firsts values D e (node - 1)) y;
+            ∙ ap₂ (λ t x. cond t (meet (field values n) x) x) (sym (f e)) (old .entries e u)
+            ∙ ap (all-from e n) z;
         below = λ x u. new .below x u ∙ old .below x u;
         above = λ x u. new .above x u ∙ old .above x u;
       }
+
+  pub row-of-marked :
+      (marks after : List ℕ) → Marks kinds count 3 marks → ((e : ℕ) → e < events → getD before (l * events + e) 0 ≡ top) →
+      Came (Met meet firsts values events l) (marked-in D marks) node-limit before 0 after →
+      RowTo (λ e. all-from e 0 count) events l events before after
+  row-of-marked marks after marked tops c =
+      let z : count - 0 ≡ count = omega arith in
+      row-same _ _ events l before after (λ e u. ap (all-from e 0) z)
+      (all-marked kinds firsts count 3 marks marked D (Met meet firsts values events l) before RowFrom row-pass row-come after (row-open tops) c)

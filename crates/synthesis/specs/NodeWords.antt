@@ -1,6 +1,6 @@
 -- Sets of node numbers in words of 64 bits, four words a set.
-use mathlib.Core.{Path.{_≡_}, Bool.{Bool, true, false, _&&_}, List.{List}}
-use Prim.Native.Nat.{ℕ, _+_, _-_, _*_, _/_, _%_, _^_, _≤_, _<_}
+use mathlib.Core.{Path.{_≡_}, Bool.{Bool, _&&_}, List.{List}}
+use Prim.Native.Nat.{ℕ, _+_, _*_, _/_, _%_, _^_, _≤_, _<_}
 use lib.{Dec.{ltb, eqb}, ListN.{length, getD}}
 use Rattle.limits.specs.Limits.{event-limit, node-limit}
 use Rattle.theory.specs.{ReachableStates.{NodeSet}, DemandSets.{union}, Exploration.{bits}}
@@ -52,15 +52,3 @@ pub record United (before after : List ℕ) (i : ℕ) (D : NodeSet) : Type 0 whe
   pub sized : length after ≡ length before
   pub there : row after i ≡ union (row before i) D
   pub others : (j : ℕ) → ¬ (j ≡ i) → row after j ≡ row before j
-
--- r is one above the last set bit of a word at or below bit k, or 0.
-pub record LastBit (word k r : ℕ) : Type 0 where
-  pub high : r ≤ k + 1
-  pub after : (j : ℕ) → r ≤ j → j ≤ k → bit-at word j ≡ 0
-  pub here : 0 < r → bit-at word (r - 1) ≡ 1
-
--- r is the node after the last node of D below `end`, or 0.
-pub record LastMember (D : NodeSet) (end r : ℕ) : Type 0 where
-  pub high : r ≤ end
-  pub after : (j : ℕ) → r ≤ j → j < end → D j ≡ false
-  pub here : 0 < r → D (r - 1) ≡ true

@@ -2,7 +2,7 @@
 -- O values for that event (top if none)").
 use mathlib.Core.{Path.{_≡_}, Bool.{_&&_, cond}, List.{List}}
 use Prim.Native.Nat.{ℕ, zero, suc, _+_, _*_, _/_, _%_, _≤_, _<_}
-use lib.ListN.{length, getD}
+use lib.{Dec.{eqb}, ListN.{length, getD}}
 use Rattle.theory.specs.ReachableStates.{NodeSet}
 use Rattle.synthesis.specs.{NodeWords.{row}, Exploring.{for-event}}
 use Rattle.formulas.specs.NodeWalks.{field}
@@ -30,13 +30,9 @@ pub record RowTo (f : ℕ → ℕ) (events l m : ℕ) (before after : List ℕ) 
   pub below : (x : ℕ) → x < l * events → getD after x 0 ≡ getD before x 0
   pub above : (x : ℕ) → l * events + m ≤ x → getD after x 0 ≡ getD before x 0
 
--- Every entry of state l is top.
-abbrev pub OpenRow : ℕ → ℕ → ℕ → List ℕ → Type 0
-OpenRow top events l to = (e : ℕ) → e < events → getD to (l * events + e) 0 ≡ top
-
--- Node i came to the row of state l: where it is an O, its value was met with the entry of its event.
-abbrev pub Met : (ℕ → ℕ → ℕ) → List ℕ → List ℕ → List ℕ → ℕ → ℕ → ℕ → List ℕ → List ℕ → Type 0
-Met meet kinds firsts values events l i before after =
+-- Node i came to the row of state l: its value was met with the entry of its event.
+abbrev pub Met : (ℕ → ℕ → ℕ) → List ℕ → List ℕ → ℕ → ℕ → ℕ → List ℕ → List ℕ → Type 0
+Met meet firsts values events l i before after =
     RowTo
-    (λ e. cond (for-event kinds firsts 3 e i) (meet (field values i) (getD before (l * events + e) 0)) (getD before (l * events + e) 0))
+    (λ e. cond (eqb (field firsts i) e) (meet (field values i) (getD before (l * events + e) 0)) (getD before (l * events + e) 0))
     events l events before after

@@ -1,5 +1,7 @@
 // The values of a table, by state and then event (document 01, "Table of a rule").
-use crate::node_sets::after_last_member;
+use crate::node_sets::last_set;
+use crate::node_sets::marks_of;
+use crate::node_sets::power;
 use crate::numbers::entry_at;
 use crate::numbers::wide;
 use formulas::OUTPUT;
@@ -12,9 +14,10 @@ ghost use Prim.Native.Nat.{_+_, _*_, _<_, _≤_};
 ghost use lib.ListN.{length};
 ghost use Rattle.values.specs.Setup.{meetOf};
 ghost use Rattle.limits.specs.Limits.{event-limit, node-limit};
-ghost use Rattle.synthesis.specs.NodeWords.{set-words};
+ghost use Rattle.synthesis.specs.NodeWords.{set-words, row};
+ghost use Rattle.synthesis.specs.MarkedNodes.{word-set, marked-in, Came};
 ghost use Rattle.synthesis.specs.Exploring.{Unchanged};
-ghost use Rattle.synthesis.specs.TableEntries.{state-value, EntriesTo, RowTo, OpenRow, Met};
+ghost use Rattle.synthesis.specs.TableEntries.{state-value, EntriesTo, RowTo, Met};
 
 // Every event of a state gets top.
 fn open_row(top: u32, state: usize, events: usize, to: &mut [u32])
@@ -29,11 +32,10 @@ fn open_row(top: u32, state: usize, events: usize, to: &mut [u32])
     }
 }
 
-// A node comes to the row of a state: where it is an O, its value is met with the entry of its event.
+// An O node comes to the row of a state: its value is met with the entry of its event.
 fn meet_node(
     kind: ValueKind,
     meet: &[u8],
-    kinds: &[u8; NODE_LIMIT],
     firsts: &[u8; NODE_LIMIT],
     values: &[u32; NODE_LIMIT],
     node: usize,
@@ -41,14 +43,11 @@ fn meet_node(
     events: usize,
     to: &mut [u32],
 )
-    requires { ⌜ (node < node-limit) × (state < 256) × (events ≤ event-limit) × (length (now kinds) ≡ node-limit) × (length (now firsts) ≡ node-limit)
+    requires { ⌜ (node < node-limit) × (state < 256) × (events ≤ event-limit) × (length (now firsts) ≡ node-limit)
         × (length (now values) ≡ node-limit) × (state * events + events ≤ length (now to)) ⌝ }
-    ensures { λ _. ⌜ Met (meetOf kind (now (meet .entry))) (now (kinds .entry)) (now (firsts .entry)) (now (values .entry)) events state node
+    ensures { λ _. ⌜ Met (meetOf kind (now (meet .entry))) (now (firsts .entry)) (now (values .entry)) events state node
         (now (to .entry)) (now (to .exit)) ⌝ }
 {
-    if kinds[node] != OUTPUT {
-        return;
-    }
     let event = wide(firsts[node]);
     if event < events {
         let at = entry_at(state, events, event);
@@ -57,69 +56,57 @@ fn meet_node(
     }
 }
 
-// Each node of a state's set comes to the state's row, the last node first.
-fn meet_row(
+// The nodes of one word, the first of which is base, come to the row of a state, the last node first. Each turn takes the last bit
+// off what is left.
+fn meet_word(
     kind: ValueKind,
     meet: &[u8],
-    top: u32,
-    kinds: &[u8; NODE_LIMIT],
     firsts: &[u8; NODE_LIMIT],
     values: &[u32; NODE_LIMIT],
-    count: usize,
-    states: &[u64],
+    word: u64,
+    base: usize,
     state: usize,
     events: usize,
     to: &mut [u32],
 )
-    requires { ⌜ (count ≤ node-limit) × (state < 256) × (events ≤ event-limit) × (length (now kinds) ≡ node-limit) × (length (now firsts) ≡ node-limit)
-        × (length (now values) ≡ node-limit) × (state * set-words + set-words ≤ length (now states)) × (state * events + events ≤ length (now to))
-        × OpenRow top events state (now to) ⌝ }
-    ensures { λ _. ⌜ RowTo (state-value (meetOf kind (now (meet .entry))) top (now (kinds .entry)) (now (firsts .entry)) (now (values .entry)) count
-        (now (states .entry)) state)
-        events state events (now (to .entry)) (now (to .exit)) ⌝ }
+    requires { ⌜ (base + 64 ≤ node-limit) × (state < 256) × (events ≤ event-limit) × (length (now firsts) ≡ node-limit)
+        × (length (now values) ≡ node-limit) × (state * events + events ≤ length (now to)) ⌝ }
+    ensures { λ _. ⌜ (length (now (to .exit)) ≡ length (now (to .entry)))
+        × Came (Met (meetOf kind (now (meet .entry))) (now (firsts .entry)) (now (values .entry)) events state) (word-set word base) (base + 64)
+        (now (to .entry)) base (now (to .exit)) ⌝ }
 {
-    let mut node = after_last_member(states, state * SET_WORDS, count);
-    while 0 < node {
-        let last = node - 1;
-        meet_node(kind, meet, kinds, firsts, values, last, state, events, to);
-        node = after_last_member(states, state * SET_WORDS, last);
+    let mut rest = word;
+    let mut end: usize = 64;
+    while 0 < rest {
+        end = last_set(rest);
+        rest = rest % power(end);
+        meet_node(kind, meet, firsts, values, base + end, state, events, to);
     }
 }
 
-// The values of one state.
-fn fill_row(
+// The marked nodes of a state's set come to the state's row, the last node first.
+fn meet_row(
     kind: ValueKind,
     meet: &[u8],
-    top: u32,
-    kinds: &[u8; NODE_LIMIT],
     firsts: &[u8; NODE_LIMIT],
     values: &[u32; NODE_LIMIT],
-    count: usize,
+    marks: &[u64; SET_WORDS],
     states: &[u64],
     state: usize,
     events: usize,
     to: &mut [u32],
 )
-    requires { ⌜ (count ≤ node-limit) × (state < 256) × (events ≤ event-limit) × (length (now kinds) ≡ node-limit) × (length (now firsts) ≡ node-limit)
-        × (length (now values) ≡ node-limit) × (state * set-words + set-words ≤ length (now states)) × (state * events + events ≤ length (now to)) ⌝ }
-    ensures { λ _. ⌜ RowTo (state-value (meetOf kind (now (meet .entry))) top (now (kinds .entry)) (now (firsts .entry)) (now (values .entry)) count
-        (now (states .entry)) state)
-        events state events (now (to .entry)) (now (to .exit)) ⌝ }
+    requires { ⌜ (state < 256) × (events ≤ event-limit) × (length (now firsts) ≡ node-limit) × (length (now values) ≡ node-limit)
+        × (length (now marks) ≡ set-words) × (state * set-words + set-words ≤ length (now states)) × (state * events + events ≤ length (now to)) ⌝ }
+    ensures { λ _. ⌜ Came (Met (meetOf kind (now (meet .entry))) (now (firsts .entry)) (now (values .entry)) events state)
+        (marked-in (row (now (states .entry)) state) (now (marks .entry))) node-limit (now (to .entry)) 0 (now (to .exit)) ⌝ }
 {
-    open_row(top, state, events, to);
-    meet_row(
-        kind,
-        meet,
-        top,
-        kinds,
-        firsts,
-        values,
-        count,
-        states,
-        state,
-        events,
-        to,
-    );
+    let mut w: usize = SET_WORDS;
+    while 0 < w {
+        w -= 1;
+        let word = states[state * SET_WORDS + w] & marks[w];
+        meet_word(kind, meet, firsts, values, word, w * 64, state, events, to);
+    }
 }
 
 // The values of n states.
@@ -143,16 +130,16 @@ pub fn fill_values(
         (now (states .entry)))
         events (n * events) (now (to .exit)) ⌝ }
 {
+    let marks = marks_of(kinds, count, OUTPUT);
     let mut state: usize = 0;
     while state < n {
-        fill_row(
+        open_row(top, state, events, to);
+        meet_row(
             kind,
             meet,
-            top,
-            kinds,
             firsts,
             values,
-            count,
+            &marks,
             states,
             state,
             events,

@@ -9,7 +9,7 @@ ghost use Prim.Native.Nat.{_+_, _*_, _<_, _≤_, _^_};
 ghost use lib.ListN.{length};
 ghost use Rattle.limits.specs.Limits.{event-limit, node-limit};
 ghost use Rattle.synthesis.specs.NodeWords.{set-words};
-ghost use Rattle.synthesis.specs.NodeWords.{row-words, next-words, set-at, row, bits-at, Stored, United, LastBit, LastMember};
+ghost use Rattle.synthesis.specs.NodeWords.{row-words, next-words, set-at, row, bits-at, Stored, United};
 ghost use Rattle.synthesis.specs.MarkedNodes.{LastSet, Marks};
 
 // The words of a row for each node and of an empty one; and of a next set for each event.
@@ -82,35 +82,6 @@ pub fn marks_of(kinds: &[u8; NODE_LIMIT], n: usize, kind: u8) -> [u64; SET_WORDS
         }
     }
     marks
-}
-
-// One above the last set bit of a word at or below bit k, or 0.
-fn last_bit(word: u64, k: usize) -> usize
-    requires { ⌜ k < 64 ⌝ }
-    ensures { λ r. ⌜ LastBit word k r ⌝ }
-{
-    if (word >> (k as u64)) % 2 == 1 {
-        return k + 1;
-    }
-    let low = word % power(k);
-    64 - u64::leading_zeros(low) as usize
-}
-
-// The node after the last node below `end` that is in the set from base on, or 0. A word is looked at once.
-pub fn after_last_member(states: &[u64], base: usize, end: usize) -> usize
-    requires { ⌜ (base + set-words ≤ length (now states)) × (end ≤ node-limit) ⌝ }
-    ensures { λ r. ⌜ LastMember (set-at (now (states .entry)) base) end r ⌝ }
-{
-    let mut node = end;
-    while 0 < node {
-        let last = node - 1;
-        let bit = last_bit(states[base + last / 64], last % 64);
-        node = last / 64 * 64;
-        if 0 < bit {
-            return node + bit;
-        }
-    }
-    0
 }
 
 // Whether the set from base on is the given one.

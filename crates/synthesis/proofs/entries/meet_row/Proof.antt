@@ -1,83 +1,55 @@
--- `meet_row` meets its contract. The loop's invariant: each entry is the meet over the nodes from `node` on, and the node before it is
--- in the set.
-use mathlib.Core.{Path.{_≡_, ap, _∙_}, Bool.{true}}
-use Prim.Native.Nat.{ℕ, _-_, _≤_, _<_}
+-- `meet_row` meets its contract. The loop's invariant: the marked nodes of the words from w on came.
+use mathlib.Core.Path.{_≡_, _∙_}
+use Prim.Native.Nat.{_≤_, _*_}
 use native.Mathlib.Omega.{arith}
-use lib.ListN.{length}
-use Rattle.values.specs.Setup.{meetOf}
-use Rattle.synthesis.specs.{NodeWords.{row}, TableEntries.{meet-from}}
-use Rattle.synthesis.proofs.TableEntries.{RowFrom, row-open, row-skip, row-member, row-same}
 use borrow.Author.Needs.{needs}
+use lib.ListN.{length}
+use Rattle.limits.specs.Limits.{node-limit}
+use Rattle.values.specs.Setup.{meetOf}
+use Rattle.synthesis.specs.{NodeWords.{set-words, row}, MarkedNodes.{marked-in, Came, none-yet}, TableEntries.{Met}}
+use Rattle.synthesis.proofs.MarkedNodes.{words-next, words-done}
 use Rattle.synthesis.proofs.entries.meet_row.Statement.{statement}
 use Rattle.synthesis.proofs.entries.meet_row.Tie as tie
 
 abbrev Inv-loop : tie.InvT-loop
-Inv-loop kind meet top kinds firsts values count states state events to₀ node₀ to node =
-    (node ≤ count) × (length to ≡ length to₀)
-    × RowFrom (meetOf kind meet) top kinds firsts values (row states state) count events state to₀ node to
-    × (0 < node → row states state (node - 1) ≡ true)
+Inv-loop kind meet firsts values marks states state events to₀ w₀ to w =
+    (w ≤ set-words) × (length to ≡ length to₀)
+    × Came (Met (meetOf kind meet) firsts values events state) (marked-in (row states state) marks) node-limit to₀ (w * 64) to
 
 abbrev μ-loop : tie.MeasureT-loop
-μ-loop kind meet top kinds firsts values count states state events to₀ node₀ to node = node
+μ-loop kind meet firsts values marks states state events to₀ w₀ to w = w
 
 loop-holds : tie.Need-loop-holds Inv-loop μ-loop
-loop-holds c =
-    let a = c .before .before .before .before .args in
-    let x = c .after-last-member .ensures in (
-      x .high,
-      search needs,
-      row-skip (meetOf (a .kind) (a .meet .now)) (a .top) (a .kinds .now) (a .firsts .now) (a .values .now) (row (a .states .now) (a .state)) (a .count)
-          (a .events) (a .state) (a .to .now) (c .after-last-member .result) (a .count) (a .to .now) (x .high) (search needs) (x .after)
-          (row-open (meetOf (a .kind) (a .meet .now)) (a .top) (a .kinds .now) (a .firsts .now) (a .values .now) (row (a .states .now) (a .state))
-          (a .count) (a .events) (a .state) (a .to .now) (c .before .before .before .before .pre .8)),
-      x .here,
-    )
+loop-holds c = (search needs, search needs, none-yet)
 
-meet-node-requires : tie.Need-meet-node-requires Inv-loop μ-loop
-meet-node-requires c κs =
-    let v = c .before .before .loop .inv in (
-      omega (arith, v .0, c .before .before .before .before .before .before .before .pre .0),
-      search needs,
-      search needs,
-      search needs,
-      search needs,
-      search
-          needs,
-      omega (arith, v .1, c .before .before .before .before .before .before .before .pre .7),
-    )
-
-loop-less : tie.Need-loop-less Inv-loop μ-loop
-loop-less c = omega (arith, c .after-last-member2 .ensures .high, c .before .before .before .before .before .loop-test .taken)
+meet-word-requires : tie.Need-meet-word-requires Inv-loop μ-loop
+meet-word-requires c κs = (
+  omega arith,
+  search needs,
+  search needs,
+  search needs,
+  search needs,
+  omega (arith, c .before .before .before .before .loop .inv .1, c .before .before .before .before .before .before .before .before .pre .6),
+)
 
 loop-again : tie.Need-loop-again Inv-loop μ-loop
 loop-again c =
     let a = c .before .before .before .before .before .before .before .before .before .before .before .args in
-    let l = c .before .before .before .before .before .before .loop in
-    let v = l .inv in
-    let x = c .after-last-member2 .ensures in
-    let some = c .before .before .before .before .before .loop-test .taken in (
-      omega (arith, x .high, v .0),
-      c .before .before .before .meet-node .ensures .sized ∙ v .1,
-      row-skip (meetOf (a .kind) (a .meet .now)) (a .top) (a .kinds .now) (a .firsts .now) (a .values .now) (row (a .states .now) (a .state)) (a .count)
-          (a .events) (a .state) (a .to .now) (c .after-last-member2 .result) (l .node - 1) _ (x .high) (omega (arith, v .0)) (x .after)
-          (row-member (meetOf (a .kind) (a .meet .now)) (a .top) (a .kinds .now) (a .firsts .now) (a .values .now) (row (a .states .now) (a .state))
-          (a .count) (a .events) (a .state) (a .to .now) (l .node) (l .to) _ some (v .0) (v .3 some) (v .2) (c .before .before .before .meet-node .ensures)),
-      x .here,
+    let l = c .before .before .before .before .before .before .before .loop in
+    let x = c .before .before .meet-word .ensures in (
+      omega (arith, l .inv .0),
+      x .0 ∙ l .inv .1,
+      words-next _ (a .states .now) (a .state * set-words) (a .marks .now) _ (l .w) (l .to) _
+          (c .before .before .before .before .before .before .loop-test .taken) (l .inv .0) (l .inv .2) (x .1),
     )
 
 returns : tie.Need-returns Inv-loop μ-loop
 returns c =
-    let a = c .before .before .before .before .before .before .args in
+    let a = c .before .before .before .before .before .args in
     let l = c .before .loop in
-    let n : l .node ≡ 0 = omega arith in
-    let z : a .count - 0 ≡ a .count = omega arith in
-    row-same _ _ _ _ _ _
-    (λ e u.
-    ap (λ (x : ℕ). meet-from (meetOf (a .kind) (a .meet .now)) (a .top) (a .kinds .now) (a .firsts .now) (a .values .now) (row (a .states .now) (a .state))
-    e x (a .count - x)) n
-    ∙ ap (meet-from (meetOf (a .kind) (a .meet .now)) (a .top) (a .kinds .now) (a .firsts .now) (a .values .now) (row (a .states .now) (a .state)) e 0) z)
-    (l .inv .2)
+    words-done _ (a .states .now) (a .state * set-words) (a .marks .now) _ (l .w) (l .to) (omega arith) (l .inv .2)
 
 pub meet-row-spec : {M : Type 1} → statement M
-meet-row-spec = tie.close (tie.spec Inv-loop μ-loop (λ c. search needs) (λ c κs. search needs) loop-holds (λ c. search needs) meet-node-requires
-    (λ c. search needs) (λ c κs. search needs) loop-less loop-again (λ c. search needs) returns)
+meet-row-spec = tie.close (tie.spec Inv-loop μ-loop loop-holds (λ c. search needs) (λ c. search needs) (λ c. search needs) (λ c. search needs)
+    (λ c. search needs) (λ c. search needs) (λ c. search needs) (λ c. search needs) meet-word-requires (λ c. search needs) loop-again
+    (λ c. search needs) returns)

@@ -28,23 +28,21 @@ advance-word-requires c κs =
 loop-again : tie.Need-loop-again Inv-loop μ-loop
 loop-again c =
     let a = c .before .before .before .before .before .before .before .before .before .args in
-    let step = PassedStates (a .firsts .now) (a .rows .now) (a .events) in
     let l = c .before .before .before .before .before .loop in (
       omega (arith, l .inv .0),
       c .advance-word .ensures .0,
-      words-next step (a .states .now) (a .base) (a .marks .now) _ (l .w) (l .sets) _
+      words-next _ (a .states .now) (a .base) (a .marks .now) _ (l .w) (l .sets) _
           (c .before .before .before .before .loop-test .taken) (l .inv .0) (l .inv .2) (c .advance-word .ensures .1),
     )
 
 returns : tie.Need-returns Inv-loop μ-loop
 returns c =
     let a = c .before .before .before .before .before .args in
-    let step = PassedStates (a .firsts .now) (a .rows .now) (a .events) in
     let l = c .before .loop in
     let none : l .w ≡ 0 = omega arith in (
       l .inv .1,
       next-sets (a .marks .now) (a .firsts .now) (a .rows .now) (set-at (a .states .now) (a .base)) (a .events) _ (l .sets)
-          (c .before .before .clear .ensures .1) (words-done step (a .states .now) (a .base) (a .marks .now) _ (l .w) (l .sets) none (l .inv .2)),
+          (c .before .before .clear .ensures .1) (words-done _ (a .states .now) (a .base) (a .marks .now) _ (l .w) (l .sets) none (l .inv .2)),
     )
 
 pub advance-spec : {M : Type 1} → statement M

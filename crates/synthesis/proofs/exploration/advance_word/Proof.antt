@@ -36,32 +36,19 @@ advance-node-requires c κs =
 
 loop-less : tie.Need-loop-less Inv-loop μ-loop
 loop-less c =
-    let a = c .before .before .before .before .before .before .args in
-    let step = PassedStates (a .firsts .now) (a .rows .now) (a .events) in
     let l = c .before .before .before .before .before .loop in
     let last = c .before .before .before .last-set in
-    walk-less step (a .word) (a .base) (a .sets .now) (l .rest) (l .end) (l .sets) (l .inv .1)
-    (last .result) (last .ensures)
+    walk-less _ _ _ _ _ _ _ (l .inv .1) (last .result) (last .ensures)
 
 loop-again : tie.Need-loop-again Inv-loop μ-loop
 loop-again c =
-    let a = c .before .before .before .before .before .before .args in
-    let step = PassedStates (a .firsts .now) (a .rows .now) (a .events) in
     let l = c .before .before .before .before .before .loop in
-    let last = c .before .before .before .last-set in (
-      c .advance-node .ensures .0,
-      walk-next step (a .word) (a .base) (a .sets .now) (l .rest) (l .end) (l .sets) (l .inv .1)
-          (last .result) (last .ensures) _ _ (c .before .before .power .ensures) (c .advance-node .ensures .1),
-    )
+    let last = c .before .before .before .last-set in
+    let x = c .advance-node .ensures in
+    (x .0, walk-next _ _ _ _ _ _ _ (l .inv .1) (last .result) (last .ensures) _ _ (c .before .before .power .ensures) (x .1))
 
 returns : tie.Need-returns Inv-loop μ-loop
-returns c =
-    let a = c .before .before .args in
-    let step = PassedStates (a .firsts .now) (a .rows .now) (a .events) in
-    let l = c .before .loop in (
-      l .inv .0,
-      walk-done step (a .word) (a .base) (a .sets .now) (l .rest) (l .end) (l .sets) (l .inv .1) (omega arith),
-    )
+returns c = let l = c .before .loop in (l .inv .0, walk-done _ _ _ _ _ _ _ (l .inv .1) (omega arith))
 
 pub advance-word-spec : {M : Type 1} → statement M
 advance-word-spec = tie.close (tie.spec Inv-loop μ-loop loop-holds (λ c κs. search needs) power-requires rem-rest add-advance-node advance-node-requires

@@ -4,13 +4,13 @@ use Prim.Native.Nat.{_≤_, _-_, _+_}
 use native.Mathlib.Omega.{arith}
 use borrow.Author.Needs.{needs}
 use lib.ListN.{length, replicate, length-set, getD-replicate}
-use Rattle.synthesis.specs.NodeWords.{set-words}
-use Rattle.synthesis.proofs.MarkedNodes.{MarksTo, marks-none, marks-with, marks-without}
+use Rattle.synthesis.specs.{NodeWords.{set-words}, MarkedNodes.{Marks}}
+use Rattle.synthesis.proofs.MarkedNodes.{marks-none, marks-with, marks-without}
 use Rattle.synthesis.proofs.node_sets.marks_of.Statement.{statement}
 use Rattle.synthesis.proofs.node_sets.marks_of.Tie as tie
 
 abbrev Inv-loop : tie.InvT-loop
-Inv-loop kinds n kind marks₀ i₀ marks i = (i ≤ n) × (length marks ≡ set-words) × MarksTo kinds kind marks i
+Inv-loop kinds n kind marks₀ i₀ marks i = (i ≤ n) × (length marks ≡ set-words) × Marks kinds i kind marks
 
 abbrev μ-loop : tie.MeasureT-loop
 μ-loop kinds n kind marks₀ i₀ marks i = n - i
@@ -29,10 +29,10 @@ loop-again c =
           (λ w. subst (λ m. length m ≡ set-words) (sym (w .1)) (l .inv .1))
           (c .if1 .came),
       ⊎-elim
-          (λ w. subst (λ m. MarksTo (a .kinds .now) (a .kind) m (l .i + 1)) (sym (w .2))
-          (marks-with (a .kinds .now) (a .kind) (l .marks) (l .i) (l .inv .2) _ (l .inv .1) (omega arith) (w .1 .ensures) (w .0 .taken)))
-          (λ w. subst (λ m. MarksTo (a .kinds .now) (a .kind) m (l .i + 1)) (sym (w .1))
-          (marks-without (a .kinds .now) (a .kind) (l .marks) (l .i) (l .inv .2) (w .0 .left)))
+          (λ w. subst (λ m. Marks (a .kinds .now) (l .i + 1) (a .kind) m) (sym (w .2))
+          (marks-with (a .kinds .now) (a .kind) (l .marks) (l .i) (omega arith) (l .inv .2) _ (l .inv .1) (w .1 .ensures) (w .0 .taken)))
+          (λ w. subst (λ m. Marks (a .kinds .now) (l .i + 1) (a .kind) m) (sym (w .1))
+          (marks-without (a .kinds .now) (a .kind) (l .marks) (l .i) (omega arith) (l .inv .2) (w .0 .left)))
           (c .if1 .came),
     )
 
@@ -41,7 +41,7 @@ returns c =
     let a = c .before .before .args in
     let l = c .before .loop in
     let done : l .i ≡ a .n = omega arith in
-    (l .inv .1, record { few = c .before .before .pre .0; there = subst (MarksTo (a .kinds .now) (a .kind) (l .marks)) done (l .inv .2) })
+    (l .inv .1, subst (λ x. Marks (a .kinds .now) x (a .kind) (l .marks)) done (l .inv .2))
 
 pub marks-of-spec : {M : Type 1} → statement M
 marks-of-spec =
