@@ -6,3 +6,5 @@ pub mod ValueBytes
 pub mod Setups
 -- How values compare.
 pub mod Comparisons
+-- The laws of a meet table by sets of values.
+pub mod DownSets

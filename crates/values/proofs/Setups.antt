@@ -11,7 +11,7 @@ use Rattle.refusal.specs.declared.Judgement.the-variants.{Accepted, Refused}
 use Rattle.refusal.specs.Refusal.{Condition, plain, First, has-place, order, part-of, condition-numbers, right-places, Judged}
 use Rattle.refusal.specs.RefusalAnswers.{plain-unless, or-else, judgement}
 use Rattle.refusal.proofs.Refusals.{plain-first, first-append, judged, or-else-none, plain-none}
-use Rattle.theory.specs.ValueSets.{MeetSemilattice, meetAt, four-value-meet}
+use Rattle.theory.specs.ValueSets.{MeetSemilattice, Below, meetAt, four-value-meet}
 use Rattle.theory.specs.ValueSetTests.{closed-test, idempotent-test, commutative-test, associative-test, neutral-test, lawful}
 use Rattle.theory.proofs.ValueSets.{and-left, and-right, and-both, and-cases, every-at, every-of, every-some, laws-of-test, test-of-laws}
 use Rattle.theory.proofs.ValueSets.{four-value-semilattice}
@@ -132,6 +132,14 @@ unfolding meetAt
 entry-below values meet i positive h below =
     subst (λ p. getD meet p 0 < values) (div-add-mod' i values)
     (below (i / values) (i % values) (div-lt-iff-lt-mul positive .1 h) (mod-lt i positive))
+
+-- The entries of a whole table that has the laws are values.
+pub entries-of-laws :
+    (values top : ℕ) (meet : List ℕ) → length meet ≡ values * values → MeetSemilattice (Below values) (meetAt values meet) top →
+    entries-test values meet ≡ true
+unfolding entries-test
+entries-of-laws values top meet whole laws =
+    every-of (length meet) _ (λ i h. lt-ltb _ _ (entry-below values meet i (omega (arith, laws .top-in)) (rw whole at h) (laws .meet-in)))
 
 -- Each test decides its condition.
 events-few : (events : ℕ) → events-test events ≡ true → (1 ≤ events) × (events ≤ event-limit)
@@ -274,14 +282,11 @@ accepted-well-formed s e =
 kind-accepted :
     (kind : ValueKind) (top : ℕ) (meet : List ℕ) → KindInLimits kind meet → MeetSemilattice (ValueIn kind) (meetOf kind meet) (topOf kind top) →
     kind-refusal kind top meet ≡ none
-unfolding kind-refusal meetOf or-else plain-unless values-test meet-test entries-test lines-test
+unfolding kind-refusal meetOf or-else plain-unless values-test meet-test lines-test
 kind-accepted (Numbered values) top meet k laws =
     let v : values-test values top ≡ true = and-both (le-leb _ _ (k .some-values)) (and-both (le-leb _ _ (k .few-values)) (lt-ltb _ _ (laws .top-in))) in
     let m : meet-test values top meet ≡ true =
-    and-both (eq-eqb _ _ (k .whole))
-    (and-both
-    (every-of (length meet) _ (λ i h. lt-ltb _ _ (entry-below values meet i (k .some-values) (rw (k .whole) at h) (laws .meet-in))))
-    (test-of-laws values meet top laws)) in
+    and-both (eq-eqb _ _ (k .whole)) (and-both (entries-of-laws values top meet (k .whole) laws) (test-of-laws values meet top laws)) in
     rw (v, m)
 kind-accepted (Register lines) top meet k laws = let l = lines-tested lines (k .some-lines, k .few-lines) in rw l
 

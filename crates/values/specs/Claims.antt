@@ -4,13 +4,14 @@ use Prim.Native.Nat.{ℕ, _+_, _≤_}
 use lib.ListN.{length, take, drop}
 use Rattle.limits.specs.Limits.{event-limit}
 use Rattle.refusal.specs.Refusal.{Judged}
-use Rattle.theory.specs.ValueSets.{AtOrBelow, four-value-meet}
+use Rattle.theory.specs.{ValueSets.{AtOrBelow, four-value-meet}, ValueSetTests.{lawful}}
 use Rattle.values.specs.declared.{ValueKind.{ValueKind}, Comparison.{Comparison}}
 use Rattle.values.specs.declared.Comparison.the-variants.{NotBelow}
 use Rattle.values.specs.Setup.{ValueIn, meetOf, ComparesAs, value-width, value-bytes, value-from, Setup, setup, setup-conditions}
 use Rattle.values.specs.Setup.{SetupValue, setup-meet}
 use Rattle.values.specs.SetupInOrder.{SetupLaws}
 use Rattle.values.specs.{ValueTests.{value-fits, at-or-below, comparison}, SetupInOrder.{AcceptedSetup}, SetupTests.{setup-refusal}}
+use Rattle.values.specs.DownSets.{lawful-by-sets}
 
 -- The tests decide which numbers are values, and the order.
 pub record ValueKindClaim : Type 0 where
@@ -51,3 +52,7 @@ LawsClaim = (s : Setup) → setup-refusal s ≡ none → SetupLaws s
 -- The four-value set is accepted with any number of events within the limits.
 abbrev pub FourValueSetupClaim : Type 0
 FourValueSetupClaim = (events : ℕ) → 1 ≤ events → events ≤ event-limit → setup-refusal (setup events 4 3 four-value-meet) ≡ none
+
+-- The test of the laws by sets of values is the test by triples, at every size.
+abbrev pub LawfulBySetsClaim : Type 0
+LawfulBySetsClaim = (n : ℕ) (table : List ℕ) (top : ℕ) → lawful-by-sets n table top ≡ lawful n table top

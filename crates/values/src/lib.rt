@@ -10,6 +10,7 @@ ghost use lib.ListN.{length, getD};
 ghost use Rattle.refusal.specs.RefusalAnswers.{judgement};
 ghost use Rattle.theory.specs.ValueSets.{meetAt, four-value-meet};
 ghost use Rattle.theory.specs.ValueSetTests.{idempotent-test, commutative-test, associative-test, neutral-test};
+ghost use Rattle.values.specs.DownSets.{down-set, pair-test, pairs-test, DownSets};
 ghost use Rattle.values.specs.Setup.{setup};
 ghost use Rattle.values.specs.SetupTests.{events-test, values-test, entries-test, meet-test, setup-refusal, Square};
 ghost use Rattle.values.specs.Setup.{value-width};
@@ -272,6 +273,81 @@ fn lawful_meet(values: usize, top: usize, meet: &[u8]) -> bool
     neutral(meet, values, top)
 }
 
+// The values at or below a: those b whose meet with a is b. A bit for each value, that of 0 the highest.
+fn down_set(meet: &[u8], values: usize, a: usize) -> u32
+    requires { ⌜ Square values (now meet) × (a < values) ⌝ }
+    ensures { λ r. ⌜ r ≡ down-set values (now (meet .entry)) a ⌝ }
+{
+    let mut set: u32 = 0;
+    for b in 0..values {
+        set += set;
+        if meet_at(meet, values, a, b) == b {
+            set += 1;
+        }
+    }
+    set
+}
+
+// The values at or below each value.
+fn down_sets(meet: &[u8], values: usize) -> [u32; VALUE_LIMIT]
+    requires { ⌜ Square values (now meet) ⌝ }
+    ensures { λ r. ⌜ DownSets values (now (meet .entry)) r ⌝ }
+{
+    let mut sets = [0u32; VALUE_LIMIT];
+    for a in 0..values {
+        sets[a] = down_set(meet, values, a);
+    }
+    sets
+}
+
+// Whether the order of two values does not matter, their meet is a value, and what is at or below it is what is at or below both.
+fn lawful_pair(meet: &[u8], values: usize, sets: &[u32; VALUE_LIMIT], a: usize, b: usize) -> bool
+    requires { ⌜ Square values (now meet) × DownSets values (now meet) (now sets) × (a < values) × (b < values) ⌝ }
+    ensures { λ r. ⌜ r ≡ pair-test values (now (meet .entry)) a b ⌝ }
+{
+    let m = meet_at(meet, values, a, b);
+    if m != meet_at(meet, values, b, a) {
+        return false;
+    }
+    if values <= m {
+        return false;
+    }
+    sets[m] == sets[a] & sets[b]
+}
+
+// Whether every two values pass that test; each pair is tested once.
+fn lawful_pairs(meet: &[u8], values: usize) -> bool
+    requires { ⌜ Square values (now meet) ⌝ }
+    ensures { λ r. ⌜ r ≡ pairs-test values (now (meet .entry)) ⌝ }
+{
+    let sets = down_sets(meet, values);
+    for a in 0..values {
+        for b in 0..a {
+            if !lawful_pair(meet, values, &sets, a, b) {
+                return false;
+            }
+        }
+    }
+    true
+}
+
+// The answer of `lawful_meet`, without a test of triples: where all pairs pass, the grouping of three values does not matter.
+fn lawful_by_sets(values: usize, top: usize, meet: &[u8]) -> bool
+    requires { ⌜ values-test values top ≡ true ⌝ }
+    ensures { λ r. ⌜ r ≡ meet-test values top (now (meet .entry)) ⌝ }
+{
+    if meet.len() != values * values {
+        return false;
+    }
+    if !idempotent(meet, values) {
+        return false;
+    }
+    if !lawful_pairs(meet, values) {
+        return false;
+    }
+    neutral(meet, values, top)
+}
+
 // Whether events are 1 to 16.
 pub fn events_in_limits(events: usize) -> bool
     ensures { λ r. ⌜ r ≡ events-test events ⌝ }
@@ -309,4 +385,19 @@ pub fn check_setup(events: usize, values: usize, top: usize, meet: &[u8]) -> Jud
         return Judgement::Refused(Refusal::Plain(refusal::SETUP_MEET));
     }
     Judgement::Accepted
+}
+
+// The same check, with the laws tested by sets of values.
+pub fn check_setup_by_sets(events: usize, values: usize, top: usize, meet: &[u8]) -> Judgement
+    ensures { λ r. ⌜ r ≡ judgement (setup-refusal (setup events values top (now (meet .entry)))) ⌝ }
+{
+    if !events_in_limits(events) {
+        Judgement::Refused(Refusal::Plain(refusal::SETUP_EVENTS))
+    } else if !values_in_limits(values, top) {
+        Judgement::Refused(Refusal::Plain(refusal::SETUP_VALUES))
+    } else if !lawful_by_sets(values, top, meet) {
+        Judgement::Refused(Refusal::Plain(refusal::SETUP_MEET))
+    } else {
+        Judgement::Accepted
+    }
 }
