@@ -12,7 +12,7 @@ use refusal::Refusal;
 use synthesis::compile;
 use text_output::put_word;
 use values::ValueKind;
-use values::check_setup;
+use values::check_setup_by_sets;
 ghost use mathlib.Core.Path.{_≡_};
 ghost use mathlib.Core.Bool.{cond};
 ghost use Prim.Native.Nat.{_*_};
@@ -61,7 +61,7 @@ const NODE_BYTES: usize = NODE_LIMIT * 3;
 fn check_pair(events: usize, values: usize, top: usize, meet: &[u8], rule: &[u8]) -> Judgement
     ensures { λ r. ⌜ r ≡ judgement (pair-refusal (setup events values top (now (meet .entry))) (now (rule .entry))) ⌝ }
 {
-    let judged = check_setup(events, values, top, meet);
+    let judged = check_setup_by_sets(events, values, top, meet);
     if let Judgement::Refused(refusal) = judged {
         return Judgement::Refused(refusal);
     }

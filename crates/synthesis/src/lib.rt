@@ -24,7 +24,7 @@ use refusal::SETUP_EVENTS;
 use refusal::STATE_COUNT;
 use tables::table_of;
 use values::ValueKind;
-use values::check_setup;
+use values::check_setup_by_sets;
 ghost use mathlib.Core.Path.{_≡_};
 ghost use mathlib.Core.Option.{none};
 ghost use lib.ListN.{replicate};
@@ -139,7 +139,7 @@ fn make_table(
 pub fn compile_rule(events: usize, values: usize, top: usize, meet: &[u8], rule: &[u8]) -> Compiled
     ensures { λ r. ⌜ r ≡ compiled-setup (setup events values top (now (meet .entry))) (now (rule .entry)) ⌝ }
 {
-    let judged = check_setup(events, values, top, meet);
+    let judged = check_setup_by_sets(events, values, top, meet);
     if let Judgement::Refused(refusal) = judged {
         return refused(refusal);
     }
@@ -208,7 +208,7 @@ pub fn compile(
     ensures contents { λ _. ⌜ now (to .exit) ≡ compile-contents state-limit (setup events values top (now (meet .entry))) (now (rule .entry))
         (now (to .entry)) ⌝ }
 {
-    let judged = check_setup(events, values, top, meet);
+    let judged = check_setup_by_sets(events, values, top, meet);
     if let Judgement::Refused(refusal) = judged {
         return Counted::Refused(refusal);
     }

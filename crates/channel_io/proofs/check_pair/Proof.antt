@@ -11,13 +11,13 @@ use Rattle.channel_io.proofs.check_pair.Tie as tie
 returns : tie.Need-returns
 returns c =
     let a = c .before .before .before .before .before .before .args in
-    pair-setup (setup (a .events) (a .values) (a .top) (a .meet .now)) (a .rule .now) _ (sym (c .before .before .before .check-setup .ensures)
+    pair-setup (setup (a .events) (a .values) (a .top) (a .meet .now)) (a .rule .now) _ (sym (c .before .before .before .check-setup-by-sets .ensures)
     ∙ c .before .judged .given .1)
 
 cast-t8 : tie.Need-cast-t8
 cast-t8 c =
     let a = c .before .before .before .before .before .args in
-    let e = judgement-accepted (setup-refusal (setup (a .events) (a .values) (a .top) (a .meet .now))) (sym (c .before .before .check-setup .ensures)
+    let e = judgement-accepted (setup-refusal (setup (a .events) (a .values) (a .top) (a .meet .now))) (sym (c .before .before .check-setup-by-sets .ensures)
     ∙ c .enum-told .given .1) in
     let l = limits (a .events) (a .values) (a .top) (a .meet .now) e in
     omega (arith, l .1)
@@ -26,7 +26,7 @@ returns-2 : tie.Need-returns-2
 returns-2 c =
     let a = c .before .before .before .before .before .before .args in
     c .check-rule .ensures
-    ∙ pair-rule (setup (a .events) (a .values) (a .top) (a .meet .now)) (a .rule .now) (sym (c .before .before .before .check-setup .ensures)
+    ∙ pair-rule (setup (a .events) (a .values) (a .top) (a .meet .now)) (a .rule .now) (sym (c .before .before .before .check-setup-by-sets .ensures)
     ∙ c .before .enum-told .given .1)
 
 pub check-pair-spec : {M : Type 1} → statement M

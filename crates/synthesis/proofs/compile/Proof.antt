@@ -12,23 +12,23 @@ returns : tie.Need-returns
 returns c =
     let a = c .before .before .before .before .before .before .before .args in
     case-setup state-limit (setup (a .events) (a .values) (a .top) (a .meet .now)) (a .rule .now) (a .to .now) _
-    (sym (c .before .before .before .check-setup .ensures) ∙ c .before .judged .given .1)
+    (sym (c .before .before .before .check-setup-by-sets .ensures) ∙ c .before .judged .given .1)
 
 cast-t9 : tie.Need-cast-t9
 cast-t9 c =
     let a = c .before .before .before .before .before .before .args in
-    omega (arith, in-limits (a .events) (a .values) (a .top) (a .meet .now) (sym (c .before .before .check-setup .ensures) ∙ c .enum-told .given .1) .0)
+    omega (arith, in-limits (a .events) (a .values) (a .top) (a .meet .now) (sym (c .before .before .check-setup-by-sets .ensures) ∙ c .enum-told .given .1) .0)
 
 cast-compile-accepted : tie.Need-cast-compile-accepted
 cast-compile-accepted c =
     let a = c .before .before .before .before .before .before .args in
-    let w = in-limits (a .events) (a .values) (a .top) (a .meet .now) (sym (c .before .before .check-setup .ensures) ∙ c .enum-told .given .1) in
+    let w = in-limits (a .events) (a .values) (a .top) (a .meet .now) (sym (c .before .before .check-setup-by-sets .ensures) ∙ c .enum-told .given .1) in
     omega (arith, w .0, w .1)
 
 compile-accepted-requires : tie.Need-compile-accepted-requires
 compile-accepted-requires c κs =
     let a = c .before .before .before .before .before .before .before .args in
-    (setup-fine (a .events) (a .values) (a .top) (a .meet .now) (sym (c .before .before .before .check-setup .ensures) ∙ c .before .enum-told .given .1), refl)
+    (setup-fine (a .events) (a .values) (a .top) (a .meet .now) (sym (c .before .before .before .check-setup-by-sets .ensures) ∙ c .before .enum-told .given .1), refl)
 
 returns-2 : tie.Need-returns-2
 returns-2 c = c .before .before .compile-accepted .ensures
