@@ -18,7 +18,7 @@ use Rattle.values.specs.ValueTests.{value-fits}
 use Rattle.values.specs.Setup.{Setup, setup}
 use Rattle.values.specs.SetupInOrder.{AcceptedSetup}
 use Rattle.values.specs.SetupTests.{events-test, values-test, meet-test, kind-refusal, setup-refusal}
-use Rattle.values.proofs.{Setups.{setup-accepted}, ValueKinds.{value-kinds}}
+use Rattle.values.proofs.{Setups.{setup-accepted}, DownSets.{same-test}, ValueKinds.{value-kinds}}
 use Rattle.channel_log.specs.CallSteps.{channel-refusal, empty-refusal}
 use Rattle.channel_log.specs.Calls.{Loaded}
 use Rattle.machines.specs.TableBytes.{entry-width, entry-bytes}
@@ -105,12 +105,6 @@ module _ (c n k q : ℕ) (L N : List ℕ) where
       go : (j : Bool) → empty-refusal {X = Loaded ℕ} (cond j (some (loaded-at (rows-start c) n k q L N)) none) ≡ cond j none (some (Plain 15))
       go true = refl
       go false = refl
-
--- Two tests that pass together are one.
-pub same-test : (a b : Bool) → (a ≡ true → b ≡ true) → (b ≡ true → a ≡ true) → a ≡ b
-same-test true b f g = sym (f refl)
-same-test false true f g = g refl
-same-test false false f g = refl
 
 -- The test of entries over their numbers, as the arrays have them.
 module _ (at n : ℕ) (kind : ValueKind) (k : ℕ) (L N : List ℕ) where

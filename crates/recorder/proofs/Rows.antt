@@ -16,11 +16,6 @@ length-part l at n h = simp (length-take, length-drop) (omega arith)
 pub getD-part : (l : List ℕ) (at n i : ℕ) → i < n → getD (part l at n) i 0 ≡ getD l (at + i) 0
 getD-part l at n i h = getD-take n (drop at l) i 0 h ∙ getD-drop at l i 0
 
-pub getD-zeros : (m i : ℕ) → _≡_ {A = ℕ} (getD (replicate m 0) i 0) 0
-getD-zeros zero i = refl
-getD-zeros (suc m) zero = refl
-getD-zeros (suc m) (suc i) = getD-zeros m i
-
 drop-zeros : (m i : ℕ) → _≡_ {A = List ℕ} (drop i (replicate m 0)) (replicate (m - i) 0)
 drop-zeros m zero = let e : m ≡ m - zero = omega arith in ap (λ k. replicate k 0) e
 drop-zeros zero (suc i) = let e : zero ≡ zero - suc i = omega arith in ap (λ k. replicate k 0) e

@@ -9,7 +9,7 @@ use Rattle.limits.specs.Limits.{node-limit}
 use Rattle.theory.specs.Exploration.{reached, has-state, add, add-events, explore, index, bits, same-bits}
 use Rattle.theory.proofs.{BitSets.{same-bits-iff}, Exploration.{add-grows}}
 use Rattle.synthesis.specs.NodeWords.{set-at, bits-at, Stored}
-use Rattle.synthesis.specs.Exploring.{stepped, next-bits, Found, Different, state-of, events-to, Entry, Kept, Expanded, sequences}
+use Rattle.synthesis.specs.Exploring.{stepped, next-bits, Found, state-of, events-to, Entry, Kept, Expanded, sequences}
 use Rattle.synthesis.proofs.NodeWords.{member-bits-at, stored-there, stored-else, bits-of}
 
 same-true : (L K : List Bool) → L ≡ K → same-bits L K ≡ true
@@ -325,21 +325,6 @@ module _ (next : List Bool → ℕ → List Bool) (start : List Bool) where
     more-rows k (suc d) =
         let z : k + suc d ≡ suc (k + d) = omega arith in
         omega (arith, ap (λ x. length (from-start x)) z, more-rows k d, step-grows (k + d))
-
--- A set that is none of the states is stored behind them.
-pub different-more :
-    (k : ℕ) (states from after : List ℕ) → Different k states → Found states k from k → Stored states after (k * 4) from → Different (k + 1) after
-different-more k states from after old found stored j i h u e = go (ℕ-discrete i k)
-  where
-    same-as : (l : ℕ) → ¬ (l ≡ k) → bits-at after (l * 4) ≡ bits-at states (l * 4)
-    same-as l d = bits-of after states (l * 4) (l * 4) (stored-else states after from k l stored d)
-
-    go : Dec (i ≡ k) → ⊥
-    go (yes q) =
-        found .before j (omega arith)
-        (sym (same-as j (λ d. omega (arith, d))) ∙ e ∙ ap (λ x. bits-at after (x * 4)) q
-        ∙ bits-of after from (k * 4) 0 (stored-there states after from (k * 4) stored))
-    go (no d) = old j i h (omega arith) (sym (same-as j (λ q. omega (arith, q))) ∙ e ∙ same-as i d)
 
 pub below : {j k : ℕ} → j ≤ k → ¬ (j ≡ k) → j < k
 below {j} {k} h d = go (decLt j k)

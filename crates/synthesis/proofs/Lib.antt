@@ -10,6 +10,7 @@ pub mod KeptSets
 pub mod Stepping
 pub mod NextSets
 pub mod KeptDemands
+pub mod StatePlaces
 pub mod Exploring
 pub mod TableEntries
 pub mod FormulaTable

@@ -157,16 +157,16 @@ pub bits-of : (l m : List ℕ) (b c : ℕ) → set-at l b ≡ set-at m c → bit
 unfolding bits-at
 bits-of l m b c e = ap (bits node-limit 0) e
 
-pub bits-words :
-    (l m : List ℕ) (b c : ℕ) → bits-at l b ≡ bits-at m c → (w : ℕ) → w < 4 → getD l (b + w) 0 < 2 ^ 64 →
-    getD m (c + w) 0 < 2 ^ 64 → getD l (b + w) 0 ≡ getD m (c + w) 0
-bits-words l m b c e w h u v =
-    same-number 64 (getD l (b + w) 0) (getD m (c + w) 0) u v
-    (λ k q. sym (at l b k q)
-    ∙ ap (λ D. D (w * 64 + k)) (sym (member-bits-at l b) ∙ ap member e ∙ member-bits-at m c)
-    ∙ at m c k q)
-  where
-    at : (l : List ℕ) (b k : ℕ) → k < 64 → set-at l b (w * 64 + k) ≡ eqb (bit-at (getD l (b + w) 0) k) 1
-    at l b k q =
-        in-words l b (w * 64 + k) (omega arith)
-        ∙ ap₂ (λ x y. eqb (bit-at (getD l (b + x) 0) y) 1) (digits-div w q) (digits-mod w q)
+-- Equal sets have equal bits in their words, and so equal words.
+module _ (l m : List ℕ) (b c : ℕ) (e : bits-at l b ≡ bits-at m c) (w : ℕ) (h : w < 4) where
+  pub word-bits : (k : ℕ) → k < 64 → eqb (bit-at (getD l (b + w) 0) k) 1 ≡ eqb (bit-at (getD m (c + w) 0) k) 1
+  word-bits k q =
+      sym (at l b) ∙ ap (λ D. D (w * 64 + k)) (sym (member-bits-at l b) ∙ ap member e ∙ member-bits-at m c) ∙ at m c
+    where
+      at : (l : List ℕ) (b : ℕ) → set-at l b (w * 64 + k) ≡ eqb (bit-at (getD l (b + w) 0) k) 1
+      at l b =
+          in-words l b (w * 64 + k) (omega arith)
+          ∙ ap₂ (λ x y. eqb (bit-at (getD l (b + x) 0) y) 1) (digits-div w q) (digits-mod w q)
+
+  pub bits-words : getD l (b + w) 0 < 2 ^ 64 → getD m (c + w) 0 < 2 ^ 64 → getD l (b + w) 0 ≡ getD m (c + w) 0
+  bits-words u v = same-number 64 (getD l (b + w) 0) (getD m (c + w) 0) u v word-bits

@@ -9,6 +9,7 @@ pub mod Claims
 -- What the private walks keep and answer: sets in words, binders, rows of demands, states, entries.
 pub mod NodeWords
 pub mod MarkedNodes
+pub mod StatePlaces
 pub mod NodeWalks
 pub mod Binding
 pub mod DemandRows

@@ -16,10 +16,6 @@ row-words = (node-limit + 1) * set-words
 abbrev pub next-words : ℕ
 next-words = event-limit * set-words
 
--- How many hints are kept of where a set may be found.
-abbrev pub hint-count : ℕ
-hint-count = 131
-
 -- Bit k of a number.
 unfoldable pub bit-at : ℕ → ℕ → ℕ
 bit-at a k = a / 2 ^ k % 2

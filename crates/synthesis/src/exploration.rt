@@ -11,17 +11,19 @@ use crate::node_sets::unite_row;
 use crate::numbers::entry_at;
 use crate::numbers::narrow;
 use crate::numbers::wide;
+use crate::numbers::word;
 use formulas::TRANSITION;
 use limits::NODE_LIMIT;
 use limits::SET_WORDS;
 ghost use mathlib.Core.Path.{_≡_};
 ghost use Prim.Native.Nat.{ℕ, _+_, _*_, _<_, _≤_};
-ghost use lib.ListN.{length};
+ghost use lib.ListN.{length, getD, set};
 ghost use Rattle.theory.specs.DemandSets.{empty};
 ghost use Rattle.limits.specs.Limits.{event-limit, node-limit};
 ghost use Rattle.synthesis.specs.NodeWords.{set-words};
-ghost use Rattle.synthesis.specs.NodeWords.{row-words, next-words, hint-count, set-at, row, bits-at};
-ghost use Rattle.synthesis.specs.Exploring.{PassedStates, NextSets, next-bits, Found, Different, Counted, MarkedExpanded, sequences, Unchanged};
+ghost use Rattle.synthesis.specs.NodeWords.{row-words, next-words, set-at, row, bits-at};
+ghost use Rattle.synthesis.specs.StatePlaces.{place-count, link-count, set-place, Different, Chained};
+ghost use Rattle.synthesis.specs.Exploring.{PassedStates, NextSets, next-bits, Found, Counted, MarkedExpanded, sequences, Unchanged};
 ghost use Rattle.synthesis.specs.MarkedNodes.{word-set, Came};
 
 // A G node of a set is passed: the demands of its part come into the next set on its event.
@@ -103,55 +105,61 @@ fn advance(
     }
 }
 
-// The first of n states that is the set, or n.
-fn find(states: &[u64], n: usize, set: &[u64; SET_WORDS]) -> usize
-    requires { ⌜ (n * set-words ≤ length (now states)) × (length (now set) ≡ set-words) ⌝ }
+// States have places by their sets. 2 is of order 130 modulo 131, so that sets of one node in a word have places of their own.
+const PLACES: usize = 131;
+
+// A link for each state, to an earlier one of its place where there is one.
+const LINKS: usize = 256;
+
+// The place of a set.
+fn place_of(set: &[u64; SET_WORDS]) -> usize
+    requires { ⌜ length (now set) ≡ set-words ⌝ }
+    ensures { λ r. ⌜ r ≡ set-place (now (set .entry)) 0 ⌝ }
+{
+    let mixed = word(set[0]) ^ (word(set[1]) >> 1) ^ (word(set[2]) >> 2) ^ (word(set[3]) >> 3);
+    (mixed % PLACES as u64) as usize
+}
+
+// The first of n states that is the set, or n. All states of a place are linked, from the head of the place on, and no two are the same.
+fn look_up(
+    states: &[u64],
+    n: usize,
+    set: &[u64; SET_WORDS],
+    place: usize,
+    heads: &[u8; PLACES],
+    links: &[u8; LINKS],
+) -> usize
+    requires { ⌜ (n * set-words ≤ length (now states)) × (n ≤ link-count) × (length (now set) ≡ set-words) × (place ≡ set-place (now set) 0)
+        × (length (now heads) ≡ place-count) × (length (now links) ≡ link-count) × Different n (now states)
+        × Chained n (now states) (now heads) (now links) ⌝ }
     ensures { λ r. ⌜ Found (now (states .entry)) n (now (set .entry)) r ⌝ }
 {
-    let mut j: usize = 0;
-    while j < n {
+    let mut j = wide(heads[place]);
+    loop {
         if same(states, j * SET_WORDS, set) {
             return j;
         }
-        j += 1;
-    }
-    n
-}
-
-// How many hints are kept. 2 is of order 130 modulo 131, so that sets of one node in a word have places of their own.
-const HINTS: usize = 131;
-
-// The place of the hint for a set.
-fn place_of(set: &[u64; SET_WORDS]) -> usize
-    requires { ⌜ length (now set) ≡ set-words ⌝ }
-    ensures { λ r. ⌜ r < hint-count ⌝ }
-{
-    let mixed = set[0] ^ (set[1] >> 1) ^ (set[2] >> 2) ^ (set[3] >> 3);
-    (mixed % HINTS as u64) as usize
-}
-
-// The first of n different states that is the set, or n. The state which the hint names is looked at before all others; the answer is
-// the hint from then on.
-fn look_up(states: &[u64], n: usize, set: &[u64; SET_WORDS], hints: &mut [u8; HINTS]) -> usize
-    requires { ⌜ (n * set-words ≤ length (now states)) × (length (now set) ≡ set-words) × (length (now hints) ≡ hint-count) × Different n (now states) ⌝ }
-    ensures { λ r. ⌜ (length (now (hints .exit)) ≡ hint-count) × Found (now (states .entry)) n (now (set .entry)) r ⌝ }
-{
-    let place = place_of(set);
-    let hint = wide(hints[place]);
-    if hint < n {
-        if same(states, hint * SET_WORDS, set) {
-            return hint;
+        let next = wide(links[j]);
+        if j <= next {
+            return n;
         }
+        j = next;
     }
-    let j = find(states, n, set);
-    if j < 256 {
-        hints[place] = narrow(j);
-    }
-    j
+}
+
+// State k becomes the head of a place, linked to the head before it.
+fn link(place: usize, k: usize, heads: &mut [u8; PLACES], links: &mut [u8; LINKS])
+    requires { ⌜ (place < place-count) × (k < link-count) × (length (now heads) ≡ place-count) × (length (now links) ≡ link-count) ⌝ }
+    ensures { λ _. ⌜ (now (heads .exit) ≡ set (now (heads .entry)) place k)
+        × (now (links .exit) ≡ set (now (links .entry)) k (getD (now (heads .entry)) place 0)) ⌝ }
+{
+    links[k] = heads[place];
+    heads[place] = narrow(k);
 }
 
 // The states that the events lead to from state i come after the n there are, and the entries of state i get their numbers;
-// the limit and one where there are more. The sets are room for the next sets, and the hints tell where a set may be found.
+// the limit and one where there are more. The sets are room for the next sets; heads and links tell where a
+// set may be found.
 fn expand(
     firsts: &[u8; NODE_LIMIT],
     marks: &[u64; SET_WORDS],
@@ -163,16 +171,19 @@ fn expand(
     states: &mut [u64],
     nexts: &mut [u8],
     sets: &mut [u64; NEXT_WORDS],
-    hints: &mut [u8; HINTS],
+    heads: &mut [u8; PLACES],
+    links: &mut [u8; LINKS],
 ) -> usize
     requires { ⌜ (i < n) × (n ≤ limit) × (limit ≤ 256) × (events ≤ event-limit) × (length (now firsts) ≡ node-limit)
         × (length (now marks) ≡ set-words) × (length (now rows) ≡ row-words) × (limit * set-words ≤ length (now states)) × (limit * events ≤ length (now nexts))
-        × (length (now sets) ≡ next-words) × (length (now hints) ≡ hint-count) × Different n (now states) ⌝ }
+        × (length (now sets) ≡ next-words) × (length (now heads) ≡ place-count) × (length (now links) ≡ link-count) × Different n (now states)
+        × Chained n (now states) (now heads) (now links) ⌝ }
     ensures { λ r. ⌜ (length (now (states .exit)) ≡ length (now (states .entry))) × (length (now (nexts .exit)) ≡ length (now (nexts .entry))) × (n ≤ r)
         × Unchanged (i * events + events) (now (nexts .entry)) (now (nexts .exit))
         × MarkedExpanded (now (marks .entry)) (now (firsts .entry)) (now (rows .entry)) events limit i n
         (now (states .entry)) (now (nexts .entry)) r (now (states .exit)) (now (nexts .exit)) × (length (now (sets .exit)) ≡ next-words)
-        × (length (now (hints .exit)) ≡ hint-count) × (r ≤ limit → Different r (now (states .exit))) ⌝ }
+        × (length (now (heads .exit)) ≡ place-count) × (length (now (links .exit)) ≡ link-count)
+        × (r ≤ limit → Different r (now (states .exit)) × Chained r (now (states .exit)) (now (heads .exit)) (now (links .exit))) ⌝ }
 {
     advance(firsts, marks, rows, &*states, i * SET_WORDS, events, sets);
     let mut k = n;
@@ -180,12 +191,14 @@ fn expand(
     while event < events {
         let mut set = [0u64; SET_WORDS];
         copy_row(&mut set, &*sets, event);
-        let j = look_up(&*states, k, &set, hints);
+        let place = place_of(&set);
+        let j = look_up(&*states, k, &set, place, &*heads, &*links);
         if j == k {
             if k == limit {
                 return limit + 1;
             }
             store(states, k * SET_WORDS, &set);
+            link(place, k, heads, links);
             k += 1;
         }
         let at = entry_at(i, events, event);
@@ -231,7 +244,8 @@ pub fn explore(
     let marks = marks_of(kinds, count, TRANSITION);
     copy_first(states, rows);
     let mut sets = [0u64; NEXT_WORDS];
-    let mut hints = [0u8; HINTS];
+    let mut heads = [0u8; PLACES];
+    let mut links = [0u8; LINKS];
     let mut n: usize = 1;
     let mut i: usize = 0;
     while i < n {
@@ -246,7 +260,8 @@ pub fn explore(
             states,
             nexts,
             &mut sets,
-            &mut hints,
+            &mut heads,
+            &mut links,
         );
         if limit < m {
             return limit + 1;

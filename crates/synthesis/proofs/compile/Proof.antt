@@ -27,8 +27,11 @@ cast-compile-accepted c =
 
 compile-accepted-requires : tie.Need-compile-accepted-requires
 compile-accepted-requires c κs =
-    let a = c .before .before .before .before .before .before .before .args in
-    (setup-fine (a .events) (a .values) (a .top) (a .meet .now) (sym (c .before .before .before .check-setup-by-sets .ensures) ∙ c .before .enum-told .given .1), refl)
+    let a = c .before .before .before .before .before .before .before .args in (
+      setup-fine (a .events) (a .values) (a .top) (a .meet .now)
+          (sym (c .before .before .before .check-setup-by-sets .ensures) ∙ c .before .enum-told .given .1),
+      refl,
+    )
 
 returns-2 : tie.Need-returns-2
 returns-2 c = c .before .before .compile-accepted .ensures

@@ -1,23 +1,25 @@
 -- `explore` meets its contract. The loop's invariant: the states kept and the entries are those of the sequences explored so far,
--- and no two states are the same.
+-- no two states are the same, and each is linked to from the head of its place.
 use borrow.Author.Needs.{needs}
 use Prim.Native.Nat.{_≤_, _-_, _*_}
 use mathlib.Core.Path.{_≡_, refl, _∙_, subst}
 use native.Mathlib.{Nat.{add-mul}, Omega.{arith}}
 use lib.ListN.{length}
-use Rattle.synthesis.specs.{NodeWords.{next-words, hint-count, bits-at}, Exploring.{next-bits, Different, Unchanged, Kept}}
-use Rattle.synthesis.proofs.Exploring.{all-to, kept-start, row-kept, row-over, all-kept}
+use Rattle.synthesis.specs.{NodeWords.{next-words, bits-at}, Exploring.{next-bits, Unchanged, Kept}}
+use Rattle.synthesis.specs.StatePlaces.{place-count, link-count, Different, Chained}
+use Rattle.synthesis.proofs.{Exploring.{all-to, kept-start, row-kept, row-over, all-kept}, StatePlaces.{chained-one, getD-zeros}}
 use Rattle.synthesis.proofs.exploration.explore.Statement.{statement}
 use Rattle.synthesis.proofs.exploration.explore.Tie as tie
 
 abbrev Inv-loop : tie.InvT-loop
-Inv-loop kinds firsts count rows events limit states₀ nexts₀ marks sets₀ hints₀ n₀ i₀ states nexts sets hints n i =
+Inv-loop kinds firsts count rows events limit states₀ nexts₀ marks sets₀ heads₀ links₀ n₀ i₀ states nexts sets heads links n i =
     (i ≤ n) × (n ≤ limit) × (length states ≡ length states₀) × (length nexts ≡ length nexts₀) × Unchanged (i * events) nexts₀ nexts
     × Kept (next-bits kinds firsts rows count) (bits-at rows 0) events (all-to (next-bits kinds firsts rows count) rows events i)
-    n (i * events) states nexts × (length sets ≡ next-words) × (length hints ≡ hint-count) × Different n states
+    n (i * events) states nexts × (length sets ≡ next-words)
+    × (length heads ≡ place-count) × (length links ≡ link-count) × Different n states × Chained n states heads links
 
 abbrev μ-loop : tie.MeasureT-loop
-μ-loop kinds firsts count rows events limit states₀ nexts₀ marks sets₀ hints₀ n₀ i₀ states nexts sets hints n i = limit - i
+μ-loop kinds firsts count rows events limit states₀ nexts₀ marks sets₀ heads₀ links₀ n₀ i₀ states nexts sets heads links n i = limit - i
 
 loop-holds : tie.Need-loop-holds Inv-loop μ-loop
 loop-holds c =
@@ -31,7 +33,9 @@ loop-holds c =
           (c .before .before .copy-first .ensures .1),
       search needs,
       search needs,
-      λ j i h u. absurd (omega (arith, h, u)),
+      search needs,
+      (λ j i h u. absurd (omega (arith, h, u))),
+      chained-one _ _ _ (getD-zeros place-count),
     )
 
 expand-requires : tie.Need-expand-requires Inv-loop μ-loop
@@ -47,15 +51,18 @@ expand-requires c κs = (
   search needs,
   search needs,
   search needs,
-  c .before .before .before .before .before .before .loop .inv .8,
+  search needs,
+  c .before .before .before .before .before .before .before .loop .inv .9,
+  c .before .before .before .before .before .before .before .loop .inv .10,
 )
 
 returns : tie.Need-returns Inv-loop μ-loop
 returns c =
-    let at = c .before .before .before .before .before .before .before .before .before .before .before .before in
+    let at = c .before .before .before .before .before .before .before .before .before .before .before .before .before in
     let a = at .before .before .before .before .before .before .before .before .args in
     let l = at .loop in
     let v = l .inv in
+    let less = c .before .before .before .before .before .before .before .before .before .before .before .before .loop-test .taken in
     let x = c .before .before .before .before .before .expand .ensures in
     let made = x .4 (a .kinds .now) (a .count) (at .before .before .before .before .before .marks-of .ensures .1) in
     let nb = next-bits (a .kinds .now) (a .firsts .now) (a .rows .now) (a .count) in (
@@ -66,34 +73,36 @@ returns c =
         at-most = search needs;
         all = λ h. absurd (omega (arith, h));
         more = λ h. row-over nb (a .rows .now) (a .events) (a .limit) (l .i) (l .n) (c .before .before .before .before .before .expand .result) (l .states)
-            (l .nexts) _ _ (search needs) (v .5) made (omega (
+            (l .nexts) _ _ less (v .5) made (omega (
               arith,
               c .if1 .taken,
               made (bits-at (a .rows .now) 0)
                   (all-to nb (a .rows .now) (a .events) (l .i)) (v .5) .at-most,
-            )) (search needs);
+            )) (omega (arith, less, v .1));
       },
     )
 
 loop-again : tie.Need-loop-again Inv-loop μ-loop
 loop-again c =
-    let at = c .before .before .before .before .before .before .before .before .before .before .before .before in
+    let at = c .before .before .before .before .before .before .before .before .before .before .before .before .before in
     let a = at .before .before .before .before .before .before .before .before .args in
     let l = at .loop in
     let v = l .inv in
     let x = c .before .before .before .before .before .expand .ensures in
     let made = x .4 (a .kinds .now) (a .count) (at .before .before .before .before .before .marks-of .ensures .1) in
     let nb = next-bits (a .kinds .now) (a .firsts .now) (a .rows .now) (a .count) in (
-      search needs,
+      omega (arith, c .before .before .before .before .before .before .before .before .before .before .before .before .loop-test .taken, x .2),
       search needs,
       x .0 ∙ v .2,
       x .1 ∙ v .3,
       (λ y h. x .3 y (omega (arith, h, add-mul (l .i) 1 (a .events))) ∙ v .4 y (omega (arith, h, add-mul (l .i) 1 (a .events)))),
       row-kept nb (a .rows .now) (a .events) (a .limit) (l .i) (l .n) (c .before .before .before .before .before .expand .result) (l .states) (l .nexts) _
-          _ (search needs) (v .5) made (search needs),
+          _ (c .before .before .before .before .before .before .before .before .before .before .before .before .loop-test .taken) (v .5) made (search needs),
       x .5,
       x .6,
-      x .7 (search needs),
+      x .7,
+      x .8 (search needs) .0,
+      x .8 (search needs) .1,
     )
 
 returns-2 : tie.Need-returns-2 Inv-loop μ-loop
