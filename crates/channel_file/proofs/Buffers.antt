@@ -3,7 +3,7 @@ use Prim.Native.Nat.{ℕ, suc, _+_, _-_, _*_, _≤_, _<_}
 use mathlib.Core.{Path.{_≡_, refl, sym, ap, _∙_}, List.{List, [], _∷_, _++_, append-nil, append-assoc}, Bool.{Bool, true, false}}
 use native.Mathlib.{Omega.{arith}, Nat.{suc-mul}}
 use borrow.Author.Tests.{ltb-true, ltb-false}
-use lib.{Dec.{ltb}, ListN.{length, set, drop, take, length-set, length-append, length-take}, Seq.{sets, sets-eq, set-out, take-nil, take-all}}
+use lib.{Dec.{ltb}, ListN.{length, set, drop, take, length-set, length-append, length-drop, length-take}, Seq.{sets, sets-eq, set-out, take-nil, take-all}}
 use Rattle.refusal.specs.Refusal.{put}
 use Rattle.text_format.specs.{Format.{Parsed, ok, bad, bind, Format, Laws}, Series.{Separator, space, newline, series}}
 use Rattle.text_format.proofs.Series.{series-bad, series-ends, series-goes}
@@ -44,6 +44,17 @@ sets-front l s =
 -- an output that has room is stored whole
 pub front-whole : (output old : List ℕ) → length output ≤ length old → put-front output old ≡ put output old
 front-whole output old h = ap (λ (s : List ℕ). put s old) (take-all (length old) output h)
+
+-- and a buffer stays as long as it is
+pub front-length : (output old : List ℕ) → length (put-front output old) ≡ length old
+unfolding put
+front-length output old =
+    omega (
+      arith,
+      length-append (take (length old) output) (drop (length (take (length old) output)) old),
+      length-drop (length (take (length old) output)) old,
+      length-take (length old) output,
+    )
 
 -- ---- series
 

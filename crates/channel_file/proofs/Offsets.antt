@@ -1,13 +1,13 @@
 -- What is left of a text at an offset, and how it is read on.
-use Prim.Native.Nat.{ℕ, suc, _+_, _≤_, _<_}
+use Prim.Native.Nat.{ℕ, _+_, _≤_, _<_}
 use mathlib.Core.{Path.{_≡_, refl, sym, ap, _∙_}, List.{List, [], _∷_}}
 use native.Mathlib.{Omega.{arith}, Numerals.{add-one}}
 use lib.{ListN.{length, drop, getD, drop-of-length-le, length-drop, length-append}, Seq.{drop-cons}}
 use Rattle.text_format.specs.{Format.{Parsed, ok, bad, bind, Format, Laws}, Combinators.{word, keyed}}
-use Rattle.text_format.specs.Series.{Separator, space, newline, number-item, series}
+use Rattle.text_format.specs.Series.{Separator, newline, number-item}
 use Rattle.text_format.proofs.Combinators.{word-hit, word-miss}
-use Rattle.text_format.proofs.Series.{series-bad, series-ends, series-goes, shorter, number-item-laws, number-item-solid}
-use Rattle.channel_file.specs.{ChannelFile.{Token, token-T}, FileFormat.{token-item, tokens, entries, field}}
+use Rattle.text_format.proofs.Series.{shorter, number-item-laws, number-item-solid}
+use Rattle.channel_file.specs.{ChannelFile.{Token, token-T}, FileFormat.{token-item, field}}
 use Rattle.channel_file.specs.Steps.{SawEnded, SawNumber, counted, count-of}
 use Rattle.channel_file.specs.declared.Number.{Number}
 use Rattle.channel_file.proofs.FileFormat.{token-item-laws, token-solid, T-fits, zero-fits}
@@ -46,50 +46,16 @@ word-off w t j i hj hi e =
     ∙ word-miss (getD w j 0) (getD t i 0) (drop (j + 1) w) (drop (i + 1) t) e
     ∙ ap (λ (z : List ℕ). bad z) (sym (here t i hi))
 
--- a series is read value by value, and counted
-count-cons : {A : Type 0} (n : ℕ) (a : A) (y : Parsed (List A)) → counted n (bind y (λ xs q. ok (a ∷ xs) q)) ≡ counted (n + 1) y
-count-cons n a (ok xs r) = let e : n + suc (length xs) ≡ n + 1 + length xs = omega arith in ap (λ (z : ℕ). ok z r) e
-count-cons n a (bad r) = refl
-
+-- an item is not empty
 module _ {A : Type 0} (F : Format (A × Separator)) (one : A) (L : Laws F) (solid : (p : A × Separator) → 0 < length (F .print p))
     (one-fits : F .Fits (one, newline)) where
-  many-bad : (n : ℕ) (s r : List ℕ) → F .parse s ≡ bad r → counted n (series F one .parse s) ≡ bad r
-  many-bad n s r e = ap (counted n) (series-bad F one L solid one-fits s r e)
-
-  many-last : (n : ℕ) (s : List ℕ) (a : A) (r : List ℕ) → F .parse s ≡ ok (a, newline) r → counted n (series F one .parse s) ≡ ok (n + 1) r
-  many-last n s a r e = ap (counted n) (series-ends F one L solid one-fits s a r e)
-
-  many-next : (n : ℕ) (s : List ℕ) (a : A) (r : List ℕ) → F .parse s ≡ ok (a, space) r
-      → counted n (series F one .parse s) ≡ counted (n + 1) (series F one .parse r)
-  many-next n s a r e = ap (counted n) (series-goes F one L solid one-fits s a r e) ∙ count-cons n a (series F one .parse r)
-
   item-forward : (t : List ℕ) (i m : ℕ) (p : A × Separator) → m ≤ length t → F .parse (drop i t) ≡ ok p (drop m t) → i < m
   item-forward t i m p h e =
       let l : length (drop m t) < length (drop i t) = shorter F one L solid one-fits (drop i t) p (drop m t) e in
       omega (arith, length-drop m t, length-drop i t)
 
-pub tokens-bad : (n : ℕ) (s r : List ℕ) → token-item .parse s ≡ bad r → counted n (tokens .parse s) ≡ bad r
-tokens-bad = many-bad token-item token-T token-item-laws token-solid T-fits
-
-pub tokens-last : (n : ℕ) (s : List ℕ) (a : Token) (r : List ℕ) → token-item .parse s ≡ ok (a, newline) r → counted n (tokens .parse s) ≡ ok (n + 1) r
-tokens-last = many-last token-item token-T token-item-laws token-solid T-fits
-
-pub tokens-next : (n : ℕ) (s : List ℕ) (a : Token) (r : List ℕ) → token-item .parse s ≡ ok (a, space) r → counted n (tokens .parse s)
-    ≡ counted (n + 1) (tokens .parse r)
-tokens-next = many-next token-item token-T token-item-laws token-solid T-fits
-
 pub token-forward : (t : List ℕ) (i m : ℕ) (p : Token × Separator) → m ≤ length t → token-item .parse (drop i t) ≡ ok p (drop m t) → i < m
 token-forward = item-forward token-item token-T token-item-laws token-solid T-fits
-
-pub entries-bad : (n : ℕ) (s r : List ℕ) → number-item 2 .parse s ≡ bad r → counted n (entries .parse s) ≡ bad r
-entries-bad = many-bad (number-item 2) 0 (number-item-laws 2) (number-item-solid 2) zero-fits
-
-pub entries-last : (n : ℕ) (s : List ℕ) (a : ℕ) (r : List ℕ) → number-item 2 .parse s ≡ ok (a, newline) r → counted n (entries .parse s) ≡ ok (n + 1) r
-entries-last = many-last (number-item 2) 0 (number-item-laws 2) (number-item-solid 2) zero-fits
-
-pub entries-next : (n : ℕ) (s : List ℕ) (a : ℕ) (r : List ℕ) → number-item 2 .parse s ≡ ok (a, space) r → counted n (entries .parse s)
-    ≡ counted (n + 1) (entries .parse r)
-entries-next = many-next (number-item 2) 0 (number-item-laws 2) (number-item-solid 2) zero-fits
 
 pub entry-forward : (t : List ℕ) (i m : ℕ) (p : ℕ × Separator) → m ≤ length t → number-item 2 .parse (drop i t) ≡ ok p (drop m t) → i < m
 entry-forward = item-forward (number-item 2) 0 (number-item-laws 2) (number-item-solid 2) zero-fits

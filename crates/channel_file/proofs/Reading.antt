@@ -1,22 +1,39 @@
 -- How the answer to a whole text comes from the answers to its parts.
 use Prim.Native.Nat.{ℕ, _+_, _-_, _≤_}
-use mathlib.Core.{Path.{_≡_, refl, sym, ap, _∙_}, List.{List, [], _∷_, _++_, map}}
+use mathlib.Core.{Path.{_≡_, refl, sym, ap, _∙_, subst}, List.{List, [], _∷_, _++_, map}}
 use native.Mathlib.Omega.{arith}
 use lib.ListN.{length, drop, length-drop}
 use Rattle.refusal.specs.declared.Refusal.the-variants.{At}
-use Rattle.text_format.specs.Format.{Parsed, ok, bad, contents, whole, outcome, read}
+use Rattle.text_format.specs.Format.{Parsed, ok, bad, Outcome, contents, refused, whole, outcome, read}
 use Rattle.text_format.specs.Texts.{ascii, separated}
 use Rattle.text_format.specs.Series.{number-item}
 use Rattle.text_format.proofs.{Combinators.{not-both, keyed-of-fits}, Series.{series-of-fitting}}
-use Rattle.channel_file.specs.{ChannelFile.{Token, Contents, number, Small, line}, FileFormat.{entries, head, meet-line, rule-line, file}}
-use Rattle.channel_file.specs.{Reading.{head-text, meet-text, meet-start, rule-start, checked}, Steps.{counted}}
+use Rattle.channel_file.specs.{ChannelFile.{Token, Contents, number, Small, line, encoded}, FileFormat.{entries, head, meet-line, rule-line, file}}
+use Rattle.channel_file.specs.{Reading.{head-text, meet-text, meet-start, rule-start, checked}, Steps.{counted, ReadsForm}}
+use Rattle.channel_file.specs.Bytes.{entry, node, meet-bytes, rule-bytes, put-front}
 use Rattle.channel_file.specs.declared.Checked.{Checked}
 use Rattle.channel_file.proofs.{FileFormat.{head-laws, meet-line-laws, entries-text}, Offsets.{forward-by}}
 
-pub refuse : (t : List ℕ) (p : ℕ) → p ≤ length t → whole file t ≡ bad (drop p t) → Checked.Refused (At 4 p) ≡ checked (read file t)
-refuse t p h e =
-    let q : p ≡ length t - length (drop p t) = omega (arith, length-drop p t) in
-    ap (λ (z : ℕ). Checked.Refused (At 4 z)) q ∙ sym (ap (λ (x : Parsed Contents). checked (outcome t x)) e)
+pub not-both-ways : {A C : Type 0} (x : Outcome A) (p : ℕ) (a : A) → x ≡ refused p → x ≡ contents a → C
+not-both-ways x p a e f = let z : _≡_ {A = ℕ} 0 1 = cc in absurd (omega arith)
+
+one-way : {A : Type 0} (x : Outcome A) (a b : A) → x ≡ contents a → x ≡ contents b → a ≡ b
+one-way x a b e f = cc
+
+pub form-as : {x y : Outcome Contents} {meet rule meet′ rule′ : List ℕ} {r : Checked} → x ≡ y → ReadsForm x meet rule meet′ rule′ r
+    → ReadsForm y meet rule meet′ rule′ r
+form-as {meet = meet} {rule = rule} {meet′ = meet′} {rule′ = rule′} {r = r} e h = subst (λ (z : Outcome Contents). ReadsForm z meet rule meet′ rule′ r) e h
+
+-- nothing is known of what was stored of a refused text
+pub form-refused : (x : Outcome Contents) (p : ℕ) (meet rule meet′ rule′ : List ℕ) → x ≡ refused p
+    → ReadsForm x meet rule meet′ rule′ (Checked.Refused (At 4 p))
+form-refused x p meet rule meet′ rule′ e = record { reply = sym (ap checked e); bytes = λ c f. not-both-ways x p c e f }
+
+pub refuse : (t : List ℕ) (p : ℕ) (meet rule meet′ rule′ : List ℕ) → p ≤ length t → whole file t ≡ bad (drop p t)
+    → ReadsForm (read file t) meet rule meet′ rule′ (Checked.Refused (At 4 p))
+refuse t p meet rule meet′ rule′ h e =
+    let q : length t - length (drop p t) ≡ p = omega (arith, length-drop p t) in
+    form-refused (read file t) p meet rule meet′ rule′ (ap (outcome t) e ∙ ap (λ (z : ℕ). refused z) q)
 
 count-bad : {A : Type 0} (x : Parsed (List A)) (r : List ℕ) → counted 0 x ≡ bad r → x ≡ bad r
 count-bad (ok xs q) r h = not-both refl h
@@ -63,9 +80,12 @@ module _ (t : List ℕ) where
           → whole file t ≡ ok (record { events = h .0; values = h .1 .0; top = h .1 .1; meet = xs; rule = ys }) []
       all₄ xs ys f g = rw e₁ (rw f (rw g))
 
-      pub good : (s n q : ℕ) → s ≡ a + 5 → q ≡ b + 5 → counted 0 (rule-line .parse (drop b t)) ≡ ok n []
-          → Checked.Form (h .0) (h .1 .0) (h .1 .1) m s n q ≡ checked (read file t)
-      good s n q hs hq e =
+      pub good : (meet rule meet′ rule′ : List ℕ)
+          → ((xs rest : List ℕ) → meet-line .parse (drop a t) ≡ ok xs rest → meet′ ≡ put-front (encoded entry xs) meet)
+          → ((ys : List Token) (rest : List ℕ) → rule-line .parse (drop b t) ≡ ok ys rest → rule′ ≡ put-front (encoded node ys) rule)
+          → (s n q : ℕ) → s ≡ a + 5 → q ≡ b + 5 → counted 0 (rule-line .parse (drop b t)) ≡ ok n []
+          → ReadsForm (read file t) meet rule meet′ rule′ (Checked.Form (h .0) (h .1 .0) (h .1 .1) m s n q)
+      good meet rule meet′ rule′ stores-meet stores-rule s n q hs hq e =
           let g = count-ok (rule-line .parse (drop b t)) n [] e in
           let c : Contents = record { events = h .0; values = h .1 .0; top = h .1 .1; meet = met .0; rule = g .0 } in
           let fa : a ≡ 0 + length (head-text c) = forward-by head head-laws t 0 a h (omega arith) within₁ e₁ in
@@ -76,4 +96,12 @@ module _ (t : List ℕ) where
           let es : s ≡ meet-start c = omega arith in
           let eq : q ≡ rule-start c = omega arith in
           let same : Checked.Form (h .0) (h .1 .0) (h .1 .1) m s n q ≡ checked (contents c) = cc in
-          same ∙ sym (ap (λ (x : Parsed Contents). checked (outcome t x)) (all₄ (met .0) (g .0) (met .1) (g .1)))
+          let is : read file t ≡ contents c = ap (outcome t) (all₄ (met .0) (g .0) (met .1) (g .1)) in
+          record {
+            reply = same ∙ sym (ap checked is);
+            bytes = λ d f.
+                let here : c ≡ d = one-way (read file t) c d is f in (
+                  stores-meet (met .0) (drop b t) (met .1) ∙ ap (λ (z : Contents). put-front (meet-bytes z) meet) here,
+                  stores-rule (g .0) [] (g .1) ∙ ap (λ (z : Contents). put-front (rule-bytes z) rule) here,
+                );
+          }

@@ -1,50 +1,86 @@
--- The entries of a meet line and the tokens of a text, stored one by one.
+-- The items of a line and the tokens of a text, stored one by one.
 use Prim.Native.Nat.{ℕ, _+_, _-_, _≤_, _<_}
 use mathlib.Core.{Path.{_≡_, refl, sym, ap, _∙_}, List.{List, [], _∷_, _++_}, Bool.{Bool, true, false}}
 use native.Mathlib.Omega.{arith}
 use borrow.Author.Tests.{eqb-true, ne-eqb}
 use lib.{Dec.{eqb}, ListN.{length, drop, getD, length-append, length-drop}}
-use Rattle.text_format.specs.{Format.{Parsed, ok, bad, bind, Outcome, contents, refused, at-end, outcome}, Series.{space, newline, number-item}}
+use Rattle.text_format.specs.Format.{Parsed, ok, bad, bind, Format, Laws, Outcome, contents, refused, at-end, outcome}
+use Rattle.text_format.specs.{Combinators.{word, keyed}, Series.{Separator, space, newline, number-item, series}}
 use Rattle.text_format.proofs.{Combinators.{not-both}, Series.{shorter, number-item-laws, number-item-solid}}
 use Rattle.text_output.specs.Output.{Puts}
 use Rattle.channel_file.specs.{ChannelFile.{Token, token-T}, FileFormat.{token-item, tokens}, Reading.{read-tokens}}
 use Rattle.channel_file.specs.Bytes.{entry, node, put-front, token-reply, stored-nodes, ReadsTokens}
 use Rattle.channel_file.specs.ChannelFile.{encoded}
-use Rattle.channel_file.specs.Steps.{Saw, counted, left, with-separator, StoresEntries, StoresTokens}
+use Rattle.channel_file.specs.Steps.{Saw, counted, left, with-separator, StoresItems, StoresTokens}
 use Rattle.channel_file.specs.declared.{Number.{Number}, TokenList.{TokenList}}
-use Rattle.channel_file.proofs.{FileFormat.{token-item-laws, token-solid, T-fits, zero-fits}, Offsets.{here, here-is, over}}
+use Rattle.channel_file.proofs.{FileFormat.{token-item-laws, token-solid, T-fits, zero-fits}, Offsets.{here, here-is, over, keyed-bad, keyed-on, listed}}
+use Rattle.channel_file.proofs.Reading.{not-both-ways}
 use Rattle.channel_file.proofs.Buffers.{Took, took-none, took-next, took-last, took-bad, Last}
 
--- ---- the entries from an offset on, of which those up to i are stored
-abbrev pub TookEntries : List ℕ → ℕ → ℕ → List ℕ → List ℕ → ℕ → ℕ → Type 0
-TookEntries t at i old new n k =
-    Took (number-item 2) 0 (number-item-laws 2) (number-item-solid 2) zero-fits entry (drop at t) (drop i t) old new n k
+-- ---- items from an offset on, of which those up to i are stored
 
-pub entries-none : (t : List ℕ) (at : ℕ) (old : List ℕ) → Puts old [] old 0 0 → TookEntries t at at old old 0 0
-entries-none t at old p = took-none (number-item 2) 0 (number-item-laws 2) (number-item-solid 2) zero-fits entry (drop at t) old p
+-- What is known of items that are stored: their format with its laws, and their codes.
+pub record ItemKind (A : Type 0) : Type 1 where
+  pub item : Format (A × Separator)
+  pub one : A
+  pub laws : Laws item
+  pub solid : (p : A × Separator) → 0 < length (item .print p)
+  pub one-fits : item .Fits (one, newline)
+  pub code : A → List ℕ
 
-module _ (t : List ℕ) (at i : ℕ) {old new : List ℕ} {n k : ℕ} (g : TookEntries t at i old new n k) where
-  pub entries-stuck : (p : ℕ) → Saw (number-item 2 .parse (drop i t)) (bad (drop p t)) t p → StoresEntries t at old new (Number.Bad p)
-  entries-stuck p q =
-      let e = took-bad (number-item 2) 0 (number-item-laws 2) (number-item-solid 2) zero-fits entry (drop p t) g (q .same) in
-      record { reply = record { same = ap (counted 0) e; within = q .within }; buffer = λ xs rest f. not-both f e }
+abbrev pub meet-entries : ItemKind ℕ
+meet-entries =
+    record { item = number-item 2; one = 0; laws = number-item-laws 2; solid = number-item-solid 2; one-fits = zero-fits; code = entry }
 
-  module _ (v m : ℕ) {new′ : List ℕ} {q : ℕ} (p : Puts new (entry v) new′ k q) where
-    pub entries-next : Saw (number-item 2 .parse (drop i t)) (ok (v, space) (drop m t)) t m → TookEntries t at m old new′ (n + 1) q
-    entries-next s = took-next (number-item 2) 0 (number-item-laws 2) (number-item-solid 2) zero-fits entry v (drop m t) g (s .same) p
+abbrev pub rule-items : ItemKind Token
+rule-items = record { item = token-item; one = token-T; laws = token-item-laws; solid = token-solid; one-fits = T-fits; code = node }
 
-    pub entries-end : Saw (number-item 2 .parse (drop i t)) (ok (v, newline) (drop m t)) t m → StoresEntries t at old new′ (Number.Value (n + 1) m)
-    entries-end s =
-        let l = took-last (number-item 2) 0 (number-item-laws 2) (number-item-solid 2) zero-fits entry v (drop m t) g (s .same) p in
-        let c : n + 1 ≡ length (l .items) = l .count in
-        let d : 0 + length (l .items) ≡ n + 1 = omega arith in
-        record {
-          reply = record { same = ap (counted 0) (l .same) ∙ ap (λ (z : ℕ). ok z (drop m t)) d; within = s .within };
-          buffer = λ xs rest f.
-              let e : ok (l .items) (drop m t) ≡ ok xs rest = sym (l .same) ∙ f in
-              let same : l .items ≡ xs = cc in
-              l .bytes ∙ ap (λ (z : List ℕ). put-front (encoded entry z) old) same;
-        }
+module _ {A : Type 0} (K : ItemKind A) (t : List ℕ) (at : ℕ) where
+  abbrev pub TookItems : ℕ → List ℕ → List ℕ → ℕ → ℕ → Type 0
+  TookItems i old new n k = Took (K .item) (K .one) (K .laws) (K .solid) (K .one-fits) (K .code) (drop at t) (drop i t) old new n k
+
+  pub items-none : (old : List ℕ) → Puts old [] old 0 0 → TookItems at old old 0 0
+  items-none old p = took-none (K .item) (K .one) (K .laws) (K .solid) (K .one-fits) (K .code) (drop at t) old p
+
+  module _ (i : ℕ) {old new : List ℕ} {n k : ℕ} (g : TookItems i old new n k) where
+    pub items-stuck : (p : ℕ) → Saw (K .item .parse (drop i t)) (bad (drop p t)) t p
+        → StoresItems (series (K .item) (K .one)) (K .code) t at old new (Number.Bad p)
+    items-stuck p q =
+        let e = took-bad (K .item) (K .one) (K .laws) (K .solid) (K .one-fits) (K .code) (drop p t) g (q .same) in
+        record { reply = record { same = ap (counted 0) e; within = q .within }; buffer = λ xs rest f. not-both f e }
+
+    module _ (a : A) (m : ℕ) {new′ : List ℕ} {q : ℕ} (p : Puts new (K .code a) new′ k q) where
+      pub items-next : Saw (K .item .parse (drop i t)) (ok (a, space) (drop m t)) t m → TookItems m old new′ (n + 1) q
+      items-next s = took-next (K .item) (K .one) (K .laws) (K .solid) (K .one-fits) (K .code) a (drop m t) g (s .same) p
+
+      pub items-end : Saw (K .item .parse (drop i t)) (ok (a, newline) (drop m t)) t m
+          → StoresItems (series (K .item) (K .one)) (K .code) t at old new′ (Number.Value (n + 1) m)
+      items-end s =
+          let l = took-last (K .item) (K .one) (K .laws) (K .solid) (K .one-fits) (K .code) a (drop m t) g (s .same) p in
+          let c : n + 1 ≡ length (l .items) = l .count in
+          let d : 0 + length (l .items) ≡ n + 1 = omega arith in
+          record {
+            reply = record { same = ap (counted 0) (l .same) ∙ ap (λ (z : ℕ). ok z (drop m t)) d; within = s .within };
+            buffer = λ xs rest f.
+                let e : ok (l .items) (drop m t) ≡ ok xs rest = sym (l .same) ∙ f in
+                let same : l .items ≡ xs = cc in
+                l .bytes ∙ ap (λ (z : List A). put-front (encoded (K .code) z) old) same;
+          }
+
+-- a key in front of them
+pub items-unkeyed : {A : Type 0} (key : List ℕ) (F : Format (List A)) (code : A → List ℕ) (t : List ℕ) (at p : ℕ) (old : List ℕ)
+    → Saw (word key .parse (drop at t)) (bad (drop p t)) t p → StoresItems (keyed key F) code t at old old (Number.Bad p)
+items-unkeyed key F code t at p old q =
+    let e = keyed-bad key F (drop at t) (drop p t) (q .same) in
+    record { reply = record { same = ap (counted 0) e; within = q .within }; buffer = λ xs rest f. not-both f e }
+
+pub items-keyed : {A : Type 0} (key : List ℕ) (F : Format (List A)) (code : A → List ℕ) (t : List ℕ) (at a : ℕ) {old new : List ℕ}
+    → word key .parse (drop at t) ≡ ok tt (drop a t) → (r : Number) → StoresItems F code t a old new r → StoresItems (keyed key F) code t at old new r
+items-keyed key F code t at a e r h =
+    record {
+      reply = listed key F t at a e r (h .reply);
+      buffer = λ xs rest f. h .buffer xs rest (sym (keyed-on key F (drop at t) (drop a t) e) ∙ f);
+    }
 
 -- ---- the tokens of a text, of which those up to i are stored
 abbrev pub TookTokens : List ℕ → ℕ → List ℕ → List ℕ → ℕ → ℕ → Type 0
@@ -56,9 +92,6 @@ tokens-none t old p = took-none token-item token-T token-item-laws token-solid T
 -- what is read of the whole text
 answered : (t : List ℕ) (y : Parsed (List Token)) → tokens .parse (left true t 0) ≡ y → read-tokens t ≡ outcome (left true t 0) (bind y (λ a r. at-end a r))
 answered t y e = ap (λ (z : Parsed (List Token)). outcome (left true t 0) (bind z (λ a r. at-end a r))) e
-
-not-both-ways : {C : Type 0} (x : Outcome (List Token)) (p : ℕ) (xs : List Token) → x ≡ refused p → x ≡ contents xs → C
-not-both-ways x p xs e f = let z : _≡_ {A = ℕ} 0 1 = cc in absurd (omega arith)
 
 left-over : (s : List ℕ) (xs : List Token) (r : List ℕ) → 0 < length r → outcome s (at-end xs r) ≡ refused (length s - length r)
 left-over s xs [] h = absurd (omega arith)

@@ -1,13 +1,14 @@
 -- Twin of ChannelFile, pinned by channel_io ClampedClaim.
 -- The bytes stored from a file: one byte an entry of meet, three bytes a node of the rule (document 01, "Rules"). A number
 -- above 255 stands as 255, which every judgement on it takes as it takes the number (Claims, ClampClaim).
-use Prim.Native.Nat.{ℕ, min}
+use Prim.Native.Nat.{ℕ, min, _*_}
 use mathlib.Core.{Path.{_≡_}, List.{List, [], _∷_}, Option.{Option, none, some}}
-use lib.ListN.{length, take}
+use lib.ListN.{length, take, replicate}
+use Rattle.limits.specs.Limits.{meet-limit, node-limit}
 use Rattle.refusal.specs.{declared.Refusal.{Refusal}, declared.Refusal.the-variants.{At}, Refusal.{put}}
 use Rattle.text_format.specs.Format.{Outcome, contents, refused}
-use Rattle.channel_file.specs.{ChannelFile.{Token, Contents, encoded}, FileFormat.{kind, first, second}, Reading.{read-file, read-tokens}}
-use Rattle.channel_file.specs.{declared.Stored.{Stored}, declared.TokenList.{TokenList}}
+use Rattle.channel_file.specs.{ChannelFile.{Token, Contents, encoded}, FileFormat.{kind, first, second}, Reading.{read-tokens}}
+use Rattle.channel_file.specs.{declared.Stored.{Stored}, declared.ReadArrays.{ReadArrays}, declared.TokenList.{TokenList}}
 
 abbrev pub clamp : ℕ → ℕ
 clamp v = min v 255
@@ -25,7 +26,7 @@ meet-bytes c = encoded entry (c .meet)
 abbrev pub rule-bytes : Contents → List ℕ
 rule-bytes c = encoded node (c .rule)
 
--- ---- storing into lent buffers
+-- ---- storing into buffers
 
 -- The front of an output, as far as a buffer has room for it, over the front of what the buffer held.
 abbrev pub put-front : List ℕ → List ℕ → List ℕ
@@ -50,11 +51,9 @@ abbrev pub stored-rule : Outcome Contents → List ℕ → List ℕ
 stored-rule (contents c) rule = put-front (rule-bytes c) rule
 stored-rule (refused p) rule = rule
 
--- Reply and buffers of a call that reads the text t.
-pub record Stores (t meet rule meet′ rule′ : List ℕ) (r : Stored) : Type 0 where
-  pub reply : r ≡ stored-reply (read-file t)
-  pub meet-is : meet′ ≡ stored-meet (read-file t) meet
-  pub rule-is : rule′ ≡ stored-rule (read-file t) rule
+-- What is read of a text: the reply, and two arrays that held 0 alone.
+abbrev pub arrays-of : Outcome Contents → ReadArrays
+arrays-of x = record { reply = stored-reply x; meet = stored-meet x (replicate meet-limit 0); rule = stored-rule x (replicate (node-limit * 3) 0) }
 
 -- The same of a text of tokens alone: how many nodes it has, or that it is no list of tokens.
 abbrev pub token-reply : Outcome (List Token) → TokenList

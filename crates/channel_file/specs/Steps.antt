@@ -3,14 +3,16 @@
 use Prim.Native.Nat.{ℕ, _+_, _≤_}
 use mathlib.Core.{Path.{_≡_}, List.{List, [], _∷_, _++_}, Bool.{Bool, true, false}}
 use lib.ListN.{length, drop}
-use Rattle.text_format.specs.{Format.{Parsed, ok, bad, bind, Format, contents}, Texts.{ascii}, Combinators.{the, word}, Decimal.{numbered-parse}}
+use Rattle.text_format.specs.{Format.{Parsed, ok, bad, bind, Format, Outcome, contents}, Texts.{ascii}, Combinators.{the, word}, Decimal.{numbered-parse}}
 use Rattle.text_format.specs.Series.{Separator, space, newline, separator, number-item}
-use Rattle.channel_file.specs.ChannelFile.{Token, token-T, token-A, token-V, token-X, token-G, token-O, encoded}
-use Rattle.channel_file.specs.FileFormat.{token-item, entries, field, head, meet-line, rule-line}
-use Rattle.channel_file.specs.{Reading.{read-file, read-tokens, stretch, tokens-stretch}, Bytes.{node, entry, put-front, token-reply}}
+use Rattle.channel_file.specs.ChannelFile.{Token, token-T, token-A, token-V, token-X, token-G, token-O, Contents, encoded}
+use Rattle.channel_file.specs.FileFormat.{token-item, field, head, meet-line, rule-line}
+use Rattle.channel_file.specs.Reading.{read-file, read-tokens, stretch, tokens-stretch, checked}
+use Rattle.channel_file.specs.Bytes.{node, entry, meet-bytes, rule-bytes, put-front, token-reply}
 use Rattle.channel_file.specs.{declared.Item.{Item}, declared.Behind.{Behind}, declared.Number.{Number}, declared.Ended.{Ended}, declared.Entry.{Entry}}
 use Rattle.channel_file.specs.{declared.Taken.{Taken}, declared.Scanned.{Scanned}, declared.Reached.{Reached}, declared.Head.{Head}}
-use Rattle.channel_file.specs.{declared.Line.{Line}, declared.Span.{Span}, declared.TokenList.{TokenList}}
+use Rattle.channel_file.specs.{declared.Line.{Line}, declared.Span.{Span}, declared.Checked.{Checked}, declared.Stored.{Stored}}
+use Rattle.channel_file.specs.{declared.ReadArrays.{ReadArrays}, declared.TokenList.{TokenList}}
 
 -- The token and the separator that values of src/ stand for.
 abbrev pub token-of : Item → Token
@@ -101,12 +103,34 @@ pub record SpansTokens (t : List ℕ) (r : Span) : Type 0 where
 
 -- ---- series that are stored
 
--- The answer to the entries that stand in t at an offset; where they can be read, the buffer has them, as far as there is room.
-pub record StoresEntries (t : List ℕ) (at : ℕ) (old new : List ℕ) (r : Number) : Type 0 where
-  pub reply : SawNumber (count-of entries) t at r
-  pub buffer : (xs rest : List ℕ) → entries .parse (drop at t) ≡ ok xs rest → new ≡ put-front (encoded entry xs) old
+-- The answer to the items that stand in t at an offset; where they can be read, the buffer has their codes, as far as there is room.
+pub record StoresItems {A : Type 0} (F : Format (List A)) (code : A → List ℕ) (t : List ℕ) (at : ℕ) (old new : List ℕ) (r : Number) : Type 0 where
+  pub reply : SawNumber (count-of F) t at r
+  pub buffer : (xs : List A) (rest : List ℕ) → F .parse (drop at t) ≡ ok xs rest → new ≡ put-front (encoded code xs) old
 
--- The same of the tokens that a whole text shows.
+-- A field is read, and nothing is stored.
+pub record ReadsField (parse : List ℕ → Parsed ℕ) (t : List ℕ) (at : ℕ) (old new : List ℕ) (r : Number) : Type 0 where
+  pub reply : SawNumber parse t at r
+  pub buffer : new ≡ old
+
+-- The answer to a line, and what its buffer has.
+abbrev pub ReadsLine : Line → List ℕ → ℕ → List ℕ → List ℕ → Number → Type 0
+ReadsLine Line.Events = ReadsField (line-parse Line.Events)
+ReadsLine Line.Values = ReadsField (line-parse Line.Values)
+ReadsLine Line.Top = ReadsField (line-parse Line.Top)
+ReadsLine Line.Meet = StoresItems meet-line entry
+ReadsLine Line.Rule = StoresItems rule-line node
+
+-- The answer to a text that is read as x; where it has contents, the buffers have their bytes, as far as there is room.
+pub record ReadsForm (x : Outcome Contents) (meet rule meet′ rule′ : List ℕ) (r : Checked) : Type 0 where
+  pub reply : r ≡ checked x
+  pub bytes : (c : Contents) → x ≡ contents c → (meet′ ≡ put-front (meet-bytes c) meet) × (rule′ ≡ put-front (rule-bytes c) rule)
+
+-- A reply and two arrays, as what is read of a text.
+abbrev pub in-arrays : Stored → List ℕ → List ℕ → ReadArrays
+in-arrays r meet rule = record { reply = r; meet = meet; rule = rule }
+
+-- The answer to the tokens that a whole text shows, stored as the items above.
 pub record StoresTokens (t old new : List ℕ) (r : TokenList) : Type 0 where
   pub reply : r ≡ token-reply (read-tokens t)
   pub buffer : (xs : List Token) → read-tokens t ≡ contents xs → new ≡ put-front (encoded node xs) old

@@ -1,18 +1,21 @@
-// The channel file: its form and refusal 4, the bytes stored from it, and the stretch of its tokens.
+// The channel file: its form and refusal 4, the bytes read from it, and the stretch of its tokens.
 ghost use mathlib.Core.Path.{_≡_};
-ghost use Prim.Native.Nat.{_≤_};
-ghost use lib.ListN.{length};
+ghost use Prim.Native.Nat.{_≤_, _*_};
+ghost use lib.ListN.{length, replicate};
+ghost use Rattle.limits.specs.Limits.{meet-limit, node-limit};
 ghost use Rattle.text_format.specs.Format.{read};
 ghost use Rattle.text_format.specs.Decimal.{is-digit, numeral-parse};
 ghost use Rattle.text_output.specs.Output.{Puts};
 ghost use Rattle.channel_file.specs.FileFormat.{first, second};
-ghost use Rattle.channel_file.specs.FileFormat.{field, tokens, meet-line, rule-line, file};
+ghost use Rattle.channel_file.specs.FileFormat.{field, entries, tokens, meet-line, rule-line, file};
 ghost use Rattle.channel_file.specs.Reading.{checked, read-file, tokens-stretch};
-ghost use Rattle.channel_file.specs.Bytes.{clamp, node, Stores, ReadsTokens};
+ghost use Rattle.channel_file.specs.Bytes.{clamp, entry, node, arrays-of, ReadsTokens};
 ghost use Rattle.channel_file.specs.FileFormat.{kind};
 ghost use Rattle.channel_file.specs.Steps.{token-of, SawNumber, SawEnded, SawEnd, SawEntry, SawToken, SawItem, SawWord, SawHead};
-ghost use Rattle.channel_file.specs.Steps.{count-of, line-parse, SpansTokens, StoresEntries, StoresTokens};
+ghost use Rattle.channel_file.specs.Steps.{SpansTokens, StoresItems, ReadsLine, ReadsForm, in-arrays, StoresTokens};
 use limits::FILE_LIMIT;
+use limits::MEET_LIMIT;
+use limits::NODE_LIMIT;
 use refusal::Refusal;
 use refusal::TEXT_FORM;
 use text_output::put;
@@ -31,7 +34,7 @@ pub enum Checked {
     Refused(Refusal),
 }
 
-// Reply of a call that reads a text into two buffers: its numbers, and how many meet entries and rule items it has; or 4.
+// The reply to a text that is read: its numbers, and how many meet entries and rule items it has; or 4.
 pub enum Stored {
     Form {
         events: usize,
@@ -41,6 +44,17 @@ pub enum Stored {
         items: usize,
     },
     Refused(Refusal),
+}
+
+// No rule has more nodes, three bytes each.
+const NODE_BYTES: usize = NODE_LIMIT * 3;
+
+// What is read of a text: the reply; its meet entries, one byte each; and its rule's nodes, three bytes each, a numeral above 255 as 255.
+// Both as far as the arrays go, with 0 behind them, and 0 alone beside a refusal.
+pub struct ReadArrays {
+    pub reply: Stored,
+    pub meet: [u8; MEET_LIMIT],
+    pub rule: [u8; NODE_BYTES],
 }
 
 // The answer to a text of tokens alone: how many nodes it has, or that it is no list of tokens.
@@ -287,31 +301,6 @@ fn word_at(text: &[u8], at: usize, key: &[u8]) -> Reached
     Reached::Past(i)
 }
 
-// The tokens of the rule line, to its end: how many.
-fn items_at(text: &[u8], at: usize) -> Number
-    requires { ⌜ at ≤ length (now text) ⌝ }
-    ensures { λ r. ⌜ SawNumber (count-of tokens) (now (text .entry)) at r ⌝ }
-{
-    let mut i = at;
-    let mut n = 0;
-    loop {
-        match item_at(text, i) {
-            Scanned::Bad(p) => {
-                return Number::Bad(p);
-            }
-            Scanned::Of(_, e, m) => match e {
-                Behind::Newline => {
-                    return Number::Value(n + 1, m);
-                }
-                Behind::Space => {
-                    i = m;
-                    n += 1;
-                }
-            },
-        }
-    }
-}
-
 fn clip(v: usize) -> u8
     ensures { λ r. ⌜ r ≡ clamp v ⌝ }
 {
@@ -369,7 +358,7 @@ fn put_node(out: &mut [u8], at: usize, x: Item) -> usize
 // The entries of the meet line, to its end, stored as far as there is room: how many.
 fn entries_at(text: &[u8], at: usize, out: &mut [u8]) -> Number
     requires { ⌜ at ≤ length (now text) ⌝ }
-    ensures { λ r. ⌜ StoresEntries (now (text .entry)) at (now (out .entry)) (now (out .exit)) r ⌝ }
+    ensures { λ r. ⌜ StoresItems entries entry (now (text .entry)) at (now (out .entry)) (now (out .exit)) r ⌝ }
 {
     let mut i = at;
     let mut n = 0;
@@ -395,6 +384,35 @@ fn entries_at(text: &[u8], at: usize, out: &mut [u8]) -> Number
     }
 }
 
+// The same of the rule line's items: the node of each.
+fn items_at(text: &[u8], at: usize, out: &mut [u8]) -> Number
+    requires { ⌜ at ≤ length (now text) ⌝ }
+    ensures { λ r. ⌜ StoresItems tokens node (now (text .entry)) at (now (out .entry)) (now (out .exit)) r ⌝ }
+{
+    let mut i = at;
+    let mut n = 0;
+    let mut k = 0;
+    loop {
+        match item_at(text, i) {
+            Scanned::Bad(p) => {
+                return Number::Bad(p);
+            }
+            Scanned::Of(x, e, m) => {
+                k = put_node(out, k, x);
+                n += 1;
+                match e {
+                    Behind::Newline => {
+                        return Number::Value(n, m);
+                    }
+                    Behind::Space => {
+                        i = m;
+                    }
+                }
+            }
+        }
+    }
+}
+
 // A key and a numeral-parse, to the line's end.
 fn field_at(text: &[u8], at: usize, key: &[u8]) -> Number
     requires { ⌜ at ≤ length (now text) ⌝ }
@@ -406,41 +424,39 @@ fn field_at(text: &[u8], at: usize, key: &[u8]) -> Number
     }
 }
 
-// A key and the items of a list, to the line's end: how many. The same for the rule's line below.
-fn meet_line_at(text: &[u8], at: usize) -> Number
+// A key and the items of a list, to the line's end, stored as far as there is room: how many. The same for the rule's line below.
+fn meet_line_at(text: &[u8], at: usize, out: &mut [u8]) -> Number
     requires { ⌜ at ≤ length (now text) ⌝ }
-    ensures { λ r. ⌜ SawNumber (count-of meet-line) (now (text .entry)) at r ⌝ }
+    ensures { λ r. ⌜ StoresItems meet-line entry (now (text .entry)) at (now (out .entry)) (now (out .exit)) r ⌝ }
 {
     match word_at(text, at, b"meet=") {
         Reached::Bad(p) => Number::Bad(p),
-        Reached::Past(a) => {
-            let mut none = [0u8; 0];
-            entries_at(text, a, &mut none)
-        }
+        Reached::Past(a) => entries_at(text, a, out),
     }
 }
 
-fn rule_line_at(text: &[u8], at: usize) -> Number
+fn rule_line_at(text: &[u8], at: usize, out: &mut [u8]) -> Number
     requires { ⌜ at ≤ length (now text) ⌝ }
-    ensures { λ r. ⌜ SawNumber (count-of rule-line) (now (text .entry)) at r ⌝ }
+    ensures { λ r. ⌜ StoresItems rule-line node (now (text .entry)) at (now (out .entry)) (now (out .exit)) r ⌝ }
 {
     match word_at(text, at, b"rule=") {
         Reached::Bad(p) => Number::Bad(p),
-        Reached::Past(a) => items_at(text, a),
+        Reached::Past(a) => items_at(text, a, out),
     }
 }
 
-// A line: its numeral-parse, or how many items it has; and the offset behind it, where the next line starts.
-fn line_at(text: &[u8], at: usize, line: Line) -> Number
+// A line: its numeral-parse, or how many items it has, which are stored as far as there is room; and the offset behind it, where the
+// next line starts.
+fn line_at(text: &[u8], at: usize, line: Line, out: &mut [u8]) -> Number
     requires { ⌜ at ≤ length (now text) ⌝ }
-    ensures { λ r. ⌜ SawNumber (line-parse line) (now (text .entry)) at r ⌝ }
+    ensures { λ r. ⌜ ReadsLine line (now (text .entry)) at (now (out .entry)) (now (out .exit)) r ⌝ }
 {
     match line {
         Line::Events => field_at(text, at, b"events="),
         Line::Values => field_at(text, at, b"values="),
         Line::Top => field_at(text, at, b"top="),
-        Line::Meet => meet_line_at(text, at),
-        Line::Rule => rule_line_at(text, at),
+        Line::Meet => meet_line_at(text, at, out),
+        Line::Rule => rule_line_at(text, at, out),
     }
 }
 
@@ -451,31 +467,32 @@ fn reader_at<'a>(text: &'a [u8], at: usize) -> Reader<'a>
     Reader { text, at }
 }
 
-// The line at which a reader stands.
-fn take_line<'a>(r: Reader<'a>, line: Line) -> Number
+// The line at which a reader stands, with the buffer for its items.
+fn take_line<'a, 'b>(r: Reader<'a>, line: Line, out: &'b mut [u8]) -> Number
     requires { ⌜ r .at ≤ length (now (r .text)) ⌝ }
-    ensures { λ n. ⌜ SawNumber (line-parse line) (now (r .entry .text)) (r .entry .at) n ⌝ }
+    ensures { λ n. ⌜ ReadsLine line (now (r .entry .text)) (r .entry .at) (now (out .entry)) (now (out .exit)) n ⌝ }
 {
-    line_at(r.text, r.at, line)
+    line_at(r.text, r.at, line, out)
 }
 
 // The line that starts at an offset, through a reader: reading works down the text by it.
-fn read_line(text: &[u8], at: usize, line: Line) -> Number
+fn read_line(text: &[u8], at: usize, line: Line, out: &mut [u8]) -> Number
     requires { ⌜ at ≤ length (now text) ⌝ }
-    ensures { λ r. ⌜ SawNumber (line-parse line) (now (text .entry)) at r ⌝ }
+    ensures { λ r. ⌜ ReadsLine line (now (text .entry)) at (now (out .entry)) (now (out .exit)) r ⌝ }
 {
-    take_line(reader_at(text, at), line)
+    take_line(reader_at(text, at), line, out)
 }
 
-// The first three lines.
+// The first three lines, which have no items.
 fn head_at(text: &[u8]) -> Head
     ensures { λ r. ⌜ SawHead (now (text .entry)) 0 r ⌝ }
 {
-    match read_line(text, 0, Line::Events) {
+    let mut none = [0u8; 0];
+    match read_line(text, 0, Line::Events, &mut none) {
         Number::Bad(p) => Head::Bad(p),
-        Number::Value(events, a) => match read_line(text, a, Line::Values) {
+        Number::Value(events, a) => match read_line(text, a, Line::Values, &mut none) {
             Number::Bad(p) => Head::Bad(p),
-            Number::Value(values, b) => match read_line(text, b, Line::Top) {
+            Number::Value(values, b) => match read_line(text, b, Line::Top, &mut none) {
                 Number::Bad(p) => Head::Bad(p),
                 Number::Value(top, d) => Head::Numbers(events, values, top, d),
             },
@@ -483,15 +500,15 @@ fn head_at(text: &[u8]) -> Head
     }
 }
 
-// The form without its length limit.
-fn check_text(text: &[u8]) -> Checked
-    ensures { λ r. ⌜ r ≡ checked (read file (now (text .entry))) ⌝ }
+// The form without its length limit. Each line is read once: its items are stored as far as there is room.
+fn read_lines(text: &[u8], meet: &mut [u8], rule: &mut [u8]) -> Checked
+    ensures { λ r. ⌜ ReadsForm (read file (now (text .entry))) (now (meet .entry)) (now (rule .entry)) (now (meet .exit)) (now (rule .exit)) r ⌝ }
 {
     match head_at(text) {
         Head::Bad(p) => Checked::Refused(Refusal::At(TEXT_FORM, p)),
-        Head::Numbers(events, values, top, a) => match read_line(text, a, Line::Meet) {
+        Head::Numbers(events, values, top, a) => match read_line(text, a, Line::Meet, meet) {
             Number::Bad(p) => Checked::Refused(Refusal::At(TEXT_FORM, p)),
-            Number::Value(entries, b) => match read_line(text, b, Line::Rule) {
+            Number::Value(entries, b) => match read_line(text, b, Line::Rule, rule) {
                 Number::Bad(p) => Checked::Refused(Refusal::At(TEXT_FORM, p)),
                 Number::Value(items, d) => {
                     if d < text.len() {
@@ -513,14 +530,61 @@ fn check_text(text: &[u8]) -> Checked
     }
 }
 
-// Refusal 4: the numbers of a text and where its items are, or 4 with the place where it is refused.
-pub fn check_form(text: &[u8]) -> Checked
-    ensures { λ r. ⌜ r ≡ checked (read-file (now (text .entry))) ⌝ }
+// The form, with what is stored of it where it is not refused.
+fn read_form(text: &[u8], meet: &mut [u8], rule: &mut [u8]) -> Checked
+    ensures { λ r. ⌜ ReadsForm (read-file (now (text .entry))) (now (meet .entry)) (now (rule .entry)) (now (meet .exit)) (now (rule .exit)) r ⌝ }
 {
     if FILE_LIMIT < text.len() {
         return Checked::Refused(Refusal::At(TEXT_FORM, FILE_LIMIT));
     }
-    check_text(text)
+    read_lines(text, meet, rule)
+}
+
+// Refusal 4: the numbers of a text and where its items are, or 4 with the place where it is refused.
+pub fn check_form(text: &[u8]) -> Checked
+    ensures { λ r. ⌜ r ≡ checked (read-file (now (text .entry))) ⌝ }
+{
+    let mut meet = [0u8; 0];
+    let mut rule = [0u8; 0];
+    read_form(text, &mut meet, &mut rule)
+}
+
+// Reads a text into arrays of 0, which are cleared again beside a refusal.
+fn fill_arrays(text: &[u8], meet: &mut [u8; MEET_LIMIT], rule: &mut [u8; NODE_BYTES]) -> Stored
+    requires { ⌜ (now meet ≡ replicate meet-limit 0) × (now rule ≡ replicate (node-limit * 3) 0) ⌝ }
+    ensures { λ r. ⌜ in-arrays r (now (meet .exit)) (now (rule .exit)) ≡ arrays-of (read-file (now (text .entry))) ⌝ }
+{
+    match read_form(text, meet, rule) {
+        Checked::Refused(refusal) => {
+            *meet = [0u8; MEET_LIMIT];
+            *rule = [0u8; NODE_BYTES];
+            Stored::Refused(refusal)
+        }
+        Checked::Form {
+            events,
+            values,
+            top,
+            entries,
+            items,
+            ..
+        } => Stored::Form {
+            events,
+            values,
+            top,
+            entries,
+            items,
+        },
+    }
+}
+
+// Reads a text in one pass. The counts are those of the text, also where the arrays have no room for all of it.
+pub fn read_arrays(text: &[u8]) -> ReadArrays
+    ensures { λ r. ⌜ r ≡ arrays-of (read-file (now (text .entry))) ⌝ }
+{
+    let mut meet = [0u8; MEET_LIMIT];
+    let mut rule = [0u8; NODE_BYTES];
+    let reply = fill_arrays(text, &mut meet, &mut rule);
+    ReadArrays { reply, meet, rule }
 }
 
 fn token_span(text: &[u8]) -> Span
@@ -583,34 +647,4 @@ pub fn read_tokens(text: &[u8], out: &mut [u8]) -> TokenList
         return TokenList::Malformed;
     }
     store_tokens(text, out)
-}
-
-// Reads a text into two buffers as far as there is room: its meet entries, one byte each, and its rule's nodes, three bytes each, a
-// numeral-parse above 255 as 255. The counts are those of the text.
-pub fn read_text(text: &[u8], meet: &mut [u8], rule: &mut [u8]) -> Stored
-    ensures { λ r. ⌜ Stores (now (text .entry)) (now (meet .entry)) (now (rule .entry)) (now (meet .exit)) (now (rule .exit)) r ⌝ }
-{
-    match check_form(text) {
-        Checked::Refused(refusal) => Stored::Refused(refusal),
-        Checked::Form {
-            events,
-            values,
-            top,
-            entries,
-            meet_at,
-            items,
-            rule_at,
-        } => {
-            let end = text.len() - 1;
-            entries_at(text, meet_at, meet);
-            store_tokens(&text[rule_at..end], rule);
-            Stored::Form {
-                events,
-                values,
-                top,
-                entries,
-                items,
-            }
-        }
-    }
 }

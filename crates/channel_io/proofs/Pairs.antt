@@ -22,8 +22,8 @@ use Rattle.channel_io.specs.FileRefusals.{pair-refusal, contents-refusal
 use Rattle.channel_io.specs.FileReading.{numbers}
 use Rattle.channel_io.specs.FileConditions.{file-numbers}
 use Rattle.channel_io.specs.FileReading.{accepted-or, read-answer, meet-after, rule-after, ReadsFile}
-use Rattle.channel_io.specs.Steps.{held-setup, shown-entries, shown-nodes, Holding, OffForm, Keeps}
-use Rattle.channel_io.proofs.ShownBytes.{file-shown, all-shown}
+use Rattle.channel_io.specs.Steps.{held-setup, shown-entries, shown-nodes, Keeps}
+use Rattle.channel_io.proofs.ShownBytes.{file-shown, all-shown, Holding, OffForm}
 
 -- ---- 1 to 3, then 5 to 9
 module _ (s : Setup) (rule : List ℕ) where

@@ -3,10 +3,10 @@ use Prim.Native.Nat.{ℕ, _*_, _/_, _≤_, _<_}
 use mathlib.Core.{Path.{_≡_, refl, sym, ap, _∙_}, List.{List, []}, Bool.{Bool, true, false, cond}, Option.{Option, none, some}}
 use native.Mathlib.{Omega.{arith}, Nat.{mul-le-mul}}
 use borrow.Author.Tests.{le-leb, leb-true, leb-false}
-use lib.{Dec.{leb}, ListN.{length, take, drop}, Seq.{take-at}}
+use lib.{Dec.{leb}, ListN.{length, take, drop, replicate, length-replicate}, Seq.{take-at}}
 use Rattle.theory.proofs.ValueSets.{and-left}
 use Rattle.limits.specs.Limits.{meet-limit, node-limit}
-use Rattle.refusal.specs.declared.Refusal.{Refusal}
+use Rattle.refusal.specs.declared.{Refusal.{Refusal}, Refusal.the-variants.{At}}
 use Rattle.refusal.specs.RefusalAnswers.{or-else, plain-unless}
 use Rattle.refusal.specs.Refusal.{put}
 use Rattle.refusal.proofs.Refusals.{or-else-none, plain-none}
@@ -19,14 +19,14 @@ use Rattle.formulas.specs.RuleRefusal.{count-fits, rule-refusal}
 use Rattle.formulas.proofs.Decoding.{CountFits, count-facts}
 use Rattle.text_format.specs.Format.{Outcome, contents, refused}
 use Rattle.channel_file.specs.{ChannelFile.{Contents}, Reading.{read-file}}
-use Rattle.channel_file.specs.Bytes.{entry, node, meet-bytes, rule-bytes, put-front, stored-reply, stored-meet, stored-rule, Stores}
-use Rattle.channel_file.specs.declared.Stored.{Stored}
-use Rattle.channel_file.proofs.Buffers.{encoded-length, front-whole}
-use Rattle.channel_io.specs.FileConditions.{file-setup}
+use Rattle.channel_file.specs.{Bytes.{entry, node, meet-bytes, rule-bytes, put-front, stored-reply, arrays-of}, declared.ReadArrays.{ReadArrays}}
+use Rattle.channel_file.proofs.Buffers.{encoded-length, front-whole, front-length}
+use Rattle.channel_io.specs.FileConditions.{file-setup, file-numbers}
 use Rattle.channel_file.specs.ChannelFile.{node-numbers, rule-numbers}
 use Rattle.channel_io.specs.FileRefusals.{pair-refusal, contents-refusal}
 use Rattle.channel_io.specs.FileReading.{numbers}
-use Rattle.channel_io.specs.Steps.{shown-entries, shown-nodes, Holding, OffForm}
+use Rattle.channel_io.specs.Steps.{shown-entries, shown-nodes, held-by}
+use Rattle.channel_io.specs.declared.{FileNumbers.{FileNumbers}, Held.{Held}, Held.the-variants.{File, Refused}}
 use Rattle.channel_io.proofs.Clamping.{meet-clamped, rule-clamped, setup-same, rule-same, limits, nothing-clamped}
 
 -- ---- lengths
@@ -139,30 +139,49 @@ all-shown c e =
 
 -- ---- what is held of a text
 
--- the bytes that were stored stand at the front
-front : (s old new : List ℕ) (n : ℕ) → new ≡ put-front s old → length s ≤ length old → n ≡ length s → take n new ≡ s
-unfolding put
-front s old new n e h l = ap (take n) (e ∙ front-whole s old h) ∙ take-at s (drop (length s) old) n (sym l)
+-- A text is refused, with 4 at a place.
+pub record OffForm (t : List ℕ) (r : Refusal) : Type 0 where
+  pub place : ℕ
+  pub answer : read-file t ≡ refused place
+  pub is : r ≡ At 4 place
 
-module _ (c : Contents) (entries nodes entries′ nodes′ : List ℕ) (m n j k : ℕ) where
-  held-entries : length entries ≡ meet-limit → entries′ ≡ put-front (meet-bytes c) entries → j ≡ cond (leb (length (c .meet)) meet-limit) (length (c .meet)) 0
-      → take j entries′ ≡ shown-entries c
-  held-entries l e d = ap (λ (i : ℕ). take i entries′) d ∙ go (leb (length (c .meet)) meet-limit) refl
+-- Two arrays hold what is judged of a text at their fronts, of m and k bytes.
+pub record Holding (t entries nodes : List ℕ) (n : FileNumbers) (m k : ℕ) : Type 0 where
+  pub inside : Contents
+  pub answer : read-file t ≡ contents inside
+  pub numbers-are : n ≡ file-numbers inside
+  pub few-entries : m ≤ length entries
+  pub few-nodes : k ≤ length nodes
+  pub entries-are : take m entries ≡ shown-entries inside
+  pub nodes-are : take k nodes ≡ shown-nodes inside
+
+-- the bytes that were stored stand at the front
+front : (s old : List ℕ) (n : ℕ) → length s ≤ length old → n ≡ length s → take n (put-front s old) ≡ s
+unfolding put
+front s old n h l = ap (take n) (front-whole s old h) ∙ take-at s (drop (length s) old) n (sym l)
+
+module _ (c : Contents) where
+  held-entries : take (cond (leb (length (c .meet)) meet-limit) (length (c .meet)) 0) (put-front (meet-bytes c) (replicate meet-limit 0)) ≡ shown-entries c
+  held-entries = go (leb (length (c .meet)) meet-limit) refl
     where
-      go : (b : Bool) → leb (length (c .meet)) meet-limit ≡ b → take (cond b (length (c .meet)) 0) entries′ ≡ cond b (meet-bytes c) []
+      go : (b : Bool) → leb (length (c .meet)) meet-limit ≡ b
+          → take (cond b (length (c .meet)) 0) (put-front (meet-bytes c) (replicate meet-limit 0)) ≡ cond b (meet-bytes c) []
       go true f =
           let h = leb-true (length (c .meet)) meet-limit f in
-          front (meet-bytes c) entries entries′ (length (c .meet)) e (omega (arith, entries-length c)) (sym (entries-length c))
+          front (meet-bytes c) (replicate meet-limit 0) (length (c .meet)) (omega (arith, entries-length c, length-replicate {A = ℕ} meet-limit 0))
+          (sym (entries-length c))
       go false f = refl
 
-  held-nodes : length nodes ≡ node-limit * 3 → nodes′ ≡ put-front (rule-bytes c) nodes → k ≡ 3 * cond (leb (length (c .rule)) node-limit) (length (c .rule)) 0
-      → take k nodes′ ≡ shown-nodes c
-  held-nodes l e d = ap (λ (i : ℕ). take i nodes′) d ∙ go (leb (length (c .rule)) node-limit) refl
+  held-nodes : take (3 * cond (leb (length (c .rule)) node-limit) (length (c .rule)) 0) (put-front (rule-bytes c) (replicate (node-limit * 3) 0))
+      ≡ shown-nodes c
+  held-nodes = go (leb (length (c .rule)) node-limit) refl
     where
-      go : (b : Bool) → leb (length (c .rule)) node-limit ≡ b → take (3 * cond b (length (c .rule)) 0) nodes′ ≡ cond b (rule-bytes c) []
+      go : (b : Bool) → leb (length (c .rule)) node-limit ≡ b
+          → take (3 * cond b (length (c .rule)) 0) (put-front (rule-bytes c) (replicate (node-limit * 3) 0)) ≡ cond b (rule-bytes c) []
       go true f =
           let h = leb-true (length (c .rule)) node-limit f in
-          front (rule-bytes c) nodes nodes′ (3 * length (c .rule)) e (omega (arith, nodes-length c)) (sym (nodes-length c))
+          front (rule-bytes c) (replicate (node-limit * 3) 0) (3 * length (c .rule))
+          (omega (arith, nodes-length c, length-replicate {A = ℕ} (node-limit * 3) 0)) (sym (nodes-length c))
       go false f = refl
 
 -- a count that is judged is within its limit
@@ -173,35 +192,38 @@ shown-few count limit r e = go (leb count limit) refl e
     go true f d = let h = leb-true count limit f in omega arith
     go false f d = omega arith
 
-module _ {t entries nodes entries′ nodes′ : List ℕ} {r : Stored} (s : Stores t entries nodes entries′ nodes′ r) where
-  -- 4
-  pub off-form : {q : Refusal} → r ≡ Stored.Refused q → OffForm t q
-  off-form {q} d = go (read-file t) refl (sym d ∙ s .reply)
-    where
-      go : (x : Outcome Contents) → read-file t ≡ x → Stored.Refused q ≡ stored-reply x → OffForm t q
-      go (contents c) f e = let z : _≡_ {A = ℕ} 0 1 = cc in absurd (omega arith)
-      go (refused p) f e = record { place = p; answer = f; is = cc }
+-- what is held of a text that was read into arrays: 4
+pub off-form : (t : List ℕ) {a : ReadArrays} {h : Held} {q : Refusal} → a ≡ arrays-of (read-file t) → h ≡ held-by (a .reply) → h ≡ Refused q → OffForm t q
+off-form t {q = q} e d f = go (read-file t) refl (sym f ∙ d ∙ ap (λ (z : ReadArrays). held-by (z .reply)) e)
+  where
+    go : (x : Outcome Contents) → read-file t ≡ x → Refused q ≡ held-by (stored-reply x) → OffForm t q
+    go (contents c) r g = let z : _≡_ {A = ℕ} 0 1 = cc in absurd (omega arith)
+    go (refused p) r g = record { place = p; answer = r; is = cc }
 
-  pub holds : {e v p m n : ℕ} (j i : ℕ) → length entries ≡ meet-limit → length nodes ≡ node-limit * 3 → length entries′ ≡ meet-limit
-      → length nodes′ ≡ node-limit * 3 → r ≡ Stored.Form e v p m n → j ≡ cond (leb m meet-limit) m 0 → i ≡ cond (leb n node-limit) n 0
-      → Holding t entries′ nodes′ (numbers e v p m n) j (3 * i)
-  unfolding numbers
-  holds {e} {v} {p} {m} {n} j i le ln le′ ln′ d dj di = go (read-file t) refl (sym d ∙ s .reply) (s .meet-is) (s .rule-is)
-    where
-      go : (x : Outcome Contents) → read-file t ≡ x → Stored.Form e v p m n ≡ stored-reply x → entries′ ≡ stored-meet x entries → nodes′ ≡ stored-rule x nodes
-          → Holding t entries′ nodes′ (numbers e v p m n) j (3 * i)
-      go (contents c) f q x y =
-          let em : m ≡ length (c .meet) = cc in
-          let en : n ≡ length (c .rule) = cc in
-          record {
-            inside = c;
-            answer = f;
-            numbers-are = cc;
-            few-entries = omega (arith, shown-few m meet-limit j dj);
-            few-nodes = omega (arith, shown-few n node-limit i di);
-            entries-are = held-entries c entries nodes entries′ nodes′ m n j (3 * i) le x (dj ∙ ap (λ (z : ℕ). cond (leb z meet-limit) z 0) em);
-            nodes-are =
-                held-nodes c entries nodes entries′ nodes′ m n j (3 * i) ln y
-                (ap (λ (z : ℕ). 3 * z) (di ∙ ap (λ (z : ℕ). cond (leb z node-limit) z 0) en));
-          }
-      go (refused q) f d x y = let z : _≡_ {A = ℕ} 0 1 = cc in absurd (omega arith)
+-- or what is judged
+pub holds : (t : List ℕ) {a : ReadArrays} {h : Held} {n : FileNumbers} {m k : ℕ} → a ≡ arrays-of (read-file t) → h ≡ held-by (a .reply)
+    → h ≡ File n m k → Holding t (a .meet) (a .rule) n m k
+unfolding numbers
+holds t {a = a} {n = n} {m = m} {k = k} e d f = go (read-file t) refl e (sym f ∙ d ∙ ap (λ (z : ReadArrays). held-by (z .reply)) e)
+  where
+    go : (x : Outcome Contents) → read-file t ≡ x → a ≡ arrays-of x → File n m k ≡ held-by (stored-reply x) → Holding t (a .meet) (a .rule) n m k
+    go (contents c) r e g =
+        let em : m ≡ cond (leb (length (c .meet)) meet-limit) (length (c .meet)) 0 = cc in
+        let ek : k ≡ 3 * cond (leb (length (c .rule)) node-limit) (length (c .rule)) 0 = cc in
+        let lm : length (a .meet) ≡ meet-limit =
+        ap (λ (z : ReadArrays). length (z .meet)) e ∙ front-length (meet-bytes c) (replicate meet-limit 0) ∙ length-replicate {A = ℕ} meet-limit 0 in
+        let ln : length (a .rule) ≡ node-limit * 3 =
+        ap (λ (z : ReadArrays). length (z .rule)) e ∙ front-length (rule-bytes c) (replicate (node-limit * 3) 0) ∙ length-replicate {A = ℕ}
+        (node-limit * 3) 0 in
+        record {
+          inside = c;
+          answer = r;
+          numbers-are = cc;
+          few-entries = omega (arith, shown-few (length (c .meet)) meet-limit m em);
+          few-nodes = omega (arith, shown-few (length (c .rule)) node-limit _ refl);
+          entries-are =
+              ap (λ (z : ReadArrays). take m (z .meet)) e ∙ ap (λ (i : ℕ). take i (put-front (meet-bytes c) (replicate meet-limit 0))) em ∙ held-entries c;
+          nodes-are =
+              ap (λ (z : ReadArrays). take k (z .rule)) e ∙ ap (λ (i : ℕ). take i (put-front (rule-bytes c) (replicate (node-limit * 3) 0))) ek ∙ held-nodes c;
+        }
+    go (refused p) r e g = let z : _≡_ {A = ℕ} 0 1 = cc in absurd (omega arith)

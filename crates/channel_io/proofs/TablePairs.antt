@@ -32,8 +32,8 @@ use Rattle.channel_io.specs.FileRefusals.{pair-compile-refusal}
 use Rattle.channel_io.specs.FileReading.{numbers}
 use Rattle.channel_io.specs.FileConditions.{file-numbers}
 use Rattle.channel_io.specs.FileCompilation.{made-or, file-table-answer, entries-after, table-after, CompilesFile}
-use Rattle.channel_io.specs.Steps.{held-setup, shown-entries, shown-nodes, Holding, OffForm, CompilesPair}
-use Rattle.channel_io.proofs.ShownBytes.{file-shown, all-shown}
+use Rattle.channel_io.specs.Steps.{held-setup, shown-entries, shown-nodes, CompilesPair}
+use Rattle.channel_io.proofs.ShownBytes.{file-shown, all-shown, Holding, OffForm}
 
 -- ---- a set-up of either kind and a rule that are compiled
 module _ (s : Setup) (rule : List ℕ) where

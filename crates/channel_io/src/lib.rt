@@ -1,6 +1,6 @@
 // Channel files read, written and compiled, with all their refusals: 4, 1 to 3, 5 to 10 and 13.
 use channel_file::Stored;
-use channel_file::read_text;
+use channel_file::read_arrays;
 use channel_writer::write_text;
 use formulas::check_rule;
 use limits::MEET_LIMIT;
@@ -15,17 +15,14 @@ use values::ValueKind;
 use values::check_setup_by_sets;
 ghost use mathlib.Core.Path.{_≡_};
 ghost use mathlib.Core.Bool.{cond};
-ghost use Prim.Native.Nat.{_*_};
 ghost use lib.Dec.{leb, ltb};
-ghost use lib.ListN.{length};
-ghost use Rattle.limits.specs.Limits.{meet-limit, node-limit};
 ghost use Rattle.refusal.specs.RefusalAnswers.{judgement};
 ghost use Rattle.values.specs.Setup.{setup};
 ghost use Rattle.channel_io.specs.FileRefusals.{pair-refusal};
 ghost use Rattle.channel_io.specs.FileReading.{ReadsFile};
 ghost use Rattle.channel_io.specs.FileCompilation.{CompilesFile};
 ghost use Rattle.channel_io.specs.FileWriting.{WritesFile};
-ghost use Rattle.channel_io.specs.Steps.{HoldsFile, Keeps, CompilesPair};
+ghost use Rattle.channel_io.specs.Steps.{held-by, Keeps, CompilesPair};
 
 // The numbers of a file: those of its set-up, and how many meet entries and nodes it has.
 pub struct FileNumbers {
@@ -54,9 +51,6 @@ enum Held {
     Refused(Refusal),
 }
 
-// No rule has more nodes, three bytes each.
-const NODE_BYTES: usize = NODE_LIMIT * 3;
-
 // 1 to 3 for a set-up, then 5 to 9 for a rule.
 fn check_pair(events: usize, values: usize, top: usize, meet: &[u8], rule: &[u8]) -> Judgement
     ensures { λ r. ⌜ r ≡ judgement (pair-refusal (setup events values top (now (meet .entry))) (now (rule .entry))) ⌝ }
@@ -75,12 +69,11 @@ fn shown(count: usize, limit: usize) -> usize
     if count <= limit { count } else { 0 }
 }
 
-// Stores the entries and nodes of a text.
-fn store_text(text: &[u8], entries: &mut [u8], nodes: &mut [u8]) -> Held
-    requires { ⌜ (length (now entries) ≡ meet-limit) × (length (now nodes) ≡ node-limit * 3) ⌝ }
-    ensures { λ r. ⌜ HoldsFile (now (text .entry)) (now (entries .exit)) (now (nodes .exit)) r ⌝ }
+// What is held of a text, by the reply to it.
+fn hold(reply: Stored) -> Held
+    ensures { λ r. ⌜ r ≡ held-by reply ⌝ }
 {
-    match read_text(text, entries, nodes) {
+    match reply {
         Stored::Refused(refusal) => Held::Refused(refusal),
         Stored::Form {
             events,
@@ -102,10 +95,10 @@ fn store_text(text: &[u8], entries: &mut [u8], nodes: &mut [u8]) -> Held
 }
 
 // Entries and nodes of a file, judged and put into two buffers; both are looked at before any is written.
-fn keep_pair(
+fn keep_pair<'a>(
     numbers: FileNumbers,
-    entries: &[u8],
-    nodes: &[u8],
+    entries: &'a [u8],
+    nodes: &'a [u8],
     meet: &mut [u8],
     rule: &mut [u8],
 ) -> FileRead
@@ -131,11 +124,15 @@ fn keep_pair(
 pub fn read_file(text: &[u8], meet: &mut [u8], rule: &mut [u8]) -> FileRead
     ensures { λ r. ⌜ ReadsFile (now (text .entry)) (now (meet .entry)) (now (rule .entry)) (now (meet .exit)) (now (rule .exit)) r ⌝ }
 {
-    let mut entries = [0u8; MEET_LIMIT];
-    let mut nodes = [0u8; NODE_BYTES];
-    match store_text(text, &mut entries, &mut nodes) {
+    let arrays = read_arrays(text);
+    let reply = arrays.reply;
+    match hold(reply) {
         Held::Refused(refusal) => FileRead::Refused(refusal),
-        Held::File(numbers, m, n) => keep_pair(numbers, &entries[..m], &nodes[..n], meet, rule),
+        Held::File(numbers, m, n) => {
+            let entries: &[u8] = &arrays.meet;
+            let nodes: &[u8] = &arrays.rule;
+            keep_pair(numbers, &entries[..m], &nodes[..n], meet, rule)
+        }
     }
 }
 
@@ -148,10 +145,10 @@ fn table_room(entries: usize, meet: usize, to: usize) -> usize
 
 // The table of entries and nodes, and the entries, put into two buffers. A table has at least one byte, so that it has no room where
 // the entries have none.
-fn compile_pair(
+fn compile_pair<'a>(
     numbers: FileNumbers,
-    entries: &[u8],
-    nodes: &[u8],
+    entries: &'a [u8],
+    nodes: &'a [u8],
     meet: &mut [u8],
     to: &mut [u8],
 ) -> FileTable
@@ -181,11 +178,15 @@ fn compile_pair(
 pub fn compile_file(text: &[u8], meet: &mut [u8], to: &mut [u8]) -> FileTable
     ensures { λ r. ⌜ CompilesFile (now (text .entry)) (now (meet .entry)) (now (to .entry)) (now (meet .exit)) (now (to .exit)) r ⌝ }
 {
-    let mut entries = [0u8; MEET_LIMIT];
-    let mut nodes = [0u8; NODE_BYTES];
-    match store_text(text, &mut entries, &mut nodes) {
+    let arrays = read_arrays(text);
+    let reply = arrays.reply;
+    match hold(reply) {
         Held::Refused(refusal) => FileTable::Refused(refusal),
-        Held::File(numbers, m, n) => compile_pair(numbers, &entries[..m], &nodes[..n], meet, to),
+        Held::File(numbers, m, n) => {
+            let entries: &[u8] = &arrays.meet;
+            let nodes: &[u8] = &arrays.rule;
+            compile_pair(numbers, &entries[..m], &nodes[..n], meet, to)
+        }
     }
 }
 

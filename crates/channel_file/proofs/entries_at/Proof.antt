@@ -7,13 +7,13 @@ use Rattle.text_format.specs.Format.{ok}
 use Rattle.text_output.proofs.Outputs.{puts-none, puts-as, puts-length}
 use Rattle.channel_file.specs.Steps.{separator-of, SawEntry}
 use Rattle.channel_file.specs.declared.Behind.{Behind}
-use Rattle.channel_file.proofs.{Offsets.{entry-forward}, Storing.{TookEntries, entries-none, entries-stuck, entries-next, entries-end}}
+use Rattle.channel_file.proofs.{Offsets.{entry-forward}, Storing.{meet-entries, TookItems, items-none, items-stuck, items-next, items-end}}
 use borrow.Author.Needs.{needs}
 use Rattle.channel_file.proofs.entries_at.Statement.{statement}
 use Rattle.channel_file.proofs.entries_at.Tie as tie
 
 abbrev Inv-loop : tie.InvT-loop
-Inv-loop text at out₀ i₀ n₀ k₀ out i n k = (i ≤ length text) × (n ≤ i) × TookEntries text at i out₀ out n k
+Inv-loop text at out₀ i₀ n₀ k₀ out i n k = (i ≤ length text) × (n ≤ i) × TookItems meet-entries text at i out₀ out n k
 
 abbrev μ-loop : tie.MeasureT-loop
 μ-loop text at out₀ i₀ n₀ k₀ out i n k = length text - i
@@ -21,7 +21,7 @@ abbrev μ-loop : tie.MeasureT-loop
 loop-holds : tie.Need-loop-holds Inv-loop μ-loop
 loop-holds c =
     let a = c .before .before .args in
-    (c .before .before .pre, omega arith, entries-none (a .text .now) (a .at) (a .out .now) (puts-none _ 0 (omega arith) (omega arith)))
+    (c .before .before .pre, omega arith, items-none meet-entries (a .text .now) (a .at) (a .out .now) (puts-none _ 0 (omega arith) (omega arith)))
 
 entry-at-requires : tie.Need-entry-at-requires Inv-loop μ-loop
 entry-at-requires c κs = c .loop .inv .0
@@ -33,7 +33,7 @@ returns : tie.Need-returns Inv-loop μ-loop
 returns c =
     let a = c .before .before .before .before .before .before .before .args in
     let l = c .before .before .before .before .loop in
-    entries-stuck (a .text .now) (a .at) (l .i) (l .inv .2) _ (subst (SawEntry (a .text .now) (l .i)) (c .before .p .given .1)
+    items-stuck meet-entries (a .text .now) (a .at) (l .i) (l .inv .2) _ (subst (SawEntry (a .text .now) (l .i)) (c .before .p .given .1)
     (c .before .before .before .entry-at .ensures))
 
 same-length-2 : tie.Need-same-length-2 Inv-loop μ-loop
@@ -47,7 +47,7 @@ returns-2 c =
     let l = d .before .before .before .loop in
     let x = d .v .given in
     let q = subst (SawEntry (a .text .now) (l .i)) (x .1) (d .before .before .entry-at .ensures) in
-    entries-end (a .text .now) (a .at) (l .i) (l .inv .2) (x .0 .0) (x .0 .1 .1 .0)
+    items-end meet-entries (a .text .now) (a .at) (l .i) (l .inv .2) (x .0 .0) (x .0 .1 .1 .0)
     (puts-as (ap (λ (z : ℕ). z ∷ []) (c .before .before .before .before .before .clip .ensures)) (c .before .before .before .before .put .ensures))
     (record {
       same = q .same ∙ ap (λ (z : Behind). ok (x .0 .0, separator-of z) (drop (x .0 .1 .1 .0) (a .text .now))) (c .enum-told .given .1);
@@ -77,7 +77,7 @@ loop-again c =
     let n = l .inv .1 in (
       w,
       omega arith,
-      entries-next (a .text .now) (a .at) (l .i) (l .inv .2) (x .0) (x .1 .1 .0)
+      items-next meet-entries (a .text .now) (a .at) (l .i) (l .inv .2) (x .0) (x .1 .1 .0)
           (puts-as (ap (λ (z : ℕ). z ∷ []) (c .before .before .before .before .before .clip .ensures)) (c .before .before .before .before .put .ensures))
           (record {
             same = q .same ∙ ap (λ (z : Behind). ok (x .0, separator-of z) (drop (x .1 .1 .0) (a .text .now))) (c .enum-told2 .given .1);

@@ -1,52 +1,39 @@
 -- `compile_file` meets its contract: 4, or what is answered of the bytes that are judged.
-use mathlib.Core.Path.{sym, subst}
-use native.Mathlib.Omega.{arith}
+use mathlib.Core.Path.{sym}
 use lib.Seq.{length-take-le}
-use Rattle.channel_io.specs.Steps.{HoldsFile}
-use Rattle.channel_io.proofs.TablePairs.{compiles-off-form, compiles-held}
+use Rattle.channel_io.proofs.{ShownBytes.{off-form, holds}, TablePairs.{compiles-off-form, compiles-held}}
 use borrow.Author.Needs.{needs}
 use Rattle.channel_io.proofs.compile_file.Statement.{statement}
 use Rattle.channel_io.proofs.compile_file.Tie as tie
 
-array-share-prefix-entries : tie.Need-array-share-prefix-entries
-array-share-prefix-entries c =
-    let h = subst (HoldsFile (c .before .before .before .before .before .before .before .before .before .before .before .args .text .now) _ _)
-    (c .before .numbers .given .1) (c .before .before .before .before .before .store-text .ensures) in
-    omega (arith, h .few-entries)
-
 slice-aggregate-compile-pair : tie.Need-slice-aggregate-compile-pair
 slice-aggregate-compile-pair c =
-    let h = subst (HoldsFile (c .before .before .before .before .before .before .before .before .before .before .before .before .args .text .now) _ _)
-    (c .before .before .numbers .given .1) (c .before .before .before .before .before .before .store-text .ensures) in
-    sym (length-take-le _ _ (omega (arith, h .few-entries)))
-
-array-share-prefix-nodes : tie.Need-array-share-prefix-nodes
-array-share-prefix-nodes c =
-    let h = subst (HoldsFile (c .before .before .before .before .before .before .before .before .before .before .before .before .args .text .now) _ _)
-    (c .before .before .numbers .given .1) (c .before .before .before .before .before .before .store-text .ensures) in
-    omega (arith, h .few-nodes)
+    let d = c .before .before .before .before .before .before .before in
+    let h = holds (d .before .before .before .before .before .before .before .args .text .now) (d .before .before .before .read-arrays .ensures)
+    (d .before .before .hold .ensures) (d .numbers .given .1) in
+    sym (length-take-le _ _ (h .few-entries))
 
 slice-aggregate-compile-pair-2 : tie.Need-slice-aggregate-compile-pair-2
 slice-aggregate-compile-pair-2 c =
-    let h = subst (HoldsFile (c .before .before .before .before .before .before .before .before .before .before .before .before .before .args .text .now) _ _)
-    (c .before .before .before .numbers .given .1) (c .before .before .before .before .before .before .before .store-text .ensures) in
-    sym (length-take-le _ _ (omega (arith, h .few-nodes)))
+    let d = c .before .before .before .before .before .before .before .before in
+    let h = holds (d .before .before .before .before .before .before .before .args .text .now) (d .before .before .before .read-arrays .ensures)
+    (d .before .before .hold .ensures) (d .numbers .given .1) in
+    sym (length-take-le _ _ (h .few-nodes))
 
 returns : tie.Need-returns
 returns c =
-    let a = c .before .before .before .before .before .before .before .before .before .before .before .args in
-    compiles-off-form (a .meet .now) (a .to .now) (subst (HoldsFile (a .text .now) _ _) (c .before .refusal .given .1)
-    (c .before .before .before .before .before .store-text .ensures))
+    let a = c .before .before .before .before .before .before .before .before .args in
+    compiles-off-form (a .meet .now) (a .to .now)
+    (off-form (a .text .now) (c .before .before .before .before .read-arrays .ensures) (c .before .before .before .hold .ensures)
+    (c .before .refusal .given .1))
 
 returns-2 : tie.Need-returns-2
 returns-2 c =
-    let d = c .before .before .before .before .before .before .before .before .before .before in
-    let a = d .before .before .before .before .before .before .before .before .before .before .args in
-    compiles-held (a .meet .now) (a .to .now) _ _ _ (subst (HoldsFile (a .text .now) _ _) (d .numbers .given .1)
-    (d .before .before .before .before .store-text .ensures))
-    (c .before .before .before .before .compile-pair .ensures)
+    let d = c .before .before .before .before .before .before .before .before .before .before .before .before .before .before .before in
+    let a = d .before .before .before .before .before .before .before .args in
+    compiles-held (a .meet .now) (a .to .now) _ _ _ (holds (a .text .now) (d .before .before .before .read-arrays .ensures) (d .before .before .hold .ensures)
+    (d .numbers .given .1)) (c .before .before .before .before .compile-pair .ensures)
 
 pub compile-file-spec : {M : Type 1} → statement M
-compile-file-spec = tie.close (tie.spec (λ c. search needs) (λ c. search needs) (λ c κs. search needs) (λ c. search needs) (λ c. search needs)
-    array-share-prefix-entries slice-aggregate-compile-pair array-share-prefix-nodes slice-aggregate-compile-pair-2 (λ c κs. search needs) returns
-    (λ c. search needs) (λ c. search needs) returns-2)
+compile-file-spec = tie.close (tie.spec (λ c κs. search needs) (λ c κs. search needs) (λ c. search needs) (λ c. search needs)
+    slice-aggregate-compile-pair slice-aggregate-compile-pair-2 (λ c κs. search needs) returns (λ c. search needs) (λ c. search needs) returns-2)
