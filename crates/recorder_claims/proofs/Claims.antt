@@ -20,7 +20,7 @@ use Rattle.values.specs.SetupInOrder.{KindInLimits}
 use Rattle.values.specs.SetupTests.{setup-refusal, events-test}
 use Rattle.values.proofs.Setups.{setup-judged, setup-accepted, square-small}
 use Rattle.formulas.specs.RuleRefusal.{formula-of}
-use Rattle.synthesis.proofs.LentTable.{laws}
+use Rattle.synthesis.proofs.{LentTable.{laws}, StatePlaces.{getD-zeros}}
 use Rattle.channel_log.specs.Calls.{Call, load, event, restart, restart-all, clear, all-empty, Loaded, concerns}
 use Rattle.channel_log.specs.CallSteps.{call-refusal}
 use Rattle.channel_log.proofs.Record.{record-claim, independence-claim}
@@ -29,7 +29,7 @@ use Rattle.recorder_claims.specs.Claims.{LooksAt}
 use Rattle.recorder.specs.Store.{ToolFault, setup-fails, channel-fails}
 use Rattle.recorder.specs.ToolTests.{passed, setup-test, channel-test, test-of, named-test, tool-test}
 use Rattle.recorder.specs.{CompiledRule.{rule-judged, loaded-rule}, Called.{content, called, filled, empty-store, meet-cells, new-store, blank}}
-use Rattle.recorder.proofs.Rows.{getD-zeros, take-filled}
+use Rattle.recorder.proofs.Rows.{take-filled}
 use Rattle.recorder.proofs.Held.{held-above, held-empty, accepted-of-test, in-order-of-test, test-of-in-order}
 use Rattle.recorder.proofs.{Decided.{table-of, state-of, refused-call}, Replays.{accepted-of, repeated}}
 use Rattle.recorder_claims.specs.Claims.{ToolRecordClaim, ToolIndependenceClaim, BlankClaim, ToolTestClaim, ReplayClaim}

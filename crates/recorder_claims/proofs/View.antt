@@ -12,7 +12,8 @@ use Rattle.recorder.specs.Store.{Store, loaded-at, rows-start, held, channels}
 use Rattle.recorder.specs.ToolTests.{part}
 use Rattle.recorder.specs.ToolTests.{channel-test, test-of}
 use Rattle.recorder.specs.Called.{with-current, with-rows, stored-rows}
-use Rattle.recorder.proofs.Rows.{getD-zeros, part-inside, part-before, part-after, rows-in, rows-apart, entries-fit}
+use Rattle.synthesis.proofs.StatePlaces.{getD-zeros}
+use Rattle.recorder.proofs.Rows.{part-inside, part-before, part-after, rows-in, rows-apart, entries-fit}
 use Rattle.recorder.proofs.Held.{held-above, held-empty, held-some, in-order-of-test}
 
 -- Another state in the same table.
