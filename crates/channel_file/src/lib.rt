@@ -151,7 +151,7 @@ fn digit(b: u8) -> bool
     if b < 48 { false } else { b < 58 }
 }
 
-// A numeral-parse of one to three digits without leading zero.
+// A numeral of one to three digits without leading zero.
 fn number_at(text: &[u8], at: usize) -> Number
     requires { ⌜ at ≤ length (now text) ⌝ }
     ensures { λ r. ⌜ SawNumber (numeral-parse 2) (now (text .entry)) at r ⌝ }
@@ -184,7 +184,7 @@ fn number_at(text: &[u8], at: usize) -> Number
     Number::Value(v, i)
 }
 
-// A numeral-parse and the one byte that may end it.
+// A numeral and the one byte that may end it.
 fn ended_at(text: &[u8], at: usize, end: u8) -> Number
     requires { ⌜ at ≤ length (now text) ⌝ }
     ensures { λ r. ⌜ SawEnded end (now (text .entry)) at r ⌝ }
@@ -413,7 +413,7 @@ fn items_at(text: &[u8], at: usize, out: &mut [u8]) -> Number
     }
 }
 
-// A key and a numeral-parse, to the line's end.
+// A key and a numeral, to the line's end.
 fn field_at(text: &[u8], at: usize, key: &[u8]) -> Number
     requires { ⌜ at ≤ length (now text) ⌝ }
     ensures { λ r. ⌜ SawNumber (field (now (key .entry)) .parse) (now (text .entry)) at r ⌝ }
@@ -445,7 +445,7 @@ fn rule_line_at(text: &[u8], at: usize, out: &mut [u8]) -> Number
     }
 }
 
-// A line: its numeral-parse, or how many items it has, which are stored as far as there is room; and the offset behind it, where the
+// A line: its numeral, or how many items it has, which are stored as far as there is room; and the offset behind it, where the
 // next line starts.
 fn line_at(text: &[u8], at: usize, line: Line, out: &mut [u8]) -> Number
     requires { ⌜ at ≤ length (now text) ⌝ }
@@ -637,7 +637,7 @@ fn store_tokens(text: &[u8], out: &mut [u8]) -> TokenList
 }
 
 // Reads tokens with one space between, as they stand in a rule line, into a buffer as far as there is room: three bytes a node, a
-// numeral-parse above 255 as 255. Nothing is written where the text is no list of tokens.
+// numeral above 255 as 255. Nothing is written where the text is no list of tokens.
 pub fn read_tokens(text: &[u8], out: &mut [u8]) -> TokenList
     ensures { λ r. ⌜ ReadsTokens (now (text .entry)) (now (out .entry)) (now (out .exit)) r ⌝ }
 {

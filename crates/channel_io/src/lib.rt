@@ -120,7 +120,7 @@ fn keep_pair<'a>(
     FileRead::Accepted(numbers)
 }
 
-// ReadsFile a channel file: its meet entries into one buffer and its rule's nodes, three bytes each, into the other.
+// Reads a channel file: its meet entries into one buffer and its rule's nodes, three bytes each, into the other.
 pub fn read_file(text: &[u8], meet: &mut [u8], rule: &mut [u8]) -> FileRead
     ensures { λ r. ⌜ ReadsFile (now (text .entry)) (now (meet .entry)) (now (rule .entry)) (now (meet .exit)) (now (rule .exit)) r ⌝ }
 {
