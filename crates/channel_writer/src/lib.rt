@@ -161,7 +161,7 @@ fn put_lines(out: &mut [u8], events: u8, values: u8, top: u8, meet: &[u8], nodes
     put_rule(out, f, nodes)
 }
 
-// WritesContents the text of a set-up's numbers, its meet entries and a rule's nodes: 5 without entries, without nodes, or where a node has no
+// Writes the text of a set-up's numbers, its meet entries and a rule's nodes: 5 without entries, without nodes, or where a node has no
 // token; 13 for a text over 4,096 bytes or longer than the buffer; else its length.
 pub fn write_text(
     events: u8,
