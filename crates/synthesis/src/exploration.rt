@@ -105,7 +105,7 @@ fn advance(
     }
 }
 
-// States have places by their sets. 2 is of order 130 modulo 131, so that sets of one node in a word have places of their own.
+// States have places by their sets. 2 is of order 130 modulo 131, so that no two bits of a word weigh the same.
 const PLACES: usize = 131;
 
 // A link for each state, to an earlier one of its place where there is one.
