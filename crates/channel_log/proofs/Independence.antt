@@ -13,11 +13,14 @@ use Rattle.channel_log.specs.CallSteps.{effect, settled, step}
 use Rattle.channel_log.specs.Calls.{replies, final}
 use Rattle.channel_log.specs.Calls.{concerns, struck, replies-on}
 
-put-at : {X : Type 0} (c : ℕ) (x : Option X) (L : Channels X) → with-channel c x L c ≡ x
+pub put-at : {X : Type 0} (c : ℕ) (x : Option X) (L : Channels X) → with-channel c x L c ≡ x
 put-at c x L = ap (λ t. cond t x (L c)) (eq-eqb c c refl)
 
 put-other : {X : Type 0} (d c : ℕ) (x : Option X) (L : Channels X) → eqb d c ≡ false → with-channel d x L c ≡ L c
 put-other d c x L e = ap (λ t. cond t x (L c)) (ne-eqb c d (λ p. eqb-false d c e (sym p)))
+
+pub put-apart : {X : Type 0} (c d : ℕ) (x : Option X) (L : Channels X) → ¬ (d ≡ c) → with-channel c x L d ≡ L d
+put-apart c d x L n = ap (λ t. cond t x (L d)) (ne-eqb d c n)
 
 module _ {X Input Output : Type 0} (K : Content X Input Output)
     (local : (L N : Channels X) (c : ℕ) (r : List ℕ) → L c ≡ N c → K .load-refusal L c r ≡ K .load-refusal N c r) (c : ℕ) where

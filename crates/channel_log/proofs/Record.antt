@@ -1,9 +1,9 @@
 -- Demand 3 and independence for any tool whose calls take its channels as `recorded` says, over compiled tables that are the rules'.
-use mathlib.Core.{Path.{_≡_, refl, sym, _∙_, ap, subst, subst⁻¹}, Bool.{Bool, true, false, cond, true≢false}, Logic.{⊎-elim}, List.{List, [], _∷_}}
+use mathlib.Core.{Path.{_≡_, refl, sym, _∙_, ap, ap₂, subst, subst⁻¹}, Bool.{Bool, true, false, cond, true≢false}, Logic.{⊎-elim}, List.{List, [], _∷_}}
 use mathlib.Core.Option.{Option, none, some, Option·some-ne-none}
-use Prim.Native.Nat.{ℕ, zero, _<_}
+use Prim.Native.Nat.{ℕ, zero, _+_, _<_}
 use native.Mathlib.Omega.{arith}
-use lib.Dec.{ltb, eqb}
+use lib.Dec.{ltb, leb, eqb}
 use borrow.Author.Tests.{ltb-true, eqb-false}
 use Rattle.theory.specs.ValueSets.{MeetSemilattice}
 use Rattle.theory.specs.Formula.{Formula}
@@ -13,15 +13,17 @@ use Rattle.theory.specs.ReachableStates.{IsTableOf}
 use Rattle.theory.proofs.{SemanticsEquality.{only-answer}, WordOrder.{word-append}, ReachableStates.{after-append}, Claims.{table-values}}
 use Rattle.refusal.specs.declared.Refusal.{Refusal}
 use Rattle.refusal.specs.declared.Refusal.the-variants.{Plain}
-use Rattle.limits.specs.Limits.{channel-limit}
+use Rattle.limits.specs.Limits.{channel-limit, total-limit}
 use Rattle.refusal.specs.Refusal.{Condition, plain, at-lowest, Gives, First, part-of, condition-numbers}
 use Rattle.refusal.specs.RefusalClaims.{refusal-number}
 use Rattle.refusal.specs.RefusalAnswers.{or-else}
+use Rattle.refusal.proofs.Refusals.{or-else-none}
 use Rattle.channel_log.specs.Calls.{Call, load, event, restart, restart-all, clear, Reply, accepted, returned, refused, Channels, all-empty}
 use Rattle.channel_log.specs.CallSteps.{channel-refusal, Content, empty-refusal, on-event, call-refusal, event-reply, accepted-reply}
 use Rattle.channel_log.specs.CallSteps.{effect, settled, step}
 use Rattle.channel_log.specs.Calls.{replies, final, History}
-use Rattle.channel_log.specs.Log.{large-event, value-after, log}
+use Rattle.channel_log.specs.Distance.{Wheel, Occurrence, Reading, reading}
+use Rattle.channel_log.specs.Log.{large-event, large-total, occurrence-refusal, value-after, log}
 use Rattle.channel_log.specs.Calls.{Loaded}
 use Rattle.channel_log.specs.Recorded.{recorded}
 use Rattle.channel_log.specs.Calls.{replies-on}
@@ -35,6 +37,11 @@ not-large events e h = go (ltb e events) refl h
     go : (t : Bool) → ltb e events ≡ t → cond t none (some (Plain 16)) ≡ none → e < events
     go true p x = ltb-true e events p
     go false p x = absurd (Option·some-ne-none (Plain 16) x)
+
+-- An occurrence that 16 and 19 do not refuse has an event below the count.
+pub event-fits : (events total : ℕ) (i : Occurrence) → occurrence-refusal events total i ≡ none → i .event < events
+event-fits events total i h =
+    not-large events (i .event) (or-else-none (large-event events (i .event)) (large-total (total + i .pulses)) h .0)
 
 -- The refusal, if any, has another refusal-number.
 abbrev pub Not : ℕ → Option Refusal → Type 0
@@ -77,16 +84,16 @@ unfolding or-else
 first-not-17 none b p q = q
 first-not-17 (some r) b p q = p
 
-module _ {B : Type 0} (In : B → Type 0) (meet : B → B → B) (top : B) (laws : MeetSemilattice In meet top) (events : ℕ)
+module _ {B : Type 0} (In : B → Type 0) (meet : B → B → B) (top : B) (laws : MeetSemilattice In meet top) (events : ℕ) (wheel : Wheel)
     (judged : List ℕ → Option Refusal) (formula-of : List ℕ → Formula B) (table-of : List ℕ → Loaded B)
     (good : (r : List ℕ) → judged r ≡ none → WellFormed events In (formula-of r))
     (compiled : (r : List ℕ) → judged r ≡ none → IsTableOf meet top events (formula-of r) (table-of r .states) (table-of r .table))
     (not-17 : (r : List ℕ) → Not 17 (judged r)) where
-  abbrev logged : Content (History B) ℕ B
-  logged = log meet top events judged formula-of
+  abbrev logged : Content (History B) Occurrence (Reading B)
+  logged = log meet top events wheel judged formula-of
 
-  abbrev channel : Content (Loaded B) ℕ B
-  channel = recorded events judged table-of
+  abbrev channel : Content (Loaded B) Occurrence (Reading B)
+  channel = recorded events wheel judged table-of
 
   -- A channel stands as its history says.
   pub record Stands (h : History B) (x : Loaded B) : Type 0 where
@@ -94,37 +101,53 @@ module _ {B : Type 0} (In : B → Type 0) (meet : B → B → B) (top : B) (laws
     pub word : Word events (h .events)
     pub table : IsTableOf meet top events (h .rule) (x .states) (x .table)
     pub state : x .current ≡ after (x .table) zero (h .events)
+    pub total : x .total ≡ h .total
 
-  same-output :
+  same-value :
       (h : History B) (x : Loaded B) (e : ℕ) → Stands h x → e < events →
-      value-after meet top events judged formula-of h e ≡ x .table .value (x .current) e
-  same-output h x e s l =
+      value-after meet top events wheel judged formula-of h e ≡ x .table .value (x .current) e
+  same-value h x e s l =
       sym (ap (λ q. x .table .value q e) (s .state)
       ∙ only-answer In meet top events (h .rule) (s .rule) (h .events) e (x .table .value (after (x .table) zero (h .events)) e)
       (table-values In meet top events laws (h .rule) (s .rule) (x .states) (x .table) (s .table) .2 (h .events) (s .word) e l))
+
+  same-refusal :
+      (h : History B) (x : Loaded B) (i : Occurrence) → Stands h x → occurrence-refusal events (h .total) i ≡ occurrence-refusal events (x .total) i
+  same-refusal h x i s = ap (λ n. occurrence-refusal events n i) (sym (s .total))
+
+  same-output :
+      (h : History B) (x : Loaded B) (i : Occurrence) → Stands h x → occurrence-refusal events (h .total) i ≡ none →
+      reading wheel (value-after meet top events wheel judged formula-of h (i .event)) (h .total + i .pulses)
+      ≡ reading wheel (x .table .value (x .current) (i .event)) (x .total + i .pulses)
+  same-output h x i s a =
+      ap₂ (reading wheel) (same-value h x (i .event) s (event-fits events (h .total) i a)) (ap (λ n. n + i .pulses) (sym (s .total)))
 
   matches : Matches logged channel Stands
   matches =
       record {
         load-refusal = λ L N c r a. refl;
-        event-refusal = λ h x e s. refl;
-        loaded = λ L c r a. record { rule = good r a; word = tt; table = compiled r a; state = refl };
-        output = λ h x e s a. same-output h x e s (not-large events e a);
-        moved = λ h x e s a.
+        event-refusal = same-refusal;
+        loaded = λ L c r a. record { rule = good r a; word = tt; table = compiled r a; state = refl; total = refl };
+        output = same-output;
+        moved = λ h x i s a.
             record {
               rule = s .rule;
-              word = word-append events (h .events) (e ∷ []) (s .word) (not-large events e a, tt);
+              word = word-append events (h .events) (i .event ∷ []) (s .word) (event-fits events (h .total) i a, tt);
               table = s .table;
-              state = ap (λ q. x .table .next q e) (s .state) ∙ sym (after-append (x .table) zero (h .events) (e ∷ []));
+              state =
+                  ap (λ q. x .table .next q (i .event)) (s .state) ∙ sym (after-append (x .table) zero (h .events) (i .event ∷ []));
+              total = ap (λ n. n + i .pulses) (s .total);
             };
-        restarted = λ h x s. record { rule = s .rule; word = tt; table = s .table; state = refl };
+        restarted = λ h x s. record { rule = s .rule; word = tt; table = s .table; state = refl; total = refl };
       }
 
   -- 17 never arises in the log.
-  event-not-17 : (h : Option (History B)) (e : ℕ) → Not 17 (on-event logged h e)
+  event-not-17 : (h : Option (History B)) (i : Occurrence) → Not 17 (on-event logged h i)
   unfolding refusal-number
-  event-not-17 none e = λ q. omega arith
-  event-not-17 (some h) e = plain-not-17 (ltb e events) 16 (λ q. omega arith)
+  event-not-17 none i = λ q. omega arith
+  event-not-17 (some h) i =
+      first-not-17 (large-event events (i .event)) (large-total (h .total + i .pulses)) (plain-not-17 (ltb (i .event) events) 16 (λ q. omega arith))
+      (plain-not-17 (leb (h .total + i .pulses) total-limit) 19 (λ q. omega arith))
 
   empty-not-17 : (h : Option (History B)) → Not 17 (empty-refusal h)
   unfolding refusal-number
@@ -134,41 +157,41 @@ module _ {B : Type 0} (In : B → Type 0) (meet : B → B → B) (top : B) (laws
   channel-not-17 : (c : ℕ) → Not 17 (channel-refusal c)
   channel-not-17 c = plain-not-17 (ltb c channel-limit) 14 (λ q. omega arith)
 
-  refusal-not-17 : (L : Channels (History B)) (call : Call ℕ) → Not 17 (call-refusal logged L call)
+  refusal-not-17 : (L : Channels (History B)) (call : Call Occurrence) → Not 17 (call-refusal logged L call)
   refusal-not-17 L (load c r) = first-not-17 (channel-refusal c) (judged r) (channel-not-17 c) (not-17 r)
-  refusal-not-17 L (event c e) = first-not-17 (channel-refusal c) (on-event logged (L c) e) (channel-not-17 c) (event-not-17 (L c) e)
+  refusal-not-17 L (event c i) = first-not-17 (channel-refusal c) (on-event logged (L c) i) (channel-not-17 c) (event-not-17 (L c) i)
   refusal-not-17 L (restart c) = first-not-17 (channel-refusal c) (empty-refusal (L c)) (channel-not-17 c) (empty-not-17 (L c))
   refusal-not-17 L restart-all = tt
   refusal-not-17 L (clear c) = channel-not-17 c
 
-  abbrev NotRefused : Reply B → Type 0
+  abbrev NotRefused : Reply (Reading B) → Type 0
   NotRefused accepted = Unit {0}
   NotRefused (returned v) = Unit {0}
   NotRefused (refused r) = ⊥
 
-  event-not-refused : (h : Option (History B)) (e : ℕ) → NotRefused (event-reply logged h e)
-  event-not-refused none e = tt
-  event-not-refused (some h) e = tt
+  event-not-refused : (h : Option (History B)) (i : Occurrence) → NotRefused (event-reply logged h i)
+  event-not-refused none i = tt
+  event-not-refused (some h) i = tt
 
-  reply-not-refused : (L : Channels (History B)) (call : Call ℕ) → NotRefused (accepted-reply logged L call)
+  reply-not-refused : (L : Channels (History B)) (call : Call Occurrence) → NotRefused (accepted-reply logged L call)
   reply-not-refused L (load c r) = tt
-  reply-not-refused L (event c e) = event-not-refused (L c) e
+  reply-not-refused L (event c i) = event-not-refused (L c) i
   reply-not-refused L (restart c) = tt
   reply-not-refused L restart-all = tt
   reply-not-refused L (clear c) = tt
 
-  never-cons : (a : Reply B) (rs : List (Reply B)) → NotRefused a → Never 17 rs → Never 17 (a ∷ rs)
+  never-cons : (a : Reply (Reading B)) (rs : List (Reply (Reading B))) → NotRefused a → Never 17 rs → Never 17 (a ∷ rs)
   never-cons accepted rs p q = q
   never-cons (returned v) rs p q = q
   never-cons (refused r) rs p q = absurd p
 
   never-settled :
-      (o : Option Refusal) (a : Reply B) (E L : Channels (History B)) (rs : List (Reply B)) → NotRefused a → Not 17 o → Never 17 rs →
+      (o : Option Refusal) (a : Reply (Reading B)) (E L : Channels (History B)) (rs : List (Reply (Reading B))) → NotRefused a → Not 17 o → Never 17 rs →
       Never 17 (settled logged o a E L .0 ∷ rs)
   never-settled none a E L rs p q h = never-cons a rs p h
   never-settled (some r) a E L rs p q h = (q, h)
 
-  log-never : (calls : List (Call ℕ)) (L : Channels (History B)) → Never 17 (replies (step logged) calls L)
+  log-never : (calls : List (Call Occurrence)) (L : Channels (History B)) → Never 17 (replies (step logged) calls L)
   log-never [] L = tt
   log-never (x ∷ xs) L =
       never-settled (call-refusal logged L x) (accepted-reply logged L x) (effect logged L x) L
@@ -176,16 +199,16 @@ module _ {B : Type 0} (In : B → Type 0) (meet : B → B → B) (top : B) (laws
       (log-never xs (step logged x L .1))
 
   -- Any tool whose calls keep it sound and take its channels as `recorded` says, from a sound one with all channels empty.
-  module _ {Tool : Type 0} (call : Call ℕ → Tool → Reply B × Tool) (channels : Tool → Channels (Loaded B)) (Sound : Tool → Type 0)
+  module _ {Tool : Type 0} (call : Call Occurrence → Tool → Reply (Reading B) × Tool) (channels : Tool → Channels (Loaded B)) (Sound : Tool → Type 0)
       (keeps :
-      (x : Call ℕ) (t : Tool) → Sound t →
+      (x : Call Occurrence) (t : Tool) → Sound t →
       (call x t .0 ≡ step channel x (channels t) .0) × Sound (call x t .1) × (channels (call x t .1) ≡ step channel x (channels t) .1))
       (tool : Tool) (sound : Sound tool) (fresh : channels tool ≡ all-empty) where
     abbrev Follows : Tool → Channels (History B) → Type 0
     Follows t L = Sound t × AllRelated logged channel Stands L (channels t)
 
     tool-step :
-        (x : Call ℕ) (t : Tool) (L : Channels (History B)) → Follows t L →
+        (x : Call Occurrence) (t : Tool) (L : Channels (History B)) → Follows t L →
         (call x t .0 ≡ step logged x L .0) × Follows (call x t .1) (step logged x L .1)
     tool-step x t L r =
         let k = keeps x t (r .0) in
@@ -196,7 +219,7 @@ module _ {B : Type 0} (In : B → Type 0) (meet : B → B → B) (top : B) (laws
     start = (sound, subst⁻¹ (AllRelated logged channel Stands all-empty) fresh (λ c. tt))
 
     run :
-        (calls : List (Call ℕ)) →
+        (calls : List (Call Occurrence)) →
         (replies call calls tool ≡ replies (step logged) calls all-empty)
         × Follows (final call calls tool) (final (step logged) calls all-empty)
     run calls = run-related call (step logged) Follows tool-step calls tool all-empty start
@@ -205,7 +228,7 @@ module _ {B : Type 0} (In : B → Type 0) (meet : B → B → B) (top : B) (laws
     as-printed none none r = tt
     as-printed none (some x) r = absurd r
     as-printed (some h) none r = absurd r
-    as-printed (some h) (some x) r = (r .table, r .state)
+    as-printed (some h) (some x) r = (r .table, r .state, r .total)
 
     pub record-claim : RecordClaim call channels logged (StandsAs meet top events) tool
     record-claim calls =
@@ -218,7 +241,7 @@ module _ {B : Type 0} (In : B → Type 0) (meet : B → B → B) (top : B) (laws
 
     -- The tool's channels go as `recorded` says, so that independence is that of one step of calls.
     follows-recorded :
-        (calls : List (Call ℕ)) →
+        (calls : List (Call Occurrence)) →
         (replies call calls tool ≡ replies (step channel) calls all-empty)
         × (Sound (final call calls tool) × (channels (final call calls tool) ≡ final (step channel) calls all-empty))
     follows-recorded calls =

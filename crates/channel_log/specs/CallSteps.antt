@@ -1,6 +1,6 @@
 -- Twin of Calls, pinned by product_claims DemandThree.
--- How eight channels take calls, whatever a loaded channel holds: the log's hold a rule and its events, the tool's a table and a current
--- state, and both take calls by this one definition.
+-- How eight channels take calls, whatever a loaded channel holds: the log's hold a rule, its events and a total, the tool's a table, a
+-- current state and a total, and both take calls by this one definition.
 use mathlib.Core.{Bool.{cond}, List.{List}, Option.{Option, none, some}}
 use Prim.Native.Nat.{ℕ}
 use lib.Dec.{ltb}
@@ -13,7 +13,7 @@ use Rattle.channel_log.specs.Calls.{map-option}
 pub record Content (X Input Output : Type 0) : Type 0 where
   -- 5 to 10 of a rule's bytes for a channel; all channels are in sight
   pub load-refusal : Channels X → ℕ → List ℕ → Option Refusal
-  -- 16 of an event on a loaded channel
+  -- 16 and 19 of an event on a loaded channel
   pub event-refusal : X → Input → Option Refusal
   -- a channel after a load
   pub loaded : List ℕ → X
@@ -33,12 +33,12 @@ empty-refusal none = some (Plain 15)
 empty-refusal (some x) = none
 
 module _ {X Input Output : Type 0} (K : Content X Input Output) where
-  -- 15, then 16.
+  -- 15, then 16 and 19.
   abbrev pub on-event : Option X → Input → Option Refusal
   on-event none i = some (Plain 15)
   on-event (some x) i = K .event-refusal x i
 
-  -- The first refusal in document 01's order: 14, 15, 16, then 5 to 10. A call meets only those that concern its inputs.
+  -- The first refusal in document 01's order: 14, 15, 16, 19, then 5 to 10. A call meets only those that concern its inputs.
   abbrev pub call-refusal : Channels X → Call Input → Option Refusal
   call-refusal L (load c r) = or-else (channel-refusal c) (K .load-refusal L c r)
   call-refusal L (event c i) = or-else (channel-refusal c) (on-event (L c) i)

@@ -38,16 +38,18 @@ abbrev pub map-option : {X Y : Type 0} → (X → Y) → Option X → Option Y
 map-option f none = none
 map-option f (some x) = some (f x)
 
--- What the log has for a channel: a rule, and the events since its load or restart, the first event first.
+-- What the log has for a channel: a rule, the events since its load or restart, the first event first, and the total of their pulses.
 pub record History (B : Type 0) : Type 0 where
   pub rule : Formula B
   pub events : List ℕ
+  pub total : ℕ
 
--- What a tool has: a table of so many states, and a current state.
+-- What a tool has: a table of so many states, a current state, and a total of pulses.
 pub record Loaded (B : Type 0) : Type 0 where
   pub states : ℕ
   pub table : Machine ℕ B
   pub current : ℕ
+  pub total : ℕ
 
 -- A list of calls, each getting what the one before left: the replies, and what is left at the end.
 module _ {C S A : Type 0} (f : C → S → A × S) where
@@ -63,14 +65,21 @@ module _ {C S A : Type 0} (f : C → S → A × S) where
 abbrev pub event-calls : {Input : Type 0} → ℕ → List Input → List (Call Input)
 event-calls c word = map (event c) word
 
--- The channel is empty exactly where the log has nothing; elsewhere it has the table of the rule there and the state that the
--- rule's events reach from state 0.
+-- What such a sequence replies: what its last event returns, or accepted where there is none.
+abbrev pub last-returned : {Output : Type 0} → List Output → Reply Output
+last-returned [] = accepted
+last-returned (r ∷ []) = returned r
+last-returned (r ∷ (x ∷ rs)) = last-returned (x ∷ rs)
+
+-- The channel is empty exactly where the log has nothing; elsewhere it has the table of the rule there, the state that the rule's events
+-- reach from state 0, and the log's total.
 module _ {B : Type 0} (meet : B → B → B) (top : B) (events : ℕ) where
   abbrev pub StandsAs : Option (Loaded B) → Option (History B) → Type 0
   StandsAs none none = Unit {0}
   StandsAs none (some h) = ⊥
   StandsAs (some x) none = ⊥
-  StandsAs (some x) (some h) = IsTableOf meet top events (h .rule) (x .states) (x .table) × (x .current ≡ after (x .table) zero (h .events))
+  StandsAs (some x) (some h) =
+      IsTableOf meet top events (h .rule) (x .states) (x .table) × (x .current ≡ after (x .table) zero (h .events)) × (x .total ≡ h .total)
 
 -- The call names no other channel than c; "a number above 7 counts as another, and restart all names none".
 abbrev pub concerns : {Input : Type 0} → ℕ → Call Input → Bool

@@ -1,4 +1,6 @@
 -- In reading order.
+-- Distance with every event (document 02, F-6).
+pub mod Distance
 -- The calls, what they reply, what channels hold, how they stand by the log, and which calls concern one channel.
 pub mod Calls
 -- What contracts compute with: how channels take calls; the log's channels, and a tool's.

@@ -1,31 +1,41 @@
 -- Twin of ChannelLog, pinned by product_claims DemandThree.
--- The log (document 01, "Tool"): for each channel nothing, or a rule and its events in order. It is fed the set-up and the calls
+-- The log (document 01, "Tool"): for each channel nothing, or a rule, its events in order and a total. It is fed the set-up and the calls
 -- with their inputs, and judges by document 01's list and the formula semantics; no table is built.
 use mathlib.Core.{Bool.{cond}, List.{List, [], _∷_, _++_}, Option.{Option, none, some}}
-use Prim.Native.Nat.{ℕ}
-use lib.Dec.{ltb}
+use Prim.Native.Nat.{ℕ, zero, _+_}
+use lib.Dec.{ltb, leb}
+use Rattle.limits.specs.Limits.{total-limit}
 use Rattle.theory.specs.{Formula.{Formula}, MealyMachine.{after}, Evaluation.{value, formulas}}
-use Rattle.refusal.specs.{declared.Refusal.{Refusal}, declared.Refusal.the-variants.{Plain}}
-use Rattle.channel_log.specs.{Calls.{History}, CallSteps.{Content}}
+use Rattle.refusal.specs.{declared.Refusal.{Refusal}, declared.Refusal.the-variants.{Plain}, RefusalAnswers.{or-else}}
+use Rattle.channel_log.specs.{Calls.{History}, CallSteps.{Content}, Distance.{Wheel, Occurrence, Reading, reading}}
 
 -- 16: event too large.
 abbrev pub large-event : ℕ → ℕ → Option Refusal
 large-event events e = cond (ltb e events) none (some (Plain 16))
 
+-- 19: a total above the limit.
+abbrev pub large-total : ℕ → Option Refusal
+large-total total = cond (leb total total-limit) none (some (Plain 19))
+
+-- 16, then 19 of the total with the event's pulses.
+abbrev pub occurrence-refusal : ℕ → ℕ → Occurrence → Option Refusal
+occurrence-refusal events total i = or-else (large-event events (i .event)) (large-total (total + i .pulses))
+
 -- `judged`: 5 to 10 of a rule's bytes; `formula-of`: the rule that accepted bytes are.
-module _ {B : Type 0} (meet : B → B → B) (top : B) (events : ℕ)
+module _ {B : Type 0} (meet : B → B → B) (top : B) (events : ℕ) (wheel : Wheel)
     (judged : List ℕ → Option Refusal) (formula-of : List ℕ → Formula B) where
   -- The rule's value on e after the channel's events, the follower being taken on each in turn.
   abbrev pub value-after : History B → ℕ → B
   value-after h e = value meet top e (after (formulas meet top) (h .rule) (h .events))
 
-  abbrev pub log : Content (History B) ℕ B
+  -- An event returns the distance of the total with its pulses; a load and a restart begin a total.
+  abbrev pub log : Content (History B) Occurrence (Reading B)
   log =
       record {
         load-refusal = λ L c bytes. judged bytes;
-        event-refusal = λ h e. large-event events e;
-        loaded = λ bytes. record { rule = formula-of bytes; events = [] };
-        output = value-after;
-        moved = λ h e. record { rule = h .rule; events = h .events ++ (e ∷ []) };
-        restarted = λ h. record { rule = h .rule; events = [] };
+        event-refusal = λ h i. occurrence-refusal events (h .total) i;
+        loaded = λ bytes. record { rule = formula-of bytes; events = []; total = zero };
+        output = λ h i. reading wheel (value-after h (i .event)) (h .total + i .pulses);
+        moved = λ h i. record { rule = h .rule; events = h .events ++ (i .event ∷ []); total = h .total + i .pulses };
+        restarted = λ h. record { rule = h .rule; events = []; total = zero };
       }

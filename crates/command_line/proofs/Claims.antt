@@ -242,7 +242,7 @@ each-one P ps p a (List·Memᴰ·tail m) = each-one P _ p (a .1) m
 
 names-right : Each (λ p. named (p .0) ≡ p .1) names
 unfolding equal
-names-right = (refl, (refl, (refl, (refl, (refl, (refl, (refl, (refl, (refl, (refl, (refl, (refl, (refl, (refl, tt))))))))))))))
+names-right = (refl, (refl, (refl, (refl, (refl, (refl, (refl, (refl, (refl, (refl, (refl, (refl, (refl, (refl, (refl, tt)))))))))))))))
 
 pub names-claim : NamesClaim
 names-claim = record { named-so = λ p m. each-one (λ q. named (q .0) ≡ q .1) names p names-right m; listed-so = listed-in names }

@@ -10,7 +10,7 @@ use Rattle.channel_file.specs.Bytes.{clamp}
 use Rattle.channel_file.proofs.Offsets.{here, over}
 use Rattle.command_line.proofs.Writes.{puts, Wrote, wrote-none, wrote-then, puts-whole}
 use Rattle.command_line.specs.declared.{Number.{Number}, Listed.{Listed}}
-use Rattle.command_line.specs.{Words.{words}, Numbers.{digits-from, number-of, capped, number-answer}}
+use Rattle.command_line.specs.{Words.{words}, Numbers.{digits-from, number-of, number-limit, capped, number-answer}}
 use Rattle.command_line.specs.Lists.{and-then, numbers-from, numbers-of, listed, buffer-after, Lists}
 use Rattle.command_line.specs.Steps.{gap, letters, Skips, count-answer, Storable, Stores}
 use Rattle.command_line.proofs.Words.{Led, led-words, words-ahead, word-ahead, led-behind, same-words}
@@ -43,7 +43,7 @@ module _ (w : List ℕ) (v i : ℕ) (r : Reading w v i) where
       record {
         within = omega arith;
         whole = r .whole * 10 + (getD w i 0 - 48);
-        kept = let k : v ≡ min (r .whole) 65535 = r .kept in omega arith;
+        kept = let k : v ≡ min (r .whole) number-limit = r .kept in omega arith;
         same = (simp d at (sym (ap (digits-from (r .whole)) (here w i l)))) ∙ r .same;
       }
 
@@ -169,7 +169,7 @@ pub storing-more : (text old new : List ℕ) (at n q r x : ℕ) → at < length 
 unfolding counting-more
 storing-more text old new at n q r x h p w k e =
     let u = number-value (number-of (take (q - at) (drop at text))) x e in
-    let c : clamp x ≡ clamp (u .value) = let d : x ≡ min (u .value) 65535 = u .kept in omega arith in
+    let c : clamp x ≡ clamp (u .value) = let d : x ≡ min (u .value) number-limit = u .kept in omega arith in
     record {
       counting = counting-more text at n q h (p .counting) w r (u .value) k (u .same);
       wrote =

@@ -23,10 +23,15 @@ unfoldable pub number-of : List ℕ → Option ℕ
 number-of [] = none
 number-of (b ∷ s) = digits-from 0 (b ∷ s)
 
--- ---- the answer: a number above 65,535 stands as 65,535, and document 01 refuses both alike wherever a number is judged
+-- ---- the answer
+
+-- The largest number that a place of a line takes is that of an event's pulses, "0 to 4,294,967,295" (document 02, F-6). The limit is one more;
+-- a number above it stands as the limit, and no place takes either.
+abbrev pub number-limit : ℕ
+number-limit = 4294967296
 
 abbrev pub capped : ℕ → ℕ
-capped v = min v 65535
+capped v = min v number-limit
 
 abbrev pub number-answer : Option ℕ → Number
 number-answer none = Number.Malformed

@@ -6,13 +6,13 @@ ghost use Rattle.text_format.specs.Decimal.{is-digit};
 ghost use Rattle.channel_file.specs.Bytes.{clamp};
 ghost use Rattle.command_line.specs.Words.{words, rest, word};
 ghost use Rattle.command_line.specs.Parts.{at-divider, before-divider, first-part, second-part};
-ghost use Rattle.command_line.specs.Numbers.{number-of, capped, number-answer};
+ghost use Rattle.command_line.specs.Numbers.{number-of, number-limit, capped, number-answer};
 ghost use Rattle.command_line.specs.Lists.{numbers-of, Lists};
 ghost use Rattle.command_line.specs.Names.{equal, named};
 ghost use Rattle.command_line.specs.Steps.{gap, letters, Skips, Starts, count-answer, Storable, Stores, place, command-at};
 
-// A number above this one stands as this one.
-pub const NUMBER_LIMIT: usize = 65535;
+// A number above this one stands as this one, which is one more than the most pulses of an event and legal in no place of a line.
+pub const NUMBER_LIMIT: usize = 4294967296;
 
 // The answer to a word: its number, or that it is none.
 pub enum Number {
@@ -30,6 +30,7 @@ pub enum Listed {
 // The commands.
 pub enum Command {
     Setup,
+    Wheel,
     Table,
     Load,
     Event,
@@ -143,7 +144,7 @@ fn behind(bytes: &[u8], n: usize) -> &[u8]
 
 // The number behind the digits of v and one digit more.
 fn add_digit(v: usize, b: u8) -> usize
-    requires { ⌜ (v ≤ 65535) × (48 ≤ b) × (b < 58) ⌝ }
+    requires { ⌜ (v ≤ number-limit) × (48 ≤ b) × (b < 58) ⌝ }
     ensures { λ r. ⌜ r ≡ capped (v * 10 + (b - 48)) ⌝ }
 {
     let n = v * 10 + (wide(b) - 48);
@@ -303,6 +304,7 @@ fn command_at(place: usize) -> Command
 {
     let commands = [
         Command::Setup,
+        Command::Wheel,
         Command::Table,
         Command::Load,
         Command::Event,
@@ -317,7 +319,7 @@ fn command_at(place: usize) -> Command
         Command::Dot,
         Command::Help,
     ];
-    if place < 14 {
+    if place < 15 {
         return commands[place];
     }
     Command::Unknown
@@ -329,7 +331,7 @@ pub fn read_command(word: &[u8]) -> Command
 {
     let place = place_of(
         word,
-        b"setup table load event events restart clear show device trial covers write dot help",
+        b"setup wheel table load event events restart clear show device trial covers write dot help",
     );
     command_at(place)
 }

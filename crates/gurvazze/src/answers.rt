@@ -64,9 +64,13 @@ pub fn say_list(key: &[u8], numbers: &[u8]) {
 
 pub fn say_help() {
     say(b"setup EVENTS VALUES TOP MEET...   the set-up; channels are empty\n");
+    say(
+        b"wheel P C                         pulses and millimetres per turn of the wheel, for the next set-up\n",
+    );
     say(b"table TOKENS                      the table of a rule\n");
     say(b"load C TOKENS                     a rule into channel C\n");
     say(b"event C E                         event E on channel C\n");
+    say(b"event C E PULSES                  the same with pulses, and the distance\n");
     say(b"events C E E...                   events on channel C, all or none\n");
     say(b"restart C                         channel C at state 0\n");
     say(b"restart all                       every loaded channel at state 0\n");

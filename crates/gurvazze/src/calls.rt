@@ -11,6 +11,7 @@ use crate::rules::meet_of;
 use crate::rules::read_rule;
 use crate::rules::setup_of;
 use command_line::Listed;
+use command_line::NUMBER_LIMIT;
 use command_line::Number;
 use command_line::equal;
 use command_line::front;
@@ -20,6 +21,7 @@ use command_line::rest;
 use command_line::word;
 use limits::CHANNEL_LIMIT;
 use recorder::Answer;
+use recorder::Reading;
 use recorder::Reply;
 use recorder::Tool;
 use refusal::Refusal;
@@ -101,22 +103,71 @@ fn only_channel(line: &[u8]) -> Numbers {
     one_number(line)
 }
 
+// The two words behind the command, of a line of three words.
+fn only_two(line: &[u8]) -> Numbers {
+    if has_word(line, 3) {
+        return Numbers::Miscounted;
+    }
+    two_numbers(line)
+}
+
+// The three words behind the command, of a line of four words.
+fn only_three(line: &[u8]) -> Numbers {
+    if has_word(line, 4) {
+        return Numbers::Miscounted;
+    }
+    three_numbers(line)
+}
+
+// Pulses and millimetres of a turn, as they were said; a set-up judges them.
+pub struct Turn {
+    pub pulses: usize,
+    pub millimetres: usize,
+}
+
+// What a set-up takes before a turn is said.
+pub fn first_turn() -> Turn {
+    Turn {
+        pulses: 1,
+        millimetres: 1,
+    }
+}
+
+// wheel P C
+pub fn wheel(old: Turn, line: &[u8]) -> Turn {
+    let numbers = only_two(line);
+    let Numbers::Two(pulses, millimetres) = numbers else {
+        say_wrong(numbers);
+        return old;
+    };
+    say(b"ok\n");
+    Turn {
+        pulses,
+        millimetres,
+    }
+}
+
+// A refused set-up, with a tool whose cells are all 0.
+pub fn no_tool() -> Answer {
+    recorder::set_up(0, 0, 0, b"", 0, 0)
+}
+
 // A set-up that is not tried, since its line has no numbers.
 fn blank(numbers: Numbers) -> Answer {
     say_wrong(numbers);
-    recorder::set_up(0, 0, 0, b"")
+    no_tool()
 }
 
 // A set-up, with its answer printed.
-fn try_set_up(events: usize, values: usize, top: usize, meet: &[u8]) -> Answer {
-    let answer = recorder::set_up(events, values, top, meet);
+fn try_set_up(turn: Turn, events: usize, values: usize, top: usize, meet: &[u8]) -> Answer {
+    let answer = recorder::set_up(events, values, top, meet, turn.pulses, turn.millimetres);
     let reply = answer.reply;
     say_reply(reply);
     answer
 }
 
 // setup EVENTS VALUES TOP MEET...
-pub fn set_up(line: &[u8]) -> Answer {
+pub fn set_up(turn: Turn, line: &[u8]) -> Answer {
     let numbers = three_numbers(line);
     let Numbers::Three(events, values, top) = numbers else {
         return blank(numbers);
@@ -126,14 +177,31 @@ pub fn set_up(line: &[u8]) -> Answer {
     let Listed::Count(n) = listed else {
         return blank(Numbers::Malformed);
     };
-    try_set_up(events, values, top, front(&meet, n))
+    try_set_up(turn, events, values, top, front(&meet, n))
 }
 
 fn say_reply(reply: Reply) {
     match reply {
         Reply::Accepted => say(b"ok\n"),
-        Reply::Value(v) => say_field(b"value=", v as usize),
+        Reply::Value(reading) => say_field(b"value=", reading.value as usize),
         Reply::Refused(refusal) => say_refusal(refusal),
+    }
+}
+
+// A value and its distance, as a line.
+fn say_reading(reading: Reading) {
+    say(b"value=");
+    say_number(reading.value as usize);
+    say(b" mm=");
+    say_number(reading.millimetres as usize);
+    say_field(b" rest=", reading.remainder as usize);
+}
+
+// The reply to an event with pulses.
+fn say_measured(reply: Reply) {
+    match reply {
+        Reply::Value(reading) => say_reading(reading),
+        _ => say_reply(reply),
     }
 }
 
@@ -149,6 +217,14 @@ fn states_of(states: [u16; CHANNEL_LIMIT], channel: usize) -> usize {
 fn state_of(current: [u8; CHANNEL_LIMIT], channel: usize) -> usize {
     if channel < CHANNEL_LIMIT {
         let n = current[channel];
+        return n as usize;
+    }
+    0
+}
+
+fn total_of(total: [u64; CHANNEL_LIMIT], channel: usize) -> usize {
+    if channel < CHANNEL_LIMIT {
+        let n = total[channel];
         return n as usize;
     }
     0
@@ -189,25 +265,46 @@ pub fn load(tool: Tool, line: &[u8]) -> Tool {
 }
 
 // event C E
-pub fn event(tool: Tool, line: &[u8]) -> Tool {
-    if has_word(line, 3) {
-        say_wrong(Numbers::Miscounted);
-        return tool;
-    }
+fn event_alone(tool: Tool, line: &[u8]) -> Tool {
     let numbers = two_numbers(line);
     let Numbers::Two(channel, e) = numbers else {
         say_wrong(numbers);
         return tool;
     };
-    let answer = recorder::event(tool, channel, e);
+    let answer = recorder::event(tool, channel, e, 0);
     let reply = answer.reply;
     say_reply(reply);
     answer.tool
 }
 
+// event C E PULSES; above 4,294,967,295 these are no number.
+fn event_with_pulses(tool: Tool, line: &[u8]) -> Tool {
+    let numbers = only_three(line);
+    let Numbers::Three(channel, e, pulses) = numbers else {
+        say_wrong(numbers);
+        return tool;
+    };
+    if NUMBER_LIMIT <= pulses {
+        say_wrong(Numbers::Malformed);
+        return tool;
+    }
+    let answer = recorder::event(tool, channel, e, pulses as u32);
+    let reply = answer.reply;
+    say_measured(reply);
+    answer.tool
+}
+
+// event C E, event C E PULSES
+pub fn event(tool: Tool, line: &[u8]) -> Tool {
+    if has_word(line, 3) {
+        return event_with_pulses(tool, line);
+    }
+    event_alone(tool, line)
+}
+
 fn replay(tool: Tool, channel: usize, events: &[u8]) -> Tool {
     let mut values = [0u8; LIST_ROOM];
-    let answer = recorder::replay(tool, channel, events, &mut values);
+    let answer = recorder::replay(tool, channel, events, &[], &mut values);
     let reply = answer.reply;
     match reply {
         Reply::Refused(refusal) => say_refusal(refusal),
@@ -276,14 +373,16 @@ pub fn clear(tool: Tool, line: &[u8]) -> Tool {
     answer.tool
 }
 
-fn say_channel(states: usize, state: usize) {
+fn say_channel(states: usize, state: usize, total: usize) {
     if states == 0 {
         say(b"empty\n");
         return;
     }
     say(b"states=");
     say_number(states);
-    say_field(b" state=", state);
+    say(b" state=");
+    say_number(state);
+    say_field(b" total=", total);
 }
 
 // show C
@@ -299,5 +398,10 @@ pub fn show(tool: Tool, line: &[u8]) {
     }
     let states = tool.states;
     let current = tool.current;
-    say_channel(states_of(states, channel), state_of(current, channel));
+    let total = tool.total;
+    say_channel(
+        states_of(states, channel),
+        state_of(current, channel),
+        total_of(total, channel),
+    );
 }

@@ -1,5 +1,6 @@
-// The command program: commands on standard input, a line each, and their answers on standard output. It keeps a tool and a device.
-// Every judgement is a library's; what this program adds are the answers `error=`, for lines that are no commands.
+// The command program: commands on standard input, a line each, and their answers on standard output. It keeps a tool, the turn of a
+// wheel for the next set-up, and a device. Every judgement is a library's; what this program adds are the answers `error=`, for lines that
+// are no commands.
 mod answers;
 mod calls;
 mod covers;
@@ -9,6 +10,7 @@ mod rules;
 
 use answers::say_error;
 use answers::say_help;
+use calls::Turn;
 use command_line::Command;
 use command_line::front;
 use command_line::read_command;
@@ -20,55 +22,69 @@ use lines::read_line;
 use recorder::Reply;
 use recorder::Tool;
 
-// The tool, whether a set-up was accepted, and what was said of the device; its entries are kept beside.
+// The tool, whether a set-up was accepted, the wheel's turn for the next set-up, and what was said of the device; its entries are kept
+// beside.
 struct Session {
     ready: bool,
     tool: Tool,
+    turn: Turn,
     device: Device,
 }
 
-// Nothing is set up, and there is no device.
+// Nothing is set up, no turn was said, and there is no device.
 fn start() -> Session {
-    let made = recorder::set_up(0, 0, 0, b"");
+    let made = calls::no_tool();
     let tool = made.tool;
+    let turn = calls::first_turn();
     let device = devices::none();
     Session {
         ready: false,
         tool,
+        turn,
         device,
     }
 }
 
 // A set-up; a refused one leaves what was there.
 fn set_up(session: Session, line: &[u8]) -> Session {
-    let made = calls::set_up(line);
+    let turn = session.turn;
+    let made = calls::set_up(turn, line);
     let reply = made.reply;
     let Reply::Accepted = reply else {
         return session;
     };
-    let tool = made.tool;
+    with_tool(session, made.tool)
+}
+
+fn with_tool(session: Session, tool: Tool) -> Session {
+    let turn = session.turn;
     let device = session.device;
     Session {
         ready: true,
         tool,
+        turn,
         device,
     }
 }
 
-fn with_tool(session: Session, tool: Tool) -> Session {
+fn with_turn(session: Session, turn: Turn) -> Session {
+    let tool = session.tool;
     let device = session.device;
     Session {
-        ready: true,
+        ready: session.ready,
         tool,
+        turn,
         device,
     }
 }
 
 fn with_device(session: Session, device: Device) -> Session {
     let tool = session.tool;
+    let turn = session.turn;
     Session {
         ready: session.ready,
         tool,
+        turn,
         device,
     }
 }
@@ -115,6 +131,10 @@ fn obey(session: Session, line: &[u8], entries: &mut [u8]) -> Session {
     let command = read_command(word(line, 0));
     match command {
         Command::Setup => set_up(session, line),
+        Command::Wheel => {
+            let old = session.turn;
+            with_turn(session, calls::wheel(old, line))
+        }
         Command::Device => {
             let old = session.device;
             with_device(session, devices::keep(old, line, entries))

@@ -50,6 +50,13 @@ row-limit = channel-limit * state-limit
 abbrev pub store-limit : ℕ
 store-limit = row-limit * event-limit
 
+-- Document 02, F-6: pulses and millimetres per turn are "each 1 to 65,535"; 19 is "a total above 1,099,511,627,776".
+abbrev pub turn-limit : ℕ
+turn-limit = 65535
+
+abbrev pub total-limit : ℕ
+total-limit = 1099511627776
+
 -- A channel file has "up to 4,096 bytes".
 abbrev pub file-limit : ℕ
 file-limit = 4096

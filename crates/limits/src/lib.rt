@@ -38,5 +38,10 @@ pub const ROW_LIMIT: usize = CHANNEL_LIMIT * STATE_LIMIT;
 
 pub const STORE_LIMIT: usize = ROW_LIMIT * EVENT_LIMIT;
 
+// The wheel: pulses and millimetres of a turn; a channel's pulses in all.
+pub const TURN_LIMIT: usize = 65535;
+
+pub const TOTAL_LIMIT: u64 = 1099511627776;
+
 // A channel file: bytes.
 pub const FILE_LIMIT: usize = 4096;

@@ -1,11 +1,11 @@
 -- What is computed of a case, and the lemma that lifts it to document 01's definitions, a clause for each kind of case.
 use mathlib.Core.{Path.{_≡_, refl, sym, _∙_, ap, subst}, Logic.{_↔_, Iff·trans}, Bool.{Bool, true, false, false≢true}}
 use mathlib.Core.{List.{List, [], _∷_, _++_}, Option.{Option, none, some, Option·some-ne-none}}
-use Prim.Native.Nat.{ℕ, zero, suc, _≤_, _<_}
+use Prim.Native.Nat.{ℕ, zero, suc, _+_, _≤_, _<_}
 use native.Mathlib.Omega.{arith}
-use borrow.Author.Tests.{leb-true, ltb-true}
+use borrow.Author.Tests.{leb-true, leb-false, ltb-true}
 use lib.Dec.{T, leb, ltb, eqb}
-use Rattle.limits.specs.Limits.{node-limit, state-limit, device-limit}
+use Rattle.limits.specs.Limits.{node-limit, state-limit, device-limit, total-limit}
 use Rattle.theory.specs.ValueSets.{AtOrBelow}
 use Rattle.theory.specs.ValueSetTests.{every}
 use Rattle.theory.specs.Formula.{Formula, size, Answers}
@@ -34,8 +34,10 @@ use Rattle.machines.specs.{TableBytes.{machine-of}, TableRefusal.{table-refusal
 use Rattle.machines.proofs.TableRefusals.{accepted-table}
 use Rattle.table_report.specs.{PrintedTable.{Prints}, Report.{report-text}}
 use Rattle.table_report.proofs.ReportClaims.{report-claim}
+use Rattle.channel_log.specs.Distance.{wheel-of-turn, distance}
 use Rattle.marked_cases.specs.MarkedCases.{Case, tabled, printed, repeated, refused, written, failing, passing, passing-same, passing-stricter}
-use Rattle.marked_cases.specs.MarkedCases.{implying, not-implying, times, s, IsRule, TableOf, rows-of, device, both, Holds, AllHold}
+use Rattle.marked_cases.specs.MarkedCases.{implying, not-implying, measured, total-within, total-above, times, s, IsRule, TableOf, rows-of, device}
+use Rattle.marked_cases.specs.MarkedCases.{both, Holds, AllHold}
 
 -- ---- what is computed: a rule's bytes, its formula, and a formula's count of states and table
 abbrev bytes : List (Node ℕ) → List ℕ
@@ -96,6 +98,9 @@ Checked (passing-same k rows rule) = Comparable k rows rule × (on-trial eqb k r
 Checked (passing-stricter k rows rule) = Comparable k rows rule × (on-trial below k rows rule ≡ none) × (is-none (on-trial eqb k rows rule) ≡ false)
 Checked (implying first second) = Coverable first second × (on-cover first second ≡ none)
 Checked (not-implying first second word) = Coverable first second × (on-cover first second ≡ some word)
+Checked (measured pulses millimetres total whole remainder) = distance (wheel-of-turn pulses millimetres) total ≡ (whole, remainder)
+Checked (total-within total pulses) = leb (total + pulses) total-limit ≡ true
+Checked (total-above total pulses) = leb (total + pulses) total-limit ≡ false
 
 -- ---- the set-up
 laws : SetupLaws s
@@ -390,6 +395,9 @@ lifted (passing v) low = λ rule φ r n t x.
       )),
       tt,
     )
+lifted (measured pulses millimetres total whole remainder) e = record { lower = e }
+lifted (total-within total pulses) e = record { lower = λ l. omega (arith, l, leb-true (total + pulses) total-limit e) }
+lifted (total-above total pulses) e = record { lower = leb-false (total + pulses) total-limit e }
 
 -- ---- a list of cases
 unfoldable pub AllChecked : List Case → Type 0

@@ -97,7 +97,13 @@ all-checked = (
                                 refl,
                                 (
                                   refl,
-                                  ((refl, refl, refl, refl), ((refl, refl, refl, refl), (refl, (refl, tt)))),
+                                  (
+                                    (refl, refl, refl, refl),
+                                    (
+                                      (refl, refl, refl, refl),
+                                      (refl, (refl, (refl, (refl, (refl, (refl, (refl, (refl, (refl, (refl, (refl, tt))))))))))),
+                                    ),
+                                  ),
                                 ),
                               ),
                             ),

@@ -13,6 +13,7 @@ use Rattle.formulas.specs.{RuleConditions.{encode-all, node-bytes, byte-conditi
 use Rattle.machines.specs.TableBytes.{table-bytes, entry-bytes, machine-of}
 use Rattle.text_format.specs.Texts.{ascii}
 use Rattle.table_report.specs.PrintedTable.{Prints}
+use Rattle.channel_log.specs.Distance.{wheel-of-turn, distance, TotalAbove}
 
 -- Items of a rule, as the channel file has them.
 abbrev pub T : Node ℕ
@@ -55,6 +56,11 @@ pub data Case : Type 0 where
   -- the first rule implies the second; it does not, and its table as a device fails against the second with this word first (document 02, F-14)
   implying : List (Node ℕ) → List (Node ℕ) → Case
   not-implying : List (Node ℕ) → List (Node ℕ) → List ℕ → Case
+  -- with a wheel of so many pulses and millimetres per turn a total is so many millimetres, with this remainder; a total with more pulses is
+  -- within the limit of 19; it is above (document 02, F-6)
+  measured : (pulses millimetres total whole remainder : ℕ) → Case
+  total-within : (total pulses : ℕ) → Case
+  total-above : (total pulses : ℕ) → Case
 
 -- An event so many times.
 abbrev pub times : ℕ → ℕ → List ℕ
@@ -117,6 +123,9 @@ Holds (not-implying first second word) =
     × (¬ Implies (s .events) (SetupValue s) (setup-meet s) φ χ)
     × ((n : ℕ) (m : Machine ℕ ℕ) → TableOf φ n m → (k : ℕ) (t : Machine ℕ ℕ) → TableOf χ k t →
     Lift {0, 1} (FirstCounterexample (s .events) (setup-meet s) m t 0 0 word))
+Holds (measured pulses millimetres total whole remainder) = Lift {0, 1} (distance (wheel-of-turn pulses millimetres) total ≡ (whole, remainder))
+Holds (total-within total pulses) = Lift {0, 1} (¬ TotalAbove (some total) pulses)
+Holds (total-above total pulses) = Lift {0, 1} (TotalAbove (some total) pulses)
 
 abbrev pub cases : List Case
 cases =
@@ -175,6 +184,17 @@ request-cases =
     ∷ tabled (below-binders 12 (T ∷ [])) 1 (3 ∷ 0 ∷ 3 ∷ 0 ∷ [])
     ∷ refused (below-binders 13 (T ∷ [])) (Plain 23)
     ∷ refused (A ∷ T ∷ below-binders 13 (T ∷ [])) (Plain 23)
+    -- F-6. 30 seventh parts of a millimetre; the largest total with the smallest and the largest wheels; totals at the limit, and one above:
+    -- 4,294,967,295 pulses 256 times leave room for 256
+    ∷ measured 7 10 3 4 2
+    ∷ measured 1 1 1099511627776 1099511627776 0
+    ∷ measured 65535 1 1099511627776 16777472 256
+    ∷ measured 1 65535 1099511627776 72056494526300160 0
+    ∷ measured 65535 65534 1099511627776 1099494850303 65279
+    ∷ total-within 1099511627775 1
+    ∷ total-within 1099511627520 256
+    ∷ total-above 1099511627520 257
+    ∷ total-above 1099511627776 1
     ∷ []
 
 unfoldable pub AllHold : List Case → Type 1

@@ -2,6 +2,7 @@ pub mod Compiled
 pub mod InnerBinders
 pub mod TwelveBinders
 pub mod GatheredDemands
+pub mod Distances
 pub mod Covering
 pub mod Demands
 pub mod Requests

@@ -14,9 +14,10 @@ use Rattle.synthesis.specs.Compilation.{compile-answer, compile-contents, compi
 use Rattle.characteristic.specs.{RuleOfTable.{write-conditions, IsWritten}, RuleWriting.{write-answer, write-contents}}
 use Rattle.conformance.specs.Trial.{TrialInput, input, DeviceInOrder, trial-conditions, Passes, FailsBy, refusal-of, Passed, word-length}
 use Rattle.conformance.specs.TrialAnswer.{trial-answer, trial-buffer}
-use Rattle.channel_log.specs.Calls.{Call, load, accepted, returned, refused, reply-refusal, replies, final, event-calls, struck, replies-on}
-use Rattle.recorder.specs.{Store.{Store, AllCells, setup-of, channels, StoreClaim, call-conditions, replay-conditions}, Called.{called, set-up-called}}
-use Rattle.recorder.specs.Replay.{replayed}
+use Rattle.channel_log.specs.Distance.{Occurrence, Reading}
+use Rattle.channel_log.specs.Calls.{Call, load, accepted, returned, refused, reply-refusal, replies, final, event-calls, last-returned, struck, replies-on}
+use Rattle.recorder.specs.Store.{Store, AllCells, ToolSetup, tool-setup-conditions, setup-of, tool-setup-of, channels, StoreClaim}
+use Rattle.recorder.specs.{Store.{call-conditions, replay-conditions}, Called.{called, set-up-called}, Replay.{replayed}}
 use Rattle.recorder_claims.specs.ChannelLog.{AsLogged, LoadedAs}
 use Rattle.channel_file.specs.{ChannelFile.{TokensOf}, Reading.{read-file, tokens-stretch}}
 use Rattle.channel_io.specs.{declared.FileRead.{FileRead}, declared.FileNumbers.{FileNumbers}}
@@ -43,9 +44,9 @@ pub record DemandOne : Type 1 where
       JudgedCall (trial-conditions device-limit table-limit x old) (refusal-of (trial-answer device-limit table-limit x old)) old
       (trial-buffer device-limit table-limit x old)
   -- recorder `set_up`; `load`, `event`, `restart`, `restart_all` and `clear`; `replay`
-  pub setting-up : (s : Setup) → Judged (setup-conditions s) (reply-refusal (set-up-called s .0))
-  pub calling : (t : Store) (call : Call ℕ) → JudgedCall (call-conditions t call) (reply-refusal (called call t .0)) t (called call t .1)
-  pub replaying : (t : Store) (c : ℕ) (word old : List ℕ) →
+  pub setting-up : (s : ToolSetup) → Judged (tool-setup-conditions s) (reply-refusal (set-up-called s .0))
+  pub calling : (t : Store) (call : Call Occurrence) → JudgedCall (call-conditions t call) (reply-refusal (called call t .0)) t (called call t .1)
+  pub replaying : (t : Store) (c : ℕ) (word : List Occurrence) (old : List ℕ) →
       JudgedCall {M = Store × List ℕ} (replay-conditions t c word old) (reply-refusal (replayed t c word old .0 .0)) (t, old)
       (replayed t c word old .0 .1, replayed t c word old .1)
   -- channel_io `read_file` and `write_file`
@@ -104,21 +105,22 @@ rule-trial-input s rule to n states start device =
 -- Demand 3: "the channel's record is its rule's meaning", for every list of calls; "channels are independent"; "a device passes trial
 -- exactly if its start satisfies the rule by the set definition, which builds no table".
 pub record DemandThree : Type 1 where
-  pub record-of-calls : (s : Setup) → reply-refusal (set-up-called s .0) ≡ none → (calls : List (Call ℕ)) →
-      AsLogged s calls (replies called calls (set-up-called s .1)) (setup-of (final called calls (set-up-called s .1)))
+  pub record-of-calls : (s : ToolSetup) → reply-refusal (set-up-called s .0) ≡ none → (calls : List (Call Occurrence)) →
+      AsLogged s calls (replies called calls (set-up-called s .1)) (tool-setup-of (final called calls (set-up-called s .1)))
       (channels (final called calls (set-up-called s .1)))
-  pub independence : (s : Setup) → reply-refusal (set-up-called s .0) ≡ none → (c : ℕ) → c < channel-limit →
-      (calls others : List (Call ℕ)) → struck c calls ≡ struck c others →
+  pub independence : (s : ToolSetup) → reply-refusal (set-up-called s .0) ≡ none → (c : ℕ) → c < channel-limit →
+      (calls others : List (Call Occurrence)) → struck c calls ≡ struck c others →
       (replies-on c calls (replies called calls (set-up-called s .1)) ≡ replies-on c others (replies called others (set-up-called s .1)))
       × (channels (final called calls (set-up-called s .1)) c ≡ channels (final called others (set-up-called s .1)) c)
   -- on any tool, not only one that a list of calls made: what a load leaves, and a replay is its event calls
   pub loading : (t : Store) → AllCells t → (c : ℕ) (rule : List ℕ) → called (load c rule) t .0 ≡ accepted →
       LoadedAs (setup-of t) c rule (channels t) (channels (called (load c rule) t .1))
-  pub replaying : (t : Store) → AllCells t → (c : ℕ) (word old : List ℕ) → reply-refusal (replayed t c word old .0 .0) ≡ none →
-      (values : List ℕ) × (replies called (event-calls c word) t ≡ map returned values) × (length values ≡ length word)
-      × (replayed t c word old .0 .1 ≡ final called (event-calls c word) t) × (replayed t c word old .1 ≡ put values old)
+  pub replaying : (t : Store) → AllCells t → (c : ℕ) (word : List Occurrence) (old : List ℕ) → reply-refusal (replayed t c word old .0 .0) ≡ none →
+      (readings : List (Reading ℕ)) × (replies called (event-calls c word) t ≡ map returned readings) × (length readings ≡ length word)
+      × (replayed t c word old .0 ≡ (last-returned readings, final called (event-calls c word) t))
+      × (replayed t c word old .1 ≡ put (map (λ r. r .value) readings) old)
   -- what a refused set-up hands back is of no use, and a store says all of a tool
-  pub refused-set-up : (s : Setup) (r : Refusal) → reply-refusal (set-up-called s .0) ≡ some r → (call : Call ℕ) →
+  pub refused-set-up : (s : ToolSetup) (r : Refusal) → reply-refusal (set-up-called s .0) ≡ some r → (call : Call Occurrence) →
       called call (set-up-called s .1) ≡ (refused (Plain 17), set-up-called s .1)
   pub one-tool : StoreClaim
   -- a trial of any two tables in order

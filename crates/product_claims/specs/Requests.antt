@@ -1,7 +1,7 @@
 -- Document 02's requests, each as one record over the definitions of both documents and the functions that contracts state; proved in
 -- proofs/Requests. F-1 stands in DemandThree (`fails`).
 use mathlib.Core.{Path.{_≡_}, Logic.{_↔_, _⊎_}, List.{List, _++_}, Option.{none, some}}
-use Prim.Native.Nat.{ℕ, zero, suc, _*_, _≤_, _<_}
+use Prim.Native.Nat.{ℕ, zero, suc, _+_, _*_, _≤_, _<_}
 use lib.{Dec.{T}, ListN.{length, take}}
 use Rattle.limits.specs.Limits.{node-limit, binder-limit, state-limit, device-limit, table-limit, word-limit}
 use Rattle.theory.specs.Formula.{Formula, transition, conjunction, size, conjunction-node, Stands, Answers}
@@ -15,6 +15,8 @@ use Rattle.machines.specs.TableBytes.{entry-width, machine-of}
 use Rattle.formulas.specs.RuleConditions.{encode-formula, node-width, node-bytes, Unbound, TooDeep, Unprotected, NodeAtFault, byte-conditions}
 use Rattle.synthesis.specs.{Compilation.{compile-answer, compile-contents}, KeptSets.{kept-set}}
 use Rattle.characteristic.specs.{RuleOfTable.{IsRuleOf}, RuleWriting.{write-answer}}
+use Rattle.channel_log.specs.{Calls.{event, returned}, Distance.{Wheel, WheelFault, Occurrence, Reading, distance}}
+use Rattle.recorder.specs.{Store.{Store, AllCells, channels, totals}, Called.{called}}
 use Rattle.product_claims.specs.Demands.{rule-trial-input}
 
 -- A rule's bytes; 5 to 9 let bytes through.
@@ -62,6 +64,20 @@ pub record GatheredDemands : Type 0 where
 abbrev pub MatchesRule : Setup → Formula ℕ → Machine ℕ ℕ → ℕ → Type 0
 MatchesRule s φ m start = (w : List ℕ) → Word (s .events) w → (e : ℕ) → e < s .events →
     Answers (setup-meet s) (setup-top s) φ w e (m .value (after m start w) e)
+
+-- F-6: distance with every event. Refusals 18 and 19 stand in DemandOne (`setting-up`, `calling`, `replaying`); that each accepted event's
+-- distance is that of the log's total, and that channels are independent, in DemandThree (`record-of-calls`, `independence`), whose words
+-- leave open what an event carries and returns.
+pub record DistanceWithEveryEvent : Type 0 where
+  -- "whole millimetres, total × C divided by P, with the exact remainder in P-ths of a millimetre": these two numbers, and no others
+  pub exact : (wheel : Wheel) → ¬ WheelFault wheel → (total mm rest : ℕ) →
+      ((mm * wheel .pulses + rest ≡ total * wheel .millimetres) × (rest < wheel .pulses)) ↔ (distance wheel total ≡ (mm, rest))
+  -- an accepted event on any tool: its distance is that of its channel's total, "this event's pulses counted in", which the channel then
+  -- holds; no other channel changes
+  pub counted : (t : Store) → AllCells t → (c : ℕ) (i : Occurrence) (r : Reading ℕ) → called (event c i) t .0 ≡ returned r →
+      (total : ℕ) × (totals t c ≡ some total) × (distance (t .wheel) (total + i .pulses) ≡ (r .millimetres, r .remainder))
+      × (totals (called (event c i) t .1) c ≡ some (total + i .pulses))
+      × ((d : ℕ) → ¬ (d ≡ c) → channels (called (event c i) t .1) d ≡ channels t d)
 
 -- F-5: "A trial passes as same, passes as stricter, or fails with its word."
 pub record SameOrStricter : Type 1 where
@@ -128,5 +144,6 @@ pub record Requests : Type 1 where
   pub inner-binders : InnerBinders
   pub twelve-binders : TwelveBinders
   pub gathered-demands : GatheredDemands
+  pub distance-with-every-event : DistanceWithEveryEvent
   pub same-or-stricter : SameOrStricter
   pub covering : Covering

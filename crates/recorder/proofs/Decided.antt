@@ -1,11 +1,11 @@
 -- What is decided is what the definitions of the calls say.
-use mathlib.Core.{Path.{_≡_, refl, sym, _∙_, ap, ap₂, subst}, Bool.{Bool, true, false, _&&_, cond}, List.{List}}
+use mathlib.Core.{Path.{_≡_, refl, sym, _∙_, ap, ap₂, subst, subst⁻¹}, Bool.{Bool, true, false, _&&_, cond}, List.{List}}
 use mathlib.Core.Option.{Option, none, some, Option·some-ne-none}
 use Prim.Native.Nat.{ℕ, zero, suc, _+_, _*_, _%_, _≤_, _<_}
 use native.Mathlib.{Nat.{mod-eq-of-lt}, Omega.{arith}}
-use borrow.Author.Tests.{ltb-true, ltb-false}
-use lib.{Dec.{ltb}, ListN.{getD, set, replicate}, Seq.{set-getD}}
-use Rattle.limits.specs.Limits.{channel-limit, event-limit, meet-limit}
+use borrow.Author.Tests.{ltb-true, ltb-false, leb-true, leb-false, le-leb, lt-leb}
+use lib.{Dec.{ltb, leb}, ListN.{getD, set, replicate}, Seq.{set-getD}}
+use Rattle.limits.specs.Limits.{channel-limit, event-limit, meet-limit, total-limit}
 use Rattle.theory.specs.MealyMachine.{Machine}
 use Rattle.theory.proofs.ValueSets.{and-left, and-right}
 use Rattle.refusal.specs.declared.{Refusal.{Refusal}, Judgement.{Judgement}}
@@ -13,24 +13,26 @@ use Rattle.refusal.specs.declared.Refusal.the-variants.{Plain}
 use Rattle.refusal.specs.declared.Judgement.the-variants.{Accepted, Refused}
 use Rattle.refusal.specs.RefusalAnswers.{or-else, plain-unless, judgement}
 use Rattle.refusal.proofs.Refusals.{or-else-none, or-else-assoc, plain-none, judgement-accepted, judgement-refused}
-use Rattle.values.specs.{Setup.{Setup, setup}, SetupTests.{setup-refusal}}
+use Rattle.values.specs.Setup.{setup}
 use Rattle.values.proofs.Setups.{setup-accepted}
 use Rattle.machines.proofs.EntryIndex.{index-below}
 use Rattle.channel_log.specs.Calls.{Call, event, restart, restart-all, clear, Reply, accepted, returned, refused}
 use Rattle.channel_log.specs.CallSteps.{channel-refusal, empty-refusal, on-event, event-reply, accepted-reply}
-use Rattle.channel_log.specs.Log.{large-event}
-use Rattle.channel_log.specs.Calls.{Loaded}
-use Rattle.channel_log.proofs.Record.{not-large}
+use Rattle.channel_log.specs.Log.{large-event, large-total, occurrence-refusal}
+use Rattle.channel_log.specs.{Calls.{Loaded}, Distance.{wheel-of-turn, Occurrence, Reading, reading}}
+use Rattle.channel_log.proofs.Record.{event-fits}
 use Rattle.recorder.specs.declared.Decision.{Decision}
-use Rattle.recorder.specs.Store.{Store, setup-of, table-at, loaded-at, rows-start, held, channels}
+use Rattle.recorder.specs.Store.{Store, ToolSetup, tool-setup, tool-setup-of, table-at, loaded-at, rows-start, held, channels}
 use Rattle.recorder.specs.Store.{ChannelInOrder}
-use Rattle.recorder.specs.ToolTests.{setup-test, channel-test, test-of, tool-test}
-use Rattle.recorder.specs.Called.{with-current, next-state, content, tool-refusal, effect-on, settled-store, called}
+use Rattle.recorder.specs.ToolTests.{tool-setup-refusal, setup-test, channel-test, test-of, tool-test}
+use Rattle.recorder.specs.Called.{with-current, next-state, next-total, content, tool-refusal, effect-on, settled-store, called}
 use Rattle.recorder.specs.Called.{empty-store, filled, new-store, blank, set-up-answer, set-up-called}
 use Rattle.recorder.specs.Decisions.{number-refusal, number-unless, first-number, channel-number, loaded-number, event-number}
-use Rattle.recorder.specs.Decisions.{decided, entry-place, Bounds, plain-reply, value-reply, kept-number, states-after, judged-reply}
+use Rattle.recorder.specs.Decisions.{total-number, limited, Measurable}
+use Rattle.recorder.specs.Decisions.{decided, entry-place, Bounds, plain-reply, value-reply, kept-number, kept-numbers, judged-reply}
 use Rattle.recorder.proofs.{Numbers.{first-refusal, unless-refusal, test-refusal}, Rows.{getD-part, rows-in, entries-fit}}
 use Rattle.recorder.proofs.Held.{channel-below, few-events, held-above, held-some, empty-held, in-order-of-test}
+use Rattle.recorder.proofs.Held.{accepted-of-test, values-accepted, wheel-accepted, wheel-of-test}
 
 -- What comes after a refusal does not matter.
 pub or-else-same : (a b d : Option Refusal) → (a ≡ none → b ≡ d) → or-else a b ≡ or-else a d
@@ -38,7 +40,7 @@ unfolding or-else
 or-else-same none b d h = h refl
 or-else-same (some r) b d h = refl
 
-module _ (t : Store) (call : Call ℕ) where
+module _ (t : Store) (call : Call Occurrence) where
   pub refused-call : (r : Refusal) → tool-refusal t call ≡ some r → called call t ≡ (refused r, t)
   unfolding called
   refused-call r h = ap (λ o. settled-store o (accepted-reply (content t) (channels t) call) (effect-on t call) t) h
@@ -50,23 +52,25 @@ module _ (t : Store) (call : Call ℕ) where
 -- The channel as the code reads it, with its state at c % 8; and 17's test of it.
 abbrev pub read : Store → ℕ → Option (Loaded ℕ)
 read t c =
-    held c (t .setup .events) (getD (t .states) (c % channel-limit) 0) (getD (t .current) (c % channel-limit) 0) (t .value) (t .next)
+    held c (t .setup .events) (getD (t .states) (c % channel-limit) 0) (getD (t .current) (c % channel-limit) 0)
+    (getD (t .total) (c % channel-limit) 0) (t .value) (t .next)
 
 pub read-same : (t : Store) (c : ℕ) → read t c ≡ channels t c
 read-same t c = go (ltb c channel-limit) refl
   where
     go : (i : Bool) → ltb c channel-limit ≡ i → read t c ≡ channels t c
     go true p =
-        ap (λ x. held c (t .setup .events) (getD (t .states) x 0) (getD (t .current) x 0) (t .value) (t .next))
+        ap (λ x. held c (t .setup .events) (getD (t .states) x 0) (getD (t .current) x 0) (getD (t .total) x 0) (t .value) (t .next))
         (mod-eq-of-lt (ltb-true c channel-limit p))
     go false p =
-        held-above c (t .setup .events) (getD (t .states) (c % channel-limit) 0) (getD (t .current) (c % channel-limit) 0) (t .value) (t .next)
-        (ltb-false c channel-limit p)
-        ∙ sym (held-above c (t .setup .events) (getD (t .states) c 0) (getD (t .current) c 0) (t .value) (t .next) (ltb-false c channel-limit p))
+        held-above c (t .setup .events) (getD (t .states) (c % channel-limit) 0) (getD (t .current) (c % channel-limit) 0)
+        (getD (t .total) (c % channel-limit) 0) (t .value) (t .next) (ltb-false c channel-limit p)
+        ∙ sym (held-above c (t .setup .events) (getD (t .states) c 0) (getD (t .current) c 0) (getD (t .total) c 0) (t .value) (t .next)
+        (ltb-false c channel-limit p))
 
 -- 17's number for a named channel.
 abbrev pub fault-number : Store → ℕ → ℕ
-fault-number t c = number-unless (setup-test (setup-of t) && channel-test (t .setup .events) (t .setup .kind) (read t c)) 17
+fault-number t c = number-unless (setup-test (tool-setup-of t) && channel-test (t .setup .events) (t .setup .kind) (read t c)) 17
 
 module _ (t : Store) (c f : ℕ) (e-fault : f ≡ fault-number t c) where
   abbrev w : ℕ
@@ -76,12 +80,12 @@ module _ (t : Store) (c f : ℕ) (e-fault : f ≡ fault-number t c) where
   k = getD (t .states) w 0
 
   abbrev seventeen : Option Refusal
-  seventeen = plain-unless (setup-test (setup-of t) && test-of t c) 17
+  seventeen = plain-unless (setup-test (tool-setup-of t) && test-of t c) 17
 
   fault-refusal : number-refusal f ≡ seventeen
   fault-refusal =
-      ap number-refusal e-fault ∙ unless-refusal (setup-test (setup-of t) && channel-test (t .setup .events) (t .setup .kind) (read t c)) 16
-      ∙ ap (λ o. plain-unless (setup-test (setup-of t) && channel-test (t .setup .events) (t .setup .kind) o) 17) (read-same t c)
+      ap number-refusal e-fault ∙ unless-refusal (setup-test (tool-setup-of t) && channel-test (t .setup .events) (t .setup .kind) (read t c)) 16
+      ∙ ap (λ o. plain-unless (setup-test (tool-setup-of t) && channel-test (t .setup .events) (t .setup .kind) o) 17) (read-same t c)
 
   channel-unless : number-refusal (number-unless (ltb c channel-limit) 14) ≡ channel-refusal c
   channel-unless = test-refusal (ltb c channel-limit) 13
@@ -97,7 +101,7 @@ module _ (t : Store) (c f : ℕ) (e-fault : f ≡ fault-number t c) where
   empty-unless : or-else seventeen (channel-refusal c) ≡ none → number-refusal (number-unless (ltb 0 k) 15) ≡ empty-refusal (channels t c)
   empty-unless h =
       ap (λ x. number-refusal (number-unless (ltb 0 (getD (t .states) x 0)) 15)) (here h) ∙ test-refusal (ltb 0 (getD (t .states) c 0)) 14
-      ∙ sym (empty-held c (t .setup .events) (getD (t .states) c 0) (getD (t .current) c 0) (t .value) (t .next)
+      ∙ sym (empty-held c (t .setup .events) (getD (t .states) c 0) (getD (t .current) c 0) (getD (t .total) c 0) (t .value) (t .next)
       (channel-below c (or-else-none seventeen (channel-refusal c) h .1)))
 
   -- Then 15, and what comes after it.
@@ -120,7 +124,7 @@ module _ (t : Store) (c f : ℕ) (e-fault : f ≡ fault-number t c) where
 
 -- A loaded channel that 17, 14 and 15 do not refuse.
 pub record Ready (t : Store) (c : ℕ) : Type 0 where
-  pub setup-passes : setup-test (setup-of t) ≡ true
+  pub setup-passes : setup-test (tool-setup-of t) ≡ true
   pub channel : c < channel-limit
   pub loaded : 0 < getD (t .states) c 0
   pub in-order : test-of t c ≡ true
@@ -129,7 +133,7 @@ pub record Ready (t : Store) (c : ℕ) : Type 0 where
 loaded-below : (t : Store) (c : ℕ) → c < channel-limit → empty-refusal (channels t c) ≡ none → 0 < getD (t .states) c 0
 loaded-below t c h e =
     go (ltb 0 (getD (t .states) c 0)) refl
-    (sym (empty-held c (t .setup .events) (getD (t .states) c 0) (getD (t .current) c 0) (t .value) (t .next) h) ∙ e)
+    (sym (empty-held c (t .setup .events) (getD (t .states) c 0) (getD (t .current) c 0) (getD (t .total) c 0) (t .value) (t .next) h) ∙ e)
   where
     go : (b : Bool) → ltb 0 (getD (t .states) c 0) ≡ b → cond b none (some (Plain 15)) ≡ none → 0 < getD (t .states) c 0
     go true p x = ltb-true 0 (getD (t .states) c 0) p
@@ -137,21 +141,21 @@ loaded-below t c h e =
 
 pub ready-of :
     (t : Store) (c : ℕ) (later : Option Refusal) →
-    or-else (plain-unless (setup-test (setup-of t) && test-of t c) 17)
+    or-else (plain-unless (setup-test (tool-setup-of t) && test-of t c) 17)
     (or-else (channel-refusal c) (or-else (empty-refusal (channels t c)) later)) ≡ none →
     Ready t c × (later ≡ none)
 ready-of t c later h =
-    let T = setup-test (setup-of t) && test-of t c in
+    let T = setup-test (tool-setup-of t) && test-of t c in
     let a = or-else-none (plain-unless T 17) (or-else (channel-refusal c) (or-else (empty-refusal (channels t c)) later)) h in
     let b = or-else-none (channel-refusal c) (or-else (empty-refusal (channels t c)) later) (a .1) in
     let d = or-else-none (empty-refusal (channels t c)) later (b .1) in
     let passes = plain-none T 17 (a .0) in
     let below = channel-below c (b .0) in (
       record {
-        setup-passes = and-left (setup-test (setup-of t)) (test-of t c) passes;
+        setup-passes = and-left (setup-test (tool-setup-of t)) (test-of t c) passes;
         channel = below;
         loaded = loaded-below t c below (d .0);
-        in-order = and-right (setup-test (setup-of t)) (test-of t c) passes;
+        in-order = and-right (setup-test (tool-setup-of t)) (test-of t c) passes;
       },
       d .1,
     )
@@ -163,108 +167,205 @@ module _ (t : Store) (c : ℕ) where
   abbrev pub state-of : ℕ
   state-of = getD (t .current) c 0
 
-  abbrev pub loaded-with : ℕ → Loaded ℕ
-  loaded-with q = loaded-at (rows-start c) (t .setup .events) (getD (t .states) c 0) q (t .value) (t .next)
+  abbrev pub total-of : ℕ
+  total-of = getD (t .total) c 0
+
+  abbrev pub loaded-with : ℕ → ℕ → Loaded ℕ
+  loaded-with q total = loaded-at (rows-start c) (t .setup .events) (getD (t .states) c 0) q total (t .value) (t .next)
 
   module _ (g : Ready t c) where
-    pub has : channels t c ≡ some (loaded-with state-of)
-    has = held-some c (t .setup .events) (getD (t .states) c 0) state-of (t .value) (t .next) (g .channel) (g .loaded)
+    pub has : channels t c ≡ some (loaded-with state-of total-of)
+    has = held-some c (t .setup .events) (getD (t .states) c 0) state-of total-of (t .value) (t .next) (g .channel) (g .loaded)
 
-    pub ready-facts : ChannelInOrder (t .setup .events) (t .setup .kind) (loaded-with state-of)
+    pub ready-facts : ChannelInOrder (t .setup .events) (t .setup .kind) (loaded-with state-of total-of)
     ready-facts =
-        in-order-of-test (t .setup .events) (t .setup .kind) (loaded-with state-of)
+        in-order-of-test (t .setup .events) (t .setup .kind) (loaded-with state-of total-of)
         (subst (λ o. channel-test (t .setup .events) (t .setup .kind) o ≡ true) has (g .in-order))
 
     pub ready-events : t .setup .events ≤ event-limit
-    ready-events = few-events (setup-of t) (g .setup-passes)
+    ready-events = few-events (tool-setup-of t) (g .setup-passes)
 
--- 15 and 16 together.
+    -- The distance of a total within the limit can be told.
+    pub measurable : (total : ℕ) → total ≤ total-limit → Measurable (t .wheel) total
+    measurable total h =
+        let w = wheel-of-test (t .wheel) (wheel-accepted (tool-setup-of t) (accepted-of-test (tool-setup-of t) (g .setup-passes))) in
+        record { some-pulses = w .0 .0; few-pulses = w .0 .1; few-millimetres = w .1 .1; small-total = h }
+
+-- 19 of a total.
+pub light : (m : ℕ) → large-total m ≡ none → m ≤ total-limit
+light m h = go (leb m total-limit) refl h
+  where
+    go : (b : Bool) → leb m total-limit ≡ b → cond b none (some (Plain 19)) ≡ none → m ≤ total-limit
+    go true p x = leb-true m total-limit p
+    go false p x = absurd (Option·some-ne-none (Plain 19) x)
+
+pub limited-small : (m : ℕ) → m ≤ total-limit → limited m ≡ m
+limited-small m h = ap (λ b. cond b m (suc total-limit)) (le-leb m total-limit h)
+
+pub limited-large : (m : ℕ) → total-limit < m → limited m ≡ suc total-limit
+limited-large m h = ap (λ b. cond b m (suc total-limit)) (lt-leb m total-limit h)
+
+-- Pulses may be added to a limited total.
+pub limited-more : (m n : ℕ) → limited (limited m + n) ≡ limited (m + n)
+limited-more m n = go (leb m total-limit) refl
+  where
+    go : (b : Bool) → leb m total-limit ≡ b → limited (limited m + n) ≡ limited (m + n)
+    go true p = ap (λ k. limited (k + n)) (limited-small m (leb-true m total-limit p))
+    go false p =
+        let h = leb-false m total-limit p in
+        ap (λ k. limited (k + n)) (limited-large m h)
+        ∙ limited-large (suc total-limit + n) (omega arith) ∙ sym (limited-large (m + n) (omega arith))
+
+pub limited-refusal : (m : ℕ) → number-refusal (total-number (limited m)) ≡ large-total m
+limited-refusal m = go (leb m total-limit) refl
+  where
+    go : (b : Bool) → leb m total-limit ≡ b → number-refusal (total-number (cond b m (suc total-limit))) ≡ cond b none (some (Plain 19))
+    go true p = ap (λ b. number-refusal (number-unless b 19)) p
+    go false p = ap (λ b. number-refusal (number-unless b 19)) (lt-leb (suc total-limit) total-limit (omega arith))
+
+-- 15, then 16 and 19.
 on-event-is :
-    (t : Store) (o : Option (Loaded ℕ)) (e : ℕ) → or-else (empty-refusal o) (large-event (t .setup .events) e) ≡ on-event (content t) o e
-unfolding or-else
-on-event-is t none e = refl
-on-event-is t (some x) e = refl
+    (t : Store) (c : ℕ) (i : Occurrence) →
+    or-else (empty-refusal (channels t c)) (occurrence-refusal (t .setup .events) (getD (t .total) c 0) i) ≡ on-event (content t) (channels t c) i
+unfolding or-else held
+on-event-is t c i = go (ltb c channel-limit && ltb 0 (getD (t .states) c 0))
+  where
+    x : Loaded ℕ
+    x = loaded-at (rows-start c) (t .setup .events) (getD (t .states) c 0) (getD (t .current) c 0) (getD (t .total) c 0) (t .value) (t .next)
+
+    go :
+        (b : Bool) →
+        or-else (empty-refusal (cond b (some x) none)) (occurrence-refusal (t .setup .events) (getD (t .total) c 0) i)
+        ≡ on-event (content t) (cond b (some x) none) i
+    go true = refl
+    go false = refl
 
 -- Nothing written.
-pub same-store : (t : Store) (w : ℕ) → with-current t (set (t .current) w (getD (t .current) w 0)) ≡ t
-same-store t w = ap (with-current t) (set-getD (t .current) w 0)
+pub same-store :
+    (t : Store) (w : ℕ) → with-current t (set (t .current) w (getD (t .current) w 0)) (set (t .total) w (getD (t .total) w 0)) ≡ t
+same-store t w = ap₂ (with-current t) (set-getD (t .current) w 0) (set-getD (t .total) w 0)
+
+-- What an accepted event has.
+record Ran (t : Store) (c : ℕ) (i : Occurrence) : Type 0 where
+  ready : Ready t c
+  event-in : i .event < t .setup .events
+  small : getD (t .total) c 0 + i .pulses ≤ total-limit
 
 -- An event.
-module _ (t : Store) (c e f : ℕ) (e-fault : f ≡ fault-number t c) where
+module _ (t : Store) (c : ℕ) (i : Occurrence) (f : ℕ) (e-fault : f ≡ fault-number t c) where
   abbrev at : ℕ
   at = c % channel-limit
 
+  abbrev sum : ℕ → ℕ
+  sum d = getD (t .total) d 0 + i .pulses
+
+  abbrev later : ℕ
+  later = first-number (number-unless (ltb (i .event) (t .setup .events)) 16) (total-number (limited (sum at)))
+
   abbrev n : ℕ
-  n = event-number f c (getD (t .states) at 0) (t .setup .events) e
+  n = event-number f c (getD (t .states) at 0) (t .setup .events) (i .event) (limited (sum at))
 
-  large-unless : number-refusal (number-unless (ltb e (t .setup .events)) 16) ≡ large-event (t .setup .events) e
-  large-unless = test-refusal (ltb e (t .setup .events)) 15
+  later-is : number-refusal later ≡ occurrence-refusal (t .setup .events) (getD (t .total) at 0) i
+  later-is =
+      first-refusal (number-unless (ltb (i .event) (t .setup .events)) 16) (total-number (limited (sum at)))
+      ∙ ap₂ or-else (test-refusal (ltb (i .event) (t .setup .events)) 15) (limited-refusal (sum at))
 
-  number-is : number-refusal n ≡ tool-refusal t (event c e)
+  number-is : number-refusal n ≡ tool-refusal t (event c i)
   number-is =
-      later-refused t c f e-fault (number-unless (ltb e (t .setup .events)) 16)
-      ∙ ap (λ o. or-else (seventeen t c f e-fault) (or-else (channel-refusal c) o))
-      (ap (or-else (empty-refusal (channels t c))) large-unless ∙ on-event-is t (channels t c) e)
+      later-refused t c f e-fault later
+      ∙ ap (or-else (seventeen t c f e-fault))
+      (or-else-same (channel-refusal c) (or-else (empty-refusal (channels t c)) (number-refusal later)) (on-event (content t) (channels t c) i)
+      (λ h.
+      ap (or-else (empty-refusal (channels t c)))
+      (later-is ∙ ap (λ d. occurrence-refusal (t .setup .events) (getD (t .total) d 0) i) (mod-eq-of-lt (channel-below c h)))
+      ∙ on-event-is t c i))
 
-  ready : n ≡ 0 → Ready t c × (e < t .setup .events)
-  ready h =
-      let r =
-      ready-of t c (number-refusal (number-unless (ltb e (t .setup .events)) 16))
-      (sym (later-refused t c f e-fault (number-unless (ltb e (t .setup .events)) 16)) ∙ ap number-refusal h) in
-      (r .0, not-large (t .setup .events) e (sym large-unless ∙ r .1))
+  ran : n ≡ 0 → Ran t c i
+  ran h =
+      let r = ready-of t c (number-refusal later) (sym (later-refused t c f e-fault later) ∙ ap number-refusal h) in
+      let o : occurrence-refusal (t .setup .events) (getD (t .total) at 0) i ≡ none = sym later-is ∙ r .1 in
+      record {
+        ready = r .0;
+        event-in = event-fits (t .setup .events) (getD (t .total) at 0) i o;
+        small =
+            subst (λ d. sum d ≤ total-limit) (mod-eq-of-lt (r .0 .channel))
+            (light (sum at) (or-else-none (large-event (t .setup .events) (i .event)) (large-total (sum at)) o .1));
+      }
 
   -- Its entry lies within the arrays.
-  pub event-bounds : n ≡ 0 → Bounds at (t .setup .events) (getD (t .current) at 0) e
+  pub event-bounds : n ≡ 0 → Bounds at (t .setup .events) (getD (t .current) at 0) (i .event)
   event-bounds h =
-      let r = ready h in
-      let x = ready-facts t c (r .0) in
-      let few = ready-events t c (r .0) in
-      subst (λ d. Bounds d (t .setup .events) (getD (t .current) d 0) e) (sym (mod-eq-of-lt (r .0 .channel)))
+      let r = ran h in
+      let x = ready-facts t c (r .ready) .table in
+      let few = ready-events t c (r .ready) in
+      subst (λ d. Bounds d (t .setup .events) (getD (t .current) d 0) (i .event)) (sym (mod-eq-of-lt (r .ready .channel)))
       (record {
-        channel = r .0 .channel;
+        channel = r .ready .channel;
         row = entries-fit (state-of t c) (t .setup .events) (omega (arith, x .start-in, x .few-states)) few;
         place =
             omega (
               arith,
-              rows-in c (r .0 .channel),
+              rows-in c (r .ready .channel),
               entries-fit (getD (t .states) c 0) (t .setup .events) (x .few-states) few,
-              index-below (t .setup .events) (getD (t .states) c 0) (state-of t c) e (x .start-in) (r .1),
+              index-below (t .setup .events) (getD (t .states) c 0) (state-of t c) (i .event) (x .start-in) (r .event-in),
             );
       })
 
   abbrev value-there : ℕ → ℕ
-  value-there d = getD (t .value) (entry-place d (t .setup .events) (getD (t .current) d 0) e) 0
+  value-there d = getD (t .value) (entry-place d (t .setup .events) (getD (t .current) d 0) (i .event)) 0
 
   abbrev next-there : ℕ → ℕ
-  next-there d = getD (t .next) (entry-place d (t .setup .events) (getD (t .current) d 0) e) 0
+  next-there d = getD (t .next) (entry-place d (t .setup .events) (getD (t .current) d 0) (i .event)) 0
 
-  abbrev outcome : ℕ → Decision → Reply ℕ × Store
-  outcome d x = (value-reply x, with-current t (set (t .current) d (x .next)))
+  abbrev decision : ℕ → ℕ → ℕ → Decision
+  decision m d total = decided m (getD (t .current) d 0) (getD (t .total) d 0) (value-there d) (next-there d) total
 
-  went : n ≡ 0 → outcome at (decided 0 (getD (t .current) at 0) (value-there at) (next-there at)) ≡ called (event c e) t
+  abbrev outcome : ℕ → Decision → Reply (Reading ℕ) × Store
+  outcome d x = (value-reply (t .wheel) x, with-current t (set (t .current) d (x .next)) (set (t .total) d (x .total)))
+
+  -- The distance that it returns can be told.
+  pub event-measurable : (d : Decision) (m : ℕ) → d ≡ decision m at (limited (sum at)) → m ≡ n → d .refusal ≡ 0 → Measurable (t .wheel) (d .total)
+  event-measurable d m e1 e2 =
+      subst⁻¹ (λ d. d .refusal ≡ 0 → Measurable (t .wheel) (d .total)) (e1 ∙ ap (λ m. decision m at (limited (sum at))) e2) (go n refl)
+    where
+      go : (m : ℕ) → n ≡ m → decision m at (limited (sum at)) .refusal ≡ 0 → Measurable (t .wheel) (decision m at (limited (sum at)) .total)
+      go zero h z =
+          let r = ran h in
+          let here : sum at ≤ total-limit = subst⁻¹ (λ d. sum d ≤ total-limit) (mod-eq-of-lt (r .ready .channel)) (r .small) in
+          measurable t c (r .ready) (limited (sum at)) (subst⁻¹ (λ m. m ≤ total-limit) (limited-small (sum at) here) here)
+      go (suc m) h z = absurd (omega (arith, z))
+
+  went : n ≡ 0 → outcome at (decision 0 at (limited (sum at))) ≡ called (event c i) t
   went h =
-      let r = ready h in
-      let i = index-below (t .setup .events) (getD (t .states) c 0) (state-of t c) e (ready-facts t c (r .0) .start-in) (r .1) in
-      ap (λ d. outcome d (decided 0 (getD (t .current) d 0) (value-there d) (next-there d))) (mod-eq-of-lt (r .0 .channel))
-      ∙ ap₂ (λ v q. (returned v, with-current t (set (t .current) c q)))
-      (sym (getD-part (t .value) (rows-start c) (getD (t .states) c 0 * t .setup .events) (state-of t c * t .setup .events + e) i))
-      (sym (getD-part (t .next) (rows-start c) (getD (t .states) c 0 * t .setup .events) (state-of t c * t .setup .events + e) i))
-      ∙ sym (ap (λ o. (event-reply (content t) o e, with-current t (set (t .current) c (next-state o e)))) (has t c (r .0)))
-      ∙ sym (accepted-call t (event c e) (sym number-is ∙ ap number-refusal h))
+      let r = ran h in
+      let k = index-below (t .setup .events) (getD (t .states) c 0) (state-of t c) (i .event) (ready-facts t c (r .ready) .table .start-in) (r .event-in) in
+      ap (λ d. outcome d (decision 0 d (limited (sum d)))) (mod-eq-of-lt (r .ready .channel))
+      ∙ ap (λ total. outcome c (decision 0 c total)) (limited-small (sum c) (r .small))
+      ∙ ap₂ (λ v q. (returned (reading (t .wheel) v (sum c)), with-current t (set (t .current) c q) (set (t .total) c (sum c))))
+      (sym (getD-part (t .value) (rows-start c) (getD (t .states) c 0 * t .setup .events) (state-of t c * t .setup .events + i .event) k))
+      (sym (getD-part (t .next) (rows-start c) (getD (t .states) c 0 * t .setup .events) (state-of t c * t .setup .events + i .event) k))
+      ∙ sym
+      (ap
+      (λ o. (
+        event-reply (content t) o i,
+        with-current t (set (t .current) c (next-state o (i .event))) (set (t .total) c (next-total o (i .pulses))),
+      ))
+      (has t c (r .ready)))
+      ∙ sym (accepted-call t (event c i) (sym number-is ∙ ap number-refusal h))
 
   pub event-done :
-      (a : Reply ℕ) (d : Decision) (m : ℕ) → a ≡ value-reply d → d ≡ decided m (getD (t .current) at 0) (value-there at) (next-there at) → m ≡ n →
-      (a, with-current t (set (t .current) at (d .next))) ≡ called (event c e) t
+      (a : Reply (Reading ℕ)) (d : Decision) (m : ℕ) → a ≡ value-reply (t .wheel) d → d ≡ decision m at (limited (sum at)) → m ≡ n →
+      (a, with-current t (set (t .current) at (d .next)) (set (t .total) at (d .total))) ≡ called (event c i) t
   event-done a d m e1 e2 e3 =
-      ap (λ a. (a, with-current t (set (t .current) at (d .next)))) e1
-      ∙ ap (outcome at) (e2 ∙ ap (λ m. decided m (getD (t .current) at 0) (value-there at) (next-there at)) e3)
+      ap (λ a. (a, with-current t (set (t .current) at (d .next)) (set (t .total) at (d .total)))) e1
+      ∙ ap (outcome at) (e2 ∙ ap (λ m. decision m at (limited (sum at))) e3)
       ∙ go n refl
     where
-      go : (m : ℕ) → n ≡ m → outcome at (decided m (getD (t .current) at 0) (value-there at) (next-there at)) ≡ called (event c e) t
+      go : (m : ℕ) → n ≡ m → outcome at (decision m at (limited (sum at))) ≡ called (event c i) t
       go zero h = went h
       go (suc m) h =
           ap (λ u. (refused (Plain (suc m)), u)) (same-store t at)
-          ∙ sym (refused-call t (event c e) (Plain (suc m)) (sym number-is ∙ ap number-refusal h))
+          ∙ sym (refused-call t (event c i) (Plain (suc m)) (sym number-is ∙ ap number-refusal h))
 
 -- Restart and clear.
 module _ (t : Store) (c f : ℕ) (e-fault : f ≡ fault-number t c) where
@@ -272,79 +373,101 @@ module _ (t : Store) (c f : ℕ) (e-fault : f ≡ fault-number t c) where
   x = c % channel-limit
 
   pub restart-done :
-      (a : Reply ℕ) (q m : ℕ) → a ≡ plain-reply m → q ≡ kept-number m (getD (t .current) x 0) → m ≡ loaded-number f c (getD (t .states) x 0) →
-      (a, with-current t (set (t .current) x q)) ≡ called (restart c) t
-  restart-done a q m e1 e2 e3 =
-      ap₂ (λ a q. (a, with-current t (set (t .current) x q))) e1 e2 ∙ go m (ap number-refusal e3 ∙ loaded-refused t c f e-fault)
+      (a : Reply (Reading ℕ)) (q total m : ℕ) → a ≡ plain-reply m → q ≡ kept-number m (getD (t .current) x 0) →
+      total ≡ kept-number m (getD (t .total) x 0) → m ≡ loaded-number f c (getD (t .states) x 0) →
+      (a, with-current t (set (t .current) x q) (set (t .total) x total)) ≡ called (restart c) t
+  restart-done a q total m e1 e2 e3 e4 =
+      ap (λ a. (a, with-current t (set (t .current) x q) (set (t .total) x total))) e1
+      ∙ ap₂ (λ q total. (plain-reply m, with-current t (set (t .current) x q) (set (t .total) x total))) e2 e3
+      ∙ go m (ap number-refusal e4 ∙ loaded-refused t c f e-fault)
     where
       go :
           (m : ℕ) → number-refusal m ≡ tool-refusal t (restart c) →
-          (plain-reply m, with-current t (set (t .current) x (kept-number m (getD (t .current) x 0)))) ≡ called (restart c) t
+          _≡_ {A = Reply (Reading ℕ) × Store} (
+            plain-reply m,
+            with-current t (set (t .current) x (kept-number m (getD (t .current) x 0))) (set (t .total) x (kept-number m (getD (t .total) x 0))),
+          ) (called (restart c) t)
       go zero h =
-          ap (λ d. (accepted, with-current t (set (t .current) d 0)))
+          ap (λ d. (accepted, with-current t (set (t .current) d 0) (set (t .total) d 0)))
           (here t c f e-fault (or-else-none _ _ (sym (h ∙ or-else-assoc _ (channel-refusal c) _)) .0))
           ∙ sym (accepted-call t (restart c) (sym h))
       go (suc m) h = ap (λ u. (refused (Plain (suc m)), u)) (same-store t x) ∙ sym (refused-call t (restart c) (Plain (suc m)) (sym h))
 
-  abbrev emptied : ℕ → ℕ → ℕ → Store
-  emptied d k q =
-      record { setup = t .setup; states = set (t .states) d k; current = set (t .current) d q; value = t .value; next = t .next }
+  abbrev with-cells : List ℕ → List ℕ → List ℕ → Store
+  with-cells states current total =
+      record { setup = t .setup; wheel = t .wheel; states = states; current = current; total = total; value = t .value; next = t .next }
+
+  abbrev emptied : ℕ → ℕ → ℕ → ℕ → Store
+  emptied d k q total = with-cells (set (t .states) d k) (set (t .current) d q) (set (t .total) d total)
 
   pub clear-done :
-      (a : Reply ℕ) (k q m : ℕ) → a ≡ plain-reply m → k ≡ kept-number m (getD (t .states) x 0) → q ≡ kept-number m (getD (t .current) x 0) →
-      m ≡ channel-number f c → (a, emptied x k q) ≡ called (clear c) t
-  clear-done a k q m e1 e2 e3 e4 =
-      ap (λ a. (a, emptied x k q)) e1 ∙ ap₂ (λ k q. (plain-reply m, emptied x k q)) e2 e3
-      ∙ go m (ap number-refusal e4 ∙ channel-refused t c f e-fault)
+      (a : Reply (Reading ℕ)) (k q total m : ℕ) → a ≡ plain-reply m → k ≡ kept-number m (getD (t .states) x 0) →
+      q ≡ kept-number m (getD (t .current) x 0) → total ≡ kept-number m (getD (t .total) x 0) → m ≡ channel-number f c →
+      (a, emptied x k q total) ≡ called (clear c) t
+  clear-done a k q total m e1 e2 e3 e4 e5 =
+      ap₂ (λ a k. (a, emptied x k q total)) e1 e2 ∙ ap₂ (λ q total. (plain-reply m, emptied x (kept-number m (getD (t .states) x 0)) q total)) e3 e4
+      ∙ go m (ap number-refusal e5 ∙ channel-refused t c f e-fault)
     where
       go :
           (m : ℕ) → number-refusal m ≡ tool-refusal t (clear c) →
-          (plain-reply m, emptied x (kept-number m (getD (t .states) x 0)) (kept-number m (getD (t .current) x 0))) ≡ called (clear c) t
-      go zero h = ap (λ d. (accepted, emptied d 0 0)) (here t c f e-fault (sym h)) ∙ sym (accepted-call t (clear c) (sym h))
+          _≡_ {A = Reply (Reading ℕ) × Store} (
+            plain-reply m,
+            emptied x (kept-number m (getD (t .states) x 0)) (kept-number m (getD (t .current) x 0)) (kept-number m (getD (t .total) x 0)),
+          ) (called (clear c) t)
+      go zero h = ap (λ d. (accepted, emptied d 0 0 0)) (here t c f e-fault (sym h)) ∙ sym (accepted-call t (clear c) (sym h))
       go (suc m) h =
-          ap₂ (λ a b. (refused (Plain (suc m)), record { setup = t .setup; states = a; current = b; value = t .value; next = t .next }))
-          (set-getD (t .states) x 0) (set-getD (t .current) x 0)
+          ap₂ (λ a b. (refused (Plain (suc m)), with-cells a b (set (t .total) x (getD (t .total) x 0)))) (set-getD (t .states) x 0) (set-getD (t .current) x 0)
+          ∙ ap (λ d. (refused (Plain (suc m)), with-cells (t .states) (t .current) d)) (set-getD (t .total) x 0)
           ∙ sym (refused-call t (clear c) (Plain (suc m)) (sym h))
 
 pub restart-all-done :
-    (t : Store) (a : Reply ℕ) (l : List ℕ) (m : ℕ) → a ≡ plain-reply m → l ≡ states-after m (t .current) →
-    m ≡ number-unless (tool-test t restart-all) 17 → (a, with-current t l) ≡ called restart-all t
+    (t : Store) (a : Reply (Reading ℕ)) (l totals : List ℕ) (m : ℕ) → a ≡ plain-reply m → l ≡ kept-numbers m (t .current) →
+    totals ≡ kept-numbers m (t .total) → m ≡ number-unless (tool-test t restart-all) 17 → (a, with-current t l totals) ≡ called restart-all t
 unfolding or-else
-restart-all-done t a l m e1 e2 e3 =
-    ap₂ (λ a l. (a, with-current t l)) e1 e2
-    ∙ go m (ap number-refusal e3 ∙ unless-refusal (tool-test t restart-all) 16 ∙ last (plain-unless (tool-test t restart-all) 17))
+restart-all-done t a l totals m e1 e2 e3 e4 =
+    ap (λ a. (a, with-current t l totals)) e1 ∙ ap₂ (λ l totals. (plain-reply m, with-current t l totals)) e2 e3
+    ∙ go m (ap number-refusal e4 ∙ unless-refusal (tool-test t restart-all) 16 ∙ last (plain-unless (tool-test t restart-all) 17))
   where
     last : (o : Option Refusal) → o ≡ or-else o none
     last none = refl
     last (some r) = refl
 
-    go : (m : ℕ) → number-refusal m ≡ tool-refusal t restart-all → (plain-reply m, with-current t (states-after m (t .current))) ≡ called restart-all t
+    go :
+        (m : ℕ) → number-refusal m ≡ tool-refusal t restart-all →
+        (plain-reply m, with-current t (kept-numbers m (t .current)) (kept-numbers m (t .total))) ≡ called restart-all t
     go zero h = sym (accepted-call t restart-all (sym h))
     go (suc m) h = sym (refused-call t restart-all (Plain (suc m)) (sym h))
 
--- Set up: what 1 to 3 say, and the tool.
-module _ (events values top : ℕ) (meet : List ℕ) (j : Judgement) (e : j ≡ judgement (setup-refusal (setup events values top meet))) where
-  abbrev s : Setup
-  s = setup events values top meet
+-- Set up: what 1 to 3 and 18 say, and the tool.
+module _ (events values top : ℕ) (meet : List ℕ) (pulses millimetres : ℕ) (j : Judgement)
+    (e : j ≡ judgement (tool-setup-refusal (tool-setup (setup events values top meet) (wheel-of-turn pulses millimetres)))) where
+  abbrev s : ToolSetup
+  s = tool-setup (setup events values top meet) (wheel-of-turn pulses millimetres)
 
   pub set-up-refused :
-      (a : Reply ℕ) (u : Store) (r : Refusal) → j ≡ Refused r → a ≡ judged-reply j → u ≡ empty-store (setup 0 0 0 (replicate meet-limit 0)) →
-      (a, u) ≡ set-up-called s
+      (a : Reply (Reading ℕ)) (u : Store) (r : Refusal) → j ≡ Refused r → a ≡ judged-reply j →
+      u ≡ empty-store (setup 0 0 0 (replicate meet-limit 0)) (wheel-of-turn 0 0) → (a, u) ≡ set-up-called s
   unfolding blank
   set-up-refused a u r h e1 e2 =
-      ap₂ (λ a u. (a, u)) (e1 ∙ ap judged-reply h) e2 ∙ sym (ap (set-up-answer s) (judgement-refused (setup-refusal s) r (sym e ∙ h)))
+      ap₂ (λ a u. (a, u)) (e1 ∙ ap judged-reply h) e2 ∙ sym (ap (set-up-answer s) (judgement-refused (tool-setup-refusal s) r (sym e ∙ h)))
 
   pub set-up-accepted :
-      (u : Store) → j ≡ Accepted → u ≡ empty-store (setup (events % 256) (values % 256) (top % 256) (filled meet-limit meet)) →
+      (u : Store) → j ≡ Accepted →
+      u
+      ≡ empty-store (setup (events % 256) (values % 256) (top % 256) (filled meet-limit meet)) (wheel-of-turn (pulses % 65536) (millimetres % 65536)) →
       (accepted, u) ≡ set-up-called s
   unfolding new-store
   set-up-accepted u h e1 =
-      let ok = judgement-accepted (setup-refusal s) (sym e ∙ h) in
-      let f = setup-accepted s .0 ok in
+      let ok = judgement-accepted (tool-setup-refusal s) (sym e ∙ h) in
+      let f = setup-accepted (s .values) .0 (values-accepted s ok) in
+      let w = wheel-of-test (s .wheel) (wheel-accepted s ok) in
       let below : top < values = f .laws .top-in in
       ap (λ u. (accepted, u))
       (e1
-      ∙ ap₂ (λ a b. empty-store (setup a b (top % 256) (filled meet-limit meet)))
+      ∙ ap₂ (λ a b. empty-store (setup a b (top % 256) (filled meet-limit meet)) (wheel-of-turn (pulses % 65536) (millimetres % 65536)))
       (mod-eq-of-lt {n = events} {m = 256} (omega (arith, f .few-events))) (mod-eq-of-lt {n = values} {m = 256} (omega (arith, f .of-kind .few-values)))
-      ∙ ap (λ a. empty-store (setup events values a (filled meet-limit meet))) (mod-eq-of-lt {n = top} {m = 256} (omega (arith, f .of-kind .few-values))))
+      ∙ ap (λ a. empty-store (setup events values a (filled meet-limit meet)) (wheel-of-turn (pulses % 65536) (millimetres % 65536)))
+      (mod-eq-of-lt {n = top} {m = 256} (omega (arith, f .of-kind .few-values)))
+      ∙ ap₂ (λ p c. empty-store (setup events values top (filled meet-limit meet)) (wheel-of-turn p c))
+      (mod-eq-of-lt {n = pulses} {m = 65536} (omega (arith, w .0 .1))) (mod-eq-of-lt {n = millimetres} {m = 65536} (omega (arith, w .1 .1))))
       ∙ sym (ap (set-up-answer s) ok)

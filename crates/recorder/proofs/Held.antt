@@ -1,32 +1,32 @@
 -- What channels hold; the tests of refusal 17 decide the printed condition.
-use mathlib.Core.{Path.{_≡_, refl, sym, _∙_, ap, ap₂}, Bool.{Bool, true, false, _&&_, and-false, cond}, List.{List}}
+use mathlib.Core.{Path.{_≡_, refl, sym, _∙_, ap, ap₂}, Bool.{Bool, true, false, _&&_, and-false, cond, false≢true}, List.{List}}
 use mathlib.Core.Option.{Option, none, some, Option·some-ne-none}
 use Prim.Native.Nat.{ℕ, _+_, _*_, _≤_, _<_}
 use native.Mathlib.Omega.{arith}
 use borrow.Author.Tests.{lt-ltb, le-ltb, le-leb, lt-leb, ltb-true, leb-true}
 use lib.{Dec.{ltb, leb}, ListN.{getD}}
-use Rattle.limits.specs.Limits.{channel-limit, event-limit, value-limit, table-limit}
+use Rattle.limits.specs.Limits.{channel-limit, event-limit, value-limit, table-limit, turn-limit, total-limit}
 use Rattle.theory.specs.ValueSetTests.{every}
 use Rattle.theory.proofs.ValueSets.{and-left, and-right, and-both, every-at, every-of}
 use Rattle.refusal.specs.declared.Refusal.the-variants.{Plain}
 use Rattle.refusal.specs.declared.{Refusal.{Refusal}, Judgement.{Judgement}}
 use Rattle.refusal.specs.declared.Judgement.the-variants.{Accepted, Refused}
 use Rattle.refusal.specs.RefusalAnswers.{or-else, plain-unless, judgement}
-use Rattle.refusal.proofs.Refusals.{judgement-accepted, judgement-refused}
+use Rattle.refusal.proofs.Refusals.{or-else-none, plain-none, judgement-accepted, judgement-refused}
 use Rattle.values.specs.declared.ValueKind.{ValueKind}
 use Rattle.values.specs.ValueTests.{value-fits}
-use Rattle.values.specs.Setup.{Setup, setup}
+use Rattle.values.specs.Setup.{setup}
 use Rattle.values.specs.SetupInOrder.{AcceptedSetup}
-use Rattle.values.specs.SetupTests.{events-test, values-test, meet-test, kind-refusal, setup-refusal}
+use Rattle.values.specs.SetupTests.{setup-refusal}
 use Rattle.values.proofs.{Setups.{setup-accepted}, DownSets.{same-test}, ValueKinds.{value-kinds}}
 use Rattle.channel_log.specs.CallSteps.{channel-refusal, empty-refusal}
-use Rattle.channel_log.specs.Calls.{Loaded}
+use Rattle.channel_log.specs.{Calls.{Loaded}, Distance.{Wheel, WheelFault}}
 use Rattle.machines.specs.TableBytes.{entry-width, entry-bytes}
 use Rattle.machines.proofs.{EntryIndex.{index-below, every-entry}, EntryBytes.{table-length}, TableRoundTrip.{entry-length}}
 use Rattle.recorder.specs.ToolTests.{part}
-use Rattle.recorder.specs.Store.{table-at, loaded-at, rows-start, held}
+use Rattle.recorder.specs.Store.{ToolSetup, tool-setup, table-at, loaded-at, rows-start, held}
 use Rattle.recorder.specs.Store.{ChannelInOrder}
-use Rattle.recorder.specs.ToolTests.{passed, setup-test, entries-test, loaded-test, channel-test}
+use Rattle.recorder.specs.ToolTests.{passed, turn-test, wheel-test, tool-setup-refusal, setup-test, entries-test, loaded-test, channel-test}
 use Rattle.recorder.proofs.Rows.{getD-part}
 
 -- 14.
@@ -42,67 +42,116 @@ passed-none : (o : Option Refusal) → passed o ≡ true → o ≡ none
 passed-none none h = refl
 passed-none (some r) h = let z : _≡_ {A = ℕ} 0 1 = cc in absurd (omega arith)
 
-pub accepted-of-test : (s : Setup) → setup-test s ≡ true → setup-refusal s ≡ none
+pub accepted-of-test : (s : ToolSetup) → setup-test s ≡ true → tool-setup-refusal s ≡ none
 unfolding setup-test
-accepted-of-test s h = passed-none (setup-refusal s) h
+accepted-of-test s h = passed-none (tool-setup-refusal s) h
 
-pub test-of-accepted : (s : Setup) → setup-refusal s ≡ none → setup-test s ≡ true
+pub test-of-accepted : (s : ToolSetup) → tool-setup-refusal s ≡ none → setup-test s ≡ true
 unfolding setup-test
 test-of-accepted s h = ap passed h
 
-pub well-formed-of-test : (s : Setup) → setup-test s ≡ true → AcceptedSetup s
-well-formed-of-test s h = setup-accepted s .0 (accepted-of-test s h)
+-- An accepted set-up has an accepted value set, and a wheel in its range.
+pub values-accepted : (s : ToolSetup) → tool-setup-refusal s ≡ none → setup-refusal (s .values) ≡ none
+unfolding tool-setup-refusal
+values-accepted s h = or-else-none (setup-refusal (s .values)) (plain-unless (wheel-test (s .wheel)) 18) h .0
 
-pub test-of-well-formed : (s : Setup) → AcceptedSetup s → setup-test s ≡ true
-test-of-well-formed s h = test-of-accepted s (setup-accepted s .1 h)
+pub wheel-accepted : (s : ToolSetup) → tool-setup-refusal s ≡ none → wheel-test (s .wheel) ≡ true
+unfolding tool-setup-refusal
+wheel-accepted s h =
+    plain-none (wheel-test (s .wheel)) 18 (or-else-none (setup-refusal (s .values)) (plain-unless (wheel-test (s .wheel)) 18) h .1)
 
-pub few-events : (s : Setup) → setup-test s ≡ true → s .events ≤ event-limit
+turn-of-test : (n : ℕ) → turn-test n ≡ true → (1 ≤ n) × (n ≤ turn-limit)
+unfolding turn-test
+turn-of-test n h = (leb-true 1 n (and-left (leb 1 n) (leb n turn-limit) h), leb-true n turn-limit (and-right (leb 1 n) (leb n turn-limit) h))
+
+test-of-turn : (n : ℕ) → (1 ≤ n) × (n ≤ turn-limit) → turn-test n ≡ true
+unfolding turn-test
+test-of-turn n h = and-both (le-leb 1 n (h .0)) (le-leb n turn-limit (h .1))
+
+pub wheel-of-test :
+    (wheel : Wheel) → wheel-test wheel ≡ true →
+    ((1 ≤ wheel .pulses) × (wheel .pulses ≤ turn-limit)) × ((1 ≤ wheel .millimetres) × (wheel .millimetres ≤ turn-limit))
+unfolding wheel-test
+wheel-of-test wheel h = (
+  turn-of-test (wheel .pulses) (and-left (turn-test (wheel .pulses)) (turn-test (wheel .millimetres)) h),
+  turn-of-test (wheel .millimetres) (and-right (turn-test (wheel .pulses)) (turn-test (wheel .millimetres)) h),
+)
+
+-- 18's test decides its condition.
+pub wheel-fault : (wheel : Wheel) → wheel-test wheel ≡ false → WheelFault wheel
+unfolding wheel-test
+wheel-fault wheel h g = false≢true (sym h ∙ and-both (test-of-turn (wheel .pulses) (g .0)) (test-of-turn (wheel .millimetres) (g .1)))
+
+pub no-wheel-fault : (wheel : Wheel) → wheel-test wheel ≡ true → ¬ WheelFault wheel
+no-wheel-fault wheel h f = f (wheel-of-test wheel h)
+
+pub well-formed-of-test : (s : ToolSetup) → setup-test s ≡ true → AcceptedSetup (s .values)
+well-formed-of-test s h = setup-accepted (s .values) .0 (values-accepted s (accepted-of-test s h))
+
+pub few-events : (s : ToolSetup) → setup-test s ≡ true → s .values .events ≤ event-limit
 few-events s h = well-formed-of-test s h .few-events
 
 -- For numbered values.
-pub few-values : (e v t : ℕ) (m : List ℕ) → setup-test (setup e v t m) ≡ true → v ≤ value-limit
-few-values e v t m h = well-formed-of-test (setup e v t m) h .of-kind .few-values
+pub few-values : (e v t : ℕ) (m : List ℕ) (w : Wheel) → setup-test (tool-setup (setup e v t m) w) ≡ true → v ≤ value-limit
+few-values e v t m w h = well-formed-of-test (tool-setup (setup e v t m) w) h .of-kind .few-values
 
-pub many-values : (e v t : ℕ) (m : List ℕ) → value-limit < v → setup-test (setup e v t m) ≡ false
-unfolding setup-test setup-refusal kind-refusal values-test or-else plain-unless
-many-values e v t m h = go (events-test e) (simp (lt-leb v value-limit h, and-false))
+pub many-values : (e v t : ℕ) (m : List ℕ) (w : Wheel) → value-limit < v → setup-test (tool-setup (setup e v t m) w) ≡ false
+many-values e v t m w h = go (setup-test (tool-setup (setup e v t m) w)) refl
   where
-    go :
-        (b : Bool) → (leb 1 v && (leb v value-limit && ltb t v)) ≡ false →
-        passed
-        (or-else (plain-unless b 1)
-        (or-else (plain-unless (leb 1 v && (leb v value-limit && ltb t v)) 2) (plain-unless (meet-test v t m) 3)))
-        ≡ false
-    go true f = ap (λ x. passed (or-else (plain-unless x 2) (plain-unless (meet-test v t m) 3))) f
-    go false f = refl
+    go : (b : Bool) → setup-test (tool-setup (setup e v t m) w) ≡ b → b ≡ false
+    go true p = absurd (omega (arith, h, few-values e v t m w p))
+    go false p = refl
 
-module _ (s : Setup) (j : Judgement) (e : j ≡ judgement (setup-refusal s)) where
+-- A judgement of 1 to 3, and 18 after it.
+module _ (s : ToolSetup) (j : Judgement) (e : j ≡ judgement (setup-refusal (s .values))) where
+  abbrev eighteen : Option Refusal → Bool → Option Refusal
+  eighteen earlier test = or-else earlier (plain-unless test 18)
+
+  pub values-judged : (r : Refusal) → j ≡ Refused r → j ≡ judgement (tool-setup-refusal s)
+  unfolding tool-setup-refusal or-else
+  values-judged r h =
+      let a = judgement-refused (setup-refusal (s .values)) r (sym e ∙ h) in
+      e ∙ ap judgement a ∙ sym (ap (λ o. judgement (eighteen o (wheel-test (s .wheel)))) a)
+
+  wheel-judged : (b : Bool) → j ≡ Accepted → wheel-test (s .wheel) ≡ b → judgement (plain-unless b 18) ≡ judgement (tool-setup-refusal s)
+  unfolding tool-setup-refusal or-else
+  wheel-judged b h g = sym (ap judgement (ap₂ eighteen (judgement-accepted (setup-refusal (s .values)) (sym e ∙ h)) g))
+
+  pub wheel-passed : j ≡ Accepted → wheel-test (s .wheel) ≡ true → Accepted ≡ judgement (tool-setup-refusal s)
+  unfolding judgement plain-unless
+  wheel-passed h g = wheel-judged true h g
+
+  pub wheel-refused : j ≡ Accepted → wheel-test (s .wheel) ≡ false → Refused (Plain 18) ≡ judgement (tool-setup-refusal s)
+  unfolding judgement plain-unless
+  wheel-refused h g = wheel-judged false h g
+
+module _ (s : ToolSetup) (j : Judgement) (e : j ≡ judgement (tool-setup-refusal s)) where
   pub accepted-test : j ≡ Accepted → true ≡ setup-test s
-  accepted-test h = sym (test-of-accepted s (judgement-accepted (setup-refusal s) (sym e ∙ h)))
+  accepted-test h = sym (test-of-accepted s (judgement-accepted (tool-setup-refusal s) (sym e ∙ h)))
 
   pub refused-test : (r : Refusal) → j ≡ Refused r → false ≡ setup-test s
   unfolding setup-test
-  refused-test r h = sym (ap passed (judgement-refused (setup-refusal s) r (sym e ∙ h)))
+  refused-test r h = sym (ap passed (judgement-refused (tool-setup-refusal s) r (sym e ∙ h)))
 
 -- What a channel holds.
-module _ (c n k q : ℕ) (L N : List ℕ) where
-  pub held-above : channel-limit ≤ c → held c n k q L N ≡ none
+module _ (c n k q total : ℕ) (L N : List ℕ) where
+  pub held-above : channel-limit ≤ c → held c n k q total L N ≡ none
   unfolding held
   held-above h = simp (le-ltb c channel-limit h)
 
-  pub held-empty : k ≡ 0 → held c n k q L N ≡ none
+  pub held-empty : k ≡ 0 → held c n k q total L N ≡ none
   unfolding held
   held-empty h = simp (le-ltb 0 k (omega arith), and-false)
 
-  pub held-some : c < channel-limit → 0 < k → held c n k q L N ≡ some (loaded-at (rows-start c) n k q L N)
+  pub held-some : c < channel-limit → 0 < k → held c n k q total L N ≡ some (loaded-at (rows-start c) n k q total L N)
   unfolding held
   held-some h g = simp (lt-ltb c channel-limit h, lt-ltb 0 k g)
 
-  pub empty-held : c < channel-limit → empty-refusal (held c n k q L N) ≡ cond (ltb 0 k) none (some (Plain 15))
+  pub empty-held : c < channel-limit → empty-refusal (held c n k q total L N) ≡ cond (ltb 0 k) none (some (Plain 15))
   unfolding held
   empty-held h = rw (lt-ltb c channel-limit h) (go (ltb 0 k))
     where
-      go : (j : Bool) → empty-refusal {X = Loaded ℕ} (cond j (some (loaded-at (rows-start c) n k q L N)) none) ≡ cond j none (some (Plain 15))
+      go : (j : Bool) → empty-refusal {X = Loaded ℕ} (cond j (some (loaded-at (rows-start c) n k q total L N)) none) ≡ cond j none (some (Plain 15))
       go true = refl
       go false = refl
 
@@ -146,56 +195,73 @@ module _ (n : ℕ) (kind : ValueKind) (x : Loaded ℕ) where
   abbrev last : Bool
   last = entries-test n kind k (x .table)
 
+  abbrev light : Bool
+  light = leb (x .total) total-limit
+
   pub in-order-of-test : loaded-test n kind x ≡ true → ChannelInOrder n kind x
   unfolding loaded-test entries-test
   in-order-of-test h =
-      let a = and-right (ltb 0 k) (leb k table-limit && (ltb (x .current) k && last)) h in
-      let b = and-right (leb k table-limit) (ltb (x .current) k && last) a in
+      let a = and-right (ltb 0 k) (leb k table-limit && (ltb (x .current) k && (light && last))) h in
+      let b = and-right (leb k table-limit) (ltb (x .current) k && (light && last)) a in
+      let d = and-right (ltb (x .current) k) (light && last) b in
       let entries : (l e : ℕ) → l < k → e < n → entry-test l e ≡ true =
-      λ l e p q. every-at n (entry-test l) (every-at k (λ l. every n (entry-test l)) (and-right (ltb (x .current) k) last b) l p) e q in
+      λ l e p q. every-at n (entry-test l) (every-at k (λ l. every n (entry-test l)) (and-right light last d) l p) e q in
       record {
-        some-states = ltb-true 0 k (and-left (ltb 0 k) (leb k table-limit && (ltb (x .current) k && last)) h);
-        few-states = leb-true k table-limit (and-left (leb k table-limit) (ltb (x .current) k && last) a);
-        entry-count = table-length ℕ (entry-bytes kind) (entry-width kind) (entry-length kind) n (x .table) k;
-        start-in = ltb-true (x .current) k (and-left (ltb (x .current) k) last b);
-        values-in = λ l e p q.
-            value-kinds .fits kind (x .table .value l e) .0
-            (and-left (value-fits kind (x .table .value l e)) (ltb (x .table .next l e) k) (entries l e p q));
-        nexts-in = λ l e p q.
-            ltb-true (x .table .next l e) k
-            (and-right (value-fits kind (x .table .value l e)) (ltb (x .table .next l e) k) (entries l e p q));
+        table =
+            record {
+              some-states = ltb-true 0 k (and-left (ltb 0 k) (leb k table-limit && (ltb (x .current) k && (light && last))) h);
+              few-states = leb-true k table-limit (and-left (leb k table-limit) (ltb (x .current) k && (light && last)) a);
+              entry-count = table-length ℕ (entry-bytes kind) (entry-width kind) (entry-length kind) n (x .table) k;
+              start-in = ltb-true (x .current) k (and-left (ltb (x .current) k) (light && last) b);
+              values-in = λ l e p q.
+                  value-kinds .fits kind (x .table .value l e) .0
+                  (and-left (value-fits kind (x .table .value l e)) (ltb (x .table .next l e) k) (entries l e p q));
+              nexts-in = λ l e p q.
+                  ltb-true (x .table .next l e) k
+                  (and-right (value-fits kind (x .table .value l e)) (ltb (x .table .next l e) k) (entries l e p q));
+            };
+        total = leb-true (x .total) total-limit (and-left light last d);
       }
 
   pub test-of-in-order : ChannelInOrder n kind x → loaded-test n kind x ≡ true
   unfolding loaded-test entries-test
   test-of-in-order f =
-      and-both (lt-ltb 0 k (f .some-states))
-      (and-both (le-leb k table-limit (f .few-states))
-      (and-both (lt-ltb (x .current) k (f .start-in))
+      let g = f .table in
+      and-both (lt-ltb 0 k (g .some-states))
+      (and-both (le-leb k table-limit (g .few-states))
+      (and-both (lt-ltb (x .current) k (g .start-in))
+      (and-both (le-leb (x .total) total-limit (f .total))
       (every-of k (λ l. every n (entry-test l))
       (λ l p. every-of n (entry-test l)
       (λ e q.
-      and-both (value-kinds .fits kind (x .table .value l e) .1 (f .values-in l e p q)) (lt-ltb (x .table .next l e) k (f .nexts-in l e p q)))))))
+      and-both (value-kinds .fits kind (x .table .value l e) .1 (g .values-in l e p q)) (lt-ltb (x .table .next l e) k (g .nexts-in l e p q))))))))
 
 -- Where the tests of a loaded channel fail, and where only its entries are left.
-module _ (at n : ℕ) (kind : ValueKind) (k q : ℕ) (L N : List ℕ) where
-  pub many-states : table-limit < k → channel-test n kind (some (loaded-at at n k q L N)) ≡ false
+module _ (at n : ℕ) (kind : ValueKind) (k q total : ℕ) (L N : List ℕ) where
+  pub many-states : table-limit < k → channel-test n kind (some (loaded-at at n k q total L N)) ≡ false
   unfolding loaded-test
   many-states h = simp (lt-leb k table-limit h, and-false)
 
-  pub state-outside : k ≤ q → channel-test n kind (some (loaded-at at n k q L N)) ≡ false
+  pub state-outside : k ≤ q → channel-test n kind (some (loaded-at at n k q total L N)) ≡ false
   unfolding loaded-test
   state-outside h = simp (le-ltb q k h, and-false)
 
-  pub entries-only :
-      0 < k → k ≤ table-limit → q < k → channel-test n kind (some (loaded-at at n k q L N)) ≡ every (k * n) (flat-test at n kind k L N)
+  pub heavy : total-limit < total → channel-test n kind (some (loaded-at at n k q total L N)) ≡ false
   unfolding loaded-test
-  entries-only h g l = simp (lt-ltb 0 k h, le-leb k table-limit g, lt-ltb q k l, flat-entries at n kind k L N)
+  heavy h = simp (lt-leb total total-limit h, and-false)
+
+  pub entries-only :
+      0 < k → k ≤ table-limit → q < k → total ≤ total-limit →
+      channel-test n kind (some (loaded-at at n k q total L N)) ≡ every (k * n) (flat-test at n kind k L N)
+  unfolding loaded-test
+  entries-only h g l i =
+      simp (lt-ltb 0 k h, le-leb k table-limit g, lt-ltb q k l, le-leb total total-limit i, flat-entries at n kind k L N)
 
   -- Next states by their numbers, as the arrays have them.
-  pub flat-next : ChannelInOrder n kind (loaded-at at n k q L N) → (i : ℕ) → i < k * n → getD N (at + i) 0 < k
+  pub flat-next : ChannelInOrder n kind (loaded-at at n k q total L N) → (i : ℕ) → i < k * n → getD N (at + i) 0 < k
   flat-next f i h =
       ltb-true (getD N (at + i) 0) k
       (and-right (value-fits kind (getD L (at + i) 0)) (ltb (getD N (at + i) 0) k)
       (every-at (k * n) (flat-test at n kind k L N)
-      (sym (entries-only (f .some-states) (f .few-states) (f .start-in)) ∙ test-of-in-order n kind (loaded-at at n k q L N) f) i h))
+      (sym (entries-only (f .table .some-states) (f .table .few-states) (f .table .start-in) (f .total))
+      ∙ test-of-in-order n kind (loaded-at at n k q total L N) f) i h))

@@ -11,20 +11,20 @@ use Rattle.refusal.specs.RefusalAnswers.{or-else, plain-unless}
 use Rattle.refusal.proofs.Refusals.{or-else-none, or-else-assoc, plain-none}
 use Rattle.values.specs.{Setup.{SetupValue}, SetupTests.{setup-refusal}}
 use Rattle.synthesis.specs.declared.Compiled.{Compiled}
-use Rattle.channel_log.specs.Calls.{load, Reply, accepted}
+use Rattle.channel_log.specs.{Calls.{load, Reply, accepted}, Distance.{Reading}}
 use Rattle.channel_log.specs.CallSteps.{channel-refusal}
-use Rattle.recorder.specs.Store.{Store, setup-of}
+use Rattle.recorder.specs.Store.{Store, setup-of, tool-setup-of}
 use Rattle.recorder.specs.ToolTests.{setup-test, test-of}
 use Rattle.recorder.specs.CompiledRule.{rule-judged, states-of-rule, compiled-rule}
 use Rattle.recorder.specs.Called.{with-rows, stored-rows, tool-refusal, called}
 use Rattle.recorder.specs.Decisions.{number-refusal, channel-number, plain-reply, counted-reply, low-byte}
-use Rattle.recorder.proofs.{Numbers.{number-some, plain-refused}, Held.{channel-below, accepted-of-test}}
+use Rattle.recorder.proofs.{Numbers.{number-some, plain-refused}, Held.{channel-below, accepted-of-test, values-accepted}}
 use Rattle.recorder.proofs.Decided.{fault-number, refused-call, accepted-call, channel-refused}
 use Rattle.recorder.proofs.CompiledRules.{rule-refused, rule-counted, values-are, nexts-are, few-states, low-values}
 
 module _ (t : Store) (c : ℕ) (r : List ℕ) (f : ℕ) (e-fault : f ≡ fault-number t c) (m : ℕ) (e-number : m ≡ channel-number f c) where
   abbrev earlier : Option Refusal
-  earlier = plain-unless (setup-test (setup-of t) && test-of t c) 17
+  earlier = plain-unless (setup-test (tool-setup-of t) && test-of t c) 17
 
   abbrev judged : Option Refusal
   judged = rule-judged (setup-of t) r
@@ -36,7 +36,7 @@ module _ (t : Store) (c : ℕ) (r : List ℕ) (f : ℕ) (e-fault : f ≡ fault-n
   judged-after : (o : Option Refusal) → number-refusal m ≡ o → tool-refusal t (load c r) ≡ or-else o judged
   judged-after o h = or-else-assoc earlier (channel-refusal c) judged ∙ ap (λ x. or-else x judged) (sym number-is ∙ h)
 
-  pub load-refused : (a : Reply ℕ) → a ≡ plain-reply m → 0 < m → (a, t) ≡ called (load c r) t
+  pub load-refused : (a : Reply (Reading ℕ)) → a ≡ plain-reply m → 0 < m → (a, t) ≡ called (load c r) t
   unfolding or-else
   load-refused a e h =
       ap (λ a. (a, t)) (e ∙ sym (plain-refused m h))
@@ -46,18 +46,18 @@ module _ (t : Store) (c : ℕ) (r : List ℕ) (f : ℕ) (e-fault : f ≡ fault-n
     passed : (earlier ≡ none) × (channel-refusal c ≡ none)
     passed = or-else-none earlier (channel-refusal c) (sym number-is ∙ ap number-refusal went)
 
-    pub setup-passes : setup-test (setup-of t) ≡ true
-    setup-passes = and-left (setup-test (setup-of t)) (test-of t c) (plain-none (setup-test (setup-of t) && test-of t c) 17 (passed .0))
+    pub setup-passes : setup-test (tool-setup-of t) ≡ true
+    setup-passes = and-left (setup-test (tool-setup-of t)) (test-of t c) (plain-none (setup-test (tool-setup-of t) && test-of t c) 17 (passed .0))
 
     ok : setup-refusal (setup-of t) ≡ none
-    ok = accepted-of-test (setup-of t) setup-passes
+    ok = values-accepted (tool-setup-of t) (accepted-of-test (tool-setup-of t) setup-passes)
 
     judged-is : tool-refusal t (load c r) ≡ judged
     unfolding or-else
     judged-is = judged-after none (ap number-refusal went)
 
     pub load-judged :
-        (a : Reply ℕ) (A : Compiled) (x : Refusal) → a ≡ counted-reply (A .verdict) → A ≡ compiled-rule (setup-of t) r → A .verdict ≡ Refused x →
+        (a : Reply (Reading ℕ)) (A : Compiled) (x : Refusal) → a ≡ counted-reply (A .verdict) → A ≡ compiled-rule (setup-of t) r → A .verdict ≡ Refused x →
         (a, t) ≡ called (load c r) t
     load-judged a A x e1 e2 e3 =
         ap (λ a. (a, t)) (e1 ∙ ap counted-reply e3)

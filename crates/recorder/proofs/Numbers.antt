@@ -38,11 +38,18 @@ pub plain-refused : (n : ℕ) → 0 < n → refused (Plain n) ≡ plain-reply n
 plain-refused = by-suc (λ n. refused (Plain n) ≡ plain-reply n) (λ m. refl)
 
 -- What an event comes to.
-pub stays : (old v q n : ℕ) → 0 < n → _≡_ {A = Decision} (record { refusal = n; value = 0; next = old }) (decided n old v q)
-stays old v q = by-suc (λ n. _≡_ {A = Decision} (record { refusal = n; value = 0; next = old }) (decided n old v q)) (λ m. refl)
+module _ (old before v q total : ℕ) where
+  abbrev stayed : ℕ → Decision
+  stayed n = record { refusal = n; value = 0; next = old; total = before }
 
-pub moves : (old v q n : ℕ) → n ≤ 0 → _≡_ {A = Decision} (record { refusal = 0; value = v; next = q }) (decided n old v q)
-moves old v q = by-zero (λ n. _≡_ {A = Decision} (record { refusal = 0; value = v; next = q }) (decided n old v q)) refl
+  abbrev moved : Decision
+  moved = record { refusal = 0; value = v; next = q; total = total }
+
+  pub stays : (n : ℕ) → 0 < n → stayed n ≡ decided n old before v q total
+  stays = by-suc (λ n. stayed n ≡ decided n old before v q total) (λ m. refl)
+
+  pub moves : (n : ℕ) → n ≤ 0 → moved ≡ decided n old before v q total
+  moves = by-zero (λ n. moved ≡ decided n old before v q total) refl
 
 -- The first of two numbers, from what each is; and the number of a test.
 pub earlier-stands : (a b m : ℕ) → m ≡ a → 0 < m → m ≡ first-number a b

@@ -1,70 +1,86 @@
 -- Twin of Store, pinned by product_claims DemandThree.
--- The calls on a tool (document 01, "Tool"): what each answers and what the tool holds afterwards, whatever it held before.
+-- The calls on a tool (document 01, "Tool"; document 02, F-6): what each answers and what the tool holds afterwards, whatever it held before.
 use mathlib.Core.{List.{List, _++_}, Option.{Option, none, some}}
-use Prim.Native.Nat.{ℕ, _-_}
+use Prim.Native.Nat.{ℕ, _+_, _-_}
 use lib.{ListN.{length, set, take, replicate}, Seq.{paste}}
 use Rattle.limits.specs.Limits.{meet-limit, channel-limit, entry-limit, store-limit}
 use Rattle.refusal.specs.{declared.Refusal.{Refusal}, RefusalAnswers.{or-else, plain-unless}}
 use Rattle.values.specs.{declared.ValueKind.{ValueKind}, declared.ValueKind.the-variants.{Numbered, Register}, Setup.{Setup, setup-of-kind, setup}}
-use Rattle.values.specs.SetupTests.{setup-refusal}
+use Rattle.channel_log.specs.Distance.{Wheel, wheel-of-turn, Occurrence, Reading}
 use Rattle.channel_log.specs.Calls.{Call, load, event, restart, restart-all, clear, Reply, accepted, refused, Loaded}
 use Rattle.channel_log.specs.{CallSteps.{Content, call-refusal, accepted-reply}, Recorded.{recorded}}
-use Rattle.recorder.specs.{Store.{Store, setup-of, rows-start, channels}, ToolTests.{tool-test}}
+use Rattle.recorder.specs.{Store.{Store, ToolSetup, setup-of, rows-start, channels}, ToolTests.{tool-test, tool-setup-refusal}}
 use Rattle.recorder.specs.CompiledRule.{rule-judged, states-of-rule, values-of-rule, nexts-of-rule, loaded-rule}
 use Rattle.theory.specs.ValueSets.{pack, top-masks}
 use mathlib.Core.List.{[]}
 
--- The store with other current states; with another table in channel c, at state 0.
-abbrev pub with-current : Store → List ℕ → Store
-with-current t l = record { setup = t .setup; states = t .states; current = l; value = t .value; next = t .next }
+-- The store with other current states and totals; with another table in channel c, at state 0 and with no pulses.
+abbrev pub with-current : Store → List ℕ → List ℕ → Store
+with-current t current total =
+    record { setup = t .setup; wheel = t .wheel; states = t .states; current = current; total = total; value = t .value; next = t .next }
 
 abbrev pub with-rows : Store → ℕ → ℕ → List ℕ → List ℕ → Store
 with-rows t c k value next =
-    record { setup = t .setup; states = set (t .states) c k; current = set (t .current) c 0; value = value; next = next }
+    record {
+      setup = t .setup;
+      wheel = t .wheel;
+      states = set (t .states) c k;
+      current = set (t .current) c 0;
+      total = set (t .total) c 0;
+      value = value;
+      next = next;
+    }
 
 -- A table's entries in the rows of channel c; no other channel's change.
 abbrev pub stored-rows : List ℕ → ℕ → List ℕ → List ℕ
 stored-rows rows c entries = paste rows (rows-start c) entries entry-limit
 
--- The state that an event leads to.
+-- The state that an event leads to, and the total with its pulses.
 abbrev pub next-state : Option (Loaded ℕ) → ℕ → ℕ
 next-state none e = 0
 next-state (some x) e = x .table .next (x .current) e
 
--- The channels take calls as `recorded` says.
-abbrev pub content : Store → Content (Loaded ℕ) ℕ ℕ
-content t = recorded (t .setup .events) (rule-judged (setup-of t)) (loaded-rule (setup-of t))
+abbrev pub next-total : Option (Loaded ℕ) → ℕ → ℕ
+next-total none pulses = 0
+next-total (some x) pulses = x .total + pulses
 
--- The first refusal in document 01's order: 17, then 14, 15, 16, then 5 to 10.
-abbrev pub tool-refusal : Store → Call ℕ → Option Refusal
+-- The channels take calls as `recorded` says.
+abbrev pub content : Store → Content (Loaded ℕ) Occurrence (Reading ℕ)
+content t = recorded (t .setup .events) (t .wheel) (rule-judged (setup-of t)) (loaded-rule (setup-of t))
+
+-- The first refusal in document 01's order: 17, then 14, 15, 16, 19, then 5 to 10.
+abbrev pub tool-refusal : Store → Call Occurrence → Option Refusal
 tool-refusal t call = or-else (plain-unless (tool-test t call) 17) (call-refusal (content t) (channels t) call)
 
 -- What an accepted call leaves. After a load the channel's rows beyond the new table are 0; clear leaves its rows as they are.
-abbrev pub effect-on : Store → Call ℕ → Store
+abbrev pub effect-on : Store → Call Occurrence → Store
 effect-on t (load c r) =
     with-rows t c (states-of-rule (setup-of t) r)
     (stored-rows (t .value) c (values-of-rule (setup-of t) r)) (stored-rows (t .next) c (nexts-of-rule (setup-of t) r))
-effect-on t (event c e) = with-current t (set (t .current) c (next-state (channels t c) e))
-effect-on t (restart c) = with-current t (set (t .current) c 0)
-effect-on t restart-all = with-current t (replicate channel-limit 0)
+effect-on t (event c i) =
+    with-current t (set (t .current) c (next-state (channels t c) (i .event))) (set (t .total) c (next-total (channels t c) (i .pulses)))
+effect-on t (restart c) = with-current t (set (t .current) c 0) (set (t .total) c 0)
+effect-on t restart-all = with-current t (replicate channel-limit 0) (replicate channel-limit 0)
 effect-on t (clear c) = with-rows t c 0 (t .value) (t .next)
 
 -- A refused call changes nothing.
-abbrev pub settled-store : Option Refusal → Reply ℕ → Store → Store → Reply ℕ × Store
+abbrev pub settled-store : Option Refusal → Reply (Reading ℕ) → Store → Store → Reply (Reading ℕ) × Store
 settled-store none reply after before = (reply, after)
 settled-store (some r) reply after before = (refused r, before)
 
 -- One call: its reply, and the store afterwards.
-unfoldable pub called : Call ℕ → Store → Reply ℕ × Store
+unfoldable pub called : Call Occurrence → Store → Reply (Reading ℕ) × Store
 called call t = settled-store (tool-refusal t call) (accepted-reply (content t) (channels t) call) (effect-on t call) t
 
 -- All channels empty, every cell of theirs 0.
-unfoldable pub empty-store : Setup → Store
-empty-store s =
+unfoldable pub empty-store : Setup → Wheel → Store
+empty-store s wheel =
     record {
       setup = s;
+      wheel = wheel;
       states = replicate channel-limit 0;
       current = replicate channel-limit 0;
+      total = replicate channel-limit 0;
       value = replicate store-limit 0;
       next = replicate store-limit 0;
     }
@@ -79,8 +95,10 @@ meet-cells (Numbered n) meet = filled meet-limit meet
 meet-cells (Register lines) meet = meet
 
 -- What an accepted set-up makes.
-unfoldable pub new-store : Setup → Store
-new-store s = empty-store (setup-of-kind (s .events) (s .kind) (s .top) (meet-cells (s .kind) (s .meet)))
+unfoldable pub new-store : ToolSetup → Store
+new-store s =
+    empty-store
+    (setup-of-kind (s .values .events) (s .values .kind) (s .values .top) (meet-cells (s .values .kind) (s .values .meet))) (s .wheel)
 
 -- A register's set-up.
 abbrev pub register-setup : ℕ → ℕ → Setup
@@ -92,12 +110,12 @@ blank-setup (Numbered n) = setup 0 0 0 (replicate meet-limit 0)
 blank-setup (Register lines) = register-setup 0 0
 
 unfoldable pub blank : ValueKind → Store
-blank kind = empty-store (blank-setup kind)
+blank kind = empty-store (blank-setup kind) (wheel-of-turn 0 0)
 
 -- Set up takes no earlier tool: the set-up's refusal, or the new store.
-abbrev pub set-up-answer : Setup → Option Refusal → Reply ℕ × Store
+abbrev pub set-up-answer : ToolSetup → Option Refusal → Reply (Reading ℕ) × Store
 set-up-answer s none = (accepted, new-store s)
-set-up-answer s (some r) = (refused r, blank (s .kind))
+set-up-answer s (some r) = (refused r, blank (s .values .kind))
 
-abbrev pub set-up-called : Setup → Reply ℕ × Store
-set-up-called s = set-up-answer s (setup-refusal s)
+abbrev pub set-up-called : ToolSetup → Reply (Reading ℕ) × Store
+set-up-called s = set-up-answer s (tool-setup-refusal s)

@@ -31,7 +31,7 @@ module _ (s : Setup) (rule : List ℕ) where
 
   -- The channel that it is loaded into.
   abbrev pub loaded-rule : Loaded ℕ
-  loaded-rule = loaded-at 0 (s .events) states-of-rule 0 values-of-rule nexts-of-rule
+  loaded-rule = loaded-at 0 (s .events) states-of-rule 0 0 values-of-rule nexts-of-rule
 
   -- The answer of `compile_rule`, whose arrays hold these.
   unfoldable pub compiled-rule : Compiled

@@ -1,13 +1,13 @@
--- What the private functions decide before anything is written: the number of a refusal, 13 to 17, or 0 where there is none (document 01,
+-- What the private functions decide before anything is written: the number of a refusal, 13 to 17 or 19, or 0 where there is none (document 01,
 -- "Who can cause a refusal"), and what an event comes to.
-use mathlib.Core.{Path.{_≡_}, Bool.{Bool, cond}, List.{List}, Option.{Option, none, some}}
+use mathlib.Core.{Path.{_≡_}, Bool.{Bool, cond}, List.{List, [], _∷_}, Option.{Option, none, some}}
 use Prim.Native.Nat.{ℕ, zero, suc, _+_, _*_, _%_, _≤_, _<_}
-use lib.{Dec.{ltb}, ListN.{getD, length, replicate}}
-use Rattle.limits.specs.Limits.{channel-limit, event-limit, table-limit, entry-limit, store-limit}
+use lib.{Dec.{ltb, leb}, ListN.{getD, length, replicate}}
+use Rattle.limits.specs.Limits.{channel-limit, event-limit, table-limit, entry-limit, store-limit, turn-limit, total-limit}
 use Rattle.refusal.specs.{declared.Refusal.{Refusal}, declared.Refusal.the-variants.{Plain}, declared.Counted.{Counted}}
 use Rattle.refusal.specs.{declared.Counted.the-variants.{Count, Refused as NotCounted}, declared.Judgement.{Judgement}}
 use Rattle.refusal.specs.declared.Judgement.the-variants.{Accepted, Refused}
-use Rattle.channel_log.specs.Calls.{Reply, accepted, returned, refused}
+use Rattle.channel_log.specs.{Calls.{Reply, accepted, returned, refused}, Distance.{Wheel, Reading, reading}}
 use Rattle.recorder.specs.{Store.{rows-start}, declared.Decision.{Decision}}
 
 -- The refusal of a number; 0 is none.
@@ -23,24 +23,40 @@ abbrev pub first-number : ℕ → ℕ → ℕ
 first-number zero later = later
 first-number (suc n) later = suc n
 
--- 17, then 14; then 15; then 16; for a sequence 16 and 13.
+-- 17, then 14; then 15; then 16 and 19; for a sequence 16, 19 and 13.
 abbrev pub channel-number : ℕ → ℕ → ℕ
 channel-number fault c = first-number fault (number-unless (ltb c channel-limit) 14)
 
 abbrev pub loaded-number : ℕ → ℕ → ℕ → ℕ
 loaded-number fault c states = first-number (channel-number fault c) (number-unless (ltb 0 states) 15)
 
-abbrev pub event-number : ℕ → ℕ → ℕ → ℕ → ℕ → ℕ
-event-number fault c states events e = first-number (loaded-number fault c states) (number-unless (ltb e events) 16)
+abbrev pub total-number : ℕ → ℕ
+total-number total = number-unless (leb total total-limit) 19
 
-abbrev pub replay-number : ℕ → ℕ → ℕ → Bool → Bool → ℕ
-replay-number fault c states allowed fits =
-    first-number (loaded-number fault c states) (first-number (number-unless allowed 16) (number-unless fits 13))
+abbrev pub event-number : ℕ → ℕ → ℕ → ℕ → ℕ → ℕ → ℕ
+event-number fault c states events e total =
+    first-number (loaded-number fault c states) (first-number (number-unless (ltb e events) 16) (total-number total))
 
--- What an event comes to: its refusal and the state as it was, or the value and the next state.
-abbrev pub decided : ℕ → ℕ → ℕ → ℕ → Decision
-decided zero old value next = record { refusal = 0; value = value; next = next }
-decided (suc n) old value next = record { refusal = suc n; value = 0; next = old }
+abbrev pub replay-number : ℕ → ℕ → ℕ → Bool → ℕ → Bool → ℕ
+replay-number fault c states allowed total fits =
+    first-number (loaded-number fault c states) (first-number (number-unless allowed 16) (first-number (total-number total) (number-unless fits 13)))
+
+abbrev pub sum-of : List ℕ → ℕ
+sum-of [] = 0
+sum-of (n ∷ l) = n + sum-of l
+
+-- So many pulses are added up before the total is looked at.
+abbrev pub pulse-block : ℕ
+pulse-block = 4096
+
+-- A total, kept where it is not above the limit; above it, the first number there.
+abbrev pub limited : ℕ → ℕ
+limited total = cond (leb total total-limit) total (suc total-limit)
+
+-- What an event comes to: its refusal, the state and the total as they were, or the value, the next state and the new total.
+abbrev pub decided : ℕ → ℕ → ℕ → ℕ → ℕ → ℕ → Decision
+decided zero old before value next total = record { refusal = 0; value = value; next = next; total = total }
+decided (suc n) old before value next total = record { refusal = suc n; value = 0; next = old; total = before }
 
 -- Where its entry lies, within the arrays.
 abbrev pub entry-place : ℕ → ℕ → ℕ → ℕ → ℕ
@@ -51,35 +67,48 @@ pub record Bounds (c events q e : ℕ) : Type 0 where
   pub row : q * events ≤ entry-limit
   pub place : entry-place c events q e < store-limit
 
+-- A wheel and a total whose distance can be told.
+pub record Measurable (wheel : Wheel) (total : ℕ) : Type 0 where
+  pub some-pulses : 1 ≤ wheel .pulses
+  pub few-pulses : wheel .pulses ≤ turn-limit
+  pub few-millimetres : wheel .millimetres ≤ turn-limit
+  pub small-total : total ≤ total-limit
+
 -- The reply of a number, and of what an event comes to.
-abbrev pub plain-reply : ℕ → Reply ℕ
+abbrev pub plain-reply : ℕ → Reply (Reading ℕ)
 plain-reply zero = accepted
 plain-reply (suc n) = refused (Plain (suc n))
 
-abbrev pub decided-reply : ℕ → ℕ → Reply ℕ
-decided-reply zero value = returned value
-decided-reply (suc n) value = refused (Plain (suc n))
+abbrev pub decided-reply : ℕ → Reading ℕ → Reply (Reading ℕ)
+decided-reply zero r = returned r
+decided-reply (suc n) r = refused (Plain (suc n))
 
-abbrev pub value-reply : Decision → Reply ℕ
-value-reply d = decided-reply (d .refusal) (d .value)
+abbrev pub value-reply : Wheel → Decision → Reply (Reading ℕ)
+value-reply wheel d = decided-reply (d .refusal) (reading wheel (d .value) (d .total))
 
--- What stays beside a refusal and is 0 otherwise: for a restart the state, for clear the count of states too.
+-- The reply to a sequence: that of its last event.
+abbrev pub end-reply : Wheel → List ℕ → ℕ → Reply (Reading ℕ)
+end-reply wheel [] total = accepted
+end-reply wheel (v ∷ []) total = returned (reading wheel v total)
+end-reply wheel (v ∷ (w ∷ vs)) total = end-reply wheel (w ∷ vs) total
+
+-- What stays beside a refusal and is 0 otherwise: for a restart the state and the total, for clear the count of states too.
 abbrev pub kept-number : ℕ → ℕ → ℕ
 kept-number zero old = 0
 kept-number (suc n) old = old
 
--- The same for restart all.
-abbrev pub states-after : ℕ → List ℕ → List ℕ
-states-after zero old = replicate channel-limit 0
-states-after (suc n) old = old
+-- The same for restart all, of the states and of the totals.
+abbrev pub kept-numbers : ℕ → List ℕ → List ℕ
+kept-numbers zero old = replicate channel-limit 0
+kept-numbers (suc n) old = old
 
--- For set up: what 1 to 3 say.
-abbrev pub judged-reply : Judgement → Reply ℕ
+-- For set up: what 1 to 3 and 18 say.
+abbrev pub judged-reply : Judgement → Reply (Reading ℕ)
 judged-reply Accepted = accepted
 judged-reply (Refused r) = refused r
 
 -- For load: what 5 to 10 say, and a value in a tool's byte.
-abbrev pub counted-reply : Counted → Reply ℕ
+abbrev pub counted-reply : Counted → Reply (Reading ℕ)
 counted-reply (Count n) = accepted
 counted-reply (NotCounted r) = refused r
 

@@ -1,14 +1,17 @@
 -- What a tool holds, however it is represented, and the tool of numbered values as one representation (document 01, "Tool"); when a call on
--- it is refused, and with what ("Who can cause a refusal": 17, 14, 15, 16, then 5 to 10).
-use mathlib.Core.{Path.{_≡_}, Bool.{_&&_, cond}, List.{List, [], _∷_}, Option.{Option, none, some}}
-use Prim.Native.Nat.{ℕ, _+_, _*_, _<_}
+-- it is refused, and with what ("Who can cause a refusal": 17, 14, 15, 16, 19, then 5 to 10).
+use mathlib.Core.{Path.{_≡_}, Bool.{_&&_, cond}, List.{List, [], _∷_, _++_, map}, Option.{Option, none, some}}
+use Prim.Native.Nat.{ℕ, _+_, _*_, _≤_, _<_}
 use lib.{Dec.{ltb}, ListN.{length, getD, take, drop}}
-use Rattle.limits.specs.Limits.{channel-limit, entry-limit, store-limit, table-limit}
+use Rattle.limits.specs.Limits.{channel-limit, entry-limit, store-limit, table-limit, total-limit}
 use Rattle.theory.specs.MealyMachine.{Machine, Word}
 use Rattle.values.specs.{declared.ValueKind.{ValueKind}, declared.ValueKind.the-variants.{Numbered, Register}}
 use Rattle.values.specs.Setup.{Setup, setup-of-kind, setup, ValueIn, setup-conditions}
-use Rattle.channel_log.specs.Calls.{Channels, Loaded, Reply, accepted, returned, refused, Call, load, event, restart, restart-all, clear, concerns}
+use Rattle.channel_log.specs.Distance.{Wheel, wheel-of-turn, WheelFault, Occurrence, Reading, TotalAbove}
+use Rattle.channel_log.specs.Calls.{Channels, map-option, Loaded, Reply, accepted, returned, refused, Call, load, event, restart, restart-all, clear, concerns}
 use Rattle.recorder.specs.{declared.Tool.{Tool}, declared.Answer.{Answer}}
+use Rattle.recorder.specs.declared.Wheel as declared-wheel
+use Rattle.recorder.specs.declared.Reading as declared-reading
 use Rattle.refusal.specs.{declared.Refusal.{Refusal}, Refusal.{First, Condition, plain}}
 use Rattle.machines.specs.TableBytes.{table-bytes, entry-width, entry-bytes, TableInOrder}
 use Rattle.synthesis.specs.TableOfRule.{rule-conditions-of}
@@ -16,12 +19,26 @@ use Rattle.recorder.specs.declared.Reply as declared
 use Rattle.recorder.specs.declared.Reply.the-variants as variant
 use lib.Dec.{T}
 
+-- A tool's set-up: a value set, and a wheel "handed over beside the channel file" (document 02, F-6).
+pub record ToolSetup : Type 0 where
+  pub values : Setup
+  pub wheel : Wheel
+
+abbrev pub tool-setup : Setup → Wheel → ToolSetup
+tool-setup s wheel = record { values = s; wheel = wheel }
+
+-- 1 to 3, then 18.
+unfoldable pub tool-setup-conditions : ToolSetup → List Condition
+tool-setup-conditions s = setup-conditions (s .values) ++ (plain 18 (WheelFault (s .wheel)) ∷ [])
+
 -- Every cell of a tool. The set-up has all cells that the meet table is kept in. Each channel has a count of states, 0 where it is
--- empty, and a current state; the entries of all tables lie in two lists, values and next states.
+-- empty, a current state and a total of pulses; the entries of all tables lie in two lists, values and next states.
 pub record Store : Type 0 where
   pub setup : Setup
+  pub wheel : Wheel
   pub states : List ℕ
   pub current : List ℕ
+  pub total : List ℕ
   pub value : List ℕ
   pub next : List ℕ
 
@@ -34,6 +51,9 @@ meet-part (Register lines) cells = cells
 abbrev pub setup-of : Store → Setup
 setup-of t = setup-of-kind (t .setup .events) (t .setup .kind) (t .setup .top) (meet-part (t .setup .kind) (t .setup .meet))
 
+abbrev pub tool-setup-of : Store → ToolSetup
+tool-setup-of t = tool-setup (setup-of t) (t .wheel)
+
 -- The table of k states whose entries lie from a place on, by state, then event. What lies after them is no part of it.
 abbrev pub table-at : ℕ → ℕ → ℕ → List ℕ → List ℕ → Machine ℕ ℕ
 table-at at events k value next =
@@ -42,63 +62,73 @@ table-at at events k value next =
       next = λ l e. getD (take (k * events) (drop at next)) (l * events + e) 0;
     }
 
-abbrev pub loaded-at : ℕ → ℕ → ℕ → ℕ → List ℕ → List ℕ → Loaded ℕ
-loaded-at at events k q value next = record { states = k; table = table-at at events k value next; current = q }
+abbrev pub loaded-at : ℕ → ℕ → ℕ → ℕ → ℕ → List ℕ → List ℕ → Loaded ℕ
+loaded-at at events k q total value next = record { states = k; table = table-at at events k value next; current = q; total = total }
 
 -- Where the rows of a channel start: each has room for a table's entries.
 unfoldable pub rows-start : ℕ → ℕ
 rows-start c = c * entry-limit
 
--- What channel c holds with k states and current state q: nothing where it is above 7 or has no states.
-unfoldable pub held : ℕ → ℕ → ℕ → ℕ → List ℕ → List ℕ → Option (Loaded ℕ)
-held c events k q value next = cond (ltb c channel-limit && ltb 0 k) (some (loaded-at (rows-start c) events k q value next)) none
+-- What channel c holds with k states, current state q and a total: nothing where it is above 7 or has no states.
+unfoldable pub held : ℕ → ℕ → ℕ → ℕ → ℕ → List ℕ → List ℕ → Option (Loaded ℕ)
+held c events k q total value next = cond (ltb c channel-limit && ltb 0 k) (some (loaded-at (rows-start c) events k q total value next)) none
 
 -- What the channels hold.
 abbrev pub channels : Store → Channels (Loaded ℕ)
-channels t c = held c (t .setup .events) (getD (t .states) c 0) (getD (t .current) c 0) (t .value) (t .next)
+channels t c = held c (t .setup .events) (getD (t .states) c 0) (getD (t .current) c 0) (getD (t .total) c 0) (t .value) (t .next)
 
 -- All cells of eight channels are there, as in every tool: its arrays have these lengths.
 pub record AllCells (t : Store) : Type 0 where
   pub states-are : length (t .states) ≡ channel-limit
   pub current-are : length (t .current) ≡ channel-limit
+  pub totals-are : length (t .total) ≡ channel-limit
   pub values-are : length (t .value) ≡ store-limit
   pub nexts-are : length (t .next) ≡ store-limit
+
+abbrev pub wheel-of : declared-wheel.Wheel → Wheel
+wheel-of wheel = wheel-of-turn (wheel .pulses) (wheel .millimetres)
 
 -- The tool of numbered values is one representation: its cells, and nothing else.
 abbrev pub store-of : Tool → Store
 store-of t =
     record {
       setup = setup (t .setup .events) (t .setup .values) (t .setup .top) (t .setup .meet);
+      wheel = wheel-of (t .setup .wheel);
       states = t .states;
       current = t .current;
+      total = t .total;
       value = t .value;
       next = t .next;
     }
 
 -- Document 01's answer for each case of the enum.
-abbrev pub reply-of : declared.Reply → Reply ℕ
+abbrev pub reading-of : declared-reading.Reading → Reading ℕ
+reading-of r = record { value = r .value; millimetres = r .millimetres; remainder = r .remainder }
+
+abbrev pub reply-of : declared.Reply → Reply (Reading ℕ)
 reply-of variant.Accepted = accepted
-reply-of (variant.Value v) = returned v
+reply-of (variant.Value r) = returned (reading-of r)
 reply-of (variant.Refused r) = refused r
 
-abbrev pub answer : Answer → Reply ℕ × Store
+abbrev pub answer : Answer → Reply (Reading ℕ) × Store
 answer r = (reply-of (r .reply), store-of (r .tool))
 
-abbrev pub replay-answer : Answer → List ℕ → (Reply ℕ × Store) × List ℕ
+abbrev pub replay-answer : Answer → List ℕ → (Reply (Reading ℕ) × Store) × List ℕ
 replay-answer r buffer = (answer r, buffer)
 
 -- A store is that of one tool: what a contract says of it, it says of the tool.
 abbrev pub StoreClaim : Type 0
 StoreClaim = (t u : Tool) → store-of t ≡ store-of u → t ≡ u
 
--- A loaded channel's table is one that 11 does not refuse, its current state taken as the start.
-abbrev pub ChannelInOrder : ℕ → ValueKind → Loaded ℕ → Type 0
-ChannelInOrder events kind x = TableInOrder (entry-width kind) table-limit events (ValueIn kind) (x .states) (x .current)
-    (table-bytes (entry-bytes kind) events (x .table) (x .states)) (x .table)
+-- A loaded channel's table is one that 11 does not refuse, its current state taken as the start; its total is not above the limit.
+pub record ChannelInOrder (events : ℕ) (kind : ValueKind) (x : Loaded ℕ) : Type 0 where
+  pub table : TableInOrder (entry-width kind) table-limit events (ValueIn kind) (x .states) (x .current)
+      (table-bytes (entry-bytes kind) events (x .table) (x .states)) (x .table)
+  pub total : x .total ≤ total-limit
 
 -- 17, for the named channel, or for restart all each. A channel above 7 holds nothing, so that only the set-up is looked at there.
-pub data ToolFault (t : Store) (call : Call ℕ) : Type 0 where
-  setup-fails : (refusal : Refusal) → First (setup-conditions (setup-of t)) (some refusal) → ToolFault t call
+pub data ToolFault (t : Store) (call : Call Occurrence) : Type 0 where
+  setup-fails : (refusal : Refusal) → First (tool-setup-conditions (tool-setup-of t)) (some refusal) → ToolFault t call
   channel-fails : (c : ℕ) (x : Loaded ℕ) → T (concerns c call) → channels t c ≡ some x → ¬ ChannelInOrder (t .setup .events) (t .setup .kind) x →
       ToolFault t call
 
@@ -106,23 +136,43 @@ pub data ToolFault (t : Store) (call : Call ℕ) : Type 0 where
 abbrev pub channel-condition : ℕ → Condition
 channel-condition c = plain 14 (¬ (c < channel-limit))
 
--- Over channels of which those of `Empty` are empty: 14, 15, 16, then 5 to 10. A call meets only the conditions that concern its inputs.
-abbrev pub channel-conditions : Setup → (ℕ → Type 0) → Call ℕ → List Condition
-channel-conditions s Empty (load c rule) = channel-condition c ∷ rule-conditions-of s rule
-channel-conditions s Empty (event c e) = channel-condition c ∷ plain 15 (Empty c) ∷ plain 16 (¬ (e < s .events)) ∷ []
-channel-conditions s Empty (restart c) = channel-condition c ∷ plain 15 (Empty c) ∷ []
-channel-conditions s Empty restart-all = []
-channel-conditions s Empty (clear c) = channel-condition c ∷ []
+-- Over the totals of channels, of which an empty one has none: 14, 15, 16, 19, then 5 to 10. A call meets only the conditions that concern
+-- its inputs.
+abbrev pub channel-conditions : Setup → Channels ℕ → Call Occurrence → List Condition
+channel-conditions s totals (load c rule) = channel-condition c ∷ rule-conditions-of s rule
+channel-conditions s totals (event c i) = channel-condition c
+    ∷ plain 15 (totals c ≡ none)
+    ∷ plain 16 (¬ (i .event < s .events))
+    ∷ plain 19 (TotalAbove (totals c) (i .pulses))
+    ∷ []
+channel-conditions s totals (restart c) = channel-condition c ∷ plain 15 (totals c ≡ none) ∷ []
+channel-conditions s totals restart-all = []
+channel-conditions s totals (clear c) = channel-condition c ∷ []
 
 -- On a tool 17 comes first.
-unfoldable pub call-conditions : Store → Call ℕ → List Condition
-call-conditions t call = plain 17 (ToolFault t call) ∷ channel-conditions (setup-of t) (λ c. channels t c ≡ none) call
+abbrev pub totals : Store → Channels ℕ
+totals t c = map-option (λ x. x .total) (channels t c)
 
--- A sequence of events: 16 for any of them, and 13 where the buffer has no room for a value each.
-unfoldable pub replay-conditions : Store → ℕ → List ℕ → List ℕ → List Condition
-replay-conditions t c word buffer = plain 17 (ToolFault t (event c 0))
+unfoldable pub call-conditions : Store → Call Occurrence → List Condition
+call-conditions t call = plain 17 (ToolFault t call) ∷ channel-conditions (setup-of t) (totals t) call
+
+-- A sequence of events with their pulses; events for which there are no more pulses have 0.
+unfoldable pub occurrences : List ℕ → List ℕ → List Occurrence
+occurrences [] pulses = []
+occurrences (e ∷ word) [] = record { event = e; pulses = 0 } ∷ occurrences word []
+occurrences (e ∷ word) (p ∷ pulses) = record { event = e; pulses = p } ∷ occurrences word pulses
+
+unfoldable pub all-pulses : List Occurrence → ℕ
+all-pulses [] = 0
+all-pulses (i ∷ word) = i .pulses + all-pulses word
+
+-- 17 is that of every call that names the channel; 16 for any event; 19 where the running total comes to be above the limit, and so, since it
+-- never falls, with all pulses; 13 where the buffer has no room for a value each.
+unfoldable pub replay-conditions : Store → ℕ → List Occurrence → List ℕ → List Condition
+replay-conditions t c word buffer = plain 17 (ToolFault t (restart c))
     ∷ channel-condition c
-    ∷ plain 15 (channels t c ≡ none)
-    ∷ plain 16 (¬ Word (t .setup .events) word)
+    ∷ plain 15 (totals t c ≡ none)
+    ∷ plain 16 (¬ Word (t .setup .events) (map (λ i. i .event) word))
+    ∷ plain 19 (TotalAbove (totals t c) (all-pulses word))
     ∷ plain 13 (length buffer < length word)
     ∷ []

@@ -1,10 +1,12 @@
-// Document 01, "Tool": one set-up and eight channels, and the calls on them. Refusals 14 to 17.
+// Document 01, "Tool": one set-up and eight channels, and the calls on them; document 02, F-6: the distance with every event. Refusals 14 to 19.
 // Each call first decides, then writes and returns the tool once; a refused call returns the tool as it came.
 use limits::CHANNEL_LIMIT;
 use limits::ENTRY_LIMIT;
 use limits::MEET_LIMIT;
 use limits::STORE_LIMIT;
 use limits::TABLE_LIMIT;
+use limits::TOTAL_LIMIT;
+use limits::TURN_LIMIT;
 use limits::VALUE_LIMIT;
 use refusal::Counted;
 use refusal::Judgement;
@@ -14,9 +16,9 @@ use synthesis::compile_rule;
 ghost use mathlib.Core.Path.{_≡_};
 ghost use mathlib.Core.Bool.{_&&_};
 ghost use mathlib.Core.List.{map};
-ghost use Prim.Native.Nat.{_+_, _*_, _≤_, _<_};
+ghost use Prim.Native.Nat.{_+_, _*_, _≤_, _<_, min};
 ghost use lib.Dec.{ltb};
-ghost use lib.ListN.{length, getD, take};
+ghost use lib.ListN.{length, getD, take, drop};
 ghost use lib.Seq.{paste};
 ghost use Rattle.limits.specs.Limits.{channel-limit, entry-limit, event-limit, meet-limit, store-limit, value-limit};
 ghost use Rattle.theory.specs.MealyMachine.{after};
@@ -25,20 +27,37 @@ ghost use Rattle.theory.specs.ValueSetTests.{every};
 ghost use Rattle.values.specs.declared.ValueKind.the-variants.{Numbered};
 ghost use Rattle.values.specs.Setup.{setup};
 ghost use Rattle.channel_log.specs.Calls as calls;
-ghost use Rattle.recorder.specs.Store.{table-at, rows-start, held};
-ghost use Rattle.recorder.specs.ToolTests.{setup-test, channel-test};
+ghost use Rattle.channel_log.specs.Distance.{wheel-of-turn, reading};
+ghost use Rattle.refusal.specs.RefusalAnswers.{judgement};
+ghost use Rattle.recorder.specs.Store.{tool-setup, table-at, rows-start, held, wheel-of, reading-of, occurrences};
+ghost use Rattle.recorder.specs.ToolTests.{turn-test, wheel-test, tool-setup-refusal, setup-test, channel-test};
 ghost use Rattle.recorder.specs.CompiledRule.{compiled-rule};
 ghost use Rattle.recorder.specs.Called.{filled, with-rows, stored-rows, empty-store, called, set-up-called};
 ghost use Rattle.recorder.specs.Replay.{word-test, replayed};
 ghost use Rattle.recorder.specs.Store.{store-of, reply-of, answer, replay-answer};
-ghost use Rattle.recorder.specs.Decisions.{number-unless, channel-number, loaded-number, event-number, replay-number, decided, entry-place, Bounds};
-ghost use Rattle.recorder.specs.Decisions.{plain-reply, value-reply, kept-number, states-after, judged-reply, counted-reply, low-byte, Runnable};
+ghost use Rattle.recorder.specs.Decisions.{number-unless, channel-number, loaded-number, event-number, replay-number, limited, sum-of};
+ghost use Rattle.recorder.specs.Decisions.{decided, entry-place, Bounds, plain-reply, value-reply, end-reply, kept-number, kept-numbers};
+ghost use Rattle.recorder.specs.Decisions.{pulse-block, Measurable, judged-reply, counted-reply, low-byte, Runnable};
+
+// What an accepted event returns: the value, and the distance of the channel's total, in whole millimetres and a remainder in parts of a
+// millimetre, as many to one as the wheel's turn has pulses.
+pub struct Reading {
+    pub value: u8,
+    pub millimetres: u64,
+    pub remainder: u32,
+}
 
 // What a call replies.
 pub enum Reply {
     Accepted,
-    Value(u8),
+    Value(Reading),
     Refused(Refusal),
+}
+
+// Pulses and millimetres of one turn.
+pub struct Wheel {
+    pub pulses: u32,
+    pub millimetres: u32,
 }
 
 // The set-up; the meet table's entries come first in the array.
@@ -47,13 +66,16 @@ pub struct ToolSetup {
     pub values: u8,
     pub top: u8,
     pub meet: [u8; MEET_LIMIT],
+    pub wheel: Wheel,
 }
 
-// A channel of 0 states is empty. The entries of a channel's table lie from its rows' start on, by state, then event.
+// A channel of 0 states is empty. The total is of its pulses. The entries of a channel's table lie from its rows' start on, by state, then
+// event.
 pub struct Tool {
     pub setup: ToolSetup,
     pub states: [u16; CHANNEL_LIMIT],
     pub current: [u8; CHANNEL_LIMIT],
+    pub total: [u64; CHANNEL_LIMIT],
     pub value: [u8; STORE_LIMIT],
     pub next: [u8; STORE_LIMIT],
 }
@@ -63,11 +85,12 @@ pub struct Answer {
     pub tool: Tool,
 }
 
-// What an event comes to: a refusal's number, or 0; the value that it returns; the channel's state after it.
+// What an event comes to: a refusal's number, or 0; the value that it returns; the channel's state and total after it.
 struct Decision {
     refusal: u8,
     value: u8,
     next: u8,
+    total: u64,
 }
 
 fn wide(x: u8) -> usize
@@ -82,6 +105,18 @@ fn wide16(x: u16) -> usize
     x as usize
 }
 
+fn wide32(x: u32) -> usize
+    ensures { λ r. ⌜ r ≡ x ⌝ }
+{
+    x as usize
+}
+
+fn wide64(x: u32) -> u64
+    ensures { λ r. ⌜ (r ≡ x) × (r ≤ 4294967295) ⌝ }
+{
+    x as u64
+}
+
 // Where the rows of a channel start.
 fn rows_start(channel: usize) -> usize
     requires { ⌜ channel < channel-limit ⌝ }
@@ -90,16 +125,63 @@ fn rows_start(channel: usize) -> usize
     channel * ENTRY_LIMIT
 }
 
-// Whether the set-up meets none of 1 to 3.
-fn setup_in_order(meet: &[u8], events: usize, values: usize, top: usize) -> bool
+fn turn_in_order(n: usize) -> bool
+    ensures { λ r. ⌜ r ≡ turn-test n ⌝ }
+{
+    if n < 1 {
+        return false;
+    }
+    n <= TURN_LIMIT
+}
+
+// Whether a wheel does not meet 18.
+fn wheel_in_order(pulses: usize, millimetres: usize) -> bool
+    ensures { λ r. ⌜ r ≡ wheel-test (wheel-of-turn pulses millimetres) ⌝ }
+{
+    if turn_in_order(pulses) {
+        return turn_in_order(millimetres);
+    }
+    false
+}
+
+// 1 to 3, then 18.
+fn check_tool_setup(
+    events: usize,
+    values: usize,
+    top: usize,
+    meet: &[u8],
+    pulses: usize,
+    millimetres: usize,
+) -> Judgement
+    ensures { λ r. ⌜ r ≡ judgement (tool-setup-refusal (tool-setup (setup events values top (now (meet .entry))) (wheel-of-turn pulses millimetres))) ⌝ }
+{
+    let judgement = values::check_setup(events, values, top, meet);
+    let Judgement::Accepted = judgement else {
+        return judgement;
+    };
+    if wheel_in_order(pulses, millimetres) {
+        return Judgement::Accepted;
+    }
+    Judgement::Refused(Refusal::Plain(refusal::SETUP_WHEEL))
+}
+
+// Whether the set-up meets none of 1 to 3 and 18.
+fn setup_in_order(meet: &[u8], events: usize, values: usize, top: usize, wheel: Wheel) -> bool
     requires { ⌜ length (now meet) ≡ meet-limit ⌝ }
-    ensures { λ r. ⌜ r ≡ setup-test (setup events values top (take (values * values) (now (meet .entry)))) ⌝ }
+    ensures { λ r. ⌜ r ≡ setup-test (tool-setup (setup events values top (take (values * values) (now (meet .entry)))) (wheel-of wheel)) ⌝ }
 {
     if VALUE_LIMIT < values {
         return false;
     }
     let count = values * values;
-    let judgement = values::check_setup(events, values, top, &meet[..count]);
+    let judgement = check_tool_setup(
+        events,
+        values,
+        top,
+        &meet[..count],
+        wide32(wheel.pulses),
+        wide32(wheel.millimetres),
+    );
     match judgement {
         Judgement::Accepted => true,
         Judgement::Refused(_) => false,
@@ -139,9 +221,10 @@ fn channel_in_order<'a>(
     values: usize,
     states: usize,
     current: usize,
+    total: u64,
 ) -> bool
     requires { ⌜ (events ≤ event-limit) × (length (now value) ≡ store-limit) × (length (now next) ≡ store-limit) ⌝ }
-    ensures { λ r. ⌜ r ≡ channel-test events (Numbered values) (held channel events states current (now (value .entry)) (now (next .entry))) ⌝ }
+    ensures { λ r. ⌜ r ≡ channel-test events (Numbered values) (held channel events states current total (now (value .entry)) (now (next .entry))) ⌝ }
 {
     if CHANNEL_LIMIT <= channel {
         return true;
@@ -153,6 +236,9 @@ fn channel_in_order<'a>(
         return false;
     }
     if states <= current {
+        return false;
+    }
+    if TOTAL_LIMIT < total {
         return false;
     }
     entries_in_order(
@@ -173,18 +259,29 @@ fn tool_fault<'a>(
     events: u8,
     values: u8,
     top: u8,
+    wheel: Wheel,
     channel: usize,
     states: u16,
     current: u8,
+    total: u64,
 ) -> u8
     requires { ⌜ (length (now meet) ≡ meet-limit) × (length (now value) ≡ store-limit) × (length (now next) ≡ store-limit) ⌝ }
-    ensures { λ r. ⌜ r ≡ number-unless (setup-test (setup events values top (take (values * values) (now (meet .entry))))
-        && channel-test events (Numbered values) (held channel events states current (now (value .entry)) (now (next .entry)))) 17 ⌝ }
+    ensures { λ r. ⌜ r ≡ number-unless (setup-test (tool-setup (setup events values top (take (values * values) (now (meet .entry)))) (wheel-of wheel))
+        && channel-test events (Numbered values) (held channel events states current total (now (value .entry)) (now (next .entry)))) 17 ⌝ }
 {
     let n = wide(events);
     let v = wide(values);
-    if setup_in_order(meet, n, v, wide(top)) {
-        if channel_in_order(value, next, channel, n, v, wide16(states), wide(current)) {
+    if setup_in_order(meet, n, v, wide(top), wheel) {
+        if channel_in_order(
+            value,
+            next,
+            channel,
+            n,
+            v,
+            wide16(states),
+            wide(current),
+            total,
+        ) {
             return 0;
         }
     }
@@ -218,9 +315,22 @@ fn loaded_refusal(fault: u8, channel: usize, states: u16) -> u8
     0
 }
 
-// Then 16.
-fn event_refusal(fault: u8, channel: usize, states: u16, events: u8, event: usize) -> u8
-    ensures { λ r. ⌜ r ≡ event-number fault channel states events event ⌝ }
+// A total with more pulses; one above the limit where it would be above it.
+fn total_with(total: u64, pulses: u64) -> u64
+    ensures { λ r. ⌜ r ≡ limited (total + pulses) ⌝ }
+{
+    if TOTAL_LIMIT < total {
+        return TOTAL_LIMIT + 1;
+    }
+    if TOTAL_LIMIT - total < pulses {
+        return TOTAL_LIMIT + 1;
+    }
+    total + pulses
+}
+
+// Then 16, and 19 of the total that the event would leave.
+fn event_refusal(fault: u8, channel: usize, states: u16, events: u8, event: usize, total: u64) -> u8
+    ensures { λ r. ⌜ r ≡ event-number fault channel states events event total ⌝ }
 {
     let earlier = loaded_refusal(fault, channel, states);
     if 0 < earlier {
@@ -228,6 +338,9 @@ fn event_refusal(fault: u8, channel: usize, states: u16, events: u8, event: usiz
     }
     if wide(events) <= event {
         return refusal::EVENT_NUMBER;
+    }
+    if TOTAL_LIMIT < total {
+        return refusal::PULSE_TOTAL;
     }
     0
 }
@@ -241,16 +354,19 @@ fn decide_event<'a>(
     events: u8,
     current: u8,
     event: usize,
+    before: u64,
+    total: u64,
 ) -> Decision
     requires { ⌜ (length (now value) ≡ store-limit) × (length (now next) ≡ store-limit) × (refusal ≡ 0 → Bounds channel events current event) ⌝ }
-    ensures { λ r. ⌜ r ≡ decided refusal current (getD (now (value .entry)) (entry-place channel events current event) 0)
-        (getD (now (next .entry)) (entry-place channel events current event) 0) ⌝ }
+    ensures { λ r. ⌜ r ≡ decided refusal current before (getD (now (value .entry)) (entry-place channel events current event) 0)
+        (getD (now (next .entry)) (entry-place channel events current event) 0) total ⌝ }
 {
     if 0 < refusal {
         return Decision {
             refusal: refusal,
             value: 0,
             next: current,
+            total: before,
         };
     }
     let at = rows_start(channel) + (wide(current) * wide(events) + event);
@@ -258,16 +374,32 @@ fn decide_event<'a>(
         refusal: 0,
         value: value[at],
         next: next[at],
+        total: total,
     }
 }
 
-fn value_reply(decision: Decision) -> Reply
-    ensures { λ r. ⌜ reply-of r ≡ value-reply decision ⌝ }
+// A value with the distance of a total.
+fn measured(value: u8, total: u64, wheel: Wheel) -> Reading
+    requires { ⌜ Measurable (wheel-of wheel) total ⌝ }
+    ensures { λ r. ⌜ reading-of r ≡ reading (wheel-of wheel) value total ⌝ }
+{
+    let parts = total * (wheel.millimetres as u64);
+    let pulses = wheel.pulses as u64;
+    Reading {
+        value: value,
+        millimetres: parts / pulses,
+        remainder: (parts % pulses) as u32,
+    }
+}
+
+fn value_reply(decision: Decision, wheel: Wheel) -> Reply
+    requires { ⌜ (decision .refusal ≡ 0 → Measurable (wheel-of wheel) (decision .total)) ⌝ }
+    ensures { λ r. ⌜ reply-of r ≡ value-reply (wheel-of wheel) decision ⌝ }
 {
     if 0 < decision.refusal {
         return Reply::Refused(Refusal::Plain(decision.refusal));
     }
-    Reply::Value(decision.value)
+    Reply::Value(measured(decision.value, decision.total, wheel))
 }
 
 fn plain_reply(refusal: u8) -> Reply
@@ -279,7 +411,7 @@ fn plain_reply(refusal: u8) -> Reply
     Reply::Accepted
 }
 
-// The state of a restarted or cleared channel: 0, or beside a refusal as it was.
+// The state of a restarted or cleared channel, its total, and the count of states of a cleared one: 0, or beside a refusal as it was.
 fn state_after(refusal: u8, old: u8) -> u8
     ensures { λ r. ⌜ r ≡ kept-number refusal old ⌝ }
 {
@@ -289,7 +421,15 @@ fn state_after(refusal: u8, old: u8) -> u8
     0
 }
 
-// The count of states of a cleared channel.
+fn total_after(refusal: u8, old: u64) -> u64
+    ensures { λ r. ⌜ r ≡ kept-number refusal old ⌝ }
+{
+    if 0 < refusal {
+        return old;
+    }
+    0
+}
+
 fn count_after(refusal: u8, old: u16) -> u16
     ensures { λ r. ⌜ r ≡ kept-number refusal old ⌝ }
 {
@@ -299,16 +439,18 @@ fn count_after(refusal: u8, old: u16) -> u16
     0
 }
 
-// An event: returns the value and moves to the next state.
-pub fn event(mut tool: Tool, channel: usize, event: usize) -> Answer
-    ensures { λ r. ⌜ answer r ≡ called (calls.event channel event) (store-of tool) ⌝ }
+// An event: returns the value and the distance, moves to the next state and adds the pulses.
+pub fn event(mut tool: Tool, channel: usize, event: usize, pulses: u32) -> Answer
+    ensures { λ r. ⌜ answer r ≡ called (calls.event channel (record { event = event; pulses = pulses })) (store-of tool) ⌝ }
 {
     let events = tool.setup.events;
     let values = tool.setup.values;
     let top = tool.setup.top;
+    let wheel = tool.setup.wheel;
     let c = channel % CHANNEL_LIMIT;
     let states = tool.states[c];
     let current = tool.current[c];
+    let total = tool.total[c];
     let fault = tool_fault(
         &tool.setup.meet,
         &tool.value,
@@ -316,29 +458,46 @@ pub fn event(mut tool: Tool, channel: usize, event: usize) -> Answer
         events,
         values,
         top,
+        wheel,
         channel,
         states,
         current,
+        total,
     );
-    let refusal = event_refusal(fault, channel, states, events, event);
-    let decision = decide_event(&tool.value, &tool.next, refusal, c, events, current, event);
+    let sum = total_with(total, wide64(pulses));
+    let refusal = event_refusal(fault, channel, states, events, event, sum);
+    let decision = decide_event(
+        &tool.value,
+        &tool.next,
+        refusal,
+        c,
+        events,
+        current,
+        event,
+        total,
+        sum,
+    );
+    let reply = value_reply(decision, wheel);
     tool.current[c] = decision.next;
+    tool.total[c] = decision.total;
     Answer {
-        reply: value_reply(decision),
+        reply: reply,
         tool: tool,
     }
 }
 
-// Restart one: the channel is at state 0 again.
+// Restart one: the channel is at state 0 again, with no pulses.
 pub fn restart(mut tool: Tool, channel: usize) -> Answer
     ensures { λ r. ⌜ answer r ≡ called (calls.restart channel) (store-of tool) ⌝ }
 {
     let events = tool.setup.events;
     let values = tool.setup.values;
     let top = tool.setup.top;
+    let wheel = tool.setup.wheel;
     let c = channel % CHANNEL_LIMIT;
     let states = tool.states[c];
     let current = tool.current[c];
+    let total = tool.total[c];
     let fault = tool_fault(
         &tool.setup.meet,
         &tool.value,
@@ -346,13 +505,17 @@ pub fn restart(mut tool: Tool, channel: usize) -> Answer
         events,
         values,
         top,
+        wheel,
         channel,
         states,
         current,
+        total,
     );
     let refusal = loaded_refusal(fault, channel, states);
     let restarted = state_after(refusal, current);
+    let begun = total_after(refusal, total);
     tool.current[c] = restarted;
+    tool.total[c] = begun;
     Answer {
         reply: plain_reply(refusal),
         tool: tool,
@@ -366,9 +529,11 @@ pub fn clear(mut tool: Tool, channel: usize) -> Answer
     let events = tool.setup.events;
     let values = tool.setup.values;
     let top = tool.setup.top;
+    let wheel = tool.setup.wheel;
     let c = channel % CHANNEL_LIMIT;
     let states = tool.states[c];
     let current = tool.current[c];
+    let total = tool.total[c];
     let fault = tool_fault(
         &tool.setup.meet,
         &tool.value,
@@ -376,13 +541,16 @@ pub fn clear(mut tool: Tool, channel: usize) -> Answer
         events,
         values,
         top,
+        wheel,
         channel,
         states,
         current,
+        total,
     );
     let refusal = channel_refusal(fault, channel);
     tool.states[c] = count_after(refusal, states);
     tool.current[c] = state_after(refusal, current);
+    tool.total[c] = total_after(refusal, total);
     Answer {
         reply: plain_reply(refusal),
         tool: tool,
@@ -395,13 +563,15 @@ fn channels_in_order<'a>(
     next: &'a [u8; STORE_LIMIT],
     states: &'a [u16; CHANNEL_LIMIT],
     current: &'a [u8; CHANNEL_LIMIT],
+    total: &'a [u64; CHANNEL_LIMIT],
     events: usize,
     values: usize,
 ) -> bool
     requires { ⌜ (events ≤ event-limit) × (length (now value) ≡ store-limit) × (length (now next) ≡ store-limit)
-        × (length (now states) ≡ channel-limit) × (length (now current) ≡ channel-limit) ⌝ }
+        × (length (now states) ≡ channel-limit) × (length (now current) ≡ channel-limit) × (length (now total) ≡ channel-limit) ⌝ }
     ensures { λ r. ⌜ r ≡ every channel-limit (λ c. channel-test events (Numbered values)
-        (held c events (getD (now (states .entry)) c 0) (getD (now (current .entry)) c 0) (now (value .entry)) (now (next .entry)))) ⌝ }
+        (held c events (getD (now (states .entry)) c 0) (getD (now (current .entry)) c 0) (getD (now (total .entry)) c 0)
+        (now (value .entry)) (now (next .entry)))) ⌝ }
 {
     for c in 0..CHANNEL_LIMIT {
         if !channel_in_order(
@@ -412,6 +582,7 @@ fn channels_in_order<'a>(
             values,
             wide16(states[c]),
             wide(current[c]),
+            total[c],
         ) {
             return false;
         }
@@ -426,20 +597,23 @@ fn all_fault<'a>(
     next: &'a [u8; STORE_LIMIT],
     states: &'a [u16; CHANNEL_LIMIT],
     current: &'a [u8; CHANNEL_LIMIT],
+    total: &'a [u64; CHANNEL_LIMIT],
     events: u8,
     values: u8,
     top: u8,
+    wheel: Wheel,
 ) -> u8
     requires { ⌜ (length (now meet) ≡ meet-limit) × (length (now value) ≡ store-limit) × (length (now next) ≡ store-limit)
-        × (length (now states) ≡ channel-limit) × (length (now current) ≡ channel-limit) ⌝ }
-    ensures { λ r. ⌜ r ≡ number-unless (setup-test (setup events values top (take (values * values) (now (meet .entry))))
+        × (length (now states) ≡ channel-limit) × (length (now current) ≡ channel-limit) × (length (now total) ≡ channel-limit) ⌝ }
+    ensures { λ r. ⌜ r ≡ number-unless (setup-test (tool-setup (setup events values top (take (values * values) (now (meet .entry)))) (wheel-of wheel))
         && every channel-limit (λ c. channel-test events (Numbered values)
-        (held c events (getD (now (states .entry)) c 0) (getD (now (current .entry)) c 0) (now (value .entry)) (now (next .entry))))) 17 ⌝ }
+        (held c events (getD (now (states .entry)) c 0) (getD (now (current .entry)) c 0) (getD (now (total .entry)) c 0)
+        (now (value .entry)) (now (next .entry))))) 17 ⌝ }
 {
     let n = wide(events);
     let v = wide(values);
-    if setup_in_order(meet, n, v, wide(top)) {
-        if channels_in_order(value, next, states, current, n, v) {
+    if setup_in_order(meet, n, v, wide(top), wheel) {
+        if channels_in_order(value, next, states, current, total, n, v) {
             return 0;
         }
     }
@@ -447,7 +621,7 @@ fn all_fault<'a>(
 }
 
 fn states_after(refusal: u8, old: [u8; CHANNEL_LIMIT]) -> [u8; CHANNEL_LIMIT]
-    ensures { λ r. ⌜ r ≡ states-after refusal old ⌝ }
+    ensures { λ r. ⌜ r ≡ kept-numbers refusal old ⌝ }
 {
     if 0 < refusal {
         return old;
@@ -455,26 +629,39 @@ fn states_after(refusal: u8, old: [u8; CHANNEL_LIMIT]) -> [u8; CHANNEL_LIMIT]
     [0u8; CHANNEL_LIMIT]
 }
 
-// Restart all: every loaded channel is at state 0 again; empty ones remain empty.
+fn totals_after(refusal: u8, old: [u64; CHANNEL_LIMIT]) -> [u64; CHANNEL_LIMIT]
+    ensures { λ r. ⌜ r ≡ kept-numbers refusal old ⌝ }
+{
+    if 0 < refusal {
+        return old;
+    }
+    [0u64; CHANNEL_LIMIT]
+}
+
+// Restart all: every loaded channel is at state 0 again, with no pulses; empty ones remain empty.
 pub fn restart_all(mut tool: Tool) -> Answer
     ensures { λ r. ⌜ answer r ≡ called calls.restart-all (store-of tool) ⌝ }
 {
     let events = tool.setup.events;
     let values = tool.setup.values;
     let top = tool.setup.top;
-    let old = tool.current;
+    let wheel = tool.setup.wheel;
+    let current = tool.current;
+    let total = tool.total;
     let fault = all_fault(
         &tool.setup.meet,
         &tool.value,
         &tool.next,
         &tool.states,
         &tool.current,
+        &tool.total,
         events,
         values,
         top,
+        wheel,
     );
-    let new = states_after(fault, old);
-    tool.current = new;
+    tool.current = states_after(fault, current);
+    tool.total = totals_after(fault, total);
     Answer {
         reply: plain_reply(fault),
         tool: tool,
@@ -507,8 +694,8 @@ fn judged_reply(judgement: Judgement) -> Reply
 }
 
 // A tool with all channels empty.
-fn empty_tool(events: u8, values: u8, top: u8, meet: [u8; MEET_LIMIT]) -> Tool
-    ensures { λ r. ⌜ store-of r ≡ empty-store (setup events values top meet) ⌝ }
+fn empty_tool(events: u8, values: u8, top: u8, meet: [u8; MEET_LIMIT], wheel: Wheel) -> Tool
+    ensures { λ r. ⌜ store-of r ≡ empty-store (setup events values top meet) (wheel-of wheel) ⌝ }
 {
     Tool {
         setup: ToolSetup {
@@ -516,30 +703,48 @@ fn empty_tool(events: u8, values: u8, top: u8, meet: [u8; MEET_LIMIT]) -> Tool
             values: values,
             top: top,
             meet: meet,
+            wheel: wheel,
         },
         states: [0u16; CHANNEL_LIMIT],
         current: [0u8; CHANNEL_LIMIT],
+        total: [0u64; CHANNEL_LIMIT],
         value: [0u8; STORE_LIMIT],
         next: [0u8; STORE_LIMIT],
     }
 }
 
 // Set up: a tool with all channels empty. A refused set-up hands back a tool with every cell 0.
-pub fn set_up(events: usize, values: usize, top: usize, meet: &[u8]) -> Answer
-    ensures { λ r. ⌜ answer r ≡ set-up-called (setup events values top (now (meet .entry))) ⌝ }
+pub fn set_up(
+    events: usize,
+    values: usize,
+    top: usize,
+    meet: &[u8],
+    pulses: usize,
+    millimetres: usize,
+) -> Answer
+    ensures { λ r. ⌜ answer r ≡ set-up-called (tool-setup (setup events values top (now (meet .entry))) (wheel-of-turn pulses millimetres)) ⌝ }
 {
-    let judgement = values::check_setup(events, values, top, meet);
+    let judgement = check_tool_setup(events, values, top, meet, pulses, millimetres);
     let Judgement::Accepted = judgement else {
+        let none = Wheel {
+            pulses: 0,
+            millimetres: 0,
+        };
         return Answer {
             reply: judged_reply(judgement),
-            tool: empty_tool(0, 0, 0, [0u8; MEET_LIMIT]),
+            tool: empty_tool(0, 0, 0, [0u8; MEET_LIMIT], none),
         };
+    };
+    let wheel = Wheel {
+        pulses: (pulses % 65536) as u32,
+        millimetres: (millimetres % 65536) as u32,
     };
     let tool = empty_tool(
         (events % 256) as u8,
         (values % 256) as u8,
         (top % 256) as u8,
         padded_meet(meet),
+        wheel,
     );
     Answer {
         reply: Reply::Accepted,
@@ -587,34 +792,103 @@ fn run<'a>(
     state
 }
 
-// 17, 14, 15, 16, then 13.
-fn replay_refusal(fault: u8, channel: usize, states: u16, allowed: bool, fits: bool) -> u8
-    ensures { λ r. ⌜ r ≡ replay-number fault channel states allowed fits ⌝ }
+// So many pulses are added up before the total is looked at.
+const PULSE_BLOCK: usize = 4096;
+
+fn smaller(a: usize, b: usize) -> usize
+    ensures { λ r. ⌜ r ≡ min a b ⌝ }
+{
+    if a < b { a } else { b }
+}
+
+// The sum of so many pulses from a place on.
+fn pulse_sum(pulses: &[u32], from: usize, count: usize) -> u64
+    requires { ⌜ (from + count ≤ length (now pulses)) × (count ≤ pulse-block) ⌝ }
+    ensures { λ r. ⌜ r ≡ sum-of (take count (drop from (now (pulses .entry)))) ⌝ }
+{
+    let mut sum: u64 = 0;
+    let mut i: usize = 0;
+    while i < count {
+        sum += wide64(pulses[from + i]);
+        i += 1;
+    }
+    sum
+}
+
+// The total with the pulses of so many events.
+fn total_with_all(total: u64, pulses: &[u32], count: usize) -> u64
+    ensures { λ r. ⌜ r ≡ limited (total + sum-of (take count (now (pulses .entry)))) ⌝ }
+{
+    let end = smaller(count, pulses.len());
+    let mut sum = total_with(total, 0);
+    let mut i: usize = 0;
+    while i < end {
+        let n = smaller(end - i, PULSE_BLOCK);
+        sum = total_with(sum, pulse_sum(pulses, i, n));
+        i += n;
+    }
+    sum
+}
+
+// 17, 14, 15, 16, 19, then 13.
+fn replay_refusal(
+    fault: u8,
+    channel: usize,
+    states: u16,
+    allowed: bool,
+    total: u64,
+    fits: bool,
+) -> u8
+    ensures { λ r. ⌜ r ≡ replay-number fault channel states allowed total fits ⌝ }
 {
     let earlier = loaded_refusal(fault, channel, states);
     if 0 < earlier {
         return earlier;
     }
-    if allowed {
-        if fits {
-            return 0;
-        }
+    if !allowed {
+        return refusal::EVENT_NUMBER;
+    }
+    if TOTAL_LIMIT < total {
+        return refusal::PULSE_TOTAL;
+    }
+    if !fits {
         return refusal::BUFFER_LENGTH;
     }
-    refusal::EVENT_NUMBER
+    0
 }
 
-// Replay: a sequence of events on one channel, its values into a lent buffer; 17 is tested once. The event call repeated, or a
+// The reply to a sequence of so many events: that of its last event, or accepted where there is none.
+fn end_reply(values: &[u8], count: usize, total: u64, wheel: Wheel) -> Reply
+    requires { ⌜ (count ≤ length (now values)) × Measurable (wheel-of wheel) total ⌝ }
+    ensures { λ r. ⌜ reply-of r ≡ end-reply (wheel-of wheel) (take count (now (values .entry))) total ⌝ }
+{
+    if count == 0 {
+        return Reply::Accepted;
+    }
+    Reply::Value(measured(values[count - 1], total, wheel))
+}
+
+// Replay: a sequence of events with their pulses on one channel, the values into a lent buffer; 17 is tested once. Events for which there
+// are no more pulses have 0; pulses behind the last event are not looked at. The event call repeated, with the last one's reply, or a
 // refusal that changes nothing.
-pub fn replay<'a>(mut tool: Tool, channel: usize, word: &'a [u8], values: &mut [u8]) -> Answer
-    ensures { λ r. ⌜ replay-answer r (now (values .exit)) ≡ replayed (store-of tool) channel (now (word .entry)) (now (values .entry)) ⌝ }
+pub fn replay<'a>(
+    mut tool: Tool,
+    channel: usize,
+    word: &'a [u8],
+    pulses: &'a [u32],
+    values: &mut [u8],
+) -> Answer
+    ensures { λ r. ⌜ replay-answer r (now (values .exit))
+        ≡ replayed (store-of tool) channel (occurrences (now (word .entry)) (now (pulses .entry))) (now (values .entry)) ⌝ }
 {
     let events = tool.setup.events;
     let count = tool.setup.values;
     let top = tool.setup.top;
+    let wheel = tool.setup.wheel;
     let c = channel % CHANNEL_LIMIT;
     let states = tool.states[c];
     let current = tool.current[c];
+    let total = tool.total[c];
     let fault = tool_fault(
         &tool.setup.meet,
         &tool.value,
@@ -622,13 +896,16 @@ pub fn replay<'a>(mut tool: Tool, channel: usize, word: &'a [u8], values: &mut [
         events,
         count,
         top,
+        wheel,
         channel,
         states,
         current,
+        total,
     );
     let allowed = word_in_order(word, events);
+    let sum = total_with_all(total, pulses, word.len());
     let fits = word.len() <= values.len();
-    let refusal = replay_refusal(fault, channel, states, allowed, fits);
+    let refusal = replay_refusal(fault, channel, states, allowed, sum, fits);
     if 0 < refusal {
         return Answer {
             reply: plain_reply(refusal),
@@ -647,8 +924,9 @@ pub fn replay<'a>(mut tool: Tool, channel: usize, word: &'a [u8], values: &mut [
         values,
     );
     tool.current[c] = last;
+    tool.total[c] = sum;
     Answer {
-        reply: Reply::Accepted,
+        reply: end_reply(&*values, word.len(), sum, wheel),
         tool: tool,
     }
 }
@@ -679,7 +957,7 @@ fn store_rows(rows: &mut [u8; STORE_LIMIT], at: usize, entries: &[u8; ENTRY_LIMI
     }
 }
 
-// The tool with a table in a channel's rows, at state 0.
+// The tool with a table in a channel's rows, at state 0 and with no pulses.
 fn stored(
     tool: Tool,
     channel: usize,
@@ -697,6 +975,7 @@ fn stored(
     store_rows(&mut t.next, at, &nexts);
     t.states[channel] = states;
     t.current[channel] = 0;
+    t.total[channel] = 0;
     t
 }
 
@@ -719,16 +998,18 @@ fn counted_reply(verdict: Counted) -> Reply
     }
 }
 
-// Load a rule: its table replaces what the channel had, at state 0. A refused loading hands the old tool back.
+// Load a rule: its table replaces what the channel had, at state 0 and with no pulses. A refused loading hands the old tool back.
 pub fn load(tool: Tool, channel: usize, rule: &[u8]) -> Answer
     ensures { λ r. ⌜ answer r ≡ called (calls.load channel (now (rule .entry))) (store-of tool) ⌝ }
 {
     let events = tool.setup.events;
     let values = tool.setup.values;
     let top = tool.setup.top;
+    let wheel = tool.setup.wheel;
     let c = channel % CHANNEL_LIMIT;
     let states = tool.states[c];
     let current = tool.current[c];
+    let total = tool.total[c];
     let fault = tool_fault(
         &tool.setup.meet,
         &tool.value,
@@ -736,9 +1017,11 @@ pub fn load(tool: Tool, channel: usize, rule: &[u8]) -> Answer
         events,
         values,
         top,
+        wheel,
         channel,
         states,
         current,
+        total,
     );
     let refusal = channel_refusal(fault, channel);
     if 0 < refusal {

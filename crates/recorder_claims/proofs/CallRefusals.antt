@@ -1,11 +1,11 @@
 -- Each call on a tool, and a sequence of events, is judged by its conditions.
 use mathlib.Core.{Path.{_≡_, refl, subst}, Logic.{inl, inr}, Bool.{Bool, true, false, cond}, List.{List, [], _∷_}}
 use mathlib.Core.Option.{Option, none, some, Option·some-ne-none}
-use Prim.Native.Nat.{ℕ, _<_, zero, suc}
+use Prim.Native.Nat.{ℕ, _+_, _<_, zero, suc}
 use native.Mathlib.Omega.{arith}
 use borrow.Author.Tests.{ltb-true, ltb-false, leb-true, leb-false}
 use lib.{Dec.{ltb, leb}, ListN.{length, getD}}
-use Rattle.limits.specs.Limits.{channel-limit}
+use Rattle.limits.specs.Limits.{channel-limit, total-limit}
 use Rattle.theory.proofs.ValueSets.{and-left, every-at, every-some}
 use Rattle.refusal.specs.declared.Refusal.{Refusal}
 use Rattle.refusal.specs.declared.Refusal.the-variants.{Plain}
@@ -13,15 +13,16 @@ use Rattle.refusal.specs.Refusal.{has-place, part-of, order, condition-numbers,
 use Rattle.refusal.specs.RefusalAnswers.{or-else, plain-unless}
 use Rattle.refusal.proofs.Refusals.{plain-none, plain-first, first-append, first-then, judged}
 use Rattle.channel_log.specs.Calls.{Call, load, event, restart, restart-all, clear}
-use Rattle.channel_log.specs.{CallSteps.{Content, channel-refusal, empty-refusal, on-event}, Log.{large-event}}
-use Rattle.recorder.specs.Store.{Store, setup-of, channels}
+use Rattle.channel_log.specs.{CallSteps.{Content, channel-refusal, empty-refusal, on-event}, Log.{large-event, large-total, occurrence-refusal}}
+use Rattle.channel_log.specs.{Calls.{map-option, Loaded}, Distance.{Occurrence, Reading, TotalAbove}}
+use Rattle.recorder.specs.Store.{Store, setup-of, tool-setup-of, channels, all-pulses}
 use Rattle.recorder.specs.Store.{ToolFault}
 use Rattle.recorder.specs.ToolTests.{setup-test, named-test, tool-test}
 use Rattle.recorder.specs.CompiledRule.{rule-judged}
-use Rattle.recorder.specs.{Called.{content, tool-refusal}, Replay.{word-test, replay-refusal}}
-use Rattle.recorder.proofs.Held.{accepted-of-test}
+use Rattle.recorder.specs.{Called.{content, tool-refusal}, Replay.{word-test, pulses-refusal, replay-refusal}}
+use Rattle.recorder.proofs.{Held.{accepted-of-test, values-accepted}, Replays.{events-of}}
 use Rattle.synthesis.specs.TableOfRule.{rule-conditions-of}
-use Rattle.recorder_claims.specs.Claims.{fault-condition, empty-condition, event-condition}
+use Rattle.recorder_claims.specs.Claims.{fault-condition, empty-condition, event-condition, total-condition}
 use Rattle.recorder.specs.Store.{channel-condition}
 use Rattle.recorder.specs.Store.{call-conditions}
 use Rattle.recorder.specs.Store.{replay-conditions}
@@ -38,19 +39,40 @@ number-first n a b = go (ltb a b) (plain-first n (¬ (a < b)) (ltb a b) (λ f l.
     go true f = f
     go false f = f
 
--- 15, and 16 after it, whatever a loaded channel holds.
-pub empty-first : {X : Type 0} (o : Option X) → First (plain 15 (o ≡ none) ∷ []) (empty-refusal o)
-unfolding First
-empty-first none = inl (Plain 15, (refl, refl), refl)
-empty-first (some x) = inr (λ r m. Option·some-ne-none x (m .0), refl)
+-- 19 of a total.
+total-first : (total pulses : ℕ) → First (plain 19 (TotalAbove (some total) pulses) ∷ []) (large-total (total + pulses))
+unfolding plain-unless
+total-first total pulses =
+    go (leb (total + pulses) total-limit)
+    (plain-first 19 (TotalAbove (some total) pulses) (leb (total + pulses) total-limit) (λ f. leb-false (total + pulses) total-limit f)
+    (λ p l. omega (arith, l, leb-true (total + pulses) total-limit p)))
+  where
+    go :
+        (t : Bool) → First (plain 19 (TotalAbove (some total) pulses) ∷ []) (plain-unless t 19) →
+        First (plain 19 (TotalAbove (some total) pulses) ∷ []) (cond t none (some (Plain 19)))
+    go true f = f
+    go false f = f
 
-pub on-event-first :
-    {X : Type 0} (K : Content X ℕ ℕ) (n : ℕ) → ((x : X) (e : ℕ) → large-event n e ≡ K .event-refusal x e) → (o : Option X) (e : ℕ) →
-    First (plain 15 (o ≡ none) ∷ plain 16 (¬ (e < n)) ∷ []) (on-event K o e)
-unfolding First
-on-event-first K n same none e = inl (Plain 15, (refl, refl), refl)
-on-event-first K n same (some x) e =
-    inr (λ r m. Option·some-ne-none x (m .0), subst (First (plain 16 (¬ (e < n)) ∷ [])) (same x e) (number-first 16 e n))
+-- 15, and 16 and 19 after it, whatever a loaded channel holds beside its total.
+module _ {X : Type 0} (total : X → ℕ) where
+  pub empty-first : (o : Option X) → First (plain 15 (map-option total o ≡ none) ∷ []) (empty-refusal o)
+  unfolding First
+  empty-first none = inl (Plain 15, (refl, refl), refl)
+  empty-first (some x) = inr (λ r m. Option·some-ne-none (total x) (m .0), refl)
+
+  pub on-event-first :
+      (K : Content X Occurrence (Reading ℕ)) (n : ℕ) → ((x : X) (i : Occurrence) → occurrence-refusal n (total x) i ≡ K .event-refusal x i) →
+      (o : Option X) (i : Occurrence) →
+      First (plain 15 (map-option total o ≡ none) ∷ plain 16 (¬ (i .event < n)) ∷ plain 19 (TotalAbove (map-option total o) (i .pulses)) ∷ []) (on-event K o i)
+  unfolding First
+  on-event-first K n same none i = inl (Plain 15, (refl, refl), refl)
+  on-event-first K n same (some x) i =
+      inr (
+        λ r m. Option·some-ne-none (total x) (m .0),
+        subst (First (plain 16 (¬ (i .event < n)) ∷ plain 19 (TotalAbove (some (total x)) (i .pulses)) ∷ [])) (same x i)
+            (first-append (plain 16 (¬ (i .event < n)) ∷ []) (plain 19 (TotalAbove (some (total x)) (i .pulses)) ∷ []) (large-event n (i .event))
+            (large-total (total x + i .pulses)) (number-first 16 (i .event) n) (total-first (total x) (i .pulses))),
+      )
 
 pub no-conditions : First [] none
 unfolding First
@@ -63,34 +85,39 @@ after-14 c cs later h = first-append (channel-condition c ∷ []) cs (channel-re
 -- 17, and what comes after it.
 module _ (t : Store) where
   after-17 :
-      (call : Call ℕ) (cs : List Condition) (later : Option Refusal) → (setup-test (setup-of t) ≡ true → First cs later) →
+      (call : Call Occurrence) (cs : List Condition) (later : Option Refusal) → (setup-test (tool-setup-of t) ≡ true → First cs later) →
       First (fault-condition t call ∷ cs) (or-else (plain-unless (tool-test t call) 17) later)
   after-17 call cs later h =
       first-then (fault-condition t call ∷ []) cs (plain-unless (tool-test t call) 17) later
       (plain-first 17 (ToolFault t call) (tool-test t call) (fault-of t call) (tool-tested t call .0))
-      (λ e. h (and-left (setup-test (setup-of t)) (named-test t call) (plain-none (tool-test t call) 17 e)))
+      (λ e. h (and-left (setup-test (tool-setup-of t)) (named-test t call) (plain-none (tool-test t call) 17 e)))
 
-call-first : (t : Store) (call : Call ℕ) → First (call-conditions t call) (tool-refusal t call)
+abbrev held-total : Loaded ℕ → ℕ
+held-total x = x .total
+
+call-first : (t : Store) (call : Call Occurrence) → First (call-conditions t call) (tool-refusal t call)
 unfolding call-conditions
 call-first t (load c r) =
     after-17 t (load c r) (channel-condition c ∷ rule-conditions-of (setup-of t) r) (or-else (channel-refusal c) (rule-judged (setup-of t) r))
-    (λ h. after-14 c (rule-conditions-of (setup-of t) r) (rule-judged (setup-of t) r) (rule-first (setup-of t) r (accepted-of-test (setup-of t) h)))
-call-first t (event c e) =
-    after-17 t (event c e) (channel-condition c ∷ empty-condition t c ∷ event-condition t e ∷ [])
-    (or-else (channel-refusal c) (on-event (content t) (channels t c) e))
     (λ h.
-    after-14 c (empty-condition t c ∷ event-condition t e ∷ []) (on-event (content t) (channels t c) e)
-    (on-event-first (content t) (t .setup .events) (λ x e. refl) (channels t c) e))
+    after-14 c (rule-conditions-of (setup-of t) r) (rule-judged (setup-of t) r)
+    (rule-first (setup-of t) r (values-accepted (tool-setup-of t) (accepted-of-test (tool-setup-of t) h))))
+call-first t (event c i) =
+    after-17 t (event c i) (channel-condition c ∷ empty-condition t c ∷ event-condition t (i .event) ∷ total-condition t c (i .pulses) ∷ [])
+    (or-else (channel-refusal c) (on-event (content t) (channels t c) i))
+    (λ h.
+    after-14 c (empty-condition t c ∷ event-condition t (i .event) ∷ total-condition t c (i .pulses) ∷ []) (on-event (content t) (channels t c) i)
+    (on-event-first held-total (content t) (t .setup .events) (λ x i. refl) (channels t c) i))
 call-first t (restart c) =
     after-17 t (restart c) (channel-condition c ∷ empty-condition t c ∷ []) (or-else (channel-refusal c) (empty-refusal (channels t c)))
-    (λ h. after-14 c (empty-condition t c ∷ []) (empty-refusal (channels t c)) (empty-first (channels t c)))
+    (λ h. after-14 c (empty-condition t c ∷ []) (empty-refusal (channels t c)) (empty-first held-total (channels t c)))
 call-first t restart-all = after-17 t restart-all [] none (λ h. no-conditions)
 call-first t (clear c) = after-17 t (clear c) (channel-condition c ∷ []) (channel-refusal c) (λ h. number-first 14 c channel-limit)
 
 pub call-refusals : CallRefusalClaim
 unfolding call-conditions condition-numbers right-places has-place part-of order
 call-refusals t (load c r) = judged _ _ (call-first t (load c r)) refl refl
-call-refusals t (event c e) = judged _ _ (call-first t (event c e)) refl refl
+call-refusals t (event c i) = judged _ _ (call-first t (event c i)) refl refl
 call-refusals t (restart c) = judged _ _ (call-first t (restart c)) refl refl
 call-refusals t restart-all = judged _ _ (call-first t restart-all) refl refl
 call-refusals t (clear c) = judged _ _ (call-first t (clear c)) refl refl
@@ -119,20 +146,31 @@ word-first n word = plain-first 16 (¬ Word n word) (word-test n word) large fit
 room-first : (a b : ℕ) → First (plain 13 (b < a) ∷ []) (plain-unless (leb a b) 13)
 room-first a b = plain-first 13 (b < a) (leb a b) (λ f. leb-false a b f) (λ p l. omega (arith, leb-true a b p))
 
-replay-first : (t : Store) (c : ℕ) (word buffer : List ℕ) → First (replay-conditions t c word buffer) (replay-refusal t c word buffer)
+-- 19 of a sequence.
+pulses-first : (o : Option (Loaded ℕ)) (pulses : ℕ) → First (plain 19 (TotalAbove (map-option held-total o) pulses) ∷ []) (pulses-refusal o pulses)
+unfolding First
+pulses-first none pulses = inr (λ r m. m .0, refl)
+pulses-first (some x) pulses = total-first (x .total) pulses
+
+replay-first :
+    (t : Store) (c : ℕ) (word : List Occurrence) (buffer : List ℕ) → First (replay-conditions t c word buffer) (replay-refusal t c word buffer)
 unfolding replay-conditions
 replay-first t c word buffer =
     let n = t .setup .events in
-    let O = plain-unless (word-test n word) 16 in
+    let O = plain-unless (word-test n (events-of word)) 16 in
+    let P = pulses-refusal (channels t c) (all-pulses word) in
     let F = plain-unless (leb (length word) (length buffer)) 13 in
-    let large = plain 16 (¬ Word n word) in
+    let large = plain 16 (¬ Word n (events-of word)) in
+    let heavy = total-condition t c (all-pulses word) in
     let short = plain 13 (length buffer < length word) in
-    after-17 t (event c 0) (channel-condition c ∷ empty-condition t c ∷ large ∷ short ∷ [])
-    (or-else (channel-refusal c) (or-else (empty-refusal (channels t c)) (or-else O F)))
+    after-17 t (restart c) (channel-condition c ∷ empty-condition t c ∷ large ∷ heavy ∷ short ∷ [])
+    (or-else (channel-refusal c) (or-else (empty-refusal (channels t c)) (or-else O (or-else P F))))
     (λ h.
-    after-14 c (empty-condition t c ∷ large ∷ short ∷ []) (or-else (empty-refusal (channels t c)) (or-else O F))
-    (first-append (empty-condition t c ∷ []) (large ∷ short ∷ []) (empty-refusal (channels t c)) (or-else O F) (empty-first (channels t c))
-    (first-append (large ∷ []) (short ∷ []) O F (word-first n word) (room-first (length word) (length buffer)))))
+    after-14 c (empty-condition t c ∷ large ∷ heavy ∷ short ∷ []) (or-else (empty-refusal (channels t c)) (or-else O (or-else P F)))
+    (first-append (empty-condition t c ∷ []) (large ∷ heavy ∷ short ∷ []) (empty-refusal (channels t c)) (or-else O (or-else P F))
+    (empty-first held-total (channels t c))
+    (first-append (large ∷ []) (heavy ∷ short ∷ []) O (or-else P F) (word-first n (events-of word))
+    (first-append (heavy ∷ []) (short ∷ []) P F (pulses-first (channels t c) (all-pulses word)) (room-first (length word) (length buffer))))))
 
 pub replay-refusals : ReplayRefusalClaim
 unfolding replay-conditions condition-numbers right-places has-place part-of order

@@ -1,5 +1,7 @@
 -- Each call's effect on the channels.
 pub mod View
+-- The set-up is judged by its conditions.
+pub mod SetUps
 -- What a load stores.
 pub mod LoadedRules
 -- A sound tool stays sound.

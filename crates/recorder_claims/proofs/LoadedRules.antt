@@ -82,14 +82,18 @@ module _ (s : Setup) (rule : List ℕ) where
       rule-in-order =
           let r = rule-runs s rule ok fine in
           record {
-            some-states = r .0;
-            few-states = few-states s rule ok fine;
-            entry-count =
-                table-length ℕ (entry-bytes (s .kind)) (entry-width (s .kind)) (entry-length (s .kind)) (s .events) (loaded-rule s rule .table)
-                (states-of-rule s rule);
-            start-in = r .0;
-            values-in = λ l e p q. subst⁻¹ (SetupValue s) (value-at l e p q) (r .1 .value-in l p e q);
-            nexts-in = λ l e p q. subst⁻¹ (λ x. x < states-of-rule s rule) (next-at l e p q) (r .1 .next-in l p e q);
+            table =
+                record {
+                  some-states = r .0;
+                  few-states = few-states s rule ok fine;
+                  entry-count =
+                      table-length ℕ (entry-bytes (s .kind)) (entry-width (s .kind)) (entry-length (s .kind)) (s .events) (loaded-rule s rule .table)
+                      (states-of-rule s rule);
+                  start-in = r .0;
+                  values-in = λ l e p q. subst⁻¹ (SetupValue s) (value-at l e p q) (r .1 .value-in l p e q);
+                  nexts-in = λ l e p q. subst⁻¹ (λ x. x < states-of-rule s rule) (next-at l e p q) (r .1 .next-in l p e q);
+                };
+            total = omega arith;
           }
 
       is-table-of : IsTableOf (setup-meet s) (setup-top s) (s .events) (formula-of (s .kind) rule) (states-of-rule s rule) (table-of-rule s rule)

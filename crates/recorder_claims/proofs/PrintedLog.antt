@@ -1,7 +1,7 @@
 -- Document 01's log by its own sentences is the computed log: the tool's replies are its replies, and its only ones.
 use mathlib.Core.{Path.{_≡_, refl, sym, _∙_, ap, ap₂, subst, subst⁻¹}, Bool.{Bool, true, false, cond}, List.{List, [], _∷_, _++_}}
 use mathlib.Core.Option.{Option, none, some, Option·some-ne-none}
-use Prim.Native.Nat.{ℕ}
+use Prim.Native.Nat.{ℕ, _+_}
 use lib.Dec.{eqb}
 use Rattle.limits.specs.Limits.{channel-limit}
 use Rattle.theory.specs.FormulaClasses.{WellFormed}
@@ -18,9 +18,11 @@ use Rattle.channel_log.specs.Calls.{Call, load, event, restart, restart-all, cl
 use Rattle.channel_log.specs.Calls.{map-option, History, replies, final}
 use Rattle.channel_log.specs.CallSteps.{Content, channel-refusal, empty-refusal, on-event, call-refusal, event-reply, accepted-reply, effect, settled, step}
 use Rattle.channel_log.proofs.Simulation.{second-none}
-use Rattle.recorder.specs.{Store.{Store}, CompiledRule.{rule-judged}, Called.{called, new-store}}
+use Rattle.channel_log.specs.Distance.{Occurrence, Reading, reading}
+use Rattle.recorder.specs.{Store.{Store, ToolSetup}, ToolTests.{tool-setup-refusal}, CompiledRule.{rule-judged}, Called.{called, new-store}}
+use Rattle.recorder.proofs.Held.{values-accepted}
 use Rattle.synthesis.specs.TableOfRule.{rule-conditions-of}
-use Rattle.recorder_claims.specs.ChannelLog.{history, log-conditions, Takes, refuses, loads, returns, restarts, restarts-all, clears}
+use Rattle.recorder_claims.specs.ChannelLog.{history, begun, log-conditions, Takes, refuses, loads, returns, restarts, restarts-all, clears}
 use Rattle.recorder_claims.specs.{ChannelLog.{Logs, no-calls, one-more}, Claims.{setup-log, PrintedRecordClaim}}
 use Rattle.recorder_claims.proofs.{LoadedRules.{rule-first, rule-well-formed}, Keeps.{Sound, keeps}, Claims.{sound, tool-record}}
 use Rattle.recorder_claims.proofs.CallRefusals.{number-first, empty-first, on-event-first, no-conditions, after-14}
@@ -30,14 +32,25 @@ pub accepted-code : (s : Setup) (rule : List ℕ) → rule-judged s rule ≡ non
 unfolding rule-judged rule-table-refusal
 accepted-code s rule e = accepted-formula-of (s .events) (s .kind) rule (or-else-none _ _ e .0) .written
 
-module _ (s : Setup) (ok : setup-refusal s ≡ none) where
-  abbrev K : Content (History ℕ) ℕ ℕ
+module _ (s : ToolSetup) (ok : tool-setup-refusal s ≡ none) where
+  abbrev K : Content (History ℕ) Occurrence (Reading ℕ)
   K = setup-log s
+
+  -- Its value set.
+  abbrev v : Setup
+  v = s .values
+
+  fine : setup-refusal v ≡ none
+  fine = values-accepted s ok
+
+  -- A channel's total in the log.
+  abbrev logged-total : History ℕ → ℕ
+  logged-total h = h .total
 
   -- Every rule in the log is well-formed.
   abbrev Good : Option (History ℕ) → Type 0
   Good none = Unit {0}
-  Good (some h) = WellFormed (s .events) (SetupValue s) (h .rule)
+  Good (some h) = WellFormed (v .events) (SetupValue v) (h .rule)
 
   abbrev AllGood : Channels (History ℕ) → Type 0
   AllGood L = (d : ℕ) → Good (L d)
@@ -49,23 +62,23 @@ module _ (s : Setup) (ok : setup-refusal s ≡ none) where
       go true = g
       go false = a d
 
-  good-moved : (o : Option (History ℕ)) (e : ℕ) → Good o → Good (map-option (λ h. K .moved h e) o)
-  good-moved none e g = tt
-  good-moved (some h) e g = g
+  good-moved : (o : Option (History ℕ)) (i : Occurrence) → Good o → Good (map-option (λ h. K .moved h i) o)
+  good-moved none i g = tt
+  good-moved (some h) i g = g
 
   good-restarted : (o : Option (History ℕ)) → Good o → Good (map-option (K .restarted) o)
   good-restarted none g = tt
   good-restarted (some h) g = g
 
-  good-effect : (L : Channels (History ℕ)) (call : Call ℕ) → call-refusal K L call ≡ none → AllGood L → AllGood (effect K L call)
+  good-effect : (L : Channels (History ℕ)) (call : Call Occurrence) → call-refusal K L call ≡ none → AllGood L → AllGood (effect K L call)
   good-effect L (load c r) e a =
-      good-with c (some (K .loaded r)) L (rule-well-formed s r ok (second-none (channel-refusal c) (rule-judged s r) e)) a
+      good-with c (some (K .loaded r)) L (rule-well-formed v r fine (second-none (channel-refusal c) (rule-judged v r) e)) a
   good-effect L (event c i) e a = good-with c (map-option (λ h. K .moved h i) (L c)) L (good-moved (L c) i (a c)) a
   good-effect L (restart c) e a = good-with c (map-option (K .restarted) (L c)) L (good-restarted (L c) (a c)) a
   good-effect L restart-all e a = λ d. good-restarted (L d) (a d)
   good-effect L (clear c) e a = good-with c none L tt a
 
-  good-step : (L : Channels (History ℕ)) (call : Call ℕ) → AllGood L → AllGood (step K call L .1)
+  good-step : (L : Channels (History ℕ)) (call : Call Occurrence) → AllGood L → AllGood (step K call L .1)
   good-step L call a = go (call-refusal K L call) refl
     where
       go : (o : Option Refusal) → call-refusal K L call ≡ o → AllGood (settled K o (accepted-reply K L call) (effect K L call) L .1)
@@ -73,28 +86,28 @@ module _ (s : Setup) (ok : setup-refusal s ≡ none) where
       go (some r) e = a
 
   -- The list of refusals gives the computed refusal.
-  log-first : (L : Channels (History ℕ)) (call : Call ℕ) → First (log-conditions s L call) (call-refusal K L call)
-  log-first L (load c r) = after-14 c (rule-conditions-of s r) (rule-judged s r) (rule-first s r ok)
-  log-first L (event c e) = after-14 c _ (on-event K (L c) e) (on-event-first K (s .events) (λ h e. refl) (L c) e)
-  log-first L (restart c) = after-14 c _ (empty-refusal (L c)) (empty-first (L c))
+  log-first : (L : Channels (History ℕ)) (call : Call Occurrence) → First (log-conditions s L call) (call-refusal K L call)
+  log-first L (load c r) = after-14 c (rule-conditions-of v r) (rule-judged v r) (rule-first v r fine)
+  log-first L (event c i) = after-14 c _ (on-event K (L c) i) (on-event-first logged-total K (v .events) (λ h i. refl) (L c) i)
+  log-first L (restart c) = after-14 c _ (empty-refusal (L c)) (empty-first logged-total (L c))
   log-first L restart-all = no-conditions
   log-first L (clear c) = number-first 14 c channel-limit
 
   -- What the computed log replies and has after a call with a refusal or none.
-  abbrev reply-by : Channels (History ℕ) → Call ℕ → Option Refusal → Reply ℕ
+  abbrev reply-by : Channels (History ℕ) → Call Occurrence → Option Refusal → Reply (Reading ℕ)
   reply-by L call o = settled K o (accepted-reply K L call) (effect K L call) L .0
 
-  abbrev log-by : Channels (History ℕ) → Call ℕ → Option Refusal → Channels (History ℕ)
+  abbrev log-by : Channels (History ℕ) → Call Occurrence → Option Refusal → Channels (History ℕ)
   log-by L call o = settled K o (accepted-reply K L call) (effect K L call) L .1
 
   -- The log takes each call as computed.
   take-event :
-      (L : Channels (History ℕ)) (c e : ℕ) (o : Option (History ℕ)) → L c ≡ o → First (log-conditions s L (event c e)) none →
-      on-event K o e ≡ none → Good o →
-      Takes s L (event c e) (event-reply K o e) (with-channel c (map-option (λ h. K .moved h e) o) L)
-  take-event L c e none p f n g = absurd (Option·some-ne-none _ n)
-  take-event L c e (some h) p f n g =
-      returns c e h _ f p (answers (SetupValue s) (setup-meet s) (setup-top s) (s .events) (h .rule) g (h .events) e _ .1 refl)
+      (L : Channels (History ℕ)) (c : ℕ) (i : Occurrence) (o : Option (History ℕ)) → L c ≡ o → First (log-conditions s L (event c i)) none →
+      on-event K o i ≡ none → Good o →
+      Takes s L (event c i) (event-reply K o i) (with-channel c (map-option (λ h. K .moved h i) o) L)
+  take-event L c i none p f n g = absurd (Option·some-ne-none _ n)
+  take-event L c i (some h) p f n g =
+      returns c i h _ f p (answers (SetupValue v) (setup-meet v) (setup-top v) (v .events) (h .rule) g (h .events) (i .event) _ .1 refl)
 
   take-restart :
       (L : Channels (History ℕ)) (c : ℕ) (o : Option (History ℕ)) → L c ≡ o → First (log-conditions s L (restart c)) none →
@@ -103,16 +116,16 @@ module _ (s : Setup) (ok : setup-refusal s ≡ none) where
   take-restart L c (some h) p f n = restarts c h f p
 
   take-accepted :
-      (L : Channels (History ℕ)) (call : Call ℕ) → AllGood L → call-refusal K L call ≡ none → First (log-conditions s L call) none →
+      (L : Channels (History ℕ)) (call : Call Occurrence) → AllGood L → call-refusal K L call ≡ none → First (log-conditions s L call) none →
       Takes s L call (accepted-reply K L call) (effect K L call)
   take-accepted L (load c r) a e f =
-      loads c r (formula-of (s .kind) r) f (accepted-code s r (second-none (channel-refusal c) (rule-judged s r) e))
+      loads c r (formula-of (v .kind) r) f (accepted-code v r (second-none (channel-refusal c) (rule-judged v r) e))
   take-accepted L (event c i) a e f = take-event L c i (L c) refl f (second-none (channel-refusal c) (on-event K (L c) i) e) (a c)
   take-accepted L (restart c) a e f = take-restart L c (L c) refl f (second-none (channel-refusal c) (empty-refusal (L c)) e)
   take-accepted L restart-all a e f = restarts-all
   take-accepted L (clear c) a e f = clears c f
 
-  take-step : (L : Channels (History ℕ)) (call : Call ℕ) → AllGood L → Takes s L call (step K call L .0) (step K call L .1)
+  take-step : (L : Channels (History ℕ)) (call : Call Occurrence) → AllGood L → Takes s L call (step K call L .0) (step K call L .1)
   take-step L call a = go (call-refusal K L call) refl (log-first L call)
     where
       go : (o : Option Refusal) → call-refusal K L call ≡ o → First (log-conditions s L call) o → Takes s L call (reply-by L call o) (log-by L call o)
@@ -120,47 +133,49 @@ module _ (s : Setup) (ok : setup-refusal s ≡ none) where
       go (some r) e f = refuses call r f
 
   -- And in no other way.
-  abbrev Computed : Channels (History ℕ) → Call ℕ → Reply ℕ → Channels (History ℕ) → Option Refusal → Type 0
+  abbrev Computed : Channels (History ℕ) → Call Occurrence → Reply (Reading ℕ) → Channels (History ℕ) → Option Refusal → Type 0
   Computed L call reply M o = (reply ≡ reply-by L call o) × (M ≡ log-by L call o)
 
   by-refusal :
-      (L : Channels (History ℕ)) (call : Call ℕ) (reply : Reply ℕ) (M : Channels (History ℕ)) (o : Option Refusal) →
+      (L : Channels (History ℕ)) (call : Call Occurrence) (reply : Reply (Reading ℕ)) (M : Channels (History ℕ)) (o : Option Refusal) →
       First (log-conditions s L call) o → Computed L call reply M o → Computed L call reply M (call-refusal K L call)
   by-refusal L call reply M o f h =
       subst (Computed L call reply M) (first-unique (log-conditions s L call) o (call-refusal K L call) f (log-first L call)) h
 
   only-step :
-      (L : Channels (History ℕ)) (call : Call ℕ) (reply : Reply ℕ) (M : Channels (History ℕ)) → AllGood L → Takes s L call reply M →
+      (L : Channels (History ℕ)) (call : Call Occurrence) (reply : Reply (Reading ℕ)) (M : Channels (History ℕ)) → AllGood L → Takes s L call reply M →
       (reply ≡ step K call L .0) × (M ≡ step K call L .1)
   only-step L call reply M a (refuses x r f) = by-refusal L x (refused r) L (some r) f (refl, refl)
   only-step L call reply M a (loads c r φ f e) =
-      by-refusal L (load c r) accepted (with-channel c (some (history φ [])) L) none f
-      (refl, ap (λ φ. with-channel c (some (history φ [])) L) (formula-of-only (s .kind) r φ e))
-  only-step L call reply M a (returns c e h v f p x) =
-      by-refusal L (event c e) (returned v) (with-channel c (some (history (h .rule) (h .events ++ (e ∷ [])))) L) none f
+      by-refusal L (load c r) accepted (with-channel c (some (begun φ)) L) none f
+      (refl, ap (λ φ. with-channel c (some (begun φ)) L) (formula-of-only (v .kind) r φ e))
+  only-step L call reply M a (returns c i h b f p x) =
+      let total = h .total + i .pulses in
+      let h′ = history (h .rule) (h .events ++ (i .event ∷ [])) total in
+      by-refusal L (event c i) (returned (reading (s .wheel) b total)) (with-channel c (some h′) L) none f
       (subst⁻¹
       (λ o.
-      (returned v ≡ event-reply K o e)
-      × (with-channel c (some (history (h .rule) (h .events ++ (e ∷ [])))) L ≡ with-channel c (map-option (λ h. K .moved h e) o) L))
+      (returned (reading (s .wheel) b total) ≡ event-reply K o i)
+      × (with-channel c (some h′) L ≡ with-channel c (map-option (λ h. K .moved h i) o) L))
       p (
-        ap returned
-            (answers (SetupValue s) (setup-meet s) (setup-top s) (s .events) (h .rule) (subst Good p (a c)) (h .events) e v .0 x),
+        ap (λ b. returned (reading (s .wheel) b total))
+            (answers (SetupValue v) (setup-meet v) (setup-top v) (v .events) (h .rule) (subst Good p (a c)) (h .events) (i .event) b .0 x),
         refl,
       ))
   only-step L call reply M a (restarts c h f p) =
-      by-refusal L (restart c) accepted (with-channel c (some (history (h .rule) [])) L) none f
+      by-refusal L (restart c) accepted (with-channel c (some (begun (h .rule))) L) none f
       (refl, ap (λ o. with-channel c (map-option (K .restarted) o) L) (sym p))
   only-step L call reply M a restarts-all = (refl, refl)
   only-step L call reply M a (clears c f) = by-refusal L (clear c) accepted (with-channel c none L) none f (refl, refl)
 
   -- The same for a list of calls.
   take-all :
-      (calls : List (Call ℕ)) (L : Channels (History ℕ)) → AllGood L → Logs s L calls (replies (step K) calls L) (final (step K) calls L)
+      (calls : List (Call Occurrence)) (L : Channels (History ℕ)) → AllGood L → Logs s L calls (replies (step K) calls L) (final (step K) calls L)
   take-all [] L a = no-calls
   take-all (x ∷ xs) L a = one-more (take-step L x a) (take-all xs (step K x L .1) (good-step L x a))
 
   only-all :
-      (L : Channels (History ℕ)) (calls : List (Call ℕ)) (rs : List (Reply ℕ)) (N : Channels (History ℕ)) → AllGood L → Logs s L calls rs N →
+      (L : Channels (History ℕ)) (calls : List (Call Occurrence)) (rs : List (Reply (Reading ℕ))) (N : Channels (History ℕ)) → AllGood L → Logs s L calls rs N →
       (rs ≡ replies (step K) calls L) × (N ≡ final (step K) calls L)
   only-all L calls rs N a no-calls = (refl, refl)
   only-all L calls rs N a (one-more {M = M} {call = x} {calls = xs} {reply = y} {rs = ys} t l) =
@@ -169,7 +184,7 @@ module _ (s : Setup) (ok : setup-refusal s ≡ none) where
       (ap₂ _∷_ (o .0) (r .0 ∙ ap (replies (step K) xs) (o .1)), r .1 ∙ ap (final (step K) xs) (o .1))
 
 -- A list of calls keeps a tool sound.
-sound-after : (s : Setup) (calls : List (Call ℕ)) (t : Store) → Sound s t → Sound s (final called calls t)
+sound-after : (s : ToolSetup) (calls : List (Call Occurrence)) (t : Store) → Sound s t → Sound s (final called calls t)
 sound-after s [] t g = g
 sound-after s (x ∷ xs) t g = sound-after s xs (called x t .1) (keeps s x t g .1)
 

@@ -1,5 +1,6 @@
 // What the program prints.
 use libc::STDOUT_FILENO;
+use recorder::Reading;
 use recorder::Reply;
 use refusal::Refusal;
 
@@ -23,13 +24,19 @@ fn say_refusal(r: Refusal) {
     }
 }
 
+fn say_reading(r: Reading) {
+    say(b"value=");
+    say_number(r.value as usize);
+    say(b" mm=");
+    say_number(r.millimetres as usize);
+    say(b" rest=");
+    say_number(r.remainder as usize);
+}
+
 pub fn say_reply(r: Reply) {
     match r {
         Reply::Accepted => say(b"accepted"),
-        Reply::Value(v) => {
-            say(b"value=");
-            say_number(v as usize);
-        }
+        Reply::Value(x) => say_reading(x),
         Reply::Refused(x) => say_refusal(x),
     }
 }

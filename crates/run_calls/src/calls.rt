@@ -12,25 +12,26 @@ pub fn load(tool: Tool, channel: usize, rule: &[u8]) -> Tool {
     answer.tool
 }
 
-pub fn event(tool: Tool, channel: usize, e: usize) -> Tool {
-    let answer = recorder::event(tool, channel, e);
+pub fn event(tool: Tool, channel: usize, e: usize, pulses: u32) -> Tool {
+    let answer = recorder::event(tool, channel, e, pulses);
     let reply = answer.reply;
     say_reply(reply);
     answer.tool
 }
 
-fn say_item(v: u8) {
+pub fn say_item(v: u8) {
     say(b" ");
     say_number(v as usize);
 }
 
-// Event 1 twice; where it is accepted the values are printed too.
+// Event 1 twice, with two pulses each; where it is accepted the values are printed too.
 pub fn replay(tool: Tool, channel: usize) -> Tool {
     let mut values = [9u8; 2];
-    let answer = recorder::replay(tool, channel, &[1, 1], &mut values);
+    let answer = recorder::replay(tool, channel, &[1, 1], &[2, 2], &mut values);
     let reply = answer.reply;
     say_reply(reply);
-    if let Reply::Accepted = reply {
+    if let Reply::Value(_) = reply {
+        say(b" values");
         say_item(values[0]);
         say_item(values[1]);
     }

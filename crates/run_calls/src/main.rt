@@ -1,13 +1,15 @@
-// A mixed list of calls on all eight channels of a tool, accepted and refused, against stored output; then every call on tools that no
-// list of calls makes.
+// A mixed list of calls on all eight channels of a tool, accepted and refused, against stored output; set-ups with wheels; replays with
+// pulses; then every call on tools that no list of calls makes.
 mod answers;
 mod calls;
+mod replays;
 mod spoilt;
 
 use answers::say;
 use answers::say_number;
 use answers::say_reply;
 use recorder::Tool;
+use replays::replays;
 use spoilt::spoilt_tools;
 
 fn say_call(name: &[u8], channel: usize) {
@@ -24,9 +26,9 @@ fn load(tool: Tool, channel: usize, rule: &[u8]) -> Tool {
     t
 }
 
-fn event(tool: Tool, channel: usize, e: usize) -> Tool {
+fn event(tool: Tool, channel: usize, e: usize, pulses: u32) -> Tool {
     say_call(b"event", channel);
-    let t = calls::event(tool, channel, e);
+    let t = calls::event(tool, channel, e, pulses);
     say(b"\n");
     t
 }
@@ -52,22 +54,22 @@ fn restart_all(tool: Tool) -> Tool {
     t
 }
 
-// Two events on a channel.
+// Two events on a channel, the first with no pulses and the second with the most.
 fn twice(tool: Tool, channel: usize, first: usize, second: usize) -> Tool {
-    let t = event(tool, channel, first);
-    event(t, channel, second)
+    let t = event(tool, channel, first, 0);
+    event(t, channel, second, 4294967295)
 }
 
-// One event on each channel.
+// One event on each channel, with other pulses on each.
 fn round(tool: Tool, e: usize) -> Tool {
-    let t = event(tool, 0, e);
-    let t = event(t, 1, e);
-    let t = event(t, 2, e);
-    let t = event(t, 3, e);
-    let t = event(t, 4, e);
-    let t = event(t, 5, e);
-    let t = event(t, 6, e);
-    event(t, 7, e)
+    let t = event(tool, 0, e, 1);
+    let t = event(t, 1, e, 2);
+    let t = event(t, 2, e, 3);
+    let t = event(t, 3, e, 4);
+    let t = event(t, 4, e, 5);
+    let t = event(t, 5, e, 6);
+    let t = event(t, 6, e, 7);
+    event(t, 7, e, 8)
 }
 
 // Rules of document 01's cases, accepted and refused, and numbers above 7.
@@ -95,9 +97,49 @@ fn loads(tool: Tool) -> Tool {
     load(t, 8, &[0, 0, 0])
 }
 
+// A loaded and a cleared channel that are loaded again start with no pulses; a refused loading keeps them.
+fn loads_again(tool: Tool) -> Tool {
+    // T
+    let t = load(tool, 3, &[0, 0, 0]);
+    let t = event(t, 3, 0, 9);
+    let t = load(t, 5, &[0, 0, 0]);
+    let t = event(t, 5, 0, 9);
+    // X0
+    let t = load(t, 5, &[1, 0, 0]);
+    event(t, 5, 0, 9)
+}
+
+// A set-up of the four values with a wheel.
+fn set_up(top: usize, pulses: usize, millimetres: usize) {
+    let meet = values::four_values();
+    let made = recorder::set_up(2, 4, top, &meet, pulses, millimetres);
+    let reply = made.reply;
+    say(b"wheel ");
+    say_number(pulses);
+    say(b" ");
+    say_number(millimetres);
+    say(b": ");
+    say_reply(reply);
+    say(b"\n");
+}
+
+// 18 comes after 1 to 3, and no number wraps.
+fn set_ups() {
+    set_up(3, 0, 1);
+    set_up(3, 1, 0);
+    set_up(3, 1, 1);
+    set_up(3, 65535, 65535);
+    set_up(3, 65536, 1);
+    set_up(3, 1, 65536);
+    set_up(3, 65537, 65537);
+    set_up(3, 4294967297, 1);
+    set_up(3, 1, 18446744073709551615);
+    set_up(4, 0, 0);
+}
+
 fn main() {
     let meet = values::four_values();
-    let made = recorder::set_up(2, 4, 3, &meet);
+    let made = recorder::set_up(2, 4, 3, &meet, 7, 10);
     let reply = made.reply;
     say_reply(reply);
     say(b"\n");
@@ -119,14 +161,17 @@ fn main() {
     let t = clear(t, 2);
     let t = clear(t, 8);
     let t = round(t, 1);
+    let t = loads_again(t);
     let again = values::four_values();
-    let spoilt = recorder::set_up(2, 4, 4, &again);
+    let spoilt = recorder::set_up(2, 4, 4, &again, 7, 10);
     let reply = spoilt.reply;
     say_reply(reply);
     say(b"\n");
     let blank = spoilt.tool;
-    let u = event(blank, 0, 0);
+    let u = event(blank, 0, 0, 0);
     restart_all(u);
     restart_all(t);
+    set_ups();
+    replays();
     spoilt_tools();
 }

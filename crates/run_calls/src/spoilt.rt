@@ -4,16 +4,18 @@ use crate::answers::say_number;
 use crate::calls;
 use limits::ENTRY_LIMIT;
 use limits::MEET_LIMIT;
+use limits::TOTAL_LIMIT;
 use recorder::Tool;
+use recorder::Wheel;
 
 // Each call that names a channel; the rule loaded is T.
 fn calls_on(tool: Tool, channel: usize) -> Tool {
     say(b"channel ");
     say_number(channel);
     say(b": event ");
-    let t = calls::event(tool, channel, 1);
+    let t = calls::event(tool, channel, 1, 3);
     say(b", event 9 ");
-    let t = calls::event(t, channel, 9);
+    let t = calls::event(t, channel, 9, 4);
     say(b", replay ");
     let t = calls::replay(t, channel);
     say(b", restart ");
@@ -40,9 +42,9 @@ fn every_call(name: &[u8], tool: Tool) {
 }
 
 // Channels 2 and 7 loaded, with three states each.
-fn sound() -> Tool {
+pub fn sound() -> Tool {
     let meet = values::four_values();
-    let made = recorder::set_up(2, 4, 3, &meet);
+    let made = recorder::set_up(2, 4, 3, &meet, 7, 10);
     let tool = made.tool;
     // A O1.1 V G1 X0
     let first = recorder::load(tool, 2, &[4, 0, 0, 3, 1, 1, 5, 0, 0, 2, 1, 0, 1, 0, 0]);
@@ -91,6 +93,33 @@ fn sound_channels() {
     every_call(b"255 in channel 3, which is empty", t);
 }
 
+// A channel's total is above its limit.
+fn spoilt_totals() {
+    let mut t = sound();
+    t.total[2] = TOTAL_LIMIT + 1;
+    every_call(b"total=1099511627777 in channel 2", t);
+    let mut t = sound();
+    t.total[7] = 18446744073709551615;
+    every_call(b"total=18446744073709551615 in channel 7", t);
+}
+
+// The limit itself, and totals of empty channels.
+fn sound_totals() {
+    let mut t = sound();
+    t.total[2] = TOTAL_LIMIT;
+    every_call(b"total=1099511627776 in channel 2", t);
+    let mut t = sound();
+    t.total[2] = TOTAL_LIMIT - 3;
+    every_call(b"total=1099511627773 in channel 2", t);
+    let mut t = sound();
+    t.total[3] = TOTAL_LIMIT + 1;
+    t.total[4] = TOTAL_LIMIT + 1;
+    every_call(
+        b"total=1099511627777 in channels 3 and 4, which are empty",
+        t,
+    );
+}
+
 // The set-up is spoilt.
 fn spoilt_setups() {
     let mut t = sound();
@@ -108,6 +137,27 @@ fn spoilt_setups() {
     let mut t = sound();
     t.setup.top = 4;
     every_call(b"top=4", t);
+}
+
+fn with_wheel(tool: Tool, pulses: u32, millimetres: u32) -> Tool {
+    let wheel = Wheel {
+        pulses,
+        millimetres,
+    };
+    let mut t = tool;
+    let mut setup = t.setup;
+    setup.wheel = wheel;
+    t.setup = setup;
+    t
+}
+
+// Pulses or millimetres of a turn are out of range; the last wheel is in range.
+fn spoilt_wheels() {
+    every_call(b"wheel 0 10", with_wheel(sound(), 0, 10));
+    every_call(b"wheel 7 0", with_wheel(sound(), 7, 0));
+    every_call(b"wheel 65536 10", with_wheel(sound(), 65536, 10));
+    every_call(b"wheel 7 65536", with_wheel(sound(), 7, 65536));
+    every_call(b"wheel 65535 65535", with_wheel(sound(), 65535, 65535));
 }
 
 // A tool whose meet has two entries set.
@@ -143,6 +193,9 @@ fn spoilt_meets() {
 pub fn spoilt_tools() {
     spoilt_channels();
     sound_channels();
+    spoilt_totals();
+    sound_totals();
     spoilt_setups();
+    spoilt_wheels();
     spoilt_meets();
 }

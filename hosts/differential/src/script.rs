@@ -6,9 +6,10 @@ use gurvazze_reference::generate::{
     has_most_binders, has_variable_under_inner_binder, inner_binders, under, Generator, RawTable,
 };
 use gurvazze_reference::table::Table;
+use gurvazze_reference::tool::{Tool, Wheel, CHANNELS, MAX_PER_TURN, MAX_TOTAL};
 use gurvazze_reference::values::{RawSetUp, SetUp};
 
-use crate::session::{file_head, Session, LINE_BYTES};
+use crate::session::{file_head, Answer, Session, LINE_BYTES};
 use crate::tally::Tally;
 
 /// A script and what the program prints for it.
@@ -24,12 +25,16 @@ pub struct Script {
 }
 
 impl Script {
-    /// A script of about so many lines. The first come before a set-up, and the next before a device.
+    /// A script of about so many lines. The first come before a set-up, and the next before a device. In the scripts of odd seeds no wheel
+    /// is kept before the first set-up.
     pub fn new(seed: u64, lines: usize) -> Script {
         let mut writer = Writer(Generator::new(seed));
         let mut script = Script { commands: Vec::new(), answers: Vec::new(), tally: Tally::default(), ends: Vec::new() };
         let mut session = Session::default();
-        for _ in 0..lines / 32 {
+        if seed.is_multiple_of(2) {
+            script.add(&mut session, &["wheel 0 1", SET_UP, "show 0", "wheel 3 2"].map(Vec::from));
+        }
+        for _ in 0..lines / 28 {
             script.add(&mut session, &[writer.before_set_up()]);
         }
         script.add(&mut session, &[SET_UP.into()]);
@@ -37,10 +42,15 @@ impl Script {
             script.add(&mut session, &[writer.before_device()]);
         }
         script.add(&mut session, &limits());
-        while script.ends.len() < lines {
-            for _ in 0..100 {
-                let set_up = session.set_up().expect("a set-up was accepted").clone();
-                script.add(&mut session, &writer.commands(&set_up));
+        script.add(&mut session, &limits_of_distances());
+        for part in 1..=PARTS {
+            let set_up = session.set_up().expect("a set-up was accepted").clone();
+            script.add(&mut session, &writer.channel_to_limit(&set_up));
+            while script.ends.len() < part * lines / PARTS {
+                for _ in 0..100 {
+                    let set_up = session.set_up().expect("a set-up was accepted").clone();
+                    script.add(&mut session, &writer.commands(&set_up));
+                }
             }
         }
         // The last line needs no byte 10.
@@ -75,14 +85,10 @@ impl Script {
         };
         self.answers.extend_from_slice(answer.text.as_bytes());
         self.tally.answer(&answer);
-        if let ("setup", "ok\n", Some(set_up)) = (answer.command, answer.text.as_str(), session.set_up()) {
-            if set_up.events() == 16 {
-                self.tally.count("set-up of", "16-events");
-            }
-            if set_up.values() == 16 {
-                self.tally.count("set-up of", "16-values");
-            }
+        if let ("setup", "ok\n", Some(tool)) = (answer.command, answer.text.as_str(), session.tool()) {
+            self.count_set_up(tool);
         }
+        self.count_distance(session, line, &answer);
         if let (false, Some(set_up)) = (answer.is_refused(), session.set_up()) {
             // Document 02, F-2 and F-9.
             let rules = rules_in(set_up, line, &answer.text);
@@ -94,6 +100,51 @@ impl Script {
             }
         }
     }
+
+    fn count_set_up(&mut self, tool: &Tool) {
+        for (arises, kind) in [
+            (tool.set_up.events == 16, "16-events"),
+            (tool.set_up.values == 16, "16-values"),
+            (tool.wheel.pulses == 1, "1-pulse"),
+            (tool.wheel.pulses == MAX_PER_TURN, "65535-pulses"),
+            (tool.wheel.millimetres == 1, "1-millimetre"),
+            (tool.wheel.millimetres == MAX_PER_TURN, "65535-millimetres"),
+        ] {
+            if arises {
+                self.tally.count("set-up of", kind);
+            }
+        }
+    }
+
+    /// Document 02, F-6.
+    fn count_distance(&mut self, session: &Session, line: &[u8], answer: &Answer) {
+        let text = answer.text.trim_end();
+        match answer.command {
+            "setup" if text.starts_with("refused=") && session.wheel().check().is_err() => {
+                self.tally.count("bad wheel at", text)
+            }
+            "event" if text.starts_with("refused=") && has_no_room(session, line) => self.tally.count("no room at", text),
+            "event" if text.ends_with(" rest=0") => self.tally.count("distance", "whole"),
+            "event" if text.contains(" rest=") => self.tally.count("distance", "remainder"),
+            "show" => match text.split_once(" total=") {
+                Some((_, "0")) => self.tally.count("total", "none"),
+                Some((_, total)) if total == MAX_TOTAL.to_string() => self.tally.count("total", "most"),
+                Some(_) => self.tally.count("total", "some"),
+                None => {}
+            },
+            _ => {}
+        }
+    }
+}
+
+/// Whether a refused event has more pulses than its channel, which is loaded, has room for.
+fn has_no_room(session: &Session, line: &[u8]) -> bool {
+    let line = String::from_utf8_lossy(line);
+    let words: Vec<&str> = line.split(' ').filter(|word| !word.is_empty()).collect();
+    let (Some(tool), [_, channel, _, pulses]) = (session.tool(), &words[..]) else { return false };
+    let (Ok(channel), Ok(pulses)) = (channel.parse::<usize>(), pulses.parse::<u64>()) else { return false };
+    let channel = tool.channels.get(channel);
+    channel.is_some_and(|channel| !channel.is_empty() && pulses > MAX_TOTAL - channel.total)
 }
 
 /// The rules in an accepted command or in its answer. Tokens stand behind the command, behind a channel, or behind another rule; in an
@@ -107,24 +158,43 @@ fn rules_in(set_up: &SetUp, line: &[u8], answer: &str) -> Vec<Rule> {
     given.chain(written).filter_map(|tokens| rule_of(set_up, &tokens)).collect()
 }
 
+/// The script has so many parts, and each begins with a channel whose total comes to its limit.
+const PARTS: usize = 5;
+
 /// The four-value set with one event.
 const SET_UP: &str = "setup 1 4 3 0 0 0 0 0 1 0 1 0 0 2 2 0 1 2 3";
 
 /// Words that are no numbers.
 const NO_NUMBERS: [&str; 10] = ["x", "-1", "+1", "1x", "0x1", "1.0", "1,", "al", "\t1", "1\r"];
 
-/// Numbers too large for everything; some of them wrap to small ones.
+/// Numbers too large for everything but wheels and pulses; some of them wrap to small ones.
 const LARGE: [&str; 10] =
     ["17", "64", "255", "256", "257", "65535", "65536", "4294967296", "18446744073709551616", "99999999999999999999999"];
+
+/// Numbers that no event may have as its pulses; some of them wrap to ones that it may have.
+const TOO_MANY_PULSES: [&str; 11] = [
+    "4294967296",
+    "00000000000004294967296",
+    "4294967297",
+    "42949672950",
+    "8589934591",
+    "1099511627776",
+    "1099511627777",
+    "10000000000000000000",
+    "18446744073709551615",
+    "18446744073709551617",
+    "99999999999999999999999",
+];
 
 /// What may stand between two rules and leaves no two.
 const NO_DIVIDERS: [&str; 10] = ["", " ", "/", " /", "/ ", "  / ", " /  ", " // ", " / / ", "\t/ "];
 
-const CALLS: [&str; 12] = [
+const CALLS: [&str; 13] = [
     "table T",
     "dot T",
     "load 0 T",
     "event 0 0",
+    "event 0 0 1",
     "events 0 0",
     "restart 0",
     "restart all",
@@ -135,18 +205,28 @@ const CALLS: [&str; 12] = [
     "write",
 ];
 
+/// Set-ups, wheels and devices that are refused or not read.
+const NOT_KEPT: [&str; 9] = [
+    "setup 0 1 0 0",
+    "setup 1 1 1 0",
+    "setup 1 1 0 1",
+    "setup 1 1",
+    "wheel 7",
+    "wheel 7 x",
+    "wheel 7 7 7",
+    "device 1",
+    "device 1 x",
+];
+
 struct Writer(Generator);
 
 impl Writer {
-    /// A command that needs a set-up, a line that is no command, or a set-up or device that is refused or not read.
+    /// A command that needs a set-up, a line that is no command, or a set-up, wheel or device that is refused or not read.
     fn before_set_up(&mut self) -> Vec<u8> {
         match self.0.below(16) {
             0 => self.no_command(),
-            1 => self
-                .0
-                .one_of(&["setup 0 1 0 0", "setup 1 1 1 0", "setup 1 1 0 1", "setup 1 1", "device 1", "device 1 x"])
-                .into(),
-            2..=5 => {
+            1 => self.0.one_of(&NOT_KEPT).into(),
+            2..=4 => {
                 let set_up = self.set_up();
                 if self.0.once_in(12) {
                     self.covers(&set_up)
@@ -176,11 +256,12 @@ impl Writer {
         let mut commands = match self.0.below(100) {
             0 | 1 => self.set_up_and_loads(),
             2..=4 => vec![self.damaged_set_up()],
-            5..=11 => vec![self.miscounted_or_no_number(set_up)],
-            12..=15 => vec![self.no_command()],
-            16..=21 => self.device_and_trials(set_up),
-            22..=26 => self.device_and_rule(set_up),
-            27..=32 => vec![self.covers(set_up)],
+            5..=13 => vec![self.miscounted_or_no_number(set_up)],
+            14..=17 => vec![self.no_command()],
+            18..=23 => self.device_and_trials(set_up),
+            24..=28 => self.device_and_rule(set_up),
+            29..=34 => vec![self.covers(set_up)],
+            35 => vec![self.any_wheel()],
             _ => vec![self.call(set_up)],
         };
         if self.0.once_in(25) {
@@ -211,14 +292,39 @@ impl Writer {
         }
     }
 
-    /// A set-up, then rules in the channels that are used most.
+    /// A set-up, often with a wheel of its own, then rules in the channels that are used most.
     fn set_up_and_loads(&mut self) -> Vec<Vec<u8>> {
         let set_up = self.set_up();
-        let mut commands = vec![self.set_up_line(set_up.raw())];
+        let mut commands = Vec::new();
+        if self.0.once_in(4) {
+            let wheel = self.0.damaged_wheel();
+            commands.extend([self.wheel(wheel), self.set_up_line(set_up.raw())]);
+        }
+        if !commands.is_empty() || self.0.once_in(2) {
+            let wheel = self.0.wheel();
+            commands.push(self.wheel(wheel));
+        }
+        commands.push(self.set_up_line(set_up.raw()));
         for channel in 0..2 {
             commands.push(format!("load {channel} {}", self.0.good_tokens(&set_up)).into());
         }
         commands
+    }
+
+    fn wheel(&mut self, wheel: Wheel) -> Vec<u8> {
+        let words = ["wheel".to_string(), self.number(wheel.pulses), self.number(wheel.millimetres)];
+        self.spaced(&words)
+    }
+
+    /// A wheel for the next set-up, or one that the next set-up is refused for, at times a number of any size in it.
+    fn any_wheel(&mut self) -> Vec<u8> {
+        let wheel = if self.0.once_in(4) { self.0.damaged_wheel() } else { self.0.wheel() };
+        let large = self.0.one_of(&LARGE);
+        match self.0.below(16) {
+            0 => format!("wheel {large} {}", wheel.millimetres).into(),
+            1 => format!("wheel {} {large}", wheel.pulses).into(),
+            _ => self.wheel(wheel),
+        }
     }
 
     fn damaged_set_up(&mut self) -> Vec<u8> {
@@ -241,29 +347,26 @@ impl Writer {
 
     fn call(&mut self, set_up: &SetUp) -> Vec<u8> {
         let channel = self.channel();
-        match self.0.below(84) {
+        match self.0.below(86) {
             // Tables of many events are long, so most are loaded and not printed.
-            0..=15 if set_up.events() > 3 && !self.0.once_in(12) => self.load(&channel, set_up),
-            0..=7 => self.tokens("table", set_up),
-            8..=15 => self.tokens("dot", set_up),
-            16..=27 => self.load(&channel, set_up),
-            28..=46 => {
-                let event = if self.0.once_in(10) { self.large_event(set_up) } else { self.event(set_up) };
-                self.spaced(&["event".to_string(), channel, event])
-            }
-            47..=58 => self.events(channel, set_up),
-            59..=63 => self.spaced(&["restart".to_string(), channel]),
-            64 => self.spaced(&["restart".to_string(), "all".to_string()]),
-            65..=69 => self.spaced(&["clear".to_string(), channel]),
-            70..=77 => self.spaced(&["show".to_string(), channel]),
-            78..=80 => self.tokens("trial", set_up),
+            0..=17 if set_up.events() > 3 && !self.0.once_in(12) => self.load(&channel, set_up),
+            0..=8 => self.tokens("table", set_up),
+            9..=17 => self.tokens("dot", set_up),
+            18..=29 => self.load(&channel, set_up),
+            30..=48 => self.one_event(channel, set_up),
+            49..=60 => self.events(channel, set_up),
+            61..=65 => self.spaced(&["restart".to_string(), channel]),
+            66 => self.spaced(&["restart".to_string(), "all".to_string()]),
+            67..=71 => self.spaced(&["clear".to_string(), channel]),
+            72..=79 => self.spaced(&["show".to_string(), channel]),
+            80..=82 => self.tokens("trial", set_up),
             _ => "write".into(),
         }
     }
 
     /// Few channels are used much, so that their histories grow long.
     fn channel(&mut self) -> String {
-        match self.0.below(16) {
+        match self.0.below(12) {
             0 if self.0.once_in(2) => self.0.one_of(&LARGE).to_string(),
             0 => self.0.between(8, 17).to_string(),
             1..=3 => self.0.below(8).to_string(),
@@ -277,6 +380,25 @@ impl Writer {
     fn event(&mut self, set_up: &SetUp) -> String {
         let event = self.0.below(set_up.events());
         self.number(event)
+    }
+
+    /// An event, with pulses or without.
+    fn one_event(&mut self, channel: String, set_up: &SetUp) -> Vec<u8> {
+        let event = if self.0.once_in(10) { self.large_event(set_up) } else { self.event(set_up) };
+        let mut words = vec!["event".to_string(), channel, event];
+        if self.0.once_in(2) {
+            words.push(self.pulses());
+        }
+        self.spaced(&words)
+    }
+
+    /// Pulses, at times more than an event may have.
+    fn pulses(&mut self) -> String {
+        if self.0.once_in(8) {
+            return self.0.one_of(&TOO_MANY_PULSES).to_string();
+        }
+        let pulses = self.0.pulses();
+        self.number(pulses as usize)
     }
 
     fn large_event(&mut self, set_up: &SetUp) -> String {
@@ -302,6 +424,68 @@ impl Writer {
             words[at] = self.large_event(set_up);
         }
         self.spaced(&words)
+    }
+
+    /// A channel whose total comes to its limit by one event repeated, then about the limit, and what zeroes the total.
+    fn channel_to_limit(&mut self, set_up: &SetUp) -> Vec<Vec<u8>> {
+        let (channel, event) = (self.0.below(CHANNELS), self.0.below(set_up.events()));
+        let mut commands = vec![self.load_loop(channel, set_up, event)];
+        let (list, mut room) = self.0.pulses_to_limit();
+        for pulses in list {
+            if self.0.once_in(16) {
+                commands.push(self.keeps_total(channel, set_up, event));
+            }
+            commands.push(self.event_with_pulses(channel, event, pulses));
+        }
+        for _ in 0..self.0.between(60, 100) {
+            if self.0.once_in(2) {
+                commands.push(self.keeps_total(channel, set_up, event));
+                continue;
+            }
+            let pulses = self.0.pulses_about(room);
+            room = room.checked_sub(pulses).unwrap_or(room);
+            commands.push(self.event_with_pulses(channel, event, pulses));
+        }
+        let show = || format!("show {channel}").into_bytes();
+        commands.extend([show(), self.zeroes_total(channel, set_up, event), show()]);
+        commands.extend([self.event_with_pulses(channel, event, u32::MAX), show()]);
+        commands
+    }
+
+    fn load_loop(&mut self, channel: usize, set_up: &SetUp, event: usize) -> Vec<u8> {
+        format!("load {channel} {}", self.0.tokens_of_one_loop(set_up, event)).into()
+    }
+
+    fn event_with_pulses(&mut self, channel: usize, event: usize, pulses: u32) -> Vec<u8> {
+        let words = ["event".to_string(), channel.to_string(), self.number(event), self.number(pulses as usize)];
+        self.spaced(&words)
+    }
+
+    fn zeroes_total(&mut self, channel: usize, set_up: &SetUp, event: usize) -> Vec<u8> {
+        match self.0.below(4) {
+            0 => self.load_loop(channel, set_up, event),
+            1 => format!("clear {channel}").into(),
+            2 => "restart all".into(),
+            _ => format!("restart {channel}").into(),
+        }
+    }
+
+    /// A command that leaves a channel's total as it is: refused, not read, without pulses, on another channel, or for the next set-up.
+    fn keeps_total(&mut self, channel: usize, set_up: &SetUp, event: usize) -> Vec<u8> {
+        let other = (channel + self.0.between(1, CHANNELS - 1)) % CHANNELS;
+        match self.0.below(14) {
+            0 => format!("event {channel} {event} {}", self.0.one_of(&TOO_MANY_PULSES)),
+            1..=3 => format!("event {channel} {} {}", self.large_event(set_up), u32::MAX),
+            4 => format!("event {channel} {event}"),
+            5 => format!("events {channel} {event} {event}"),
+            6 => format!("load {channel} V X0"),
+            7 => format!("event {channel} {event} 1 {}", self.0.one_of(&["1", "x"])),
+            8 => format!("event {other} {event} {}", self.0.pulses()),
+            9 => format!("restart {other}"),
+            10 => return self.any_wheel(),
+            _ => format!("show {channel}"),
+        }
+        .into()
     }
 
     /// A load, more often of a good rule than not.
@@ -406,11 +590,13 @@ impl Writer {
 
     /// Too few or too many words, or a word that is no number.
     fn miscounted_or_no_number(&mut self, set_up: &SetUp) -> Vec<u8> {
-        const GOOD: [&str; 11] = [
+        const GOOD: [&str; 13] = [
             "setup 2 1 0 0",
+            "wheel 1 1",
             "load 0 T",
             "load 1",
             "event 0 0",
+            "event 0 0 0",
             "events 0 0",
             "events 1",
             "restart 0",
@@ -421,7 +607,7 @@ impl Writer {
         ];
         let mut words: Vec<String> = self.0.one_of(&GOOD).split(' ').map(str::to_string).collect();
         let last = words.len() - 1;
-        match self.0.below(7) {
+        match self.0.below(8) {
             0 | 1 => words.truncate(1),
             2 => words.truncate(self.0.between(1, last.max(1))),
             3 => {
@@ -564,6 +750,54 @@ fn limits() -> Vec<Vec<u8>> {
         commands.push("trial T".to_string());
     }
     commands.into_iter().map(String::into_bytes).collect()
+}
+
+/// Commands at the limits of document 02's F-6, for one event.
+fn limits_of_distances() -> Vec<Vec<u8>> {
+    let mut commands = limits_of_totals();
+    for pulses in ["0", "1", "65535", "65536"] {
+        for millimetres in ["0", "1", "65535", "65536"] {
+            commands.extend(wheel_at_set_ups(pulses, millimetres));
+        }
+    }
+    // No number is capped or wraps to one that a wheel may have.
+    for large in
+        ["65537", "131071", "4294967295", "4294967296", "4294967297", "18446744073709551617", "99999999999999999999999"]
+    {
+        commands.extend(wheel_at_set_ups(large, "1"));
+        commands.extend(wheel_at_set_ups("1", large));
+    }
+    // The wheel that the next set-ups have.
+    commands.extend(wheel_at_set_ups("100", "314"));
+    commands.into_iter().map(String::into_bytes).collect()
+}
+
+/// The first wheel; then a channel's total at its limit and beyond it, what leaves it and what zeroes it.
+fn limits_of_totals() -> Vec<String> {
+    let mut commands = several("load 1 T, event 1 0 1, event 1 0 4294967295, show 1, wheel 7 65535");
+    commands.push(SET_UP.to_string());
+    commands.extend(several("load 0 T, load 1 T, event 1 0 1"));
+    commands.extend(std::iter::repeat_n("event 0 0 4294967295".to_string(), 256));
+    commands.extend(several("show 0, event 0 0 257, event 0 0 255, show 0, event 0 0 2, event 0 1 2, event 0 0 1, show 0"));
+    commands.extend(several("event 0 0 1, event 0 1 1, event 0 0 0, event 0 0, events 0 0 0, event 0 0 4294967296"));
+    commands.extend(several("event 0 0 4294967295, event 2 0 1, event 8 0 1, show 0, show 1, event 1 0 4294967295"));
+    commands.extend(several("restart 0, show 0, event 0 0 4294967295, restart all, show 0, show 1, event 1 0 1"));
+    commands.extend(several("load 1 G0 T, show 1, event 1 0 1, load 1 V X0, show 1, clear 1, show 1, load 1 T, show 1"));
+    commands
+}
+
+/// A wheel, which leaves the tool's own, then set-ups that 1 to 3 refuse and one that only 18 may refuse.
+fn wheel_at_set_ups(pulses: &str, millimetres: &str) -> Vec<String> {
+    let mut commands = vec![format!("wheel {pulses} {millimetres}")];
+    commands.extend(several("event 1 0 7, setup 0 1 0 0, setup 1 1 1 0, setup 1 1 0 1"));
+    commands.push(SET_UP.to_string());
+    commands.extend(several("show 1, load 1 T, event 1 0 4294967295, event 1 0 65534"));
+    commands
+}
+
+/// Commands with a comma between two.
+fn several(commands: &str) -> Vec<String> {
+    commands.split(", ").map(str::to_string).collect()
 }
 
 /// A chain of states whose last returns to itself, as a device.

@@ -5,7 +5,7 @@ use std::fmt::Write;
 use gurvazze_reference::formula::{Rule, MAX_NODES, NODE_BYTES};
 use gurvazze_reference::generate::RawTable;
 use gurvazze_reference::table::Table;
-use gurvazze_reference::tool::{Tool, CHANNELS};
+use gurvazze_reference::tool::{Reading, Tool, Wheel, CHANNELS};
 use gurvazze_reference::trial::{covers, trial_of_rule, Grade, Outcome, WORD_BYTES};
 use gurvazze_reference::values::{RawSetUp, SetUp};
 use gurvazze_reference::{channel_file, characteristic, render, Refusal};
@@ -15,9 +15,11 @@ pub const LINE_BYTES: usize = 8192;
 
 const HELP: &str = "\
 setup EVENTS VALUES TOP MEET...   the set-up; channels are empty
+wheel P C                         pulses and millimetres per turn of the wheel, for the next set-up
 table TOKENS                      the table of a rule
 load C TOKENS                     a rule into channel C
 event C E                         event E on channel C
+event C E PULSES                  the same with pulses, and the distance
 events C E E...                   events on channel C, all or none
 restart C                         channel C at state 0
 restart all                       every loaded channel at state 0
@@ -68,16 +70,34 @@ struct Ready {
 }
 
 /// What the program keeps from line to line.
-#[derive(Default)]
 pub struct Session {
+    /// Judged at each set-up; a tool that was set up has its own.
+    wheel: Wheel,
     ready: Option<Ready>,
     device: Option<RawTable>,
+}
+
+/// Before any line.
+impl Default for Session {
+    fn default() -> Session {
+        Session { wheel: Wheel { pulses: 1, millimetres: 1 }, ready: None, device: None }
+    }
 }
 
 impl Session {
     /// The set-up, once one was accepted.
     pub fn set_up(&self) -> Option<&SetUp> {
         self.ready.as_ref().map(|ready| &ready.set_up)
+    }
+
+    /// The tool, once a set-up was accepted.
+    pub fn tool(&self) -> Option<&Tool> {
+        self.ready.as_ref().map(|ready| &ready.tool)
+    }
+
+    /// The wheel that the next set-up is given.
+    pub fn wheel(&self) -> Wheel {
+        self.wheel
     }
 
     /// The answer to a line without its byte 10; an empty line and a comment have none.
@@ -107,6 +127,7 @@ impl Session {
             "unknown" => return Err(Problem::Error("command")),
             "help" => return Ok(HELP.to_string()),
             "setup" => return self.set_up_anew(line),
+            "wheel" => return self.keep_wheel(line),
             "device" => return self.keep_device(line),
             _ => {}
         }
@@ -132,8 +153,15 @@ impl Session {
         line.at_least(4)?;
         let (events, values, top) = (line.number(1)?, line.number(2)?, line.number(3)?);
         let raw = RawSetUp { events, values, top, meet: line.bytes_from(4)? };
-        let set_up = SetUp::new(raw.clone())?;
-        self.ready = Some(Ready { set_up, tool: Tool::new(raw)? });
+        let tool = Tool::new(raw.clone(), self.wheel)?;
+        self.ready = Some(Ready { set_up: SetUp::new(raw)?, tool });
+        Ok("ok\n".to_string())
+    }
+
+    /// The wheel is judged at the next set-up.
+    fn keep_wheel(&mut self, line: &Line) -> Reply {
+        line.exactly(3)?;
+        self.wheel = Wheel { pulses: line.number(1)?, millimetres: line.number(2)? };
         Ok("ok\n".to_string())
     }
 
@@ -186,19 +214,29 @@ impl Ready {
     }
 
     fn event(&mut self, line: &Line) -> Reply {
+        if line.words.len() == 4 {
+            return self.event_with_pulses(line);
+        }
         line.exactly(3)?;
         let (channel, event) = (line.number(1)?, line.number(2)?);
-        Ok(format!("value={}\n", self.tool.event(channel, event)?))
+        Ok(format!("value={}\n", self.tool.event(channel, event, 0)?.value))
     }
 
-    /// All or none. 14 and 15 are those of a restart, also where there are no events.
+    fn event_with_pulses(&mut self, line: &Line) -> Reply {
+        let (channel, event, pulses) = (line.number(1)?, line.number(2)?, line.pulses(3)?);
+        let Reading { value, distance } = self.tool.event(channel, event, pulses)?;
+        Ok(format!("value={value} mm={} rest={}\n", distance.millimetres, distance.rest))
+    }
+
+    /// All or none, without pulses. 14 and 15 are those of a restart, also where there are no events.
     fn events(&mut self, line: &Line) -> Reply {
         line.at_least(2)?;
         let channel = line.number(1)?;
         let events = line.numbers_from(2)?;
         self.tool.clone().restart_one(channel)?;
         let mut after = self.tool.clone();
-        let values = events.iter().map(|&event| after.sound_event(channel, event)).collect::<Result<Vec<u8>, Refusal>>()?;
+        let values = events.iter().map(|&event| Ok(after.sound_event(channel, event, 0)?.value));
+        let values = values.collect::<Result<Vec<u8>, Refusal>>()?;
         self.tool = after;
         Ok(list("values=", &values))
     }
@@ -229,7 +267,7 @@ impl Ready {
         if channel.is_empty() {
             return Ok("empty\n".to_string());
         }
-        Ok(format!("states={} state={}\n", channel.states, channel.current))
+        Ok(format!("states={} state={} total={}\n", channel.states, channel.current, channel.total))
     }
 
     fn trial(&self, device: Option<&RawTable>, line: &Line) -> Reply {
@@ -306,6 +344,11 @@ impl<'a> Line<'a> {
         number(self.words[index])
     }
 
+    /// Pulses: a number of at most 4,294,967,295.
+    fn pulses(&self, index: usize) -> Result<u32, Problem> {
+        u32::try_from(self.number(index)?).map_err(|_| Problem::Error("number"))
+    }
+
     fn numbers_from(&self, index: usize) -> Result<Vec<usize>, Problem> {
         self.words[index.min(self.words.len())..].iter().map(|word| number(word)).collect()
     }
@@ -336,9 +379,9 @@ fn two_parts(text: &[u8]) -> (&[u8], &[u8]) {
 
 /// The name of a command, `unknown` where there is none.
 fn name(word: &[u8]) -> &'static str {
-    const NAMES: [&str; 14] = [
-        "setup", "table", "load", "event", "events", "restart", "clear", "show", "device", "trial", "covers", "write", "dot",
-        "help",
+    const NAMES: [&str; 15] = [
+        "setup", "wheel", "table", "load", "event", "events", "restart", "clear", "show", "device", "trial", "covers", "write",
+        "dot", "help",
     ];
     NAMES.into_iter().find(|name| name.as_bytes() == word).unwrap_or("unknown")
 }

@@ -8,13 +8,14 @@ use crate::session::Answer;
 const ENOUGH: usize = 20;
 
 /// Every answer that each command can have.
-const EXPECTED: [(&str, &str); 22] = [
-    ("setup", "ok refused=1 refused=2 refused=3 error=arguments error=number"),
+const EXPECTED: [(&str, &str); 27] = [
+    ("setup", "ok refused=1 refused=2 refused=3 refused=18 error=arguments error=number"),
+    ("wheel", "ok error=arguments error=number"),
     ("table", "states refused=5 refused=6 refused=7 refused=8 refused=23 refused=9 refused=10 error=setup error=tokens"),
     ("dot", "digraph refused=5 refused=6 refused=7 refused=8 refused=23 refused=9 refused=10 error=setup error=tokens"),
     ("load", "states refused=5 refused=6 refused=7 refused=8 refused=23 refused=9 refused=10 refused=14"),
     ("load", "error=setup error=arguments error=number error=tokens"),
-    ("event", "value refused=14 refused=15 refused=16 error=setup error=arguments error=number"),
+    ("event", "value mm refused=14 refused=15 refused=16 refused=19 error=setup error=arguments error=number"),
     ("events", "values refused=14 refused=15 refused=16 error=setup error=arguments error=number"),
     ("restart", "ok refused=14 refused=15 error=setup error=arguments error=number"),
     ("restart all", "ok error=setup"),
@@ -32,7 +33,15 @@ const EXPECTED: [(&str, &str); 22] = [
     ("unknown", "error=command"),
     ("line", "error=line skipped"),
     // Set-ups that were accepted.
-    ("set-up of", "16-events 16-values"),
+    ("set-up of", "16-events 16-values 1-pulse 65535-pulses 1-millimetre 65535-millimetres"),
+    // Set-ups with a wheel out of range: 1 to 3 come before 18.
+    ("bad wheel at", "refused=1 refused=2 refused=3 refused=18"),
+    // Events with more pulses than the channel has room for: 16 comes before 19.
+    ("no room at", "refused=16 refused=19"),
+    // Distances that are whole millimetres, and those that are not.
+    ("distance", "whole remainder"),
+    // Totals of loaded channels.
+    ("total", "none some most"),
     // Rules that were accepted though document 01 alone refuses them.
     ("inner binder in", "table dot load trial covers"),
     // Rules that were accepted, or written, with as many binders on a path as it may have.
@@ -72,10 +81,14 @@ impl Tally {
     }
 }
 
-/// `pass=`, `refused=` and `error=` with what follows, up to a place; of other answers the first word or key.
+/// `pass=`, `refused=` and `error=` with what follows, up to a place; `mm` of an event with its distance; of other answers the first word
+/// or key.
 fn kind(answer: &Answer) -> String {
     if answer.command == "help" {
         return "help".to_string();
+    }
+    if answer.text.contains(" mm=") {
+        return "mm".to_string();
     }
     let is_told_apart = ["pass=", "refused=", "error="].iter().any(|key| answer.text.starts_with(key));
     let ends: &[char] = if is_told_apart { &[' ', '\n'] } else { &[' ', '\n', '='] };

@@ -2,7 +2,7 @@
 
 use crate::formula::{joined, Node, Rule, MAX_BINDERS, MAX_NODES};
 use crate::table::{Entry, Table, MAX_STATES};
-use crate::tool::Call;
+use crate::tool::{Call, Wheel, MAX_PER_TURN, MAX_TOTAL};
 use crate::values::{RawSetUp, SetUp, MAX_VALUES};
 use crate::{channel_file, characteristic};
 
@@ -329,6 +329,18 @@ impl Generator {
         Rule::from_bytes(set_up, &bytes_of(&nodes)).expect("no refusal holds of the rule")
     }
 
+    /// A rule of one loop on this event, of two to seven states, each with a demand: repeated, the event moves it for ever.
+    pub fn rule_of_one_loop(&mut self, set_up: &SetUp, event: usize) -> Rule {
+        let event = event as u8;
+        let mut nodes = vec![Node::Greatest];
+        for _ in 0..self.between(2, 7) {
+            let value = self.below(set_up.values()) as u8;
+            nodes.extend([Node::Both, Node::Output(event, value), Node::After(event)]);
+        }
+        nodes.push(Node::Variable(0));
+        Rule::from_nodes(nodes).expect("no refusal holds of the rule")
+    }
+
     /// Two rules, often such that the first implies the second (document 02, F-14) or nearly does.
     pub fn pair_of_rules(&mut self, set_up: &SetUp) -> (Rule, Rule) {
         let draw = |g: &mut Generator| if g.once_in(4) { g.rule_of_loops(set_up) } else { g.rule(set_up) };
@@ -524,11 +536,97 @@ impl Generator {
         table
     }
 
+    // Wheels and pulses (document 02, F-6).
+
+    /// A wheel.
+    pub fn wheel(&mut self) -> Wheel {
+        Wheel { pulses: self.per_turn(), millimetres: self.per_turn() }
+    }
+
+    fn per_turn(&mut self) -> usize {
+        match self.below(10) {
+            0 | 1 => 1,
+            2 | 3 => MAX_PER_TURN,
+            4 => self.between(2, 12),
+            5 => self.one_of(&[255, 256, 32_768, MAX_PER_TURN - 1]),
+            _ => self.between(1, MAX_PER_TURN),
+        }
+    }
+
+    /// A wheel that 18 refuses: P, C or both are out of range. Some of the numbers wrap to good ones.
+    pub fn damaged_wheel(&mut self) -> Wheel {
+        const BAD: [usize; 10] = [0, 0, 65_536, 65_536, 65_537, 131_071, 1 << 32, (1 << 32) + 1, usize::MAX - 1, usize::MAX];
+        let mut wheel = self.wheel();
+        let which = self.below(5);
+        if which < 3 {
+            wheel.pulses = self.one_of(&BAD);
+        }
+        if which > 1 {
+            wheel.millimetres = self.one_of(&BAD);
+        }
+        wheel
+    }
+
+    /// The pulses of an event, often few or as many as there may be.
+    pub fn pulses(&mut self) -> u32 {
+        match self.below(8) {
+            0 => 0,
+            1 => 1,
+            2 => self.below(1000) as u32,
+            3 => self.one_of(&[65_535, 65_536, 1 << 31, u32::MAX - 1]),
+            4 => u32::MAX,
+            _ => self.bits() as u32,
+        }
+    }
+
+    /// The pulses of about 256 events one after another, whose total comes near its limit, and the room that they leave.
+    pub fn pulses_to_limit(&mut self) -> (Vec<u32>, u32) {
+        let mut list = Vec::new();
+        let mut room = MAX_TOTAL;
+        while room >= u64::from(u32::MAX) {
+            let pulses = if self.once_in(32) { self.pulses() } else { u32::MAX };
+            room -= u64::from(pulses);
+            list.push(pulses);
+        }
+        (list, room as u32)
+    }
+
+    /// The pulses of an event where there is so much room, often one more than that, which 19 refuses.
+    pub fn pulses_about(&mut self, room: u32) -> u32 {
+        match self.below(10) {
+            0 | 1 => room,
+            2 | 3 => room.saturating_add(1),
+            4 => room.saturating_sub(1),
+            5 => room / 2,
+            _ => self.pulses(),
+        }
+    }
+
     // Calls on a tool.
 
     /// A list of calls, damaged inputs among them. Few channels are used much, so that their histories grow long.
     pub fn calls(&mut self, set_up: &SetUp, length: usize) -> Vec<Call> {
         (0..length).map(|_| self.call(set_up)).collect()
+    }
+
+    /// A load and events that bring a channel's total to its limit, with refused ones among them, then so many calls of any kind.
+    pub fn calls_about_limit(&mut self, set_up: &SetUp, length: usize) -> Vec<Call> {
+        let (channel, event) = (self.below(2), self.below(set_up.events()));
+        let mut calls = vec![Call::Load { channel, rule: self.rule_of_one_loop(set_up, event).to_bytes() }];
+        let (mut list, mut room) = self.pulses_to_limit();
+        for _ in 0..self.between(4, 16) {
+            let pulses = self.pulses_about(room);
+            room = room.checked_sub(pulses).unwrap_or(room);
+            list.push(pulses);
+        }
+        for pulses in list {
+            if self.once_in(16) {
+                calls.push(Call::Event { channel, event: set_up.events(), pulses });
+            }
+            calls.push(Call::Event { channel, event, pulses });
+        }
+        calls.extend(self.calls(set_up, length));
+        calls
     }
 
     fn call(&mut self, set_up: &SetUp) -> Call {
@@ -544,8 +642,11 @@ impl Generator {
             6 => Call::RestartOne { channel },
             7 => Call::RestartAll,
             8 => Call::Clear { channel },
-            9 => Call::Event { channel, event: self.one_of(&[set_up.events(), 16, 17, 255, 256, usize::MAX]) },
-            _ => Call::Event { channel, event: self.below(set_up.events()) },
+            9 => {
+                let event = self.one_of(&[set_up.events(), 16, 17, 255, 256, usize::MAX]);
+                Call::Event { channel, event, pulses: self.pulses() }
+            }
+            _ => Call::Event { channel, event: self.below(set_up.events()), pulses: self.pulses() },
         }
     }
 
@@ -703,6 +804,11 @@ impl Generator {
     pub fn good_tokens(&mut self, set_up: &SetUp) -> String {
         let rule = if self.once_in(4) { self.rule_of_loops(set_up) } else { self.rule(set_up) };
         tokens_of(rule.nodes())
+    }
+
+    /// The tokens of a rule of one loop.
+    pub fn tokens_of_one_loop(&mut self, set_up: &SetUp, event: usize) -> String {
+        tokens_of(self.rule_of_one_loop(set_up, event).nodes())
     }
 
     /// The tokens of two rules, often such that the first implies the second or nearly does.

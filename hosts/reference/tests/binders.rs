@@ -6,7 +6,7 @@ use std::sync::mpsc::channel;
 use std::thread::spawn;
 use std::time::Duration;
 
-use common::{bytes, file, four, rule, seeds, table};
+use common::{bytes, file, four, reading, rule, seeds, table, WHEEL};
 use gurvazze_reference::formula::{Formulas, Node, Rule};
 use gurvazze_reference::generate::{
     has_most_binders, has_variable_under_inner_binder, inner_binders, under, Generator, RawTable,
@@ -346,18 +346,19 @@ fn calls_with_thirteen_binders() {
     assert_eq!(covers(&raw, &twelve, &thirteen), Err(refusal));
     assert_eq!(covers(&raw, &twelve, &twelve), Ok(None));
 
-    let mut tool = Tool::new(raw.clone()).unwrap();
-    let mut log = Log::new(raw).unwrap();
+    let mut tool = Tool::new(raw.clone(), WHEEL).unwrap();
+    let mut log = Log::new(raw, WHEEL).unwrap();
+    let event = Call::Event { channel: 0, event: 0, pulses: 0 };
     let load = |channel: usize, rule: &[u8]| Call::Load { channel, rule: rule.to_vec() };
     for (call, answer) in [
         (load(8, &thirteen), Err(Refusal::new(14))),
         (load(0, &thirteen), Err(refusal)),
-        (Call::Event { channel: 0, event: 0 }, Err(Refusal::new(15))),
+        (event.clone(), Err(Refusal::new(15))),
         (load(0, &bytes("O0.1")), Ok(None)),
         (load(0, &thirteen), Err(refusal)),
-        (Call::Event { channel: 0, event: 0 }, Ok(Some(1))),
+        (event.clone(), Ok(Some(reading(1, 0, 0)))),
         (load(0, &twelve), Ok(None)),
-        (Call::Event { channel: 0, event: 0 }, Ok(Some(3))),
+        (event, Ok(Some(reading(3, 0, 0)))),
     ] {
         assert_eq!((tool.call(&call), log.call(&call)), (answer, answer), "{call:?}");
     }
@@ -538,10 +539,10 @@ fn call_with(brackets: usize, variables: usize) {
     assert_eq!(covers(set_up.raw(), &in_bytes, &in_bytes), Ok(None));
     assert_eq!(covers(set_up.raw(), &in_bytes, &bytes("O1.1")), Ok(Some(vec![1])));
     // A channel loaded with it, by the tool and by the log.
-    let mut tool = Tool::new(set_up.raw().clone()).unwrap();
-    let mut log = Log::new(set_up.raw().clone()).unwrap();
+    let mut tool = Tool::new(set_up.raw().clone(), WHEEL).unwrap();
+    let mut log = Log::new(set_up.raw().clone(), WHEEL).unwrap();
     let mut calls = vec![Call::Load { channel: 0, rule: in_bytes.clone() }];
-    calls.extend((0..100).map(|index| Call::Event { channel: 0, event: usize::from(index == 60) }));
+    calls.extend((0..100).map(|index| Call::Event { channel: 0, event: usize::from(index == 60), pulses: index }));
     for call in &calls {
         assert_eq!(tool.call(call), log.call(call));
     }

@@ -2,12 +2,12 @@
 
 mod common;
 
-use common::{bytes, file, four, rule, table};
+use common::{bytes, file, four, reading, rule, table, WHEEL};
 use gurvazze_reference::channel_file::{self, lines, read, tokens};
 use gurvazze_reference::formula::{Formulas, Rule};
 use gurvazze_reference::generate::{inner_binders, under, RawTable};
 use gurvazze_reference::table::{compile, Entry, Lent, Table};
-use gurvazze_reference::tool::{Call, Channel, Log, Tool};
+use gurvazze_reference::tool::{Call, Channel, Log, Tool, Wheel, MAX_TOTAL};
 use gurvazze_reference::trial::{satisfying, trial, trial_of_rule, trial_of_table, Grade, Outcome, Verdict, WORD_BYTES};
 use gurvazze_reference::values::{Comparison, RawSetUp, SetUp};
 use gurvazze_reference::{characteristic, render, Refusal};
@@ -372,14 +372,14 @@ fn long_failing_word() {
 #[test]
 fn order_of_refusals_on_a_tool() {
     let t = bytes("T");
-    let mut tool = Tool::new(RawSetUp::four_values(2)).unwrap();
-    assert_eq!(Tool::new(RawSetUp::four_values(17)), Err(refused(1)));
+    let mut tool = Tool::new(RawSetUp::four_values(2), WHEEL).unwrap();
+    assert_eq!(Tool::new(RawSetUp::four_values(17), WHEEL), Err(refused(1)));
     let before = tool.clone();
     assert_eq!(tool.load(8, &[]), Err(refused(14)));
     assert_eq!(tool.load(0, &[]), Err(refused(5)));
-    assert_eq!(tool.event(8, 9), Err(refused(14)));
-    assert_eq!(tool.event(usize::MAX, 0), Err(refused(14)));
-    assert_eq!(tool.event(0, 9), Err(refused(15)));
+    assert_eq!(tool.event(8, 9, 0), Err(refused(14)));
+    assert_eq!(tool.event(usize::MAX, 0, 0), Err(refused(14)));
+    assert_eq!(tool.event(0, 9, 0), Err(refused(15)));
     assert_eq!(tool.restart_one(8), Err(refused(14)));
     assert_eq!(tool.restart_one(7), Err(refused(15)));
     assert_eq!(tool.clear(8), Err(refused(14)));
@@ -387,9 +387,9 @@ fn order_of_refusals_on_a_tool() {
     assert_eq!(tool.restart_all(), Ok(()));
     assert_eq!(tool, before);
     assert_eq!(tool.load(0, &t), Ok(()));
-    assert_eq!(tool.event(0, 2), Err(refused(16)));
-    assert_eq!(tool.event(0, 256), Err(refused(16)));
-    assert_eq!(tool.event(0, 1), Ok(3));
+    assert_eq!(tool.event(0, 2, 0), Err(refused(16)));
+    assert_eq!(tool.event(0, 256, 0), Err(refused(16)));
+    assert_eq!(tool.event(0, 1, 7), Ok(reading(3, 7, 0)));
     let loaded = tool.clone();
     let over = bytes(&("G0 ".repeat(64) + "T"));
     assert_eq!(tool.load(0, &over), Err(refused(10)));
@@ -400,20 +400,28 @@ fn order_of_refusals_on_a_tool() {
     spoilt.channels[0].current = 1;
     let mut calls = spoilt.clone();
     assert_eq!(calls.load(0, &t), Err(refused(17)));
-    assert_eq!(calls.event(0, 9), Err(refused(17)));
+    assert_eq!(calls.event(0, 9, 0), Err(refused(17)));
     assert_eq!(calls.restart_one(0), Err(refused(17)));
     assert_eq!(calls.clear(0), Err(refused(17)));
     assert_eq!(calls.restart_all(), Err(refused(17)));
     assert_eq!(calls.clear(8), Err(refused(14)));
-    assert_eq!(calls.event(1, 0), Err(refused(15)));
+    assert_eq!(calls.event(1, 0, 0), Err(refused(15)));
     assert_eq!(calls, spoilt);
     assert_eq!(calls.load(1, &t), Ok(()));
 
-    let mut no_set_up = loaded.clone();
-    no_set_up.set_up.events = 0;
-    assert_eq!(no_set_up.clear(8), Err(refused(17)));
-    assert_eq!(no_set_up.event(0, 0), Err(refused(17)));
-    assert_eq!(no_set_up.restart_all(), Err(refused(17)));
+    for spoil in [
+        |tool: &mut Tool| tool.set_up.events = 0,
+        |tool: &mut Tool| tool.wheel = Wheel { pulses: 0, ..WHEEL },
+        |tool: &mut Tool| tool.wheel = Wheel { millimetres: 65_536, ..WHEEL },
+    ] {
+        let mut spoilt = loaded.clone();
+        spoil(&mut spoilt);
+        assert_eq!(spoilt.load(0, &[]), Err(refused(17)));
+        assert_eq!(spoilt.clear(8), Err(refused(17)));
+        assert_eq!(spoilt.event(0, 0, 0), Err(refused(17)));
+        assert_eq!(spoilt.restart_one(0), Err(refused(17)));
+        assert_eq!(spoilt.restart_all(), Err(refused(17)));
+    }
 
     for spoil in [
         |channel: &mut Channel| channel.states = 65,
@@ -421,34 +429,45 @@ fn order_of_refusals_on_a_tool() {
         |channel: &mut Channel| channel.entries.clear(),
         |channel: &mut Channel| channel.entries[1].value = 4,
         |channel: &mut Channel| channel.entries[1].next = 1,
+        |channel: &mut Channel| channel.total = MAX_TOTAL + 1,
+        |channel: &mut Channel| channel.total = u64::MAX,
     ] {
         let mut spoilt = loaded.clone();
         spoil(&mut spoilt.channels[0]);
-        assert_eq!(spoilt.event(0, 0), Err(refused(17)));
+        assert_eq!(spoilt.load(0, &t), Err(refused(17)));
+        assert_eq!(spoilt.event(0, 0, 0), Err(refused(17)));
+        assert_eq!(spoilt.restart_one(0), Err(refused(17)));
         assert_eq!(spoilt.restart_all(), Err(refused(17)));
+        assert_eq!(spoilt.clear(0), Err(refused(17)));
+        // It is no other channel's.
+        assert_eq!(spoilt.load(1, &t), Ok(()));
+        assert_eq!(spoilt.event(1, 0, 5), Ok(reading(3, 5, 0)));
     }
 
     // An empty channel is sound whatever it holds.
     let mut odd = loaded.clone();
-    odd.channels[3] = Channel { states: 0, current: 9, entries: vec![Entry { value: 99, next: 99 }] };
-    assert_eq!(odd.event(3, 0), Err(refused(15)));
+    odd.channels[3] = Channel { states: 0, current: 9, entries: vec![Entry { value: 99, next: 99 }], total: u64::MAX };
+    assert_eq!(odd.event(3, 0, 0), Err(refused(15)));
     assert_eq!(odd.restart_all(), Ok(()));
+    assert_eq!(odd.load(3, &t), Ok(()));
+    assert_eq!(odd.event(3, 0, 5), Ok(reading(3, 5, 0)));
 }
 
 #[test]
 fn the_log_judges_the_same() {
-    let mut log = Log::new(RawSetUp::four_values(2)).unwrap();
+    let event = |channel: usize, event: usize| Call::Event { channel, event, pulses: 6 };
+    let mut log = Log::new(RawSetUp::four_values(2), WHEEL).unwrap();
     let over = bytes(&("G0 ".repeat(64) + "T"));
     let most = bytes(&("G0 ".repeat(63) + "T"));
     assert_eq!(log.call(&Call::Load { channel: 0, rule: over }), Err(refused(10)));
     assert_eq!(log.call(&Call::Load { channel: 0, rule: most }), Ok(None));
-    assert_eq!(log.call(&Call::Event { channel: 0, event: 0 }), Ok(Some(3)));
-    assert_eq!(log.record(0).unwrap().events(), [0]);
-    assert_eq!(log.call(&Call::Event { channel: 0, event: 2 }), Err(refused(16)));
-    assert_eq!(log.call(&Call::Event { channel: 1, event: 2 }), Err(refused(15)));
-    assert_eq!(log.call(&Call::Event { channel: 8, event: 2 }), Err(refused(14)));
+    assert_eq!(log.call(&event(0, 0)), Ok(Some(reading(3, 6, 0))));
+    assert_eq!(log.call(&event(0, 2)), Err(refused(16)));
+    assert_eq!(log.call(&event(1, 2)), Err(refused(15)));
+    assert_eq!(log.call(&event(8, 2)), Err(refused(14)));
+    assert_eq!((log.record(0).unwrap().events(), log.record(0).unwrap().total()), (&[0][..], 6));
     assert_eq!(log.call(&Call::RestartAll), Ok(None));
-    assert_eq!(log.record(0).unwrap().events(), []);
+    assert_eq!((log.record(0).unwrap().events(), log.record(0).unwrap().total()), (&[][..], 0));
     assert_eq!(log.call(&Call::Clear { channel: 0 }), Ok(None));
     assert!(log.record(0).is_none());
 }
@@ -491,7 +510,7 @@ fn deep_and_wide_rules_stay_cheap() {
         assert_eq!(formulas.values(root, &[0; 300]), [3; 300]);
         // The rules demand no value, so every device passes.
         assert_eq!(satisfying(&set_up, &rule, &device), u64::MAX);
-        let mut log = Log::new(set_up.raw().clone()).unwrap();
+        let mut log = Log::new(set_up.raw().clone(), WHEEL).unwrap();
         let loaded = log.call(&Call::Load { channel: 0, rule: rule.to_bytes() });
         match Table::of_rule(&set_up, &rule) {
             Ok(table) => {

@@ -5,6 +5,7 @@ use lib.ListN.{length, getD}
 use native.Mathlib.Omega.{arith}
 use borrow.Author.{Needs.{needs}, Tests.{not-true, not-false}}
 use Rattle.text_format.proofs.Decimal.{digit-range}
+use Rattle.command_line.specs.Numbers.{number-limit}
 use Rattle.command_line.proofs.Numbers.{Reading, reading-none, reading-more, reading-bad, reading-done, empty-number}
 use Rattle.command_line.proofs.read_number.Statement.{statement}
 use Rattle.command_line.proofs.read_number.Tie as tie
@@ -33,7 +34,7 @@ add-digit-requires c κs =
     let args = c .before .before .before .before .before .before .before .args in
     let loop = c .before .before .before .before .loop in
     let d = digit-range (getD (args .word .now) (loop .i) 0) (sym (c .before .digit .ensures) ∙ not-false _ (c .if2 .left)) in
-    (let k : loop .v ≡ min (loop .inv .whole) 65535 = loop .inv .kept in omega arith, d .0, d .1)
+    (let k : loop .v ≡ min (loop .inv .whole) number-limit = loop .inv .kept in omega arith, d .0, d .1)
 
 loop-again : tie.Need-loop-again Inv-loop μ-loop
 loop-again c =

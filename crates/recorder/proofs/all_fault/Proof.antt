@@ -8,7 +8,7 @@ use Rattle.recorder.proofs.all_fault.Tie as tie
 
 channels-in-order-requires : tie.Need-channels-in-order-requires
 channels-in-order-requires c κs =
-    (few-events _ (sym (c .before .setup-in-order .ensures) ∙ c .if1 .taken), search needs, search needs, search needs, search needs)
+    (few-events _ (sym (c .before .setup-in-order .ensures) ∙ c .if1 .taken), search needs, search needs, search needs, search needs, search needs)
 
 returns : tie.Need-returns
 returns c =

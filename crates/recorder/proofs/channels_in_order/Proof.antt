@@ -13,11 +13,12 @@ use Rattle.recorder.proofs.channels_in_order.Statement.{statement}
 use Rattle.recorder.proofs.channels_in_order.Tie as tie
 
 abbrev Inv-loop : tie.InvT-loop
-Inv-loop value next states current events values c₀ c =
-    (c ≤ channel-limit) × (every c (λ d. channel-test events (Numbered values) (held d events (getD states d 0) (getD current d 0) value next)) ≡ true)
+Inv-loop value next states current total events values c₀ c =
+    (c ≤ channel-limit)
+    × (every c (λ d. channel-test events (Numbered values) (held d events (getD states d 0) (getD current d 0) (getD total d 0) value next)) ≡ true)
 
 abbrev μ-loop : tie.MeasureT-loop
-μ-loop value next states current events values c₀ c = channel-limit - c
+μ-loop value next states current total events values c₀ c = channel-limit - c
 
 loop-holds : tie.Need-loop-holds Inv-loop μ-loop
 loop-holds c = (search needs, every-none _)
@@ -25,15 +26,15 @@ loop-holds c = (search needs, every-none _)
 returns : tie.Need-returns Inv-loop μ-loop
 returns c =
     sym
-    (every-not _ _ (c .before .before .before .before .before .before .before .loop .c) (search needs)
-    (sym (rw (c .before .before .before .before .wide16 .ensures, c .before .before .wide .ensures) at (c .before .channel-in-order .ensures))
+    (every-not _ _ (c .before .before .before .before .before .before .before .before .loop .c) (search needs)
+    (sym (rw (c .before .before .before .before .before .wide16 .ensures, c .before .before .before .wide .ensures) at (c .before .channel-in-order .ensures))
     ∙ not-true _ (c .if1 .taken)))
 
 loop-again : tie.Need-loop-again Inv-loop μ-loop
 loop-again c = (
   search needs,
-  every-more _ _ (c .before .before .before .before .before .before .before .loop .inv .1)
-      (sym (rw (c .before .before .before .before .wide16 .ensures, c .before .before .wide .ensures) at (c .before .channel-in-order .ensures))
+  every-more _ _ (c .before .before .before .before .before .before .before .before .loop .inv .1)
+      (sym (rw (c .before .before .before .before .before .wide16 .ensures, c .before .before .before .wide .ensures) at (c .before .channel-in-order .ensures))
       ∙ not-false _ (c .if1 .left)),
 )
 
@@ -42,4 +43,5 @@ returns-2 c = sym (every-done _ _ _ (c .before .loop .inv .0) (search needs) (c 
 
 pub channels-in-order-spec : {M : Type 1} → statement M
 channels-in-order-spec = tie.close (tie.spec Inv-loop μ-loop loop-holds (λ c. search needs) (λ c. search needs) (λ c κs. search needs)
-    (λ c. search needs) (λ c κs. search needs) (λ c κs. search needs) returns (λ c. search needs) (λ c. search needs) loop-again returns-2)
+    (λ c. search needs) (λ c κs. search needs) (λ c. search needs) (λ c. search needs) (λ c κs. search needs) returns (λ c. search needs)
+    (λ c. search needs) loop-again returns-2)

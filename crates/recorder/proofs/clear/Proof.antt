@@ -7,12 +7,16 @@ use Rattle.recorder.proofs.clear.Tie as tie
 
 returns : tie.Need-returns
 returns c =
-    let a = c .before .before .before .before .before .before .before .before .before .before .before .before .args in
-    let f = c .before .before .before .before .tool-fault in
-    clear-done (store-of (a .t1)) (a .channel) (f .result) (f .ensures) _ (c .before .before .count-after .result) (c .before .state-after .result)
-    (c .before .before .before .channel-refusal .result) (c .plain-reply .ensures) (c .before .before .count-after .ensures) (c .before .state-after .ensures)
-    (c .before .before .before .channel-refusal .ensures)
+    let a = c .before .before .before .before .before .before .before .before .before .before .before .before .before .before .before .args in
+    let f = c .before .before .before .before .before .tool-fault in
+    let n = c .before .before .before .before .channel-refusal in
+    let k = c .before .before .before .count-after in
+    let q = c .before .before .state-after in
+    let s = c .before .total-after in
+    clear-done (store-of (a .t1)) (a .channel) (f .result) (f .ensures) _ (k .result) (q .result) (s .result) (n .result) (c .plain-reply .ensures)
+    (k .ensures) (q .ensures) (s .ensures) (n .ensures)
 
 pub clear-spec : {M : Type 1} → statement M
-clear-spec = tie.close (tie.spec (λ c. search needs) (λ c. search needs) (λ c. search needs) (λ c κs. search needs) (λ c κs. search needs)
-    (λ c κs. search needs) (λ c. search needs) (λ c. search needs) (λ c κs. search needs) (λ c. search needs) (λ c κs. search needs) returns)
+clear-spec = tie.close (tie.spec (λ c. search needs) (λ c. search needs) (λ c. search needs) (λ c. search needs) (λ c. search needs)
+    (λ c κs. search needs) (λ c κs. search needs) (λ c κs. search needs) (λ c. search needs) (λ c. search needs) (λ c κs. search needs)
+    (λ c. search needs) (λ c κs. search needs) (λ c. search needs) (λ c. search needs) (λ c κs. search needs) returns)

@@ -7,9 +7,10 @@ use Rattle.recorder.proofs.restart_all.Tie as tie
 
 returns : tie.Need-returns
 returns c =
-    let a = c .before .before .before .before .before .before .before .before .before .before .before .args in
-    restart-all-done (store-of (a .t1)) _ (c .before .states-after .result) (c .before .before .all-fault .result) (c .plain-reply .ensures)
-    (c .before .states-after .ensures) (c .before .before .all-fault .ensures)
+    let a = c .before .before .before .before .before .before .before .before .before .before .before .before .before .before .before .args in
+    let f = c .before .before .before .all-fault in
+    restart-all-done (store-of (a .t1)) _ (c .before .before .states-after .result) (c .before .totals-after .result) (f .result) (c .plain-reply .ensures)
+    (c .before .before .states-after .ensures) (c .before .totals-after .ensures) (f .ensures)
 
 pub restart-all-spec : {M : Type 1} → statement M
-restart-all-spec = tie.close (tie.spec (λ c κs. search needs) (λ c κs. search needs) (λ c κs. search needs) returns)
+restart-all-spec = tie.close (tie.spec (λ c κs. search needs) (λ c κs. search needs) (λ c κs. search needs) (λ c κs. search needs) returns)

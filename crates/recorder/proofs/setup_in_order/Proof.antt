@@ -12,25 +12,30 @@ use Rattle.recorder.proofs.setup_in_order.Statement.{statement}
 use Rattle.recorder.proofs.setup_in_order.Tie as tie
 
 returns : tie.Need-returns
-returns c = sym (many-values _ _ _ _ (search needs))
+returns c = sym (many-values _ _ _ _ _ (search needs))
 
 mul-count : tie.Need-mul-count
 mul-count c = let h : c .before .before .args .values * c .before .before .args .values ≤ meet-limit = square-small (search needs) in omega arith
 
-slice-aggregate-check-setup : tie.Need-slice-aggregate-check-setup
-slice-aggregate-check-setup c =
+slice-aggregate-check-tool-setup : tie.Need-slice-aggregate-check-tool-setup
+slice-aggregate-check-tool-setup c =
     let v = c .before .before .before .args .values in
     let h : v * v ≤ meet-limit = square-small (search needs) in
     sym (length-take-le (v * v) (c .before .before .before .args .meet .now) (omega arith))
 
 returns-2 : tie.Need-returns-2
 returns-2 c =
-    accepted-test _ (c .before .before .check-setup .result) (c .before .before .check-setup .ensures) (c .enum-told .given .1)
+    let b = c .before .before in
+    accepted-test _ (b .check-tool-setup .result)
+    (rw (b .before .before .wide32 .ensures, b .before .wide322 .ensures) at (b .check-tool-setup .ensures)) (c .enum-told .given .1)
 
 returns-3 : tie.Need-returns-3
 returns-3 c =
-    refused-test _ (c .before .before .check-setup .result) (c .before .before .check-setup .ensures) (c .enum-told2 .given .0 .0) (c .enum-told2 .given .1)
+    let b = c .before .before in
+    refused-test _ (b .check-tool-setup .result)
+    (rw (b .before .before .wide32 .ensures, b .before .wide322 .ensures) at (b .check-tool-setup .ensures)) (c .enum-told2 .given .0 .0)
+    (c .enum-told2 .given .1)
 
 pub setup-in-order-spec : {M : Type 1} → statement M
-setup-in-order-spec = tie.close (tie.spec returns mul-count slice-aggregate-check-setup (λ c κs. search needs) (λ c. search needs) (λ c. search needs)
-    returns-2 returns-3)
+setup-in-order-spec = tie.close (tie.spec returns mul-count slice-aggregate-check-tool-setup (λ c κs. search needs) (λ c κs. search needs)
+    (λ c κs. search needs) (λ c. search needs) (λ c. search needs) returns-2 returns-3)

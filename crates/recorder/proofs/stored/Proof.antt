@@ -1,4 +1,4 @@
--- `recorder::stored` meets its contract: both arrays are stored, then the count and the state.
+-- `recorder::stored` meets its contract: both arrays are stored, then the count, the state and the total.
 use mathlib.Core.Path.{ap₂}
 use borrow.Author.Needs.{needs}
 use Rattle.recorder.specs.Called.{with-rows}
@@ -15,4 +15,4 @@ returns c =
 
 pub stored-spec : {M : Type 1} → statement M
 stored-spec = tie.close (tie.spec (λ c κs. search needs) (λ c κs. search needs) (λ c κs. search needs) (λ c. search needs) (λ c. search needs)
-    (λ c. search needs) returns)
+    (λ c. search needs) (λ c. search needs) (λ c. search needs) returns)

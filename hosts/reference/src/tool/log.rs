@@ -2,16 +2,17 @@
 
 use std::collections::{BTreeSet, HashSet};
 
-use super::{check_channel, Answer, Call, CHANNELS};
+use super::{check_channel, Answer, Call, Distance, Reading, Wheel, CHANNELS, MAX_TOTAL};
 use crate::formula::{Formulas, Id, Node, Rule};
 use crate::table::MAX_STATES;
 use crate::values::{RawSetUp, SetUp};
 use crate::Refusal;
 
-/// What the log has for a channel: "a rule and its events in order".
+/// What the log has for a channel: "a rule and its events in order", and the pulses that each of them carried (document 02, F-6).
 pub struct Record {
     rule: Rule,
     events: Vec<u8>,
+    pulses: Vec<u32>,
     formulas: Formulas,
     /// The formula of the rule.
     root: Id,
@@ -23,7 +24,7 @@ impl Record {
     fn new(set_up: &SetUp, rule: Rule) -> Record {
         let mut formulas = Formulas::new(set_up.clone());
         let root = formulas.of_rule(&rule);
-        Record { rule, events: Vec::new(), formulas, root, now: root }
+        Record { rule, events: Vec::new(), pulses: Vec::new(), formulas, root, now: root }
     }
 
     /// The rule.
@@ -36,8 +37,14 @@ impl Record {
         &self.events
     }
 
+    /// "A channel holds their total since its loading or restart; document 01's log keeps it too" (document 02, F-6).
+    pub fn total(&self) -> u64 {
+        self.pulses.iter().map(|&pulses| u64::from(pulses)).sum()
+    }
+
     fn forget_events(&mut self) {
         self.events.clear();
+        self.pulses.clear();
         self.now = self.root;
     }
 }
@@ -45,13 +52,16 @@ impl Record {
 /// "For each channel it has nothing, or a rule and its events in order; at set-up all have nothing."
 pub struct Log {
     set_up: SetUp,
+    wheel: Wheel,
     channels: [Option<Record>; CHANNELS],
 }
 
 impl Log {
-    /// "It is fed the set-up and the calls with their inputs": refusals 1 to 3.
-    pub fn new(set_up: RawSetUp) -> Result<Log, Refusal> {
-        Ok(Log { set_up: SetUp::new(set_up)?, channels: Default::default() })
+    /// "It is fed the set-up and the calls with their inputs": refusals 1 to 3, 18.
+    pub fn new(set_up: RawSetUp, wheel: Wheel) -> Result<Log, Refusal> {
+        let set_up = SetUp::new(set_up)?;
+        wheel.check()?;
+        Ok(Log { set_up, wheel, channels: Default::default() })
     }
 
     /// What the log has for a channel.
@@ -74,18 +84,22 @@ impl Log {
             }
             // "event: returns the rule's value on it after the channel's events, the follower being taken on each in turn;
             // then it is added at their end."
-            Call::Event { channel, event } => {
-                let events = self.set_up.events();
+            Call::Event { channel, event, pulses } => {
+                let (events, wheel) = (self.set_up.events(), self.wheel);
                 let record = self.loaded(channel)?;
                 if event >= events {
                     return Err(Refusal::new(16));
+                }
+                if u64::from(pulses) > MAX_TOTAL - record.total() {
+                    return Err(Refusal::new(19));
                 }
                 let event = event as u8;
                 let value = record.formulas.value(record.now, event);
                 let follower = record.formulas.follower(record.now, event);
                 record.now = record.formulas.tidy(follower);
                 record.events.push(event);
-                Ok(Some(value))
+                record.pulses.push(pulses);
+                Ok(Some(Reading { value, distance: distance(wheel, record.total()) }))
             }
             // "restart one: the channel's events go."
             Call::RestartOne { channel } => {
@@ -111,6 +125,14 @@ impl Log {
         check_channel(channel)?;
         self.channels[channel].as_mut().ok_or(Refusal::new(15))
     }
+}
+
+/// How far a total of pulses is: C millimetres for each whole turn of the wheel, and of the turn that is not whole, C P-ths of a
+/// millimetre for each pulse.
+fn distance(wheel: Wheel, total: u64) -> Distance {
+    let (p, c) = (wheel.pulses as u64, wheel.millimetres as u64);
+    let (turns, pulses) = (total / p, total % p);
+    Distance { millimetres: turns * c + pulses * c / p, rest: pulses * c % p }
 }
 
 /// 10: "over 64 states". Counts the reached sets of G and O node numbers, by document 01's sentences on demands, and nothing

@@ -1,7 +1,9 @@
-//! The tool: eight channels that follow their rules' tables, refusals 14 to 17; and the log it is compared with.
+//! The tool: eight channels that follow their rules' tables and tell distances, refusals 14 to 19; and the log it is compared with.
 
+mod distance;
 mod log;
 
+pub use distance::{Distance, Reading, Wheel, MAX_PER_TURN, MAX_TOTAL};
 pub use log::{Log, Record};
 
 use crate::formula::Rule;
@@ -12,7 +14,8 @@ use crate::Refusal;
 /// "eight channels, 0 to 7".
 pub const CHANNELS: usize = 8;
 
-/// "a channel is empty or has a table and a current state". It is empty when its number of states is 0, whatever else it holds.
+/// "a channel is empty or has a table and a current state", and the total of its pulses "since its loading or restart" (document 02,
+/// F-6). It is empty when its number of states is 0, whatever else it holds.
 #[derive(Clone, Debug, Default, PartialEq, Eq)]
 pub struct Channel {
     /// How many states its table has, 0 for an empty channel.
@@ -21,6 +24,8 @@ pub struct Channel {
     pub current: usize,
     /// The entries of its table, by state, then event.
     pub entries: Vec<Entry>,
+    /// The total of its pulses.
+    pub total: u64,
 }
 
 impl Channel {
@@ -28,13 +33,22 @@ impl Channel {
     pub fn is_empty(&self) -> bool {
         self.states == 0
     }
+
+    /// State 0, and no pulses.
+    fn restart(&mut self) {
+        self.current = 0;
+        self.total = 0;
+    }
 }
 
-/// "A tool holds one set-up and eight channels". Plain data: who holds it may spoil it, and each call looks (17).
+/// "A tool holds one set-up and eight channels", and the set-up's wheel (document 02, F-6). Plain data: who holds it may spoil it, and
+/// each call looks (17).
 #[derive(Clone, Debug, PartialEq, Eq)]
 pub struct Tool {
     /// The set-up.
     pub set_up: RawSetUp,
+    /// The wheel.
+    pub wheel: Wheel,
     /// The channels.
     pub channels: [Channel; CHANNELS],
 }
@@ -55,6 +69,8 @@ pub enum Call {
         channel: usize,
         /// The event.
         event: usize,
+        /// "the pulses since that channel's last accepted event, 0 to 4,294,967,295" (document 02, F-6).
+        pulses: u32,
     },
     /// Restart one.
     RestartOne {
@@ -83,50 +99,58 @@ impl Call {
     }
 }
 
-/// What a call returns: a value for an accepted event, nothing for other accepted calls.
-pub type Answer = Result<Option<u8>, Refusal>;
+/// What a call returns: a reading for an accepted event, nothing for other accepted calls.
+pub type Answer = Result<Option<Reading>, Refusal>;
 
 impl Tool {
-    /// "set up (takes no earlier tool; all empty)": refusals 1 to 3.
-    pub fn new(set_up: RawSetUp) -> Result<Tool, Refusal> {
+    /// "set up (takes no earlier tool; all empty)": refusals 1 to 3, 18.
+    pub fn new(set_up: RawSetUp, wheel: Wheel) -> Result<Tool, Refusal> {
         set_up.check()?;
-        Ok(Tool { set_up, channels: Default::default() })
+        wheel.check()?;
+        Ok(Tool { set_up, wheel, channels: Default::default() })
     }
 
     /// "load a rule (replaces, state 0)": refusals 17, 14, 5 to 8, 23, 9, 10. "a refused loading changes neither its channel nor any
     /// other".
     pub fn load(&mut self, channel: usize, rule: &[u8]) -> Result<(), Refusal> {
-        let set_up = SetUp::new(self.set_up.clone()).map_err(|_| Refusal::new(17))?;
-        self.check_table_of(channel)?;
+        self.check_named(channel)?;
         check_channel(channel)?;
+        let set_up = SetUp::new(self.set_up.clone()).expect("17 has tested it");
         let table = Table::of_rule(&set_up, &Rule::from_bytes(&set_up, rule)?)?;
-        self.channels[channel] = Channel { states: table.states(), current: 0, entries: table.into_entries() };
+        self.channels[channel] = Channel { states: table.states(), current: 0, entries: table.into_entries(), total: 0 };
         Ok(())
     }
 
-    /// "An event returns the value and moves to the next state": refusals 17, 14, 15, 16.
-    pub fn event(&mut self, channel: usize, event: usize) -> Result<u8, Refusal> {
+    /// "An event returns the value and moves to the next state": refusals 17, 14, 15, 16, 19. "The call also returns, this event's
+    /// pulses counted in", the distance (document 02, F-6).
+    pub fn event(&mut self, channel: usize, event: usize, pulses: u32) -> Result<Reading, Refusal> {
         self.check_named(channel)?;
-        self.sound_event(channel, event)
+        self.sound_event(channel, event, pulses)
     }
 
     /// The same for a tool that 17 is known not to refuse.
-    pub fn sound_event(&mut self, channel: usize, event: usize) -> Result<u8, Refusal> {
-        let events = self.set_up.events;
+    pub fn sound_event(&mut self, channel: usize, event: usize, pulses: u32) -> Result<Reading, Refusal> {
+        let (events, wheel) = (self.set_up.events, self.wheel);
         let channel = self.loaded(channel)?;
         // 16: "event too large".
         if event >= events {
             return Err(Refusal::new(16));
         }
+        // 19: "a total above 1,099,511,627,776".
+        let total = channel.total + u64::from(pulses);
+        if total > MAX_TOTAL {
+            return Err(Refusal::new(19));
+        }
         let Entry { value, next } = channel.entries[channel.current * events + event];
         channel.current = usize::from(next);
-        Ok(value)
+        channel.total = total;
+        Ok(Reading { value, distance: wheel.distance(total) })
     }
 
     /// Restart one: refusals 17, 14, 15.
     pub fn restart_one(&mut self, channel: usize) -> Result<(), Refusal> {
         self.check_named(channel)?;
-        self.loaded(channel)?.current = 0;
+        self.loaded(channel)?.restart();
         Ok(())
     }
 
@@ -134,10 +158,8 @@ impl Tool {
     pub fn restart_all(&mut self) -> Result<(), Refusal> {
         self.check_set_up()?;
         // 17: "for restart all, any loaded one".
-        self.channels.iter().try_for_each(|channel| self.check_table(channel))?;
-        for channel in self.channels.iter_mut().filter(|channel| !channel.is_empty()) {
-            channel.current = 0;
-        }
+        self.channels.iter().try_for_each(|channel| self.check_loaded(channel))?;
+        self.channels.iter_mut().filter(|channel| !channel.is_empty()).for_each(Channel::restart);
         Ok(())
     }
 
@@ -153,7 +175,7 @@ impl Tool {
     pub fn call(&mut self, call: &Call) -> Answer {
         match *call {
             Call::Load { channel, ref rule } => self.load(channel, rule).map(|()| None),
-            Call::Event { channel, event } => self.event(channel, event).map(Some),
+            Call::Event { channel, event, pulses } => self.event(channel, event, pulses).map(Some),
             Call::RestartOne { channel } => self.restart_one(channel).map(|()| None),
             Call::RestartAll => self.restart_all().map(|()| None),
             Call::Clear { channel } => self.clear(channel).map(|()| None),
@@ -164,21 +186,22 @@ impl Tool {
     /// outside it". A number above 7 names no channel of the tool.
     fn check_named(&self, channel: usize) -> Result<(), Refusal> {
         self.check_set_up()?;
-        self.check_table_of(channel)
+        self.channels.get(channel).map_or(Ok(()), |channel| self.check_loaded(channel))
     }
 
+    /// 18 is "also part of 17's test" (document 02, F-6).
     fn check_set_up(&self) -> Result<(), Refusal> {
-        self.set_up.check().map_err(|_| Refusal::new(17))
+        self.set_up.check().and_then(|()| self.wheel.check()).map_err(|_| Refusal::new(17))
     }
 
-    fn check_table_of(&self, channel: usize) -> Result<(), Refusal> {
-        self.channels.get(channel).map_or(Ok(()), |channel| self.check_table(channel))
-    }
-
-    fn check_table(&self, channel: &Channel) -> Result<(), Refusal> {
+    /// "a loaded channel already holding such a total counts in 17 as one with a bad table does" (document 02, F-6). An empty channel's
+    /// total is not looked at.
+    fn check_loaded(&self, channel: &Channel) -> Result<(), Refusal> {
         let RawSetUp { events, values, .. } = self.set_up;
         let sound = channel.is_empty()
-            || within_limits(events, values, channel.states, &channel.entries) && channel.current < channel.states;
+            || within_limits(events, values, channel.states, &channel.entries)
+                && channel.current < channel.states
+                && channel.total <= MAX_TOTAL;
         if sound {
             Ok(())
         } else {

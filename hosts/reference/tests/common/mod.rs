@@ -3,12 +3,21 @@
 
 use gurvazze_reference::formula::Rule;
 use gurvazze_reference::table::Table;
+use gurvazze_reference::tool::{Distance, Reading, Wheel};
 use gurvazze_reference::values::{RawSetUp, SetUp};
 use gurvazze_reference::Refusal;
 
 /// The four-value set with so many events.
 pub fn four(events: usize) -> SetUp {
     SetUp::new(RawSetUp::four_values(events)).unwrap()
+}
+
+/// A wheel of one pulse and one millimetre per turn: a total of pulses is as many whole millimetres.
+pub const WHEEL: Wheel = Wheel { pulses: 1, millimetres: 1 };
+
+/// What an event returns at that distance.
+pub fn reading(value: u8, millimetres: u64, rest: u64) -> Reading {
+    Reading { value, distance: Distance { millimetres, rest } }
 }
 
 /// So many seeds, times the number in the environment's SEEDS_TIMES where there is one.
