@@ -2,6 +2,7 @@
 //! timed beside a version written for speed too. With an argument only the rows are run whose names have it in them.
 
 mod agreement;
+mod calls;
 mod fast;
 mod inside;
 mod plain;
@@ -9,20 +10,17 @@ mod rules;
 mod timing;
 
 use std::hint::black_box;
-use std::io::Write;
-use std::process::{Command, Stdio};
 
 use gurvazze_reference::formula::Node;
 use gurvazze_reference::generate::{inner_binders, under, Generator, RawTable};
 use gurvazze_reference::table::Table;
-use gurvazze_reference::tool::Tool;
 use gurvazze_reference::trial::{trial_of_rule, trial_of_table, Grade, Outcome};
-use gurvazze_reference::values::{RawSetUp, SetUp};
+use gurvazze_reference::values::SetUp;
 use gurvazze_reference::{channel_file, characteristic, Refusal};
 
 use rules::{branching, file, file_of_tokens, four, loop_table, nested, ring, side_by_side, sixteen, wide_rule};
 use rules::{full_states, full_states_of_events, joined, thin_states};
-use timing::{processor_time, programs_time, Report};
+use timing::Report;
 
 fn main() {
     agreement::check(plain::table, fast::table, 2_000);
@@ -34,7 +32,7 @@ fn main() {
     trials(&mut report);
     rules_of_tables(&mut report);
     worst(&mut report);
-    calls(&mut report);
+    calls::calls(&mut report);
 }
 
 /// The library's refusal in the reference's words.
@@ -372,52 +370,4 @@ fn worst(report: &mut Report) {
     let set_up = four(16);
     let (device, table) = (loop_table(&set_up, 64, |_| 1), loop_table(&set_up, 63, |_| 3));
     line_trial(report, "trial: loops of 64 and 63, 16 events", &set_up, &table, &device);
-}
-
-/// The program `event_calls` plays so many digits so many times over, each by an event call that tests the whole tool;
-/// its processor time is all but that of the calls. It is left out where `rt check event_calls` has not made it.
-fn calls(report: &mut Report) {
-    const PROGRAM: &str = "../target/bin/event_calls";
-    const DIGITS: usize = 4096;
-    const ROUNDS: usize = 256;
-    const CASE: &str = "event call, 2 states, 2 events";
-    if !report.wants(CASE) {
-        return;
-    }
-    if !std::path::Path::new(PROGRAM).exists() {
-        println!("-- a single event call on a tool: not timed, there is no {PROGRAM}");
-        return;
-    }
-    report.section("a single event call on a tool, beside the same checks in Rust");
-    let word = Generator::new(1).word(&four(2), DIGITS);
-    let digits: Vec<u8> = word.iter().map(|&event| b'0' + event).collect();
-    // V A A O0.1 G0 X0 G1 V A A O1.2 G1 X0 G0 X1
-    let rule = [
-        [5, 0, 0, 4, 0, 0, 4, 0, 0, 3, 0, 1, 2, 0, 0, 1, 0, 0, 2, 1, 0].as_slice(),
-        &[5, 0, 0, 4, 0, 0, 4, 0, 0, 3, 1, 2, 2, 1, 0, 1, 0, 0, 2, 0, 0, 1, 1, 0],
-    ]
-    .concat();
-    let mut best = [f64::INFINITY; 2];
-    let mut sums = [0; 2];
-    for _ in 0..5 {
-        let start = programs_time();
-        let mut program = Command::new(PROGRAM);
-        let mut child = program.stdin(Stdio::piped()).stdout(Stdio::piped()).spawn().expect("the program starts");
-        child.stdin.take().expect("a pipe").write_all(&digits).expect("the program reads");
-        let output = child.wait_with_output().expect("the program ends");
-        best[0] = best[0].min(programs_time() - start);
-        sums[0] = String::from_utf8_lossy(&output.stdout).trim().parse().expect("a sum");
-
-        let mut tool = Tool::new(RawSetUp::four_values(2)).expect("accepted");
-        tool.load(0, &rule).expect("accepted");
-        let mut event = |event: u8| black_box(&mut tool).event(0, event.into()).expect("accepted");
-        let start = processor_time();
-        for _ in 0..ROUNDS {
-            sums[1] = black_box(&word).iter().map(|&digit| u64::from(event(digit))).sum();
-        }
-        best[1] = best[1].min(processor_time() - start);
-    }
-    assert_eq!(sums[0], sums[1]);
-    let [library, rust] = best.map(|time| time / (DIGITS * ROUNDS) as f64);
-    report.line(CASE, library, rust, None);
 }

@@ -3,6 +3,7 @@
 use gurvazze_reference::channel_file;
 use gurvazze_reference::generate::RawTable;
 use gurvazze_reference::table::{Entry, Table};
+use gurvazze_reference::tool::{Reading, Tool, MAX_TOTAL};
 use gurvazze_reference::trial::{failing_word, WORD_BYTES};
 use gurvazze_reference::values::SetUp;
 use gurvazze_reference::Refusal;
@@ -55,6 +56,43 @@ pub fn replay(text: &[u8], events: &[u8], to: &mut [u8]) -> Result<(), Refusal> 
         state = next.into();
     }
     Ok(())
+}
+
+/// Replay on a tool with the library's checks: 17, 14 to 16, 19 and 13. Events for which there are no more pulses have
+/// none. What the last event returns.
+pub fn replay_on_tool(
+    tool: &mut Tool,
+    channel: usize,
+    events: &[u8],
+    pulses: &[u32],
+    to: &mut [u8],
+) -> Result<Option<Reading>, Refusal> {
+    // 17, 14 and 15 are tested before 16, which refuses this event.
+    let refused = tool.event(channel, usize::MAX, 0);
+    if refused != Err(Refusal::new(16)) {
+        return refused.map(Some);
+    }
+    let (width, wheel) = (tool.set_up.events, tool.wheel);
+    if events.iter().any(|&event| usize::from(event) >= width) {
+        return Err(Refusal::new(16));
+    }
+    let channel = &mut tool.channels[channel];
+    let total = channel.total + pulses.iter().take(events.len()).map(|&pulses| u64::from(pulses)).sum::<u64>();
+    if total > MAX_TOTAL {
+        return Err(Refusal::new(19));
+    }
+    if to.len() < events.len() {
+        return Err(Refusal::new(13));
+    }
+    let mut last = None;
+    for (to, &event) in to.iter_mut().zip(events) {
+        let Entry { value, next } = channel.entries[channel.current * width + usize::from(event)];
+        *to = value;
+        last = Some(value);
+        channel.current = next.into();
+    }
+    channel.total = total;
+    Ok(last.map(|value| Reading { value, distance: wheel.distance(total) }))
 }
 
 /// The loop alone, with no check at all.
