@@ -101,7 +101,7 @@ store-of t =
       next = t .next;
     }
 
--- Document 01's answer for each case of the enum.
+-- The documents' answer for each case of the enum.
 abbrev pub reading-of : declared-reading.Reading → Reading ℕ
 reading-of r = record { value = r .value; millimetres = r .millimetres; remainder = r .remainder }
 
@@ -149,7 +149,7 @@ channel-conditions s totals (restart c) = channel-condition c ∷ plain 15 (tota
 channel-conditions s totals restart-all = []
 channel-conditions s totals (clear c) = channel-condition c ∷ []
 
--- On a tool 17 comes first.
+-- The totals of a tool's channels. On a tool 17 comes first.
 abbrev pub totals : Store → Channels ℕ
 totals t c = map-option (λ x. x .total) (channels t c)
 
