@@ -1,10 +1,10 @@
 -- Demand 3 and independence for any tool whose calls take its channels as `recorded` says, over compiled tables that are the rules'.
 use mathlib.Core.{Path.{_≡_, refl, sym, _∙_, ap, ap₂, subst, subst⁻¹}, Bool.{Bool, true, false, cond, true≢false}, Logic.{⊎-elim}, List.{List, [], _∷_}}
 use mathlib.Core.Option.{Option, none, some, Option·some-ne-none}
-use Prim.Native.Nat.{ℕ, zero, _+_, _<_}
+use Prim.Native.Nat.{ℕ, zero, _+_, _≤_, _<_}
 use native.Mathlib.Omega.{arith}
 use lib.Dec.{ltb, leb, eqb}
-use borrow.Author.Tests.{ltb-true, eqb-false}
+use borrow.Author.Tests.{ltb-true, leb-true, eqb-false}
 use Rattle.theory.specs.ValueSets.{MeetSemilattice}
 use Rattle.theory.specs.Formula.{Formula}
 use Rattle.theory.specs.FormulaClasses.{WellFormed}
@@ -31,12 +31,17 @@ use Rattle.channel_log.specs.Claims.{Never, RecordClaim, IndependenceCla
 use Rattle.channel_log.specs.Calls.{StandsAs}
 use Rattle.channel_log.proofs.{Simulation.{run-related, Related, AllRelated, Matches, step-related}, Independence.{replies-struck}}
 
+-- A test passed where its refusal is not met.
+pub test-passed : (t : Bool) (r : Refusal) → cond t none (some r) ≡ none → t ≡ true
+test-passed true r h = refl
+test-passed false r h = absurd (Option·some-ne-none r h)
+
+-- 16, and 19.
 pub not-large : (events e : ℕ) → large-event events e ≡ none → e < events
-not-large events e h = go (ltb e events) refl h
-  where
-    go : (t : Bool) → ltb e events ≡ t → cond t none (some (Plain 16)) ≡ none → e < events
-    go true p x = ltb-true e events p
-    go false p x = absurd (Option·some-ne-none (Plain 16) x)
+not-large events e h = ltb-true e events (test-passed (ltb e events) (Plain 16) h)
+
+pub total-fits : (total : ℕ) → large-total total ≡ none → total ≤ total-limit
+total-fits total h = leb-true total total-limit (test-passed (leb total total-limit) (Plain 19) h)
 
 -- An occurrence that 16 and 19 do not refuse has an event below the count.
 pub event-fits : (events total : ℕ) (i : Occurrence) → occurrence-refusal events total i ≡ none → i .event < events

@@ -66,8 +66,8 @@ MatchesRule s φ m start = (w : List ℕ) → Word (s .events) w → (e : ℕ) �
     Answers (setup-meet s) (setup-top s) φ w e (m .value (after m start w) e)
 
 -- F-6: distance with every event. Refusals 18 and 19 stand in DemandOne (`setting-up`, `calling`, `replaying`); that each accepted event's
--- distance is that of the log's total, and that channels are independent, in DemandThree (`record-of-calls`, `independence`), whose words
--- leave open what an event carries and returns.
+-- distance is that of the log's total, and that channels are independent, in DemandThree (`record-of-calls`, `independence`): an event there
+-- carries an occurrence and returns a reading.
 pub record DistanceWithEveryEvent : Type 0 where
   -- "whole millimetres, total × C divided by P, with the exact remainder in P-ths of a millimetre": these two numbers, and no others
   pub exact : (wheel : Wheel) → ¬ WheelFault wheel → (total mm rest : ℕ) →

@@ -1,6 +1,6 @@
 -- What is decided is what the definitions of the calls say.
 use mathlib.Core.{Path.{_≡_, refl, sym, _∙_, ap, ap₂, subst, subst⁻¹}, Bool.{Bool, true, false, _&&_, cond}, List.{List}}
-use mathlib.Core.Option.{Option, none, some, Option·some-ne-none}
+use mathlib.Core.Option.{Option, none, some}
 use Prim.Native.Nat.{ℕ, zero, suc, _+_, _*_, _%_, _≤_, _<_}
 use native.Mathlib.{Nat.{mod-eq-of-lt}, Omega.{arith}}
 use borrow.Author.Tests.{ltb-true, ltb-false, leb-true, leb-false, le-leb, lt-leb}
@@ -20,7 +20,7 @@ use Rattle.channel_log.specs.Calls.{Call, event, restart, restart-all, clear, R
 use Rattle.channel_log.specs.CallSteps.{channel-refusal, empty-refusal, on-event, event-reply, accepted-reply}
 use Rattle.channel_log.specs.Log.{large-event, large-total, occurrence-refusal}
 use Rattle.channel_log.specs.{Calls.{Loaded}, Distance.{wheel-of-turn, Occurrence, Reading, reading}}
-use Rattle.channel_log.proofs.Record.{event-fits}
+use Rattle.channel_log.proofs.Record.{test-passed, event-fits, total-fits}
 use Rattle.recorder.specs.declared.Decision.{Decision}
 use Rattle.recorder.specs.Store.{Store, ToolSetup, tool-setup, tool-setup-of, table-at, loaded-at, rows-start, held, channels}
 use Rattle.recorder.specs.Store.{ChannelInOrder}
@@ -31,7 +31,7 @@ use Rattle.recorder.specs.Decisions.{number-refusal, number-unless, firs
 use Rattle.recorder.specs.Decisions.{total-number, limited, Measurable}
 use Rattle.recorder.specs.Decisions.{decided, entry-place, Bounds, plain-reply, value-reply, kept-number, kept-numbers, judged-reply}
 use Rattle.recorder.proofs.{Numbers.{first-refusal, unless-refusal, test-refusal}, Rows.{getD-part, rows-in, entries-fit}}
-use Rattle.recorder.proofs.Held.{channel-below, few-events, held-above, held-some, empty-held, in-order-of-test}
+use Rattle.recorder.proofs.Held.{channel-below, few-events, held-above, held-some, held-cases, empty-held, in-order-of-test}
 use Rattle.recorder.proofs.Held.{accepted-of-test, values-accepted, wheel-accepted, wheel-of-test}
 
 -- What comes after a refusal does not matter.
@@ -132,12 +132,9 @@ pub record Ready (t : Store) (c : ℕ) : Type 0 where
 -- A loaded channel has states.
 loaded-below : (t : Store) (c : ℕ) → c < channel-limit → empty-refusal (channels t c) ≡ none → 0 < getD (t .states) c 0
 loaded-below t c h e =
-    go (ltb 0 (getD (t .states) c 0)) refl
-    (sym (empty-held c (t .setup .events) (getD (t .states) c 0) (getD (t .current) c 0) (getD (t .total) c 0) (t .value) (t .next) h) ∙ e)
-  where
-    go : (b : Bool) → ltb 0 (getD (t .states) c 0) ≡ b → cond b none (some (Plain 15)) ≡ none → 0 < getD (t .states) c 0
-    go true p x = ltb-true 0 (getD (t .states) c 0) p
-    go false p x = absurd (Option·some-ne-none (Plain 15) x)
+    ltb-true 0 (getD (t .states) c 0)
+    (test-passed (ltb 0 (getD (t .states) c 0)) (Plain 15)
+    (sym (empty-held c (t .setup .events) (getD (t .states) c 0) (getD (t .current) c 0) (getD (t .total) c 0) (t .value) (t .next) h) ∙ e))
 
 pub ready-of :
     (t : Store) (c : ℕ) (later : Option Refusal) →
@@ -191,14 +188,7 @@ module _ (t : Store) (c : ℕ) where
         let w = wheel-of-test (t .wheel) (wheel-accepted (tool-setup-of t) (accepted-of-test (tool-setup-of t) (g .setup-passes))) in
         record { some-pulses = w .0 .0; few-pulses = w .0 .1; few-millimetres = w .1 .1; small-total = h }
 
--- 19 of a total.
-pub light : (m : ℕ) → large-total m ≡ none → m ≤ total-limit
-light m h = go (leb m total-limit) refl h
-  where
-    go : (b : Bool) → leb m total-limit ≡ b → cond b none (some (Plain 19)) ≡ none → m ≤ total-limit
-    go true p x = leb-true m total-limit p
-    go false p x = absurd (Option·some-ne-none (Plain 19) x)
-
+-- A total that is kept within the limit.
 pub limited-small : (m : ℕ) → m ≤ total-limit → limited m ≡ m
 limited-small m h = ap (λ b. cond b m (suc total-limit)) (le-leb m total-limit h)
 
@@ -227,18 +217,10 @@ limited-refusal m = go (leb m total-limit) refl
 on-event-is :
     (t : Store) (c : ℕ) (i : Occurrence) →
     or-else (empty-refusal (channels t c)) (occurrence-refusal (t .setup .events) (getD (t .total) c 0) i) ≡ on-event (content t) (channels t c) i
-unfolding or-else held
-on-event-is t c i = go (ltb c channel-limit && ltb 0 (getD (t .states) c 0))
-  where
-    x : Loaded ℕ
-    x = loaded-at (rows-start c) (t .setup .events) (getD (t .states) c 0) (getD (t .current) c 0) (getD (t .total) c 0) (t .value) (t .next)
-
-    go :
-        (b : Bool) →
-        or-else (empty-refusal (cond b (some x) none)) (occurrence-refusal (t .setup .events) (getD (t .total) c 0) i)
-        ≡ on-event (content t) (cond b (some x) none) i
-    go true = refl
-    go false = refl
+unfolding or-else
+on-event-is t c i =
+    held-cases c (t .setup .events) (getD (t .states) c 0) (getD (t .current) c 0) (getD (t .total) c 0) (t .value) (t .next)
+    (λ o. or-else (empty-refusal o) (occurrence-refusal (t .setup .events) (getD (t .total) c 0) i) ≡ on-event (content t) o i) refl refl
 
 -- Nothing written.
 pub same-store :
@@ -246,7 +228,7 @@ pub same-store :
 same-store t w = ap₂ (with-current t) (set-getD (t .current) w 0) (set-getD (t .total) w 0)
 
 -- What an accepted event has.
-record Ran (t : Store) (c : ℕ) (i : Occurrence) : Type 0 where
+record AcceptedEvent (t : Store) (c : ℕ) (i : Occurrence) : Type 0 where
   ready : Ready t c
   event-in : i .event < t .setup .events
   small : getD (t .total) c 0 + i .pulses ≤ total-limit
@@ -280,8 +262,8 @@ module _ (t : Store) (c : ℕ) (i : Occurrence) (f : ℕ) (e-fault : f ≡ fault
       (later-is ∙ ap (λ d. occurrence-refusal (t .setup .events) (getD (t .total) d 0) i) (mod-eq-of-lt (channel-below c h)))
       ∙ on-event-is t c i))
 
-  ran : n ≡ 0 → Ran t c i
-  ran h =
+  accepted-event : n ≡ 0 → AcceptedEvent t c i
+  accepted-event h =
       let r = ready-of t c (number-refusal later) (sym (later-refused t c f e-fault later) ∙ ap number-refusal h) in
       let o : occurrence-refusal (t .setup .events) (getD (t .total) at 0) i ≡ none = sym later-is ∙ r .1 in
       record {
@@ -289,13 +271,13 @@ module _ (t : Store) (c : ℕ) (i : Occurrence) (f : ℕ) (e-fault : f ≡ fault
         event-in = event-fits (t .setup .events) (getD (t .total) at 0) i o;
         small =
             subst (λ d. sum d ≤ total-limit) (mod-eq-of-lt (r .0 .channel))
-            (light (sum at) (or-else-none (large-event (t .setup .events) (i .event)) (large-total (sum at)) o .1));
+            (total-fits (sum at) (or-else-none (large-event (t .setup .events) (i .event)) (large-total (sum at)) o .1));
       }
 
   -- Its entry lies within the arrays.
   pub event-bounds : n ≡ 0 → Bounds at (t .setup .events) (getD (t .current) at 0) (i .event)
   event-bounds h =
-      let r = ran h in
+      let r = accepted-event h in
       let x = ready-facts t c (r .ready) .table in
       let few = ready-events t c (r .ready) in
       subst (λ d. Bounds d (t .setup .events) (getD (t .current) d 0) (i .event)) (sym (mod-eq-of-lt (r .ready .channel)))
@@ -330,14 +312,14 @@ module _ (t : Store) (c : ℕ) (i : Occurrence) (f : ℕ) (e-fault : f ≡ fault
     where
       go : (m : ℕ) → n ≡ m → decision m at (limited (sum at)) .refusal ≡ 0 → Measurable (t .wheel) (decision m at (limited (sum at)) .total)
       go zero h z =
-          let r = ran h in
+          let r = accepted-event h in
           let here : sum at ≤ total-limit = subst⁻¹ (λ d. sum d ≤ total-limit) (mod-eq-of-lt (r .ready .channel)) (r .small) in
           measurable t c (r .ready) (limited (sum at)) (subst⁻¹ (λ m. m ≤ total-limit) (limited-small (sum at) here) here)
       go (suc m) h z = absurd (omega (arith, z))
 
   went : n ≡ 0 → outcome at (decision 0 at (limited (sum at))) ≡ called (event c i) t
   went h =
-      let r = ran h in
+      let r = accepted-event h in
       let k = index-below (t .setup .events) (getD (t .states) c 0) (state-of t c) (i .event) (ready-facts t c (r .ready) .table .start-in) (r .event-in) in
       ap (λ d. outcome d (decision 0 d (limited (sum d)))) (mod-eq-of-lt (r .ready .channel))
       ∙ ap (λ total. outcome c (decision 0 c total)) (limited-small (sum c) (r .small))

@@ -1,6 +1,6 @@
 -- What channels hold; the tests of refusal 17 decide the printed condition.
 use mathlib.Core.{Path.{_≡_, refl, sym, _∙_, ap, ap₂}, Bool.{Bool, true, false, _&&_, and-false, cond, false≢true}, List.{List}}
-use mathlib.Core.Option.{Option, none, some, Option·some-ne-none}
+use mathlib.Core.Option.{Option, none, some}
 use Prim.Native.Nat.{ℕ, _+_, _*_, _≤_, _<_}
 use native.Mathlib.Omega.{arith}
 use borrow.Author.Tests.{lt-ltb, le-ltb, le-leb, lt-leb, ltb-true, leb-true}
@@ -21,6 +21,7 @@ use Rattle.values.specs.SetupTests.{setup-refusal}
 use Rattle.values.proofs.{Setups.{setup-accepted}, DownSets.{same-test}, ValueKinds.{value-kinds}}
 use Rattle.channel_log.specs.CallSteps.{channel-refusal, empty-refusal}
 use Rattle.channel_log.specs.{Calls.{Loaded}, Distance.{Wheel, WheelFault}}
+use Rattle.channel_log.proofs.Record.{test-passed}
 use Rattle.machines.specs.TableBytes.{entry-width, entry-bytes}
 use Rattle.machines.proofs.{EntryIndex.{index-below, every-entry}, EntryBytes.{table-length}, TableRoundTrip.{entry-length}}
 use Rattle.recorder.specs.ToolTests.{part}
@@ -31,11 +32,7 @@ use Rattle.recorder.proofs.Rows.{getD-part}
 
 -- 14.
 pub channel-below : (c : ℕ) → channel-refusal c ≡ none → c < channel-limit
-channel-below c h = go (ltb c channel-limit) refl h
-  where
-    go : (t : Bool) → ltb c channel-limit ≡ t → cond t none (some (Plain 14)) ≡ none → c < channel-limit
-    go true p x = ltb-true c channel-limit p
-    go false p x = absurd (Option·some-ne-none (Plain 14) x)
+channel-below c h = ltb-true c channel-limit (test-passed (ltb c channel-limit) (Plain 14) h)
 
 -- The test of a set-up.
 passed-none : (o : Option Refusal) → passed o ≡ true → o ≡ none
@@ -155,6 +152,15 @@ module _ (c n k q total : ℕ) (L N : List ℕ) where
       go true = refl
       go false = refl
 
+  -- What is so of an empty channel, and of one with these cells.
+  pub held-cases : (P : Option (Loaded ℕ) → Type 0) → P none → P (some (loaded-at (rows-start c) n k q total L N)) → P (held c n k q total L N)
+  unfolding held
+  held-cases P a b = go (ltb c channel-limit && ltb 0 k)
+    where
+      go : (t : Bool) → P (cond t (some (loaded-at (rows-start c) n k q total L N)) none)
+      go true = b
+      go false = a
+
 -- The test of entries over their numbers, as the arrays have them.
 module _ (at n : ℕ) (kind : ValueKind) (k : ℕ) (L N : List ℕ) where
   abbrev pub flat-test : ℕ → Bool
@@ -195,24 +201,24 @@ module _ (n : ℕ) (kind : ValueKind) (x : Loaded ℕ) where
   abbrev last : Bool
   last = entries-test n kind k (x .table)
 
-  abbrev light : Bool
-  light = leb (x .total) total-limit
+  abbrev total-test : Bool
+  total-test = leb (x .total) total-limit
 
   pub in-order-of-test : loaded-test n kind x ≡ true → ChannelInOrder n kind x
   unfolding loaded-test entries-test
   in-order-of-test h =
-      let a = and-right (ltb 0 k) (leb k table-limit && (ltb (x .current) k && (light && last))) h in
-      let b = and-right (leb k table-limit) (ltb (x .current) k && (light && last)) a in
-      let d = and-right (ltb (x .current) k) (light && last) b in
+      let a = and-right (ltb 0 k) (leb k table-limit && (ltb (x .current) k && (total-test && last))) h in
+      let b = and-right (leb k table-limit) (ltb (x .current) k && (total-test && last)) a in
+      let d = and-right (ltb (x .current) k) (total-test && last) b in
       let entries : (l e : ℕ) → l < k → e < n → entry-test l e ≡ true =
-      λ l e p q. every-at n (entry-test l) (every-at k (λ l. every n (entry-test l)) (and-right light last d) l p) e q in
+      λ l e p q. every-at n (entry-test l) (every-at k (λ l. every n (entry-test l)) (and-right total-test last d) l p) e q in
       record {
         table =
             record {
-              some-states = ltb-true 0 k (and-left (ltb 0 k) (leb k table-limit && (ltb (x .current) k && (light && last))) h);
-              few-states = leb-true k table-limit (and-left (leb k table-limit) (ltb (x .current) k && (light && last)) a);
+              some-states = ltb-true 0 k (and-left (ltb 0 k) (leb k table-limit && (ltb (x .current) k && (total-test && last))) h);
+              few-states = leb-true k table-limit (and-left (leb k table-limit) (ltb (x .current) k && (total-test && last)) a);
               entry-count = table-length ℕ (entry-bytes kind) (entry-width kind) (entry-length kind) n (x .table) k;
-              start-in = ltb-true (x .current) k (and-left (ltb (x .current) k) (light && last) b);
+              start-in = ltb-true (x .current) k (and-left (ltb (x .current) k) (total-test && last) b);
               values-in = λ l e p q.
                   value-kinds .fits kind (x .table .value l e) .0
                   (and-left (value-fits kind (x .table .value l e)) (ltb (x .table .next l e) k) (entries l e p q));
@@ -220,7 +226,7 @@ module _ (n : ℕ) (kind : ValueKind) (x : Loaded ℕ) where
                   ltb-true (x .table .next l e) k
                   (and-right (value-fits kind (x .table .value l e)) (ltb (x .table .next l e) k) (entries l e p q));
             };
-        total = leb-true (x .total) total-limit (and-left light last d);
+        total = leb-true (x .total) total-limit (and-left total-test last d);
       }
 
   pub test-of-in-order : ChannelInOrder n kind x → loaded-test n kind x ≡ true
@@ -246,9 +252,9 @@ module _ (at n : ℕ) (kind : ValueKind) (k q total : ℕ) (L N : List ℕ) wher
   unfolding loaded-test
   state-outside h = simp (le-ltb q k h, and-false)
 
-  pub heavy : total-limit < total → channel-test n kind (some (loaded-at at n k q total L N)) ≡ false
+  pub total-outside : total-limit < total → channel-test n kind (some (loaded-at at n k q total L N)) ≡ false
   unfolding loaded-test
-  heavy h = simp (lt-leb total total-limit h, and-false)
+  total-outside h = simp (lt-leb total total-limit h, and-false)
 
   pub entries-only :
       0 < k → k ≤ table-limit → q < k → total ≤ total-limit →

@@ -1,5 +1,5 @@
 -- A sequence of events on one channel is the event call repeated; what is decided on it is what its definition says.
-use mathlib.Core.{Path.{_≡_, refl, sym, _∙_, ap, ap₂, subst, subst⁻¹}, Bool.{Bool, true, false, cond, _&&_}, List.{List, [], _∷_, _++_, map}}
+use mathlib.Core.{Path.{_≡_, refl, sym, _∙_, ap, ap₂, subst, subst⁻¹}, Bool.{Bool, true, false, _&&_}, List.{List, [], _∷_, _++_, map}}
 use mathlib.Core.Option.{Option, none, some}
 use Prim.Native.Nat.{ℕ, zero, suc, _+_, _%_, _≤_, _<_, min}
 use native.Mathlib.{Nat.{mod-eq-of-lt}, Omega.{arith}}
@@ -13,18 +13,19 @@ use Rattle.theory.specs.MachineRuns.{word-values}
 use Rattle.refusal.specs.declared.Refusal.{Refusal}
 use Rattle.refusal.specs.{Refusal.{put}, RefusalAnswers.{or-else, plain-unless, put-unless}}
 use Rattle.refusal.proofs.Refusals.{or-else-none, plain-none}
-use Rattle.channel_log.specs.Calls.{event, Reply, returned, replies, final, event-calls, last-returned, Loaded}
+use Rattle.channel_log.specs.Calls.{event, Reply, returned, replies, final, event-calls, last-returned}
 use Rattle.channel_log.specs.{CallSteps.{channel-refusal, empty-refusal}, Log.{large-total}, Distance.{Wheel, Occurrence, Reading, reading}}
-use Rattle.recorder.specs.Store.{Store, tool-setup-of, table-at, loaded-at, rows-start, held, channels, occurrences, all-pulses}
+use Rattle.recorder.specs.Store.{Store, tool-setup-of, table-at, rows-start, channels, occurrences, all-pulses}
+use Rattle.channel_log.proofs.Record.{total-fits}
 use Rattle.recorder.specs.ToolTests.{channel-test, test-of, setup-test}
 use Rattle.recorder.specs.Called.{with-current, called}
 use Rattle.recorder.specs.Replay.{all-returned, word-test, pulses-refusal, replay-refusal, replay-settled, replayed}
 use Rattle.recorder.specs.Decisions.{number-refusal, first-number, number-unless, total-number, limited, sum-of, replay-number, plain-reply}
 use Rattle.recorder.specs.Decisions.{Measurable, end-reply, Runnable}
 use Rattle.recorder.proofs.{Numbers.{first-refusal, unless-refusal, number-some, plain-refused}, Rows.{rows-in, entries-fit}}
-use Rattle.recorder.proofs.Held.{channel-below, held-some, test-of-in-order, flat-next}
+use Rattle.recorder.proofs.Held.{channel-below, held-some, held-cases, test-of-in-order, flat-next}
 use Rattle.recorder.proofs.Decided.{or-else-same, fault-number, later-refused, Ready, ready-of, table-of, state-of, total-of, loaded-with, has}
-use Rattle.recorder.proofs.Decided.{ready-facts, ready-events, measurable, light, limited-small, limited-refusal}
+use Rattle.recorder.proofs.Decided.{ready-facts, ready-events, measurable, limited-small, limited-refusal}
 
 abbrev moved-to : Store → ℕ → ℕ → ℕ → Store
 moved-to t c q total = with-current t (set (t .current) c q) (set (t .total) c total)
@@ -238,7 +239,7 @@ accepted-of t c word out h =
       events-in = below;
       word-in = word-of n w below;
       small =
-          light (total-of t c + all-pulses word)
+          total-fits (total-of t c + all-pulses word)
           (subst (λ x. pulses-refusal x (all-pulses word) ≡ none) (has t c (r .0)) (p .0));
       fits = leb-true (length word) (length out) (plain-none (leb (length word) (length out)) 13 (p .1));
     }
@@ -248,18 +249,13 @@ pulses-same :
     (t : Store) (c n : ℕ) (a b : Option Refusal) →
     or-else (empty-refusal (channels t c)) (or-else a (or-else (large-total (getD (t .total) c 0 + n)) b))
     ≡ or-else (empty-refusal (channels t c)) (or-else a (or-else (pulses-refusal (channels t c) n) b))
-unfolding or-else held
-pulses-same t c n a b = go (ltb c channel-limit && ltb 0 (getD (t .states) c 0))
-  where
-    x : Loaded ℕ
-    x = loaded-at (rows-start c) (t .setup .events) (getD (t .states) c 0) (getD (t .current) c 0) (getD (t .total) c 0) (t .value) (t .next)
-
-    go :
-        (i : Bool) →
-        or-else (empty-refusal (cond i (some x) none)) (or-else a (or-else (large-total (getD (t .total) c 0 + n)) b))
-        ≡ or-else (empty-refusal (cond i (some x) none)) (or-else a (or-else (pulses-refusal (cond i (some x) none) n) b))
-    go true = refl
-    go false = refl
+unfolding or-else
+pulses-same t c n a b =
+    held-cases c (t .setup .events) (getD (t .states) c 0) (getD (t .current) c 0) (getD (t .total) c 0) (t .value) (t .next)
+    (λ o.
+    or-else (empty-refusal o) (or-else a (or-else (large-total (getD (t .total) c 0 + n)) b))
+    ≡ or-else (empty-refusal o) (or-else a (or-else (pulses-refusal o n) b)))
+    refl refl
 
 module _ (t : Store) (c : ℕ) (word pulses out : List ℕ) (f : ℕ) (e-fault : f ≡ fault-number t c) (i : Bool) (s : ℕ) (j : Bool)
     (e-word : i ≡ word-test (t .setup .events) word)

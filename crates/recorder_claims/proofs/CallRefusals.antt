@@ -30,28 +30,21 @@ use Rattle.recorder_claims.specs.Claims.{CallRefusalClaim, ReplayRefusal
 use Rattle.recorder_claims.proofs.{Claims.{fault-of, tool-tested}, LoadedRules.{rule-first}}
 use Rattle.theory.specs.MealyMachine.{Word}
 
--- A number that is not below another.
-pub number-first : (n a b : ℕ) → First (plain n (¬ (a < b)) ∷ []) (cond (ltb a b) none (some (Plain n)))
+-- A test that fails exactly where a condition is met.
+told-first :
+    (n : ℕ) (Met : Type 0) (t : Bool) → (t ≡ false → Met) → (t ≡ true → ¬ Met) → First (plain n Met ∷ []) (cond t none (some (Plain n)))
 unfolding plain-unless
-number-first n a b = go (ltb a b) (plain-first n (¬ (a < b)) (ltb a b) (λ f l. omega (arith, ltb-false a b f)) (λ p f. f (ltb-true a b p)))
-  where
-    go : (t : Bool) → First (plain n (¬ (a < b)) ∷ []) (plain-unless t n) → First (plain n (¬ (a < b)) ∷ []) (cond t none (some (Plain n)))
-    go true f = f
-    go false f = f
+told-first n Met true met unmet = plain-first n Met true met unmet
+told-first n Met false met unmet = plain-first n Met false met unmet
 
--- 19 of a total.
+-- A number that is not below another, and 19 of a total.
+pub number-first : (n a b : ℕ) → First (plain n (¬ (a < b)) ∷ []) (cond (ltb a b) none (some (Plain n)))
+number-first n a b = told-first n (¬ (a < b)) (ltb a b) (λ f l. omega (arith, ltb-false a b f)) (λ p f. f (ltb-true a b p))
+
 total-first : (total pulses : ℕ) → First (plain 19 (TotalAbove (some total) pulses) ∷ []) (large-total (total + pulses))
-unfolding plain-unless
 total-first total pulses =
-    go (leb (total + pulses) total-limit)
-    (plain-first 19 (TotalAbove (some total) pulses) (leb (total + pulses) total-limit) (λ f. leb-false (total + pulses) total-limit f)
-    (λ p l. omega (arith, l, leb-true (total + pulses) total-limit p)))
-  where
-    go :
-        (t : Bool) → First (plain 19 (TotalAbove (some total) pulses) ∷ []) (plain-unless t 19) →
-        First (plain 19 (TotalAbove (some total) pulses) ∷ []) (cond t none (some (Plain 19)))
-    go true f = f
-    go false f = f
+    told-first 19 (TotalAbove (some total) pulses) (leb (total + pulses) total-limit) (leb-false (total + pulses) total-limit)
+    (λ p l. omega (arith, l, leb-true (total + pulses) total-limit p))
 
 -- 15, and 16 and 19 after it, whatever a loaded channel holds beside its total.
 module _ {X : Type 0} (total : X → ℕ) where

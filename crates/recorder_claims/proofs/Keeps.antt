@@ -18,14 +18,13 @@ use Rattle.channel_log.specs.CallSteps.{Content, channel-refusal}
 use Rattle.channel_log.specs.CallSteps.{empty-refusal, on-event, call-refusal, accepted-reply, effect, settled, step}
 use Rattle.channel_log.specs.Calls.{Loaded}
 use Rattle.channel_log.specs.Recorded.{at-state, recorded}
-use Rattle.channel_log.proofs.Record.{event-fits}
+use Rattle.channel_log.proofs.Record.{event-fits, total-fits}
 use Rattle.recorder.specs.Store.{Store, ToolSetup, setup-of, tool-setup-of, rows-start, channels}
 use Rattle.recorder.specs.Store.{ChannelInOrder}
 use Rattle.recorder.specs.ToolTests.{tool-setup-refusal, setup-test, channel-test, test-of, named-test, tool-test}
 use Rattle.recorder.specs.CompiledRule.{rule-judged, states-of-rule, values-of-rule, nexts-of-rule, loaded-rule}
 use Rattle.recorder.specs.Called.{with-current, with-rows, stored-rows, next-state, next-total, content, effect-on, settled-store, called}
 use Rattle.recorder.proofs.{Rows.{rows-in}, Held.{channel-below, values-accepted, test-of-accepted, few-events, in-order-of-test, test-of-in-order}}
-use Rattle.recorder.proofs.Decided.{light}
 use Rattle.recorder_claims.proofs.LoadedRules.{rule-in-order, length-values, length-nexts}
 use Rattle.recorder_claims.proofs.View.{current-view, restarted-view, cleared-view, loaded-view}
 
@@ -86,7 +85,7 @@ module _ (n : ℕ) (v : ValueKind) (wheel : Wheel) (judged : List ℕ → Option
       let f = in-order-of-test n v x h .table in
       moved-in-order n v x (x .table .next (x .current) (i .event)) (x .total + i .pulses) h
       (f .nexts-in (x .current) (i .event) (f .start-in) (event-fits n (x .total) i g))
-      (light (x .total + i .pulses) (or-else-none (large-event n (i .event)) (large-total (x .total + i .pulses)) g .1))
+      (total-fits (x .total + i .pulses) (or-else-none (large-event n (i .event)) (large-total (x .total + i .pulses)) g .1))
 
   next-same :
       (o : Option (Loaded ℕ)) → map-option (λ x. at-state x (next-state o (i .event)) (next-total o (i .pulses))) o ≡ map-option after-event o

@@ -3,7 +3,7 @@ use native.Mathlib.Omega.{arith}
 use borrow.Author.Needs.{needs}
 use Rattle.values.specs.declared.ValueKind.the-variants.{Numbered}
 use Rattle.recorder.specs.Store.{rows-start}
-use Rattle.recorder.proofs.Held.{held-above, held-empty, held-some, many-states, state-outside, heavy, entries-only}
+use Rattle.recorder.proofs.Held.{held-above, held-empty, held-some, many-states, state-outside, total-outside, entries-only}
 use Rattle.recorder.proofs.Rows.{entries-fit}
 use Rattle.recorder.proofs.channel_in_order.Statement.{statement}
 use Rattle.recorder.proofs.channel_in_order.Tie as tie
@@ -41,7 +41,8 @@ returns-5 c =
     let a = c .before .before .before .before .before .args in
     rw (
       held-some (a .channel) (a .events) (a .states) (a .current) (a .total) (a .value .now) (a .next .now) (omega arith) (omega arith),
-      heavy (rows-start (a .channel)) (a .events) (Numbered (a .values)) (a .states) (a .current) (a .total) (a .value .now) (a .next .now) (omega arith),
+      total-outside (rows-start (a .channel)) (a .events) (Numbered (a .values)) (a .states) (a .current) (a .total) (a .value .now) (a .next .now)
+          (omega arith),
     )
 
 mul-entries-in-order : tie.Need-mul-entries-in-order
