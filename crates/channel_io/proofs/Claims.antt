@@ -1,43 +1,32 @@
 -- The answers to reading and writing a file and to making its table are those that document 01 asks for, and the only ones.
-use Prim.Native.Nat.{ℕ, _<_}
-use mathlib.Core.{Path.{_≡_, refl, subst}, Logic.{⊎-elim}, List.{List, [], _∷_, _++_}, Bool.{true, false}, Option.{Option, none}}
+use Prim.Native.Nat.{ℕ}
+use mathlib.Core.{Path.{_≡_, refl}, Logic.{⊎-elim}, List.{List, [], _∷_, _++_}, Bool.{true, false}, Option.{none}}
 use native.Mathlib.{Omega.{arith}, Nat.{mul-le-mul}}
 use lib.{Dec.{leb}, ListN.{length}}
 use borrow.Author.Tests.{leb-true, leb-false}
 use Rattle.limits.specs.Limits.{state-limit, table-limit}
 use Rattle.theory.proofs.{Claims.{table-values}, ValueSets.{and-left, and-right, and-cases}}
-use Rattle.refusal.specs.declared.Refusal.{Refusal}
 use Rattle.refusal.specs.declared.Refusal.the-variants.{Plain}
-use Rattle.refusal.specs.Refusal.{Condition, plain, at-lowest, First, has-place, part-of, order, condition-numbers, right-places, Judged}
-use Rattle.refusal.specs.RefusalAnswers.{or-else}
-use Rattle.refusal.specs.RefusalAnswers.{plain-unless}
+use Rattle.refusal.specs.Refusal.{Condition, plain, First, has-place, part-of, order, condition-numbers, right-places}
 use Rattle.refusal.specs.RefusalClaims.{NoneMet}
-use Rattle.refusal.proofs.{Refusals.{plain-first, judged, accepted-exactly, first-then, first-append}, Refusals.{first-rest}}
+use Rattle.refusal.proofs.{Refusals.{plain-first, judged, accepted-exactly, first-then, first-append}}
 use Rattle.values.specs.declared.ValueKind.the-variants.{Numbered}
-use Rattle.values.specs.Setup.{Setup, SetupValue, setup, setup-meet, setup-top, setup-conditions, kind-conditions}
-use Rattle.values.specs.SetupInOrder.{AcceptedSetup}
-use Rattle.values.specs.SetupTests.{setup-refusal}
-use Rattle.values.proofs.Setups.{square-small, setup-first, setup-accepted, accepted-events}
+use Rattle.values.specs.Setup.{Setup, SetupValue, setup-meet, setup-top, setup-conditions, kind-conditions}
+use Rattle.values.proofs.Setups.{square-small, setup-first}
 use Rattle.formulas.specs.RuleConditions.{byte-conditions}
 use Rattle.formulas.proofs.RuleClaims.{rule-judged}
 use Rattle.machines.specs.{TableBytes.{machine-of}, TableRefusal.{table-refusal}}
 use Rattle.machines.proofs.TableRefusals.{in-order-none}
-use Rattle.synthesis.specs.Compilation.{rule-table-refusal, compile-rule-refusal}
 use Rattle.synthesis.specs.TableOfRule.{states-condition, buffer-condition}
-use Rattle.synthesis.proofs.CompileClaims.{compile-rule-claim, compile-refusal-claim}
-use Rattle.text_format.specs.Format.{Outcome, contents, refused}
-use Rattle.channel_file.specs.ChannelFile.{Contents, Refused4}
-use Rattle.channel_file.specs.Reading.{AnswersFile, read-file}
-use Rattle.channel_file.proofs.Claims.{answer-claim, form-met, form-unmet}
+use Rattle.synthesis.proofs.CompileClaims.{setup-rule-first, compile-refusal-claim}
+use Rattle.channel_file.specs.ChannelFile.{Contents}
 use Rattle.channel_io.specs.FileConditions.{file-setup, contents-table-conditions}
 use Rattle.synthesis.specs.TableOfRule.{pair-conditions, pair-table-conditions}
 use Rattle.channel_file.specs.ChannelFile.{rule-numbers}
 use Rattle.channel_io.specs.FileConditions.{ReadShort, short-meet, short-rule, read-conditions}
 use Rattle.channel_io.specs.FileTables.{CompileShort, short-entries, short-table, file-conditions}
-use Rattle.channel_io.specs.FileRefusals.{file-text}
 use Rattle.channel_io.specs.FileRefusals.{pair-refusal, has-room, stored-refusal, contents-read-refusal, pair-table-refusal}
 use Rattle.channel_io.specs.FileRefusals.{has-table-room, pair-compile-refusal, file-states, file-table, contents-table-refusal, file-refusal}
-use Rattle.channel_io.specs.FileRefusals.{text-refusal, file-write-refusal}
 use Rattle.channel_io.specs.Claims.{ContentsTableClaim, FileTableMadeClaim}
 use Rattle.channel_io.proofs.TablePairs.{rows-length, compile-passed, few-states, table-made, setup-passed}
 
@@ -49,18 +38,8 @@ module _ (s : Setup) (rule : List ℕ) where
       (rule-judged (s .events) (s .kind) rule .first)
 
   pub table-first : First (pair-table-conditions s rule) (pair-table-refusal s rule)
-  unfolding pair-table-refusal compile-rule-refusal or-else plain-unless
-  table-first = first-then (setup-conditions s) _ (setup-refusal s) _ (setup-first s) later
-    where
-      later : setup-refusal s ≡ none
-          → First (byte-conditions (s .events) (s .kind) rule ++ (states-condition (setup-meet s) (setup-top s) (s .events) (s .kind) rule state-limit ∷ []))
-          (rule-table-refusal (s .kind) (s .events) (setup-top s) (s .meet) rule state-limit)
-      later ok =
-          let w : AcceptedSetup s = setup-accepted s .0 ok in
-          let f = compile-rule-claim state-limit (s .kind) (s .events) (setup-top s) (s .meet) rule (omega arith) (w .laws) .0 .first in
-          let e : compile-rule-refusal (s .kind) (s .events) (setup-top s) (s .meet) rule state-limit
-          ≡ rule-table-refusal (s .kind) (s .events) (setup-top s) (s .meet) rule state-limit = rw (accepted-events s ok) in
-          subst (First _) e (first-rest _ _ _ (λ r g. g .0 (w .some-events, w .few-events)) f)
+  unfolding pair-table-refusal
+  table-first = setup-rule-first s rule
 
 -- ---- a file is read into two buffers
 module _ (c : Contents) (meet rule : List ℕ) where

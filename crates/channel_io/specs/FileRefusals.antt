@@ -47,7 +47,7 @@ module _ (s : Setup) (rule : List ℕ) where
   pair-table =
       table-bytes (entry-bytes (s .kind)) (s .events) (rule-table (s .kind) (s .events) (setup-top s) (s .meet) rule state-limit) pair-states
 
-  -- 1 to 3, 5 to 9, and 10: "over 64 states, where the call makes a table".
+  -- 1 to 3, 5 to 9, and 10, over the limit of states, "where the call makes a table".
   unfoldable pub pair-table-refusal : Option Refusal
   pair-table-refusal = or-else (setup-refusal s) (rule-table-refusal (s .kind) (s .events) (setup-top s) (s .meet) rule state-limit)
 

@@ -1,5 +1,6 @@
 -- Demand 3 and independence for any tool whose calls take its channels as `recorded` says, over compiled tables that are the rules'.
-use mathlib.Core.{Path.{_≡_, refl, sym, _∙_, ap, ap₂, subst, subst⁻¹}, Bool.{Bool, true, false, cond, true≢false}, Logic.{⊎-elim}, List.{List, [], _∷_}}
+use mathlib.Core.{Path.{_≡_, refl, sym, _∙_, ap, ap₂, subst, subst⁻¹, fun-ext}, Bool.{Bool, true, false, cond, true≢false}}
+use mathlib.Core.{Logic.{⊎-elim}, List.{List, [], _∷_}}
 use mathlib.Core.Option.{Option, none, some, Option·some-ne-none}
 use Prim.Native.Nat.{ℕ, zero, _+_, _≤_, _<_}
 use native.Mathlib.Omega.{arith}
@@ -13,7 +14,7 @@ use Rattle.theory.specs.ReachableStates.{IsTableOf}
 use Rattle.theory.proofs.{SemanticsEquality.{only-answer}, WordOrder.{word-append}, ReachableStates.{after-append}, Claims.{table-values}}
 use Rattle.refusal.specs.declared.Refusal.{Refusal}
 use Rattle.refusal.specs.declared.Refusal.the-variants.{Plain}
-use Rattle.limits.specs.Limits.{channel-limit, total-limit}
+use Rattle.limits.specs.Limits.{channel-limit, total-limit, row-limit}
 use Rattle.refusal.specs.Refusal.{Condition, plain, at-lowest, Gives, First, part-of, condition-numbers}
 use Rattle.refusal.specs.RefusalClaims.{refusal-number}
 use Rattle.refusal.specs.RefusalAnswers.{or-else}
@@ -23,13 +24,15 @@ use Rattle.channel_log.specs.CallSteps.{channel-refusal, Content, empty-
 use Rattle.channel_log.specs.CallSteps.{effect, settled, step}
 use Rattle.channel_log.specs.Calls.{replies, final, History}
 use Rattle.channel_log.specs.Distance.{Wheel, Occurrence, Reading, reading}
-use Rattle.channel_log.specs.Log.{large-event, large-total, occurrence-refusal, value-after, log}
+use Rattle.channel_log.specs.Log.{large-event, large-total, occurrence-refusal, rows-refusal, load-rows-refusal, value-after, log}
 use Rattle.channel_log.specs.Calls.{Loaded}
 use Rattle.channel_log.specs.Recorded.{recorded}
-use Rattle.channel_log.specs.Calls.{replies-on}
-use Rattle.channel_log.specs.Claims.{Never, RecordClaim, IndependenceClaim}
+use Rattle.channel_log.specs.Calls.{map-option, accepted-on, replies-on}
+use Rattle.channel_log.specs.Rows.{other-rows}
+use Rattle.channel_log.specs.Claims.{Never, RecordClaim, OwnCallsClaim, OtherRowsClaim}
 use Rattle.channel_log.specs.Calls.{StandsAs}
-use Rattle.channel_log.proofs.{Simulation.{run-related, Related, AllRelated, Matches, step-related}, Independence.{replies-struck}}
+use Rattle.channel_log.proofs.Simulation.{run-related, Related, AllRelated, Matches, step-related}
+use Rattle.channel_log.proofs.Independence.{channel-after, channel-replies, runs-alone, same-event, same-load}
 
 -- A test passed where its refusal is not met.
 pub test-passed : (t : Bool) (r : Refusal) → cond t none (some r) ≡ none → t ≡ true
@@ -90,12 +93,13 @@ first-not-17 none b p q = q
 first-not-17 (some r) b p q = p
 
 module _ {B : Type 0} (In : B → Type 0) (meet : B → B → B) (top : B) (laws : MeetSemilattice In meet top) (events : ℕ) (wheel : Wheel)
-    (judged : List ℕ → Option Refusal) (formula-of : List ℕ → Formula B) (table-of : List ℕ → Loaded B)
+    (judged : List ℕ → Option Refusal) (formula-of : List ℕ → Formula B) (states-of : Formula B → ℕ) (table-of : List ℕ → Loaded B)
     (good : (r : List ℕ) → judged r ≡ none → WellFormed events In (formula-of r))
     (compiled : (r : List ℕ) → judged r ≡ none → IsTableOf meet top events (formula-of r) (table-of r .states) (table-of r .table))
+    (counted : (r : List ℕ) → judged r ≡ none → states-of (formula-of r) ≡ table-of r .states)
     (not-17 : (r : List ℕ) → Not 17 (judged r)) where
   abbrev logged : Content (History B) Occurrence (Reading B)
-  logged = log meet top events wheel judged formula-of
+  logged = log meet top events wheel judged formula-of states-of
 
   abbrev channel : Content (Loaded B) Occurrence (Reading B)
   channel = recorded events wheel judged table-of
@@ -107,10 +111,11 @@ module _ {B : Type 0} (In : B → Type 0) (meet : B → B → B) (top : B) (laws
     pub table : IsTableOf meet top events (h .rule) (x .states) (x .table)
     pub state : x .current ≡ after (x .table) zero (h .events)
     pub total : x .total ≡ h .total
+    pub rows : states-of (h .rule) ≡ x .states
 
   same-value :
       (h : History B) (x : Loaded B) (e : ℕ) → Stands h x → e < events →
-      value-after meet top events wheel judged formula-of h e ≡ x .table .value (x .current) e
+      value-after meet top events wheel judged formula-of states-of h e ≡ x .table .value (x .current) e
   same-value h x e s l =
       sym (ap (λ q. x .table .value q e) (s .state)
       ∙ only-answer In meet top events (h .rule) (s .rule) (h .events) e (x .table .value (after (x .table) zero (h .events)) e)
@@ -122,17 +127,49 @@ module _ {B : Type 0} (In : B → Type 0) (meet : B → B → B) (top : B) (laws
 
   same-output :
       (h : History B) (x : Loaded B) (i : Occurrence) → Stands h x → occurrence-refusal events (h .total) i ≡ none →
-      reading wheel (value-after meet top events wheel judged formula-of h (i .event)) (h .total + i .pulses)
+      reading wheel (value-after meet top events wheel judged formula-of states-of h (i .event)) (h .total + i .pulses)
       ≡ reading wheel (x .table .value (x .current) (i .event)) (x .total + i .pulses)
   same-output h x i s a =
       ap₂ (reading wheel) (same-value h x (i .event) s (event-fits events (h .total) i a)) (ap (λ n. n + i .pulses) (sym (s .total)))
 
+  -- A load is judged alike: the rows of every channel are the same.
+  abbrev log-rows : Channels (History B) → Channels ℕ
+  log-rows L d = map-option (λ h. states-of (h .rule)) (L d)
+
+  abbrev channel-rows : Channels (Loaded B) → Channels ℕ
+  channel-rows N d = map-option (λ x. x .states) (N d)
+
+  same-rows : (h : Option (History B)) (x : Option (Loaded B)) → Related Stands h x → map-option (λ h. states-of (h .rule)) h ≡ map-option (λ x. x .states) x
+  same-rows none none r = refl
+  same-rows none (some x) r = absurd r
+  same-rows (some h) none r = absurd r
+  same-rows (some h) (some x) r = ap some (r .rows)
+
+  same-load-refusal :
+      (L : Channels (History B)) (N : Channels (Loaded B)) (c : ℕ) (r : List ℕ) → AllRelated logged channel Stands L N →
+      logged .load-refusal L c r ≡ channel .load-refusal N c r
+  unfolding or-else
+  same-load-refusal L N c r a =
+      ap (λ rows. or-else (judged r) (load-rows-refusal c rows (states-of (formula-of r)))) (fun-ext (λ d. same-rows (L d) (N d) (a d)))
+      ∙ go (judged r) refl
+    where
+      go :
+          (o : Option Refusal) → judged r ≡ o →
+          or-else o (load-rows-refusal c (channel-rows N) (states-of (formula-of r))) ≡ or-else o (load-rows-refusal c (channel-rows N) (table-of r .states))
+      go none e = ap (λ n. or-else none (load-rows-refusal c (channel-rows N) n)) (counted r e)
+      go (some x) e = refl
+
+  accepted-load : (L : Channels (History B)) (c : ℕ) (r : List ℕ) → logged .load-refusal L c r ≡ none → judged r ≡ none
+  accepted-load L c r a = or-else-none (judged r) (load-rows-refusal c (log-rows L) (states-of (formula-of r))) a .0
+
   matches : Matches logged channel Stands
   matches =
       record {
-        load-refusal = λ L N c r a. refl;
+        load-refusal = same-load-refusal;
         event-refusal = same-refusal;
-        loaded = λ L c r a. record { rule = good r a; word = tt; table = compiled r a; state = refl; total = refl };
+        loaded = λ L c r a.
+            let j = accepted-load L c r a in
+            record { rule = good r j; word = tt; table = compiled r j; state = refl; total = refl; rows = counted r j };
         output = same-output;
         moved = λ h x i s a.
             record {
@@ -142,8 +179,9 @@ module _ {B : Type 0} (In : B → Type 0) (meet : B → B → B) (top : B) (laws
               state =
                   ap (λ q. x .table .next q (i .event)) (s .state) ∙ sym (after-append (x .table) zero (h .events) (i .event ∷ []));
               total = ap (λ n. n + i .pulses) (s .total);
+              rows = s .rows;
             };
-        restarted = λ h x s. record { rule = s .rule; word = tt; table = s .table; state = refl; total = refl };
+        restarted = λ h x s. record { rule = s .rule; word = tt; table = s .table; state = refl; total = refl; rows = s .rows };
       }
 
   -- 17 never arises in the log.
@@ -163,7 +201,10 @@ module _ {B : Type 0} (In : B → Type 0) (meet : B → B → B) (top : B) (laws
   channel-not-17 c = plain-not-17 (ltb c channel-limit) 14 (λ q. omega arith)
 
   refusal-not-17 : (L : Channels (History B)) (call : Call Occurrence) → Not 17 (call-refusal logged L call)
-  refusal-not-17 L (load c r) = first-not-17 (channel-refusal c) (judged r) (channel-not-17 c) (not-17 r)
+  refusal-not-17 L (load c r) =
+      first-not-17 (channel-refusal c) (logged .load-refusal L c r) (channel-not-17 c)
+      (first-not-17 (judged r) (load-rows-refusal c (log-rows L) (states-of (formula-of r))) (not-17 r)
+      (plain-not-17 (leb (other-rows c (log-rows L) + states-of (formula-of r)) row-limit) 25 (λ q. omega arith)))
   refusal-not-17 L (event c i) = first-not-17 (channel-refusal c) (on-event logged (L c) i) (channel-not-17 c) (event-not-17 (L c) i)
   refusal-not-17 L (restart c) = first-not-17 (channel-refusal c) (empty-refusal (L c)) (channel-not-17 c) (empty-not-17 (L c))
   refusal-not-17 L restart-all = tt
@@ -256,17 +297,35 @@ module _ {B : Type 0} (In : B → Type 0) (meet : B → B → B) (top : B) (laws
         (k .0 ∙ ap (λ y. step channel x y .0) (r .1), (k .1, k .2 ∙ ap (λ y. step channel x y .1) (r .1))))
         calls tool all-empty (sound, fresh)
 
-    pub independence-claim : IndependenceClaim call channels logged (StandsAs meet top events) tool
-    independence-claim c l calls others e =
+    abbrev Stand : Option (Loaded B) → Option (History B) → Type 0
+    Stand = StandsAs meet top events
+
+    pub own-calls-claim : OwnCallsClaim call channels logged Stand tool
+    own-calls-claim c calls others e =
         let p = follows-recorded calls in
         let q = follows-recorded others in
-        let a = replies-struck channel (λ L N d r h. refl) c calls all-empty all-empty refl in
-        let b = replies-struck channel (λ L N d r h. refl) c others all-empty all-empty refl in
+        let a = runs-alone channel c calls all-empty in
+        let b = runs-alone channel c others all-empty in
+        let kept = sym (ap (accepted-on c calls) (p .0)) ∙ e ∙ ap (accepted-on c others) (q .0) in
+        let same =
+        ap (λ N. N c) (p .1 .1) ∙ a .0 ∙ ap (λ xs. channel-after channel xs none) kept ∙ sym (b .0) ∙ sym (ap (λ N. N c) (q .1 .1))
+        in
         record {
           same-replies =
-              ap (replies-on c calls) (p .0) ∙ a .0 ∙ ap (λ xs. replies (step channel) xs all-empty) e
-              ∙ sym (b .0) ∙ sym (ap (replies-on c others) (q .0));
-          same-channel =
-              ap (λ N. N c) (p .1 .1) ∙ a .1 ∙ ap (λ xs. final (step channel) xs all-empty c) e
-              ∙ sym (b .1) ∙ sym (ap (λ N. N c) (q .1 .1));
+              ap (replies-on c calls) (p .0) ∙ a .1 ∙ ap (λ xs. channel-replies channel xs none) kept
+              ∙ sym (b .1) ∙ sym (ap (replies-on c others) (q .0));
+          same-channel = same;
+          same-events = λ i.
+              keeps (event c i) (final call calls tool) (p .1 .0) .0
+              ∙ same-event channel c i (channels (final call calls tool)) (channels (final call others tool)) same
+              ∙ sym (keeps (event c i) (final call others tool) (q .1 .0) .0);
         }
+
+    pub other-rows-claim : OtherRowsClaim call channels logged Stand tool (λ x. x .states)
+    other-rows-claim c bytes calls others e =
+        let p = follows-recorded calls in
+        let q = follows-recorded others in
+        keeps (load c bytes) (final call calls tool) (p .1 .0) .0
+        ∙ same-load channel (λ x. x .states) (λ L N d r h. ap (λ n. or-else (judged r) (rows-refusal (n + table-of r .states))) h) c bytes
+        (channels (final call calls tool)) (channels (final call others tool)) e
+        ∙ sym (keeps (load c bytes) (final call others tool) (q .1 .0) .0)

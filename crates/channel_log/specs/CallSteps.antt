@@ -11,7 +11,7 @@ use Rattle.channel_log.specs.Calls.{map-option}
 
 -- What a loaded channel holds, and what becomes of it.
 pub record Content (X Input Output : Type 0) : Type 0 where
-  -- 5 to 10 of a rule's bytes for a channel; all channels are in sight
+  -- 5 to 10 of a rule's bytes for a channel, then 25; all channels are in sight
   pub load-refusal : Channels X → ℕ → List ℕ → Option Refusal
   -- 16 and 19 of an event on a loaded channel
   pub event-refusal : X → Input → Option Refusal
@@ -38,7 +38,7 @@ module _ {X Input Output : Type 0} (K : Content X Input Output) where
   on-event none i = some (Plain 15)
   on-event (some x) i = K .event-refusal x i
 
-  -- The first refusal in document 01's order: 14, 15, 16, 19, then 5 to 10. A call meets only those that concern its inputs.
+  -- The first refusal in document 01's order: 14, 15, 16, 19, then 5 to 10 and 25. A call meets only those that concern its inputs.
   abbrev pub call-refusal : Channels X → Call Input → Option Refusal
   call-refusal L (load c r) = or-else (channel-refusal c) (K .load-refusal L c r)
   call-refusal L (event c i) = or-else (channel-refusal c) (on-event (L c) i)

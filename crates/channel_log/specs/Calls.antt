@@ -1,5 +1,5 @@
 -- Document 01, "Tool": the calls, what they reply, what channels hold and how they stand by the log; which calls concern one channel.
-use mathlib.Core.{Bool.{cond, Bool, true}, List.{List, [], _∷_, map}, Option.{Option, none, some}, Path.{_≡_}}
+use mathlib.Core.{Bool.{cond, Bool, true, false, _&&_}, List.{List, [], _∷_, map}, Option.{Option, none, some}, Path.{_≡_}}
 use Prim.Native.Nat.{ℕ, zero}
 use lib.Dec.{eqb}
 use Rattle.theory.specs.{Formula.{Formula}, MealyMachine.{Machine, after}, ReachableStates.{IsTableOf}}
@@ -89,13 +89,20 @@ concerns c (restart d) = eqb d c
 concerns c restart-all = true
 concerns c (clear d) = eqb d c
 
--- The calls that name another channel struck out.
-abbrev pub struck : {Input : Type 0} → ℕ → List (Call Input) → List (Call Input)
-struck c [] = []
-struck c (x ∷ xs) = cond (concerns c x) (x ∷ struck c xs) (struck c xs)
+-- The reply is no refusal.
+abbrev pub is-accepted : {Output : Type 0} → Reply Output → Bool
+is-accepted accepted = true
+is-accepted (returned v) = true
+is-accepted (refused r) = false
 
--- The replies to the calls that stay.
-abbrev pub replies-on : {Input A : Type 0} → ℕ → List (Call Input) → List A → List A
+-- "The same accepted loads and calls on a channel in the same order, restart all being one on every channel" (document 02, F-12): the calls of
+-- a list that concern channel c and are accepted, and the replies to them.
+abbrev pub accepted-on : {Input Output : Type 0} → ℕ → List (Call Input) → List (Reply Output) → List (Call Input)
+accepted-on c [] rs = []
+accepted-on c (x ∷ xs) [] = []
+accepted-on c (x ∷ xs) (r ∷ rs) = cond (concerns c x && is-accepted r) (x ∷ accepted-on c xs rs) (accepted-on c xs rs)
+
+abbrev pub replies-on : {Input Output : Type 0} → ℕ → List (Call Input) → List (Reply Output) → List (Reply Output)
 replies-on c [] rs = []
 replies-on c (x ∷ xs) [] = []
-replies-on c (x ∷ xs) (r ∷ rs) = cond (concerns c x) (r ∷ replies-on c xs rs) (replies-on c xs rs)
+replies-on c (x ∷ xs) (r ∷ rs) = cond (concerns c x && is-accepted r) (r ∷ replies-on c xs rs) (replies-on c xs rs)

@@ -1,6 +1,6 @@
 -- A text whose words are all numbers, and its numbers stored in a lent buffer, one byte each; a number above 255 stands as 255.
 use Prim.Native.Nat.{ℕ}
-use mathlib.Core.{Path.{_≡_}, List.{List, [], _∷_, _++_, map}, Bool.{cond}, Option.{Option, none, some}}
+use mathlib.Core.{Path.{_≡_}, List.{List, [], _∷_, _++_, map}, Bool.{Bool, true, false, cond}, Option.{Option, none, some}}
 use lib.{Dec.{ltb}, ListN.{length}}
 use Rattle.refusal.specs.Refusal.{put}
 use Rattle.channel_file.specs.Bytes.{clamp}
@@ -39,3 +39,14 @@ buffer-after (some vs) old = cond (ltb (length old) (length vs)) old (put (map c
 pub record Lists (text old new : List ℕ) (r : Listed) : Type 0 where
   pub answer : r ≡ listed (numbers-of text) old
   pub buffer : new ≡ buffer-after (numbers-of text) old
+
+-- ---- numbers that no byte holds
+
+abbrev pub large : Option ℕ → Bool
+large none = false
+large (some v) = ltb 255 v
+
+-- Whether one of some words is a number above 255.
+unfoldable pub any-large : List (List ℕ) → Bool
+any-large [] = false
+any-large (w ∷ ws) = cond (large (number-of w)) true (any-large ws)

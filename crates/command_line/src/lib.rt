@@ -7,7 +7,7 @@ ghost use Rattle.channel_file.specs.Bytes.{clamp};
 ghost use Rattle.command_line.specs.Words.{words, rest, word};
 ghost use Rattle.command_line.specs.Parts.{at-divider, before-divider, first-part, second-part};
 ghost use Rattle.command_line.specs.Numbers.{number-of, number-limit, capped, number-answer};
-ghost use Rattle.command_line.specs.Lists.{numbers-of, Lists};
+ghost use Rattle.command_line.specs.Lists.{numbers-of, Lists, large, any-large};
 ghost use Rattle.command_line.specs.Names.{equal, named};
 ghost use Rattle.command_line.specs.Steps.{gap, letters, Skips, Starts, count-answer, Storable, Stores, place, command-at};
 
@@ -227,6 +227,32 @@ pub fn read_numbers(text: &[u8], to: &mut [u8]) -> Listed
     }
     store_numbers(text, to);
     Listed::Count(n)
+}
+
+// Whether a word is a number above 255.
+fn is_large(word: &[u8]) -> bool
+    ensures { λ r. ⌜ r ≡ large (number-of (now (word .entry))) ⌝ }
+{
+    let found = read_number(word);
+    let Number::Value(v) = found else {
+        return false;
+    };
+    255 < v
+}
+
+// Whether a word of a text is a number above 255, which no byte holds.
+pub fn has_large(text: &[u8]) -> bool
+    ensures { λ r. ⌜ r ≡ any-large (words (now (text .entry))) ⌝ }
+{
+    let mut at = skip_spaces(text, 0);
+    while at < text.len() {
+        let end = skip_word(text, at);
+        if is_large(&text[at..end]) {
+            return true;
+        }
+        at = skip_spaces(text, end);
+    }
+    false
 }
 
 // Whether two lists of bytes are the same.

@@ -167,6 +167,9 @@ module _ (events : ℕ) (kind : ValueKind) (meet : List ℕ) (states : ℕ) (tab
         j ≡ Accepted → Handed device-limit table-limit events kind states table device-states device-start device buffer
     tables-accepted z = handed-sound device-limit table-limit _ _ _ _ _ _ _ _ (accepted-here tables-answer j e z)
 
+    pub pairs-in : j ≡ Accepted → device-states * states ≤ device-limit * table-limit
+    pairs-in z = all-pairs device-limit table-limit _ _ _ _ _ _ _ _ (tables-accepted z)
+
     pub tables-refused : (r : Refusal) → j ≡ Refused r → Concluded events kind meet states table device-states device-start device buffer (Rejected r) buffer
     unfolding trial-answer trial-buffer
     tables-refused r z top ok =

@@ -13,9 +13,12 @@ use Rattle.conformance.specs.{declared.Verdict.{Verdict}, declared.Failu
 use Rattle.conformance.specs.{declared.PairVerdict.{PairVerdict}, declared.PairVerdict.the-variants.{Bad, Good}}
 use Rattle.conformance.specs.TrialAnswer.{outcome, shown, trial-answer, trial-buffer}
 
--- The cells of each array where there are few pairs of states.
+-- The cells of each array where there are few pairs of states, and where there are as many as of two devices.
 abbrev pub small-queue : ℕ
 small-queue = 256
+
+abbrev pub middle-queue : ℕ
+middle-queue = device-limit * device-limit
 
 -- The tests of a comparison.
 unfoldable pub is-not-below : Comparison → Bool

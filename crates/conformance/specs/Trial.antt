@@ -59,8 +59,9 @@ module _ (device-most table-most : ℕ) (x : TrialInput) (buffer : List ℕ) whe
   trial-conditions = setup-conditions (x .set-up)
       ++ (plain 11 ((¬ DeviceInOrder) ⊎ (¬ RuleTableInOrder)) ∷ plain 13 (length buffer < device-most * table-most) ∷ [])
 
--- A failed trial: the front of the buffer holds the word, of "1 to 4,096 events", and the bytes after it keep their contents. "It is then no
--- longer free. The word's length is now fixed by the two tables as well" (document 02, F-1): every first word is this one, and n its length.
+-- A failed trial: the front of the buffer holds the word, of at least one and "up to 16,384 events" (document 02, F-12), and the bytes after
+-- it keep their contents. "It is then no longer free. The word's length is now fixed by the two tables as well" (F-1): every first word is
+-- this one, and n its length.
 pub record FailsBy (x : TrialInput) (longest : ℕ) (old new : List ℕ) (n : ℕ) : Type 1 where
   pub some-events : 1 ≤ n
   pub few-events : n ≤ longest

@@ -20,14 +20,16 @@ ghost use Rattle.refusal.specs.RefusalAnswers.{or-else, plain-unless, judgement
 ghost use Rattle.values.specs.Setup.{setup};
 ghost use Rattle.conformance.specs.Trial.{input};
 ghost use Rattle.conformance.specs.TrialAnswer.{tables-refusal, grade-of, trial-answer, trial-buffer};
-ghost use Rattle.conformance.specs.PairQueue.{small-queue, is-not-below, is-different, comparison-on, below-on, equal-on, JudgedPair};
+ghost use Rattle.conformance.specs.PairQueue.{small-queue, middle-queue, is-not-below, is-different, comparison-on, below-on, equal-on, JudgedPair};
 ghost use Rattle.conformance.specs.PairQueue.{queue, Sized, Pushable, pushed, pushed-count};
 ghost use Rattle.conformance.specs.PairQueue.{Expandable, Expanded, Reaches, Deep, Writable, WrittenWord, Empty, Searchable, Searched, Tried};
 ghost use Rattle.conformance.specs.PairQueue.{Answered, Concluded};
 ghost use Rattle.limits.specs.Limits.{event-limit, device-limit, table-limit, word-limit};
 
-// The cells of each of the search's arrays where there are few pairs of states.
+// The cells of each of the search's arrays where there are few pairs of states, and where there are as many as of two devices.
 const SMALL_QUEUE: usize = 256;
+
+const MIDDLE_QUEUE: usize = DEVICE_LIMIT * DEVICE_LIMIT;
 
 // How a device passes (document 02, F-5): with the rule's values on every event sequence, or with some that are strictly below.
 pub enum Grade {
@@ -385,8 +387,45 @@ fn search_few(
     )
 }
 
-// The search over as many pairs as there may be.
+// The search over more pairs.
 fn search_many(
+    events: usize,
+    kind: ValueKind,
+    meet: &[u8],
+    states: usize,
+    table: &[u8],
+    device_start: usize,
+    device: &[u8],
+    word: &mut [u8],
+) -> Verdict
+    requires { ⌜ Tried middle-queue events kind states (now table) «device_start» (now device) (now word) ⌝ }
+    ensures { λ r. ⌜ Answered middle-queue events kind (now (meet .entry)) states (now (table .entry)) «device_start» (now (device .entry))
+        (now (word .entry)) r (now (word .exit)) ⌝ }
+{
+    let mut device_queue = [0u8; MIDDLE_QUEUE];
+    let mut table_queue = [0u8; MIDDLE_QUEUE];
+    let mut parents = [0u16; MIDDLE_QUEUE];
+    let mut last_events = [0u8; MIDDLE_QUEUE];
+    let mut flags = [0u8; MIDDLE_QUEUE];
+    search(
+        events,
+        kind,
+        meet,
+        states,
+        table,
+        device_start,
+        device,
+        word,
+        &mut device_queue,
+        &mut table_queue,
+        &mut parents,
+        &mut last_events,
+        &mut flags,
+    )
+}
+
+// The search over as many pairs as there may be.
+fn search_all(
     events: usize,
     kind: ValueKind,
     meet: &[u8],
@@ -487,7 +526,8 @@ fn trial_accepted(
     if let Judgement::Refused(refusal) = judged {
         return Verdict::Refused(refusal);
     }
-    if device_states * states <= SMALL_QUEUE {
+    let pairs = device_states * states;
+    if pairs <= SMALL_QUEUE {
         return search_few(
             events,
             kind,
@@ -499,7 +539,19 @@ fn trial_accepted(
             word,
         );
     }
-    search_many(
+    if pairs <= MIDDLE_QUEUE {
+        return search_many(
+            events,
+            kind,
+            meet,
+            states,
+            table,
+            device_start,
+            device,
+            word,
+        );
+    }
+    search_all(
         events,
         kind,
         meet,

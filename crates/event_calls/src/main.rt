@@ -1,7 +1,8 @@
 // Plays standard input on one channel of a tool, many times over. The first byte says how, five digits are the set-up (events, values, top,
-// pulses and millimetres per turn), and each byte behind them is an event by its last bit: `e`, each by an event call of its own, with three
-// pulses; `p`, all by one replay, with three pulses each; any other byte, all by one replay, with no pulses. Prints the sum of the values
-// of the last time, and of the remainders that its calls replied. bench/ times it.
+// pulses and millimetres per turn; `@` is 16), and each byte behind them is an event by its last bit: `e`, each by an event call of its own, with
+// three pulses; `p`, all by one replay, with three pulses each; any other small letter, all by one replay, with no pulses: on a table of two
+// states, or, with a capital letter, of 256. Prints the sum of the values of the last time, and of the remainders that its calls replied.
+// bench/ times it.
 use recorder::Reply;
 use recorder::Tool;
 ghost use Prim.Native.Nat.{_<_};
@@ -15,6 +16,11 @@ const REPLAY_ROUNDS: usize = 16384;
 const HEAD: usize = 6;
 
 const ROOM: usize = 4102;
+
+// The two rules in bytes.
+const MANY_BYTES: usize = 768;
+
+const FEW_BYTES: usize = 45;
 
 // Sums are kept below this.
 const MODULUS: u64 = 1000000007;
@@ -118,11 +124,37 @@ fn to_events(digits: &mut [u8]) {
     }
 }
 
+// An event of a chain: the sixteen in turn, or the first two.
+fn chain_event(node: usize, events: usize) -> u8 {
+    if events < 16 {
+        (node % 2) as u8
+    } else {
+        (node % 16) as u8
+    }
+}
+
+// A byte of the rule of 256 states: a chain of G nodes, three bytes each, and T.
+fn many_byte(i: usize, events: usize) -> u8 {
+    if MANY_BYTES - 3 <= i {
+        return 0;
+    }
+    match i % 3 {
+        0 => 2,
+        1 => chain_event(i / 3, events),
+        _ => 0,
+    }
+}
+
+// A small letter for a capital one.
+fn small_letter(how: u8) -> u8 {
+    if how < 96 { how + 32 } else { how }
+}
+
 // Plays a line that has more than its head.
 fn play_line(tool: Tool, line: &mut [u8]) -> u64
     requires { ⌜ 6 < length (now line) ⌝ }
 {
-    let how = line[0];
+    let how = small_letter(line[0]);
     if how == b'e' {
         return play_rounds(tool, &line[HEAD..]);
     }
@@ -135,24 +167,12 @@ fn play_line(tool: Tool, line: &mut [u8]) -> u64
 }
 
 fn number(digit: u8) -> usize {
-    (digit % 16) as usize
+    if digit < 48 { 0 } else { (digit - 48) as usize }
 }
 
-// A tool of the line's set-up with a rule in channel 0.
-fn loaded(line: &[u8]) -> Tool
-    requires { ⌜ 6 < length (now line) ⌝ }
-{
-    let meet = values::four_values();
-    let made = recorder::set_up(
-        number(line[1]),
-        number(line[2]),
-        number(line[3]),
-        &meet,
-        number(line[4]),
-        number(line[5]),
-    );
-    // V A A O0.1 G0 X0 G1 V A A O1.2 G1 X0 G0 X1
-    let rule = [
+// A byte of the rule of two states: V A A O0.1 G0 X0 G1 V A A O1.2 G1 X0 G0 X1.
+fn few_byte(i: usize) -> u8 {
+    let bytes = [
         5,
         0,
         0,
@@ -199,7 +219,54 @@ fn loaded(line: &[u8]) -> Tool
         1,
         0,
     ];
-    let loaded = recorder::load(made.tool, 0, &rule);
+    if i < FEW_BYTES {
+        return bytes[i];
+    }
+    0
+}
+
+// Fills memory with the rule that a letter asks for.
+fn put_rule(rule: &mut [u8], how: u8, events: usize) {
+    let mut i: usize = 0;
+    while i < rule.len() {
+        rule[i] = if how < 96 {
+            many_byte(i, events)
+        } else {
+            few_byte(i)
+        };
+        i += 1;
+    }
+}
+
+// How many bytes it has.
+fn rule_length(how: u8) -> usize {
+    if how < 96 { MANY_BYTES } else { FEW_BYTES }
+}
+
+// The first n bytes.
+fn front(bytes: &[u8], n: usize) -> &[u8] {
+    if n <= bytes.len() {
+        return &bytes[..n];
+    }
+    bytes
+}
+
+// A tool of the line's set-up with a rule in channel 0.
+fn loaded(line: &[u8]) -> Tool
+    requires { ⌜ 6 < length (now line) ⌝ }
+{
+    let meet = values::four_values();
+    let made = recorder::set_up(
+        number(line[1]),
+        number(line[2]),
+        number(line[3]),
+        &meet,
+        number(line[4]),
+        number(line[5]),
+    );
+    let mut rule = [0u8; MANY_BYTES];
+    put_rule(&mut rule, line[0], number(line[1]));
+    let loaded = recorder::load(made.tool, 0, front(&rule, rule_length(line[0])));
     loaded.tool
 }
 

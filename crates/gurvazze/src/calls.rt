@@ -26,9 +26,6 @@ use recorder::Reply;
 use recorder::Tool;
 use refusal::Refusal;
 
-// Most numbers of a line.
-const LIST_ROOM: usize = 4096;
-
 // Numbers of a line: what they are, that there are too few or too many words, or that one is no number.
 pub enum Numbers {
     One(usize),
@@ -167,17 +164,16 @@ fn try_set_up(turn: Turn, events: usize, values: usize, top: usize, meet: &[u8])
 }
 
 // setup EVENTS VALUES TOP MEET...
-pub fn set_up(turn: Turn, line: &[u8]) -> Answer {
+pub fn set_up(turn: Turn, line: &[u8], meet: &mut [u8]) -> Answer {
     let numbers = three_numbers(line);
     let Numbers::Three(events, values, top) = numbers else {
         return blank(numbers);
     };
-    let mut meet = [0u8; LIST_ROOM];
-    let listed = read_numbers(rest(line, 4), &mut meet);
+    let listed = read_numbers(rest(line, 4), meet);
     let Listed::Count(n) = listed else {
         return blank(Numbers::Malformed);
     };
-    try_set_up(turn, events, values, top, front(&meet, n))
+    try_set_up(turn, events, values, top, front(&*meet, n))
 }
 
 fn say_reply(reply: Reply) {
@@ -302,31 +298,29 @@ pub fn event(tool: Tool, line: &[u8]) -> Tool {
     event_alone(tool, line)
 }
 
-fn replay(tool: Tool, channel: usize, events: &[u8]) -> Tool {
-    let mut values = [0u8; LIST_ROOM];
-    let answer = recorder::replay(tool, channel, events, &[], &mut values);
+fn replay(tool: Tool, channel: usize, events: &[u8], values: &mut [u8]) -> Tool {
+    let answer = recorder::replay(tool, channel, events, &[], values);
     let reply = answer.reply;
     match reply {
         Reply::Refused(refusal) => say_refusal(refusal),
-        _ => say_list(b"values=", front(&values, events.len())),
+        _ => say_list(b"values=", front(&*values, events.len())),
     }
     answer.tool
 }
 
 // events C E E...
-pub fn events(tool: Tool, line: &[u8]) -> Tool {
+pub fn events(tool: Tool, line: &[u8], list: &mut [u8], values: &mut [u8]) -> Tool {
     let numbers = one_number(line);
     let Numbers::One(channel) = numbers else {
         say_wrong(numbers);
         return tool;
     };
-    let mut list = [0u8; LIST_ROOM];
-    let listed = read_numbers(rest(line, 2), &mut list);
+    let listed = read_numbers(rest(line, 2), list);
     let Listed::Count(n) = listed else {
         say_wrong(Numbers::Malformed);
         return tool;
     };
-    replay(tool, channel, front(&list, n))
+    replay(tool, channel, front(&*list, n), values)
 }
 
 fn restart_all(tool: Tool) -> Tool {

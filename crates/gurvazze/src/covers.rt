@@ -22,7 +22,6 @@ use command_line::rest;
 use command_line::second_part;
 use conformance::Verdict;
 use limits::TABLE_BYTES;
-use limits::WORD_LIMIT;
 use recorder::Tool;
 
 // A rule's table as a device from state 0.
@@ -43,8 +42,8 @@ fn cover_table(
     first: &[u8],
     second_states: usize,
     second: &[u8],
+    word: &mut [u8],
 ) {
-    let mut word = [0u8; WORD_LIMIT];
     let verdict = judge(
         setup,
         meet,
@@ -52,17 +51,24 @@ fn cover_table(
         second,
         as_device(first_states, first),
         first,
-        &mut word,
+        word,
     );
     match verdict {
         Verdict::Pass(_) => say(b"yes\n"),
-        Verdict::Fail(n) => say_list(b"no=", front(&word, n)),
+        Verdict::Fail(n) => say_list(b"no=", front(&*word, n)),
         Verdict::Refused(refusal) => say_refusal(refusal),
     }
 }
 
 // The table of the first rule against the nodes of the second.
-fn cover_rule(setup: Setup, meet: &[u8], states: usize, first: &[u8], second: &[u8]) {
+fn cover_rule(
+    setup: Setup,
+    meet: &[u8],
+    states: usize,
+    first: &[u8],
+    second: &[u8],
+    word: &mut [u8],
+) {
     let mut table = [0u8; TABLE_BYTES];
     let made = compile_rule(setup, meet, second, &mut table);
     let Made::States(n) = made else {
@@ -70,11 +76,11 @@ fn cover_rule(setup: Setup, meet: &[u8], states: usize, first: &[u8], second: &[
         return;
     };
     let entries = entries_of(&table, n, setup.events);
-    cover_table(setup, meet, states, first, n, entries);
+    cover_table(setup, meet, states, first, n, entries, word);
 }
 
 // Both rules are read before either is judged, and the first is judged before the second.
-fn cover(setup: Setup, meet: &[u8], first: &[u8], second: &[u8]) {
+fn cover(setup: Setup, meet: &[u8], first: &[u8], second: &[u8], word: &mut [u8]) {
     let mut nodes = [0u8; NODE_ROOM];
     let read = read_rule(setup, meet, second, &mut nodes);
     let Nodes::Bytes(n) = read else {
@@ -88,11 +94,11 @@ fn cover(setup: Setup, meet: &[u8], first: &[u8], second: &[u8]) {
         return;
     };
     let entries = entries_of(&table, states, setup.events);
-    cover_rule(setup, meet, states, entries, front(&nodes, n));
+    cover_rule(setup, meet, states, entries, front(&nodes, n), word);
 }
 
 // covers TOKENS / TOKENS
-pub fn covers(tool: Tool, line: &[u8]) {
+pub fn covers(tool: Tool, line: &[u8], word: &mut [u8]) {
     let setup = setup_of(tool.setup.events, tool.setup.values, tool.setup.top);
     let rules = rest(line, 1);
     cover(
@@ -100,5 +106,6 @@ pub fn covers(tool: Tool, line: &[u8]) {
         meet_of(&tool.setup.meet, setup.values),
         first_part(rules),
         second_part(rules),
+        word,
     );
 }

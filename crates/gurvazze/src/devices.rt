@@ -18,6 +18,7 @@ use channel_io::write_file;
 use characteristic::write_rule;
 use command_line::Listed;
 use command_line::front;
+use command_line::has_large;
 use command_line::read_numbers;
 use command_line::rest;
 use conformance::Grade;
@@ -25,7 +26,6 @@ use conformance::Verdict;
 use limits::FILE_LIMIT;
 use limits::NODE_LIMIT;
 use limits::TABLE_BYTES;
-use limits::WORD_LIMIT;
 use recorder::Tool;
 use refusal::Counted;
 
@@ -46,6 +46,11 @@ pub fn none() -> Device {
     }
 }
 
+// A number that no byte holds is too large for every table: the device is kept as one of no states, which 11 refuses as well.
+fn kept_states(states: usize, list: &[u8]) -> usize {
+    if has_large(list) { 0 } else { states }
+}
+
 // device STATES START V N V N...
 pub fn keep(old: Device, line: &[u8], entries: &mut [u8]) -> Device {
     let numbers = two_numbers(line);
@@ -53,7 +58,8 @@ pub fn keep(old: Device, line: &[u8], entries: &mut [u8]) -> Device {
         say_wrong(numbers);
         return old;
     };
-    let listed = read_numbers(rest(line, 3), entries);
+    let list = rest(line, 3);
+    let listed = read_numbers(list, entries);
     let Listed::Count(size) = listed else {
         say_wrong(Numbers::Malformed);
         return old;
@@ -61,7 +67,7 @@ pub fn keep(old: Device, line: &[u8], entries: &mut [u8]) -> Device {
     say(b"ok\n");
     Device {
         kept: true,
-        states,
+        states: kept_states(states, list),
         start,
         size,
     }
@@ -98,21 +104,28 @@ fn try_table(
     table: &[u8],
     device: Device,
     entries: &[u8],
+    word: &mut [u8],
 ) {
-    let mut word = [0u8; WORD_LIMIT];
-    let verdict = judge(setup, meet, states, table, device, entries, &mut word);
+    let verdict = judge(setup, meet, states, table, device, entries, word);
     match verdict {
         Verdict::Pass(grade) => match grade {
             Grade::Same => say(b"pass=same\n"),
             Grade::Stricter => say(b"pass=stricter\n"),
         },
-        Verdict::Fail(n) => say_list(b"fail=", front(&word, n)),
+        Verdict::Fail(n) => say_list(b"fail=", front(&*word, n)),
         Verdict::Refused(refusal) => say_refusal(refusal),
     }
 }
 
 // The trial of a device against a rule in tokens.
-fn try_rule(setup: Setup, meet: &[u8], tokens: &[u8], device: Device, entries: &[u8]) {
+fn try_rule(
+    setup: Setup,
+    meet: &[u8],
+    tokens: &[u8],
+    device: Device,
+    entries: &[u8],
+    word: &mut [u8],
+) {
     let mut table = [0u8; TABLE_BYTES];
     let made = make_table(setup, meet, tokens, &mut table);
     let Made::States(states) = made else {
@@ -126,11 +139,12 @@ fn try_rule(setup: Setup, meet: &[u8], tokens: &[u8], device: Device, entries: &
         entries_of(&table, states, setup.events),
         device,
         front(entries, device.size),
+        word,
     );
 }
 
 // trial TOKENS
-pub fn trial(tool: Tool, device: Device, line: &[u8], entries: &[u8]) {
+pub fn trial(tool: Tool, device: Device, line: &[u8], entries: &[u8], word: &mut [u8]) {
     if !device.kept {
         say_error(b"device");
         return;
@@ -142,6 +156,7 @@ pub fn trial(tool: Tool, device: Device, line: &[u8], entries: &[u8]) {
         rest(line, 1),
         device,
         entries,
+        word,
     );
 }
 

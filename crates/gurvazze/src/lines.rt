@@ -1,6 +1,12 @@
 // Lines of standard input, read block by block.
 use libc::STDIN_FILENO;
 
+// Most bytes of a line: a device of 256 states with 16 events has 4,096 entries of at most seven bytes, `15 255` and a space.
+pub const LINE_LIMIT: usize = 32768;
+
+// Most numbers of a line: each has a space before it.
+pub const LIST_LIMIT: usize = LINE_LIMIT / 2;
+
 // What is left of the block that was read last: the bytes from `at` to before `end`.
 pub struct Input {
     pub at: usize,

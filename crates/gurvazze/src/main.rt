@@ -16,7 +16,10 @@ use command_line::front;
 use command_line::read_command;
 use command_line::word;
 use devices::Device;
+use limits::WORD_LIMIT;
 use lines::Input;
+use lines::LINE_LIMIT;
+use lines::LIST_LIMIT;
 use lines::Line;
 use lines::read_line;
 use recorder::Reply;
@@ -46,9 +49,9 @@ fn start() -> Session {
 }
 
 // A set-up; a refused one leaves what was there.
-fn set_up(session: Session, line: &[u8]) -> Session {
+fn set_up(session: Session, line: &[u8], list: &mut [u8]) -> Session {
     let turn = session.turn;
-    let made = calls::set_up(turn, line);
+    let made = calls::set_up(turn, line, list);
     let reply = made.reply;
     let Reply::Accepted = reply else {
         return session;
@@ -89,13 +92,20 @@ fn with_device(session: Session, device: Device) -> Session {
     }
 }
 
-// A command that changes the tool.
-fn call(command: Command, session: Session, line: &[u8]) -> Session {
+// A command that changes the tool. Here and below a list of numbers and what a command gives back, values or a out word, go to lent
+// memory, so that it is not cleared for each command.
+fn call(
+    command: Command,
+    session: Session,
+    line: &[u8],
+    list: &mut [u8],
+    out: &mut [u8],
+) -> Session {
     let tool = session.tool;
     match command {
         Command::Load => with_tool(session, calls::load(tool, line)),
         Command::Event => with_tool(session, calls::event(tool, line)),
-        Command::Events => with_tool(session, calls::events(tool, line)),
+        Command::Events => with_tool(session, calls::events(tool, line, list, out)),
         Command::Restart => with_tool(session, calls::restart(tool, line)),
         Command::Clear => with_tool(session, calls::clear(tool, line)),
         _ => session,
@@ -103,34 +113,47 @@ fn call(command: Command, session: Session, line: &[u8]) -> Session {
 }
 
 // A command that changes nothing.
-fn ask(command: Command, session: Session, line: &[u8], entries: &[u8]) {
+fn ask(command: Command, session: Session, line: &[u8], entries: &[u8], out: &mut [u8]) {
     let tool = session.tool;
     let device = session.device;
     match command {
         Command::Table => rules::table(tool, line),
         Command::Dot => rules::dot(tool, line),
         Command::Show => calls::show(tool, line),
-        Command::Trial => devices::trial(tool, device, line, entries),
-        Command::Covers => covers::covers(tool, line),
+        Command::Trial => devices::trial(tool, device, line, entries, out),
+        Command::Covers => covers::covers(tool, line, out),
         Command::Write => devices::write(tool, device, line, entries),
         _ => {}
     }
 }
 
 // A command that needs a set-up.
-fn answer(command: Command, session: Session, line: &[u8], entries: &[u8]) -> Session {
+fn answer(
+    command: Command,
+    session: Session,
+    line: &[u8],
+    entries: &[u8],
+    list: &mut [u8],
+    out: &mut [u8],
+) -> Session {
     if !session.ready {
         say_error(b"setup");
         return session;
     }
-    ask(command, session, line, entries);
-    call(command, session, line)
+    ask(command, session, line, entries, out);
+    call(command, session, line, list, out)
 }
 
-fn obey(session: Session, line: &[u8], entries: &mut [u8]) -> Session {
+fn obey(
+    session: Session,
+    line: &[u8],
+    entries: &mut [u8],
+    list: &mut [u8],
+    out: &mut [u8],
+) -> Session {
     let command = read_command(word(line, 0));
     match command {
-        Command::Setup => set_up(session, line),
+        Command::Setup => set_up(session, line, list),
         Command::Wheel => {
             let old = session.turn;
             with_turn(session, calls::wheel(old, line))
@@ -147,7 +170,7 @@ fn obey(session: Session, line: &[u8], entries: &mut [u8]) -> Session {
             say_error(b"command");
             session
         }
-        _ => answer(command, session, line, &*entries),
+        _ => answer(command, session, line, &*entries, list, out),
     }
 }
 
@@ -161,17 +184,30 @@ fn is_skipped(line: &[u8]) -> bool {
 }
 
 // A line that is not skipped is a command.
-fn obey_line(session: Session, line: &[u8], entries: &mut [u8]) -> Session {
+fn obey_line(
+    session: Session,
+    line: &[u8],
+    entries: &mut [u8],
+    list: &mut [u8],
+    out: &mut [u8],
+) -> Session {
     if is_skipped(line) {
         return session;
     }
-    obey(session, line, entries)
+    obey(session, line, entries, list, out)
 }
 
 // What a line comes to.
-fn take_line(session: Session, found: Line, line: &[u8], entries: &mut [u8]) -> Session {
+fn take_line(
+    session: Session,
+    found: Line,
+    line: &[u8],
+    entries: &mut [u8],
+    list: &mut [u8],
+    out: &mut [u8],
+) -> Session {
     match found {
-        Line::Whole(n) => obey_line(session, front(line, n), entries),
+        Line::Whole(n) => obey_line(session, front(line, n), entries, list, out),
         Line::Long => {
             say_error(b"line");
             session
@@ -182,8 +218,11 @@ fn take_line(session: Session, found: Line, line: &[u8], entries: &mut [u8]) -> 
 
 fn main() {
     let mut block = [0u8; 4096];
-    let mut line = [0u8; 8192];
-    let mut entries = [0u8; 4096];
+    let mut line = [0u8; LINE_LIMIT];
+    let mut entries = [0u8; LIST_LIMIT];
+    let mut list = [0u8; LIST_LIMIT];
+    // no shorter than a list
+    let mut out = [0u8; WORD_LIMIT];
     let mut session = start();
     let mut input = Input { at: 0, end: 0 };
     // nothing says that the input ends
@@ -195,7 +234,7 @@ fn main() {
         if let Line::End = found {
             return;
         }
-        session = take_line(session, found, &line, &mut entries);
+        session = take_line(session, found, &line, &mut entries, &mut list, &mut out);
         turns -= 1;
     }
 }

@@ -10,6 +10,7 @@ use command_line::front;
 use command_line::rest;
 use limits::FILE_LIMIT;
 use limits::TABLE_BYTES;
+use limits::TABLE_LIMIT;
 use recorder::Tool;
 use refusal::Counted;
 use refusal::Refusal;
@@ -21,6 +22,13 @@ use table_rows::rows;
 
 // A channel file has fewer tokens than bytes, and a node three bytes.
 pub const NODE_ROOM: usize = FILE_LIMIT * 3;
+
+// Most tables have at most a sixteenth of the entries; an eighth of the room is more than what is printed of them takes.
+const FEW_BYTES: usize = TABLE_BYTES / 16;
+
+const FEW_ROWS: usize = ROWS_LENGTH / 8;
+
+const FEW_ARROWS: usize = GRAPH_LENGTH / 8;
 
 // The numbers of a set-up; its meet table is kept beside.
 pub struct Setup {
@@ -37,14 +45,14 @@ pub fn setup_of(events: u8, values: u8, top: u8) -> Setup {
     }
 }
 
-// The product of two numbers up to 64; 0 for any other.
+// The product of two numbers up to 256, the most states of a table; 0 for any other.
 pub fn product(a: usize, b: usize) -> usize
-    ensures { λ r. ⌜ r ≤ 4096 ⌝ }
+    ensures { λ r. ⌜ r ≤ 65536 ⌝ }
 {
-    if 64 < a {
+    if TABLE_LIMIT < a {
         return 0;
     }
-    if 64 < b {
+    if TABLE_LIMIT < b {
         return 0;
     }
     a * b
@@ -158,27 +166,39 @@ fn say_lines(text: &[u8]) {
     }
 }
 
-fn say_rows(setup: Setup, states: usize, table: &[u8]) {
-    let mut out = [0u8; ROWS_LENGTH];
-    let printed = rows(setup.events, setup.values, states, table, &mut out);
+// The rows of a table, put into a buffer first.
+fn say_rows_by(setup: Setup, states: usize, table: &[u8], out: &mut [u8]) {
+    let printed = rows(setup.events, setup.values, states, table, out);
     if let Counted::Count(n) = printed {
-        say_lines(front(&out, n));
+        say_lines(front(&*out, n));
     }
 }
 
-// A table as a Graphviz digraph.
-fn say_digraph(setup: Setup, states: usize, table: &[u8]) {
-    let mut out = [0u8; GRAPH_LENGTH];
-    let drawn = digraph(
-        setup.events,
-        setup.values,
-        setup.top,
-        states,
-        table,
-        &mut out,
-    );
+fn say_rows(setup: Setup, states: usize, table: &[u8]) {
+    if table.len() <= FEW_BYTES {
+        let mut out = [0u8; FEW_ROWS];
+        say_rows_by(setup, states, table, &mut out);
+    } else {
+        let mut out = [0u8; ROWS_LENGTH];
+        say_rows_by(setup, states, table, &mut out);
+    }
+}
+
+// A table as a Graphviz digraph, put into a buffer first.
+fn say_digraph_by(setup: Setup, states: usize, table: &[u8], out: &mut [u8]) {
+    let drawn = digraph(setup.events, setup.values, setup.top, states, table, out);
     if let Counted::Count(n) = drawn {
-        say(front(&out, n));
+        say(front(&*out, n));
+    }
+}
+
+fn say_digraph(setup: Setup, states: usize, table: &[u8]) {
+    if table.len() <= FEW_BYTES {
+        let mut out = [0u8; FEW_ARROWS];
+        say_digraph_by(setup, states, table, &mut out);
+    } else {
+        let mut out = [0u8; GRAPH_LENGTH];
+        say_digraph_by(setup, states, table, &mut out);
     }
 }
 

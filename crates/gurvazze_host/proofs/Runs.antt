@@ -2,7 +2,7 @@
 use mathlib.Core.{Path.{_≡_, refl, sym, _∙_, ap, ap₂}, Bool.{Bool, _&&_}, List.{List}}
 use Prim.Native.Nat.{ℕ, _+_, _*_, _≤_, _<_}
 use native.Mathlib.{Nat.{mul-le-mul-right}, Numerals.{add-one}, Omega.{arith}}
-use lib.{ListN.{length, getD, set, take, drop, length-append, length-drop}, Seq.{take-all, take-suc, length-take-le}}
+use lib.{ListN.{length, getD, set, take, drop, take-append-drop, length-append, length-drop}, Seq.{take-all, take-suc, length-take-le}}
 use Rattle.limits.specs.Limits.{entry-limit}
 use Rattle.theory.proofs.Words.{length-word-values, word-values-at, after-take}
 use Rattle.theory.specs.MealyMachine.{Machine, after}
@@ -10,12 +10,21 @@ use Rattle.theory.specs.MachineRuns.{word-values}
 use Rattle.theory.specs.ValueSetTests.{every}
 use Rattle.refusal.specs.Refusal.{put}
 use Rattle.machines.proofs.{EntryIndex.{index-below}, Stores.{put-snoc}}
-use Rattle.gurvazze_host.specs.FileCalls.{number-machine, Runnable}
+use Rattle.gurvazze_host.specs.FileCalls.{number-machine, front, Playable, Runnable}
 
 -- One number more of a test of all.
 pub every-step : (n : ℕ) (test : ℕ → Bool) (b all : Bool) → b ≡ test n → all ≡ every n test → (b && all) ≡ every (n + 1) test
 unfolding every
 every-step n test b all e f = rw (add-one n) (ap₂ _&&_ e f)
+
+pub few-entries : {events n : ℕ} {table : List ℕ} → Playable events n table → n * events ≤ entry-limit
+few-entries {events} p = omega (arith, mul-le-mul-right events (p .few-states), p .few-events)
+
+-- A table at the front of a buffer is within it.
+pub whole-front : (events n : ℕ) (buffer : List ℕ) → Playable events n (front events n buffer) → n * events * 2 ≤ length buffer
+whole-front events n buffer p =
+    let k = n * events * 2 in
+    omega (arith, p .whole, length-append (take k buffer) (drop k buffer), ap length (take-append-drop k buffer))
 
 -- After i events: the state q and the buffer b.
 pub record Ran (events n : ℕ) (table w out : List ℕ) (q : ℕ) (b : List ℕ) (i : ℕ) : Type 0 where
@@ -54,11 +63,8 @@ module _ (events n : ℕ) (table w out : List ℕ) (g : Runnable events n table 
     entry : q * events + e < n * events
     entry = index-below events n q e (h .below) (g .word-in i l)
 
-    few : n * events ≤ entry-limit
-    few = omega (arith, mul-le-mul-right events (g .playable .few-states), g .playable .few-events)
-
     pub place : q * events + e < entry-limit
-    place = omega (arith, entry, few)
+    place = omega (arith, entry, few-entries (g .playable))
 
     pub inside : (q * events + e) * 2 + 1 < length table
     inside = omega (arith, entry, g .playable .whole)

@@ -1,16 +1,18 @@
 -- Calls on a channel file: the table of its rule, events replayed by it, and trial against it. Each is the entry behind it, on what
 -- the file says; 4 comes first.
-use mathlib.Core.{Path.{_≡_}, List.{List}, Option.{Option}}
+use mathlib.Core.{Path.{_≡_}, Bool.{Bool, false}, List.{List}, Option.{Option}}
 use Prim.Native.Nat.{ℕ, _*_, _≤_, _<_}
-use lib.{Dec.{ltb, leb}, ListN.{length, getD}}
+use lib.{Dec.{eqb, ltb, leb}, ListN.{length, getD, take}}
 use Rattle.theory.specs.{MealyMachine.{Machine}, MachineRuns.{word-values}, ValueSetTests.{every}}
-use Rattle.refusal.specs.{declared.Refusal.{Refusal}, declared.Refusal.the-variants.{At}, RefusalAnswers.{or-else, plain-unless, put-unless}}
+use Rattle.refusal.specs.{declared.Refusal.{Refusal}, declared.Refusal.the-variants.{Plain, At}, RefusalAnswers.{or-else, plain-unless, put-unless}}
 use Rattle.text_format.specs.Format.{Outcome, contents, refused}
 use Rattle.channel_file.specs.ChannelFile.{Contents}
-use Rattle.values.specs.declared.ValueKind.the-variants.{Numbered}
+use Rattle.values.specs.{Setup.{setup}, declared.ValueKind.the-variants.{Numbered}}
 use Rattle.machines.specs.TableBytes.{machine-of}
 use Rattle.conformance.specs.{declared.Verdict.{Verdict}, declared.Verdict.the-variants.{Refused}, Trial.{TrialInput, input}}
 use Rattle.conformance.specs.TrialAnswer.{trial-refusal, first-failure, found-answer, answer-unless, buffer-unless}
+use Rattle.channel_io.specs.declared.FileNumbers.{FileNumbers}
+use Rattle.channel_io.specs.Claims.{table-bytes-limit}
 use Rattle.channel_io.specs.{FileConditions.{file-setup}, FileRefusals.{file-states, file-table, contents-table-refusal}}
 use Rattle.gurvazze_host.specs.Codes.{refusal-code, code, table-numbers}
 use Rattle.limits.specs.Limits.{device-limit, event-limit, state-limit, table-limit}
@@ -78,6 +80,15 @@ file-trial-buffer (contents c) states start device old =
 
 -- ---- what the private functions of src/ ask and say
 
+-- Whether a refusal is 13.
+unfoldable pub lacks-room : Refusal → Bool
+lacks-room (Plain n) = eqb n 13
+lacks-room (At n p) = false
+
+-- A table in bytes of so many states, at the front of a buffer.
+abbrev pub front : ℕ → ℕ → List ℕ → List ℕ
+front events n buffer = take (n * events * 2) buffer
+
 -- Bytes as a machine, two an entry, whatever the count of values.
 abbrev pub number-machine : ℕ → List ℕ → Machine ℕ ℕ
 number-machine events table = machine-of (Numbered 0) events table
@@ -100,3 +111,13 @@ pub record Runnable (events n : ℕ) (table word buffer : List ℕ) : Type 0 whe
 pub record Replays (events : ℕ) (table word old new : List ℕ) (r : ℕ) : Type 0 where
   pub answer : r ≡ code (word-refusal events word old) 0
   pub buffer : new ≡ put-unless (word-refusal events word old) (word-values (number-machine events table) 0 word) old
+
+-- A trial against the table at the front of one buffer, with the meet entries at the front of another, and what has room in them.
+abbrev pub held-trial : FileNumbers → List ℕ → ℕ → List ℕ → ℕ → ℕ → List ℕ → TrialInput
+held-trial n meet k table states start device =
+    input (setup (n .events) (n .values) (n .top) (take (n .entries) meet)) k (front (n .events) k table) states start device
+
+pub record Triable (n : FileNumbers) (meet : List ℕ) (k : ℕ) (table : List ℕ) : Type 0 where
+  pub entries-in : n .entries ≤ length meet
+  pub table-in : k * n .events * 2 ≤ length table
+  pub few-bytes : k * n .events * 2 ≤ table-bytes-limit

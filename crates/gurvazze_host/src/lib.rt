@@ -1,11 +1,14 @@
 // The static library for programs in C and Rust. Each exported function is an entry of the crates below with its answer in one number
 // of 64 bits: the refusal's number in the low byte, 0 where there is none, and above it the refusal's place or what the call yields.
+use channel_io::FileNumbers;
 use channel_io::FileTable;
 use channel_io::compile_file;
 use characteristic::write_rule;
 use conformance::Grade;
 use conformance::Verdict;
 use conformance::trial;
+use limits::DEVICE_LIMIT;
+use limits::EVENT_LIMIT;
 use limits::MEET_LIMIT;
 use limits::TABLE_BYTES;
 use refusal::Counted;
@@ -24,8 +27,12 @@ ghost use Rattle.channel_file.specs.Reading.{read-file};
 ghost use Rattle.gurvazze_host.specs.Codes.{refusal-code, yield-code, counted-code, grade-yield, verdict-code, table-numbers, SmallPlace};
 ghost use Rattle.gurvazze_host.specs.Codes.{SmallCount, SmallVerdict, SmallNumbers};
 ghost use Rattle.gurvazze_host.specs.FileCalls.{table-code, table-after, replay-code, replay-after, file-trial-answer, file-trial-buffer, number-machine};
-ghost use Rattle.gurvazze_host.specs.FileCalls.{Playable, Runnable, Replays};
+ghost use Rattle.gurvazze_host.specs.FileCalls.{lacks-room, front, held-trial, Playable, Runnable, Replays, Triable};
 ghost use Rattle.limits.specs.Limits.{node-limit, device-limit, table-limit};
+
+// The bytes of a small table: as many states as a device may have. Replay and trial make a file's table in so many first, and in those
+// of the largest table only where it has no room in them, so that a small rule does not pay for clearing a large array.
+const SMALL_BYTES: usize = DEVICE_LIMIT * EVENT_LIMIT * 2;
 
 fn wide(x: u8) -> usize
     ensures { λ r. ⌜ r ≡ x ⌝ }
@@ -41,6 +48,16 @@ fn refusal_code(refusal: Refusal) -> u64
     match refusal {
         Refusal::Plain(n) => n as u64,
         Refusal::At(n, p) => p as u64 * 256 + n as u64,
+    }
+}
+
+// Whether a refusal is 13: the table has no room in the buffer that it was to be made in.
+fn lacks_room(refusal: Refusal) -> bool
+    ensures { λ r. ⌜ r ≡ lacks-room refusal ⌝ }
+{
+    match refusal {
+        Refusal::Plain(n) => n == refusal::BUFFER_LENGTH,
+        Refusal::At(_, _) => false,
     }
 }
 
@@ -111,10 +128,10 @@ fn run(table: &[u8], events: usize, states: usize, word: &[u8], to: &mut [u8])
     }
 }
 
-// 16 for any event of the sequence, then 13, then the values.
+// By a table at the front of a buffer: 16 for any event of the sequence, then 13, then the values.
 fn replay_word(table: &[u8], events: usize, states: usize, word: &[u8], to: &mut [u8]) -> u64
-    requires { ⌜ Playable events states (now table) ⌝ }
-    ensures { λ r. ⌜ Replays events (now (table .entry)) (now (word .entry)) (now (to .entry)) (now (to .exit)) r ⌝ }
+    requires { ⌜ Playable events states (front events states (now table)) ⌝ }
+    ensures { λ r. ⌜ Replays events (front events states (now (table .entry))) (now (word .entry)) (now (to .entry)) (now (to .exit)) r ⌝ }
 {
     if !word_in_order(word, events as u8) {
         return refusal::EVENT_NUMBER as u64;
@@ -122,8 +139,95 @@ fn replay_word(table: &[u8], events: usize, states: usize, word: &[u8], to: &mut
     if to.len() < word.len() {
         return refusal::BUFFER_LENGTH as u64;
     }
-    run(table, events, states, word, to);
+    let size = states * events * 2;
+    run(&table[..size], events, states, word, to);
     0
+}
+
+// A replay whose table has no room in a small one's bytes.
+fn replay_large(text: &[u8], word: &[u8], to: &mut [u8]) -> u64
+    ensures answer { λ r. ⌜ r ≡ replay-code (read-file (now (text .entry))) (now (word .entry)) (now (to .entry)) ⌝ }
+    ensures contents { λ _. ⌜ now (to .exit) ≡ replay-after (read-file (now (text .entry))) (now (word .entry)) (now (to .entry)) ⌝ }
+{
+    let mut meet = [0u8; MEET_LIMIT];
+    let mut table = [0u8; TABLE_BYTES];
+    let made = compile_file(text, &mut meet, &mut table);
+    match made {
+        FileTable::Refused(refusal) => refusal_code(refusal),
+        FileTable::Made(numbers, states) => {
+            replay_word(&table, numbers.events, states, word, to)
+        }
+    }
+}
+
+// Trial of a device against a table at the front of a buffer, with the meet entries at the front of another.
+fn trial_made(
+    numbers: FileNumbers,
+    meet: &[u8],
+    states: usize,
+    table: &[u8],
+    device_states: usize,
+    device_start: usize,
+    device: &[u8],
+    word: &mut [u8],
+) -> u64
+    requires { ⌜ Triable numbers (now meet) states (now table) ⌝ }
+    ensures answer { λ r. ⌜ r ≡ verdict-code (trial-answer device-limit table-limit
+        (held-trial numbers (now (meet .entry)) states (now (table .entry)) «device_states» «device_start» (now (device .entry)))
+        (now (word .entry))) ⌝ }
+    ensures contents { λ _. ⌜ now (word .exit) ≡ trial-buffer device-limit table-limit
+        (held-trial numbers (now (meet .entry)) states (now (table .entry)) «device_states» «device_start» (now (device .entry)))
+        (now (word .entry)) ⌝ }
+{
+    let events = numbers.events;
+    let entries = numbers.entries;
+    let size = states * events * 2;
+    let verdict = trial(
+        events,
+        numbers.values,
+        numbers.top,
+        &meet[..entries],
+        states,
+        &table[..size],
+        device_states,
+        device_start,
+        device,
+        word,
+    );
+    verdict_code(verdict)
+}
+
+// A trial whose rule's table has no room in a small one's bytes.
+fn trial_large(
+    text: &[u8],
+    device_states: usize,
+    device_start: usize,
+    device: &[u8],
+    word: &mut [u8],
+) -> u64
+    ensures answer { λ r. ⌜ r ≡ verdict-code (file-trial-answer (read-file (now (text .entry))) «device_states» «device_start» (now (device .entry))
+        (now (word .entry))) ⌝ }
+    ensures contents { λ _. ⌜ now (word .exit) ≡ file-trial-buffer (read-file (now (text .entry))) «device_states» «device_start» (now (device .entry))
+        (now (word .entry)) ⌝ }
+{
+    let mut meet = [0u8; MEET_LIMIT];
+    let mut table = [0u8; TABLE_BYTES];
+    let made = compile_file(text, &mut meet, &mut table);
+    match made {
+        FileTable::Refused(refusal) => refusal_code(refusal),
+        FileTable::Made(numbers, states) => {
+            trial_made(
+                numbers,
+                &meet,
+                states,
+                &table,
+                device_states,
+                device_start,
+                device,
+                word,
+            )
+        }
+    }
 }
 
 // The table of a channel file's rule, two bytes an entry, and its numbers: 4, 1 to 3, 5 to 10, 13.
@@ -149,14 +253,17 @@ pub extern "C" fn gurvazze_replay(text: &[u8], word: &[u8], to: &mut [u8]) -> u6
     ensures contents { λ _. ⌜ now (to .exit) ≡ replay-after (read-file (now (text .entry))) (now (word .entry)) (now (to .entry)) ⌝ }
 {
     let mut meet = [0u8; MEET_LIMIT];
-    let mut table = [0u8; TABLE_BYTES];
+    let mut table = [0u8; SMALL_BYTES];
     let made = compile_file(text, &mut meet, &mut table);
     match made {
-        FileTable::Refused(refusal) => refusal_code(refusal),
+        FileTable::Refused(refusal) => {
+            if lacks_room(refusal) {
+                return replay_large(text, word, to);
+            }
+            refusal_code(refusal)
+        }
         FileTable::Made(numbers, states) => {
-            let events = numbers.events;
-            let size = states * events * 2;
-            replay_word(&table[..size], events, states, word, to)
+            replay_word(&table, numbers.events, states, word, to)
         }
     }
 }
@@ -176,27 +283,26 @@ pub extern "C" fn gurvazze_trial(
         (now (word .entry)) ⌝ }
 {
     let mut meet = [0u8; MEET_LIMIT];
-    let mut table = [0u8; TABLE_BYTES];
+    let mut table = [0u8; SMALL_BYTES];
     let made = compile_file(text, &mut meet, &mut table);
     match made {
-        FileTable::Refused(refusal) => refusal_code(refusal),
+        FileTable::Refused(refusal) => {
+            if lacks_room(refusal) {
+                return trial_large(text, device_states, device_start, device, word);
+            }
+            refusal_code(refusal)
+        }
         FileTable::Made(numbers, states) => {
-            let events = numbers.events;
-            let entries = numbers.entries;
-            let size = states * events * 2;
-            let verdict = trial(
-                events,
-                numbers.values,
-                numbers.top,
-                &meet[..entries],
+            trial_made(
+                numbers,
+                &meet,
                 states,
-                &table[..size],
+                &table,
                 device_states,
                 device_start,
                 device,
                 word,
-            );
-            verdict_code(verdict)
+            )
         }
     }
 }

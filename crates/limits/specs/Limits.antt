@@ -22,30 +22,31 @@ node-limit = 256
 abbrev pub binder-limit : ℕ
 binder-limit = 12
 
--- The states of a rule's table, "at most 64"; its entries.
+-- "A rule's table may have up to 256 states, which is 10's new limit" (document 02, F-12); its entries.
 abbrev pub state-limit : ℕ
-state-limit = 64
+state-limit = 256
 
 abbrev pub entry-limit : ℕ
 entry-limit = state-limit * event-limit
 
--- "A device is a table of 1 to 64 states"; 11 "for a device or any other table handed in: states not 1 to 64".
+-- "Devices stay at 64; the rule side of a trial, writing, .. the other table calls and 17's test of a channel's table take 256" (F-12): 11's
+-- limits.
 abbrev pub device-limit : ℕ
 device-limit = 64
 
 abbrev pub table-limit : ℕ
-table-limit = 64
+table-limit = 256
 
--- "A word of 1 to 4,096 events": as many as there are pairs of states.
+-- "A failing word may have up to 16,384 events" (F-12): as many as there are pairs of states.
 abbrev pub word-limit : ℕ
 word-limit = device-limit * table-limit
 
--- "Eight channels"; the rows of all their tables, "a row being one state of a loaded table" (document 02, F-12), and their entries.
+-- "Eight channels"; "512 rows among its channels, a row being one state of a loaded table" (F-12), and the entries of so many rows.
 abbrev pub channel-limit : ℕ
 channel-limit = 8
 
 abbrev pub row-limit : ℕ
-row-limit = channel-limit * state-limit
+row-limit = 512
 
 abbrev pub store-limit : ℕ
 store-limit = row-limit * event-limit

@@ -17,7 +17,7 @@ pub const BINDER_LIMIT: usize = 12;
 pub const SET_WORDS: usize = NODE_LIMIT / 64;
 
 // A rule's table: states, entries, and bytes at two an entry.
-pub const STATE_LIMIT: usize = 64;
+pub const STATE_LIMIT: usize = 256;
 
 pub const ENTRY_LIMIT: usize = STATE_LIMIT * EVENT_LIMIT;
 
@@ -26,15 +26,15 @@ pub const TABLE_BYTES: usize = ENTRY_LIMIT * 2;
 // A device, and any other table handed in: states.
 pub const DEVICE_LIMIT: usize = 64;
 
-pub const TABLE_LIMIT: usize = 64;
+pub const TABLE_LIMIT: usize = 256;
 
 // A failing word: events.
 pub const WORD_LIMIT: usize = DEVICE_LIMIT * TABLE_LIMIT;
 
-// The tool: channels, rows and entries of all their tables; a row is one state.
+// The tool: channels, rows among them, and the entries of so many rows; a row is one state of a loaded table.
 pub const CHANNEL_LIMIT: usize = 8;
 
-pub const ROW_LIMIT: usize = CHANNEL_LIMIT * STATE_LIMIT;
+pub const ROW_LIMIT: usize = 512;
 
 pub const STORE_LIMIT: usize = ROW_LIMIT * EVENT_LIMIT;
 

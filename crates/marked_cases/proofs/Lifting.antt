@@ -31,13 +31,13 @@ use Rattle.formulas.specs.RuleRefusal.{rule-refusal, formula-of}
 use Rattle.formulas.specs.Claims.{AcceptedFormula}
 use Rattle.formulas.proofs.{Encoding.{encode-unique}, NodeCodes.{node-code}, RuleClaims.{rule-judged, accepted-formula-of, formula-of-only}}
 use Rattle.machines.specs.{TableBytes.{machine-of}, TableRefusal.{table-refusal}, Claims.{AcceptedTable}}
-use Rattle.machines.proofs.TableRefusals.{accepted-table}
+use Rattle.machines.proofs.TableRefusals.{table-refusal-first, accepted-table}
 use Rattle.table_report.specs.{PrintedTable.{Prints}, Report.{report-text}}
 use Rattle.table_report.proofs.ReportClaims.{report-claim}
 use Rattle.channel_log.specs.Distance.{wheel-of-turn, distance}
 use Rattle.marked_cases.specs.MarkedCases.{Case, tabled, printed, repeated, refused, written, failing, passing, passing-same, passing-stricter}
 use Rattle.marked_cases.specs.MarkedCases.{implying, not-implying, measured, total-within, total-above, times, s, IsRule, TableOf, rows-of, device}
-use Rattle.marked_cases.specs.MarkedCases.{both, Holds, AllHold}
+use Rattle.marked_cases.specs.MarkedCases.{handed, both, rows-to-0, Holds, AllHold}
 
 -- ---- what is computed: a rule's bytes, its formula, and a formula's count of states and table
 abbrev bytes : List (Node ℕ) → List ℕ
@@ -101,6 +101,7 @@ Checked (not-implying first second word) = Coverable first second × (on-cover f
 Checked (measured pulses millimetres total whole remainder) = distance (wheel-of-turn pulses millimetres) total ≡ (whole, remainder)
 Checked (total-within total pulses) = leb (total + pulses) total-limit ≡ true
 Checked (total-above total pulses) = leb (total + pulses) total-limit ≡ false
+Checked (handed most n answer) = table-refusal most (s .events) (s .kind) n 0 (rows-to-0 n) ≡ answer
 
 -- ---- the set-up
 laws : SetupLaws s
@@ -398,6 +399,8 @@ lifted (passing v) low = λ rule φ r n t x.
 lifted (measured pulses millimetres total whole remainder) e = record { lower = e }
 lifted (total-within total pulses) e = record { lower = λ l. omega (arith, l, leb-true (total + pulses) total-limit e) }
 lifted (total-above total pulses) e = record { lower = leb-false (total + pulses) total-limit e }
+lifted (handed most n answer) e =
+    record { lower = subst (First _) e (table-refusal-first most (s .events) (s .kind) n 0 (rows-to-0 n)) }
 
 -- ---- a list of cases
 unfoldable pub AllChecked : List Case → Type 0

@@ -101,7 +101,10 @@ all-checked = (
                                     (refl, refl, refl, refl),
                                     (
                                       (refl, refl, refl, refl),
-                                      (refl, (refl, (refl, (refl, (refl, (refl, (refl, (refl, (refl, (refl, (refl, tt))))))))))),
+                                      (
+                                        refl,
+                                        (refl, (refl, (refl, (refl, (refl, (refl, (refl, (refl, (refl, (refl, (refl, (refl, (refl, (refl, tt)))))))))))))),
+                                      ),
                                     ),
                                   ),
                                 ),

@@ -1,7 +1,8 @@
 -- Document 01, "Marked for proof": the twelve cases in its order, the seventh as document 02 changes it, and what it is for a case to hold, by
 -- the documents' definitions; then cases of our own for document 02's requests. Four-value set, two events.
-use mathlib.Core.{Path.{_≡_}, Logic.{Lift}, List.{List, [], _∷_}, Option.{none, some}}
+use mathlib.Core.{Path.{_≡_}, Logic.{Lift}, List.{List, [], _∷_, _++_}, Option.{Option, none, some}}
 use Prim.Native.Nat.{ℕ, zero, suc}
+use Rattle.limits.specs.Limits.{device-limit, table-limit}
 use Rattle.theory.specs.ValueSets.{four-value-meet}
 use Rattle.theory.specs.Formula.{Formula, size, Answers, Node, truth-node, variable-node, transition-node, output-node, conjunction-node, greatest-node}
 use Rattle.theory.specs.Formula.{nodes}
@@ -10,7 +11,7 @@ use Rattle.theory.specs.MealyMachine.{Machine, States, Simulated, SameValues, F
 use Rattle.refusal.specs.{declared.Refusal.{Refusal}, declared.Refusal.the-variants.{Plain, At}, Refusal.{First}}
 use Rattle.values.specs.Setup.{Setup, setup, SetupValue, setup-meet, setup-top}
 use Rattle.formulas.specs.{RuleConditions.{encode-all, node-bytes, byte-conditions}, RuleCases.{below-binders}}
-use Rattle.machines.specs.TableBytes.{table-bytes, entry-bytes, machine-of}
+use Rattle.machines.specs.TableBytes.{table-bytes, entry-bytes, entry-width, machine-of, table-condition}
 use Rattle.text_format.specs.Texts.{ascii}
 use Rattle.table_report.specs.PrintedTable.{Prints}
 use Rattle.channel_log.specs.Distance.{wheel-of-turn, distance, TotalAbove}
@@ -61,6 +62,8 @@ pub data Case : Type 0 where
   measured : (pulses millimetres total whole remainder : ℕ) → Case
   total-within : (total pulses : ℕ) → Case
   total-above : (total pulses : ℕ) → Case
+  -- where a table may have so many states, one of so many, each with both values 3 and back to state 0, is taken or refused so (document 02, F-12)
+  handed : (most states : ℕ) → Option Refusal → Case
 
 -- An event so many times.
 abbrev pub times : ℕ → ℕ → List ℕ
@@ -89,6 +92,11 @@ device rows = machine-of (s .kind) (s .events) rows
 
 abbrev pub both : ℕ → List ℕ
 both v = v ∷ 0 ∷ v ∷ 0 ∷ []
+
+-- The rows of so many states, each with both values 3 and back to state 0.
+abbrev pub rows-to-0 : ℕ → List ℕ
+rows-to-0 zero = []
+rows-to-0 (suc n) = both 3 ++ rows-to-0 n
 
 unfoldable pub Holds : Case → Type 1
 Holds (tabled rule n rows) =
@@ -126,6 +134,8 @@ Holds (not-implying first second word) =
 Holds (measured pulses millimetres total whole remainder) = Lift {0, 1} (distance (wheel-of-turn pulses millimetres) total ≡ (whole, remainder))
 Holds (total-within total pulses) = Lift {0, 1} (¬ TotalAbove (some total) pulses)
 Holds (total-above total pulses) = Lift {0, 1} (TotalAbove (some total) pulses)
+Holds (handed most n answer) =
+    Lift {0, 1} (First (table-condition (entry-width (s .kind)) most (s .events) (SetupValue s) n 0 (rows-to-0 n) (device (rows-to-0 n)) ∷ []) answer)
 
 abbrev pub cases : List Case
 cases =
@@ -195,6 +205,11 @@ request-cases =
     ∷ total-within 1099511627520 256
     ∷ total-above 1099511627520 257
     ∷ total-above 1099511627776 1
+    -- F-12. devices of 64 states and of 65; other tables of 256 and of 257
+    ∷ handed device-limit 64 none
+    ∷ handed device-limit 65 (some (Plain 11))
+    ∷ handed table-limit 256 none
+    ∷ handed table-limit 257 (some (Plain 11))
     ∷ []
 
 unfoldable pub AllHold : List Case → Type 1

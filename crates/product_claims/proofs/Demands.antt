@@ -5,10 +5,10 @@ use Rattle.refusal.specs.Refusal.{Judged}
 use Rattle.refusal.proofs.Answers.{judgement-refusal-is}
 use Rattle.values.specs.{Setup.{setup-conditions}, SetupTests.{setup-refusal}}
 use Rattle.values.proofs.Setups.{setup-judged}
-use Rattle.synthesis.proofs.SetupArrays.{arrays-judged, arrays-hold, arrays-refused}
 use Rattle.conformance.proofs.TrialClaims.{trial-refusals, trial-refused, trial-passes, trial-simulated, trial-fails}
 use Rattle.recorder.proofs.Tools.{one-store}
-use Rattle.recorder_claims.proofs.Calls.{calls-judged, replay-judged, replay-events, set-up-judged, refused-set-up, record-of-calls, independence}
+use Rattle.recorder_claims.proofs.Calls.{calls-judged, replay-judged, replay-events, set-up-judged, refused-set-up, record-of-calls, own-calls}
+use Rattle.recorder_claims.proofs.Calls.{other-rows-decide}
 use Rattle.recorder_claims.proofs.Loading.{load-claim}
 use Rattle.channel_file.proofs.TextDemands.{file-to-tokens}
 use Rattle.channel_io.proofs.FileDemands.{reading-a-file, file-to-rule, writing-a-file, rule-to-file, file-to-rule-to-file}
@@ -21,7 +21,6 @@ demand-one =
     record {
       checking-a-set-up = λ s. subst⁻¹ (Judged (setup-conditions s)) (judgement-refusal-is (setup-refusal s)) (setup-judged s);
       compiling = compile-judged;
-      compiling-to-arrays = arrays-judged;
       writing-a-rule = rule-judged;
       trying = λ x old.
           let e = trial-refused device-limit table-limit .answer x old in
@@ -41,8 +40,6 @@ pub demand-two : DemandTwo
 demand-two =
     record {
       rule-to-table = rule-to-table;
-      rule-to-arrays = arrays-hold;
-      refused-arrays = arrays-refused;
       table-to-rule = table-to-rule;
       table-to-rule-to-table = table-to-rule-to-table;
       file-to-rule = file-to-rule;
@@ -56,7 +53,8 @@ pub demand-three : DemandThree
 demand-three =
     record {
       record-of-calls = record-of-calls;
-      independence = independence;
+      independence = own-calls;
+      load-independence = other-rows-decide;
       loading = load-claim;
       replaying = replay-events;
       refused-set-up = refused-set-up;

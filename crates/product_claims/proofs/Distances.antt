@@ -4,14 +4,13 @@ use Prim.Native.Nat.{ℕ, _+_, _*_, _/_, _%_, _<_}
 use native.Mathlib.{Nat.{div-add-mod', mod-lt}, Omega.{arith}}
 use Rattle.limits.specs.Limits.{channel-limit}
 use Rattle.machines.proofs.EntryIndex.{index-state, index-event}
-use Rattle.refusal.specs.RefusalAnswers.{plain-unless}
 use Rattle.refusal.proofs.Refusals.{or-else-none}
 use Rattle.channel_log.specs.Calls.{event, Reply, accepted, returned, refused, reply-refusal, with-channel, map-option, Loaded}
 use Rattle.channel_log.specs.Distance.{Wheel, WheelFault, Occurrence, Reading, reading, distance}
 use Rattle.channel_log.specs.{CallSteps.{channel-refusal, on-event, call-refusal, event-reply}, Recorded.{at-state}}
 use Rattle.channel_log.proofs.Independence.{put-at, put-apart}
-use Rattle.recorder.specs.{Store.{Store, AllCells, channels, totals}, ToolTests.{wheel-test, tool-test}}
-use Rattle.recorder.specs.Called.{next-state, next-total, content, tool-refusal, effect-on, called}
+use Rattle.recorder.specs.{Store.{Store, AllCells, channels, totals}, ToolTests.{wheel-test}}
+use Rattle.recorder.specs.Called.{next-state, next-total, content, fault-refusal, tool-refusal, effect-on, called}
 use Rattle.recorder.proofs.{Held.{channel-below, wheel-of-test, wheel-fault}, Decided.{accepted-call}}
 use Rattle.recorder_claims.proofs.{View.{current-view}, Calls.{call-refused}}
 use Rattle.product_claims.specs.Requests.{DistanceWithEveryEvent}
@@ -54,7 +53,7 @@ module _ (t : Store) (cells : AllCells t) (c : ℕ) (i : Occurrence) (r : Readin
   channel-fine =
       channel-below c
       (or-else-none (channel-refusal c) (on-event (content t) (channels t c) i)
-      (or-else-none (plain-unless (tool-test t (event c i)) 17) (call-refusal (content t) (channels t) (event c i)) unrefused .1) .0)
+      (or-else-none (fault-refusal t (event c i)) (call-refusal (content t) (channels t) (event c i)) unrefused .1) .0)
 
   store-after : called (event c i) t .1 ≡ effect-on t (event c i)
   store-after = ap (λ a. a .1) (accepted-call t (event c i) unrefused)

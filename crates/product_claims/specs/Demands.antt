@@ -1,22 +1,23 @@
 -- The user's three demands, each as one record over document 01's definitions and the functions that contracts state; proved in proofs/Demands.
 use mathlib.Core.{Path.{_≡_}, Logic.{_↔_}, List.{List, map}, Option.{none, some}}
 use Prim.Native.Nat.{ℕ, zero, _*_, _≤_, _<_}
-use lib.ListN.{length, take, replicate}
-use Rattle.limits.specs.Limits.{channel-limit, entry-limit, node-limit, state-limit, device-limit, table-limit, word-limit}
+use lib.ListN.{length, take}
+use Rattle.limits.specs.Limits.{node-limit, state-limit, device-limit, table-limit, word-limit}
 use Rattle.theory.specs.{Formula.{Formula, size}, MealyMachine.{Machine, Word, after, States, Satisfies}}
 use Rattle.refusal.specs.{declared.Refusal.the-variants.{Plain}, declared.Refusal.{Refusal}, declared.Counted.{Counted}}
 use Rattle.refusal.specs.{Refusal.{Judged, JudgedCall, judgement-refusal, counted-refusal, count-of, put}, RefusalAnswers.{judgement}}
 use Rattle.values.specs.{Setup.{Setup, setup, setup-meet, setup-conditions}, SetupTests.{setup-refusal}}
 use Rattle.machines.specs.TableBytes.{table-bytes, entry-width, entry-bytes, machine-of}
 use Rattle.formulas.specs.RuleConditions.{encode-formula, node-bytes}
-use Rattle.synthesis.specs.TableOfRule.{compile-conditions, pair-table-conditions, IsRuleTable, ArraysHold}
-use Rattle.synthesis.specs.Compilation.{compile-answer, compile-contents, compiled-setup}
+use Rattle.synthesis.specs.TableOfRule.{compile-conditions, IsRuleTable}
+use Rattle.synthesis.specs.Compilation.{compile-answer, compile-contents}
 use Rattle.characteristic.specs.{RuleOfTable.{write-conditions, IsWritten}, RuleWriting.{write-answer, write-contents}}
 use Rattle.conformance.specs.Trial.{TrialInput, input, DeviceInOrder, trial-conditions, Passes, FailsBy, refusal-of, Passed, word-length}
 use Rattle.conformance.specs.TrialAnswer.{trial-answer, trial-buffer}
 use Rattle.channel_log.specs.Distance.{Occurrence, Reading}
-use Rattle.channel_log.specs.Calls.{Call, load, accepted, returned, refused, reply-refusal, replies, final, event-calls, last-returned, struck, replies-on}
-use Rattle.recorder.specs.Store.{Store, AllCells, ToolSetup, tool-setup-conditions, setup-of, tool-setup-of, channels, StoreClaim}
+use Rattle.channel_log.specs.Calls.{Call, load, event, accepted, returned, refused, reply-refusal, replies, final, event-calls, last-returned}
+use Rattle.channel_log.specs.{Calls.{accepted-on, replies-on}, Rows.{other-rows}}
+use Rattle.recorder.specs.Store.{Store, AllCells, ToolSetup, tool-setup-conditions, setup-of, tool-setup-of, channels, rows, StoreClaim}
 use Rattle.recorder.specs.{Store.{call-conditions, replay-conditions}, Called.{called, set-up-called}, Replay.{replayed}}
 use Rattle.recorder_claims.specs.ChannelLog.{AsLogged, LoadedAs}
 use Rattle.channel_file.specs.{ChannelFile.{TokensOf}, Reading.{read-file, tokens-stretch}}
@@ -30,11 +31,10 @@ use Rattle.table_report.specs.{PrintedTable.{Prints, report-conditions}, Report
 pub record DemandOne : Type 1 where
   -- values `check_setup`
   pub checking-a-set-up : (s : Setup) → Judged (setup-conditions s) (judgement-refusal (judgement (setup-refusal s)))
-  -- synthesis `compile` and `compile_rule`
+  -- synthesis `compile`
   pub compiling : (s : Setup) (rule old : List ℕ) →
       JudgedCall (compile-conditions state-limit s rule old) (counted-refusal (compile-answer state-limit s rule old)) old
       (compile-contents state-limit s rule old)
-  pub compiling-to-arrays : (s : Setup) (rule : List ℕ) → Judged (pair-table-conditions s rule) (counted-refusal (compiled-setup s rule .verdict))
   -- characteristic `write_rule`
   pub writing-a-rule : (s : Setup) (states start : ℕ) (table old : List ℕ) →
       JudgedCall (write-conditions table-limit node-limit s states start table (length old))
@@ -67,13 +67,9 @@ pub record Recompiled (s : Setup) (start : ℕ) (table rule to : List ℕ) : Typ
 
 -- Demand 2: "rule to table, table to rule, file to rule agree with source 000 and document 01".
 pub record DemandTwo : Type 0 where
-  -- "the table has the rule's values on every event sequence"; beside a refusal `compile_rule` hands back zeros
+  -- "the table has the rule's values on every event sequence"
   pub rule-to-table : (s : Setup) (rule old : List ℕ) (n : ℕ) → count-of (compile-answer state-limit s rule old) ≡ some n →
       (t : Machine ℕ ℕ) × IsRuleTable s rule n t × (compile-contents state-limit s rule old ≡ put (table-bytes (entry-bytes (s .kind)) (s .events) t n) old)
-  pub rule-to-arrays : (s : Setup) (rule : List ℕ) (n : ℕ) → count-of (compiled-setup s rule .verdict) ≡ some n →
-      ArraysHold s rule (compiled-setup s rule .values) (compiled-setup s rule .nexts) n
-  pub refused-arrays : (s : Setup) (rule : List ℕ) (r : Refusal) → counted-refusal (compiled-setup s rule .verdict) ≡ some r →
-      (compiled-setup s rule .values ≡ replicate entry-limit 0) × (compiled-setup s rule .nexts ≡ replicate entry-limit 0)
   -- "a rule written from a table has the table's values"
   pub table-to-rule : (s : Setup) (states start : ℕ) (table old : List ℕ) (n : ℕ) →
       count-of (write-answer table-limit node-limit s states start table old) ≡ some n → (φ : Formula ℕ) × IsWritten s start table φ × (n ≡ size φ)
@@ -108,10 +104,18 @@ pub record DemandThree : Type 1 where
   pub record-of-calls : (s : ToolSetup) → reply-refusal (set-up-called s .0) ≡ none → (calls : List (Call Occurrence)) →
       AsLogged s calls (replies called calls (set-up-called s .1)) (tool-setup-of (final called calls (set-up-called s .1)))
       (channels (final called calls (set-up-called s .1)))
-  pub independence : (s : ToolSetup) → reply-refusal (set-up-called s .0) ≡ none → (c : ℕ) → c < channel-limit →
-      (calls others : List (Call Occurrence)) → struck c calls ≡ struck c others →
+  -- document 02, F-12: "from equal set-ups, after the same accepted loads and calls on a channel in the same order, restart all being one on every
+  -- channel, its events answer the same whatever calls named the others"; so did those calls, and the channel is the same
+  pub independence : (s : ToolSetup) → reply-refusal (set-up-called s .0) ≡ none → (c : ℕ) (calls others : List (Call Occurrence)) →
+      accepted-on c calls (replies called calls (set-up-called s .1)) ≡ accepted-on c others (replies called others (set-up-called s .1)) →
       (replies-on c calls (replies called calls (set-up-called s .1)) ≡ replies-on c others (replies called others (set-up-called s .1)))
       × (channels (final called calls (set-up-called s .1)) c ≡ channels (final called others (set-up-called s .1)) c)
+      × ((i : Occurrence) →
+      called (event c i) (final called calls (set-up-called s .1)) .0 ≡ called (event c i) (final called others (set-up-called s .1)) .0)
+  -- "Whether a load is accepted may depend on the row totals of others, and on nothing else of theirs"
+  pub load-independence : (s : ToolSetup) → reply-refusal (set-up-called s .0) ≡ none → (c : ℕ) (rule : List ℕ) (calls others : List (Call Occurrence)) →
+      other-rows c (rows (final called calls (set-up-called s .1))) ≡ other-rows c (rows (final called others (set-up-called s .1))) →
+      called (load c rule) (final called calls (set-up-called s .1)) .0 ≡ called (load c rule) (final called others (set-up-called s .1)) .0
   -- on any tool, not only one that a list of calls made: what a load leaves, and a replay is its event calls
   pub loading : (t : Store) → AllCells t → (c : ℕ) (rule : List ℕ) → called (load c rule) t .0 ≡ accepted →
       LoadedAs (setup-of t) c rule (channels t) (channels (called (load c rule) t .1))

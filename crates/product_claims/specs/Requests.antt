@@ -3,7 +3,7 @@
 use mathlib.Core.{Path.{_≡_}, Logic.{_↔_, _⊎_}, List.{List, _++_}, Option.{none, some}}
 use Prim.Native.Nat.{ℕ, zero, suc, _+_, _*_, _≤_, _<_}
 use lib.{Dec.{T}, ListN.{length, take}}
-use Rattle.limits.specs.Limits.{node-limit, binder-limit, state-limit, device-limit, table-limit, word-limit}
+use Rattle.limits.specs.Limits.{node-limit, binder-limit, state-limit, device-limit, table-limit, word-limit, row-limit}
 use Rattle.theory.specs.Formula.{Formula, transition, conjunction, size, conjunction-node, Stands, Answers}
 use Rattle.theory.specs.{MealyMachine.{Machine, Word, after, Implies}, ReachableStates.{NodeSet, Demands, IsSetMachine}}
 use Rattle.refusal.specs.{declared.Refusal.{Refusal}, declared.Refusal.the-variants.{Plain}, Refusal.{First, counted-refusal, count-of}}
@@ -15,8 +15,9 @@ use Rattle.machines.specs.TableBytes.{entry-width, machine-of}
 use Rattle.formulas.specs.RuleConditions.{encode-formula, node-width, node-bytes, Unbound, TooDeep, Unprotected, NodeAtFault, byte-conditions}
 use Rattle.synthesis.specs.{Compilation.{compile-answer, compile-contents}, KeptSets.{kept-set}}
 use Rattle.characteristic.specs.{RuleOfTable.{IsRuleOf}, RuleWriting.{write-answer}}
-use Rattle.channel_log.specs.{Calls.{event, returned}, Distance.{Wheel, WheelFault, Occurrence, Reading, distance}}
-use Rattle.recorder.specs.{Store.{Store, AllCells, channels, totals}, Called.{called}}
+use Rattle.channel_log.specs.Calls.{Call, event, clear, accepted, returned, reply-refusal, final, with-channel}
+use Rattle.channel_log.specs.{Distance.{Wheel, WheelFault, Occurrence, Reading, distance}, Rows.{all-rows}}
+use Rattle.recorder.specs.{Store.{Store, AllCells, ToolSetup, channels, rows, totals}, Called.{called, set-up-called}}
 use Rattle.product_claims.specs.Demands.{rule-trial-input}
 
 -- A rule's bytes; 5 to 9 let bytes through.
@@ -140,10 +141,21 @@ pub record Covering : Type 1 where
       (r : Refusal) → counted-refusal (compile-answer state-limit s (joined s first second) to) ≡ some r →
       (r ≡ Plain 5) ⊎ ((r ≡ Plain 10) ⊎ (r ≡ Plain 13))
 
+-- F-12: one store of rows for the tool. 10's and 11's limits are those of Limits, 25's conditions those of Store; what is said of the independence
+-- of channels, and of what a load leaves, stands in DemandThree (`independence`, `load-independence`, `loading`).
+pub record OneStore : Type 0 where
+  -- "The tool now has 512 rows among its channels": no list of calls leaves more
+  pub within : (s : ToolSetup) → reply-refusal (set-up-called s .0) ≡ none → (calls : List (Call Occurrence)) →
+      all-rows (rows (final called calls (set-up-called s .1))) ≤ row-limit
+  -- a clear on any tool moves rows too: its channel is empty, and no other changes
+  pub cleared : (t : Store) → AllCells t → (c : ℕ) → called (clear c) t .0 ≡ accepted →
+      (d : ℕ) → channels (called (clear c) t .1) d ≡ with-channel c none (channels t) d
+
 pub record Requests : Type 1 where
   pub inner-binders : InnerBinders
   pub twelve-binders : TwelveBinders
   pub gathered-demands : GatheredDemands
   pub distance-with-every-event : DistanceWithEveryEvent
+  pub one-store : OneStore
   pub same-or-stricter : SameOrStricter
   pub covering : Covering

@@ -5,7 +5,7 @@ use Prim.Native.Nat.{ℕ, zero, suc, _+_, _*_, _%_, _≤_, _<_}
 use native.Mathlib.{Nat.{mod-eq-of-lt}, Omega.{arith}}
 use borrow.Author.Tests.{ltb-true, ltb-false, leb-true, leb-false, le-leb, lt-leb}
 use lib.{Dec.{ltb, leb}, ListN.{getD, set, replicate}, Seq.{set-getD}}
-use Rattle.limits.specs.Limits.{channel-limit, event-limit, meet-limit, total-limit}
+use Rattle.limits.specs.Limits.{channel-limit, event-limit, meet-limit, row-limit, store-limit, total-limit}
 use Rattle.theory.specs.MealyMachine.{Machine}
 use Rattle.theory.proofs.ValueSets.{and-left, and-right}
 use Rattle.refusal.specs.declared.{Refusal.{Refusal}, Judgement.{Judgement}}
@@ -16,21 +16,24 @@ use Rattle.refusal.proofs.Refusals.{or-else-none, or-else-assoc, plain-none, ju
 use Rattle.values.specs.Setup.{setup}
 use Rattle.values.proofs.Setups.{setup-accepted}
 use Rattle.machines.proofs.EntryIndex.{index-below}
-use Rattle.channel_log.specs.Calls.{Call, event, restart, restart-all, clear, Reply, accepted, returned, refused}
+use Rattle.channel_log.specs.Calls.{Call, event, restart, restart-all, Reply, accepted, returned, refused}
 use Rattle.channel_log.specs.CallSteps.{channel-refusal, empty-refusal, on-event, event-reply, accepted-reply}
-use Rattle.channel_log.specs.Log.{large-event, large-total, occurrence-refusal}
+use Rattle.channel_log.specs.Log.{large-event, large-total, occurrence-refusal, rows-refusal}
+use Rattle.channel_log.specs.Rows.{all-rows}
 use Rattle.channel_log.specs.{Calls.{Loaded}, Distance.{wheel-of-turn, Occurrence, Reading, reading}}
 use Rattle.channel_log.proofs.Record.{test-passed, event-fits, total-fits}
 use Rattle.recorder.specs.declared.Decision.{Decision}
-use Rattle.recorder.specs.Store.{Store, ToolSetup, tool-setup, tool-setup-of, table-at, loaded-at, rows-start, held, channels}
+use Rattle.recorder.specs.Store.{Store, ToolSetup, tool-setup, tool-setup-of, table-at, loaded-at, held, channels, rows}
+use Rattle.recorder.specs.Splicing.{row-count}
 use Rattle.recorder.specs.Store.{ChannelInOrder}
 use Rattle.recorder.specs.ToolTests.{tool-setup-refusal, setup-test, channel-test, test-of, tool-test}
-use Rattle.recorder.specs.Called.{with-current, next-state, next-total, content, tool-refusal, effect-on, settled-store, called}
+use Rattle.recorder.specs.Called.{with-current, next-state, next-total, content, fault-refusal, tool-refusal, effect-on, settled-store, called}
 use Rattle.recorder.specs.Called.{empty-store, filled, new-store, blank, set-up-answer, set-up-called}
-use Rattle.recorder.specs.Decisions.{number-refusal, number-unless, first-number, channel-number, loaded-number, event-number}
+use Rattle.recorder.specs.Decisions.{number-refusal, number-unless, first-number, fault-number, channel-number, loaded-number, event-number}
 use Rattle.recorder.specs.Decisions.{total-number, limited, Measurable}
 use Rattle.recorder.specs.Decisions.{decided, entry-place, Bounds, plain-reply, value-reply, kept-number, kept-numbers, judged-reply}
-use Rattle.recorder.proofs.{Numbers.{first-refusal, unless-refusal, test-refusal}, Rows.{getD-part, rows-in, entries-fit}}
+use Rattle.recorder.proofs.{Numbers.{first-refusal, unless-refusal, test-refusal}, Rows.{getD-part, entries-fit}}
+use Rattle.recorder.proofs.RowCounts.{start, all-rows-are, rows-within}
 use Rattle.recorder.proofs.Held.{channel-below, few-events, held-above, held-some, held-cases, empty-held, in-order-of-test}
 use Rattle.recorder.proofs.Held.{accepted-of-test, values-accepted, wheel-accepted, wheel-of-test}
 
@@ -52,7 +55,7 @@ module _ (t : Store) (call : Call Occurrence) where
 -- The channel as the code reads it, with its state at c % 8; and 17's test of it.
 abbrev pub read : Store → ℕ → Option (Loaded ℕ)
 read t c =
-    held c (t .setup .events) (getD (t .states) (c % channel-limit) 0) (getD (t .current) (c % channel-limit) 0)
+    held c (start t (c % channel-limit)) (t .setup .events) (getD (t .states) (c % channel-limit) 0) (getD (t .current) (c % channel-limit) 0)
     (getD (t .total) (c % channel-limit) 0) (t .value) (t .next)
 
 pub read-same : (t : Store) (c : ℕ) → read t c ≡ channels t c
@@ -60,106 +63,124 @@ read-same t c = go (ltb c channel-limit) refl
   where
     go : (i : Bool) → ltb c channel-limit ≡ i → read t c ≡ channels t c
     go true p =
-        ap (λ x. held c (t .setup .events) (getD (t .states) x 0) (getD (t .current) x 0) (getD (t .total) x 0) (t .value) (t .next))
+        ap (λ x. held c (start t x) (t .setup .events) (getD (t .states) x 0) (getD (t .current) x 0) (getD (t .total) x 0) (t .value) (t .next))
         (mod-eq-of-lt (ltb-true c channel-limit p))
     go false p =
-        held-above c (t .setup .events) (getD (t .states) (c % channel-limit) 0) (getD (t .current) (c % channel-limit) 0)
+        held-above c (start t (c % channel-limit)) (t .setup .events) (getD (t .states) (c % channel-limit) 0) (getD (t .current) (c % channel-limit) 0)
         (getD (t .total) (c % channel-limit) 0) (t .value) (t .next) (ltb-false c channel-limit p)
-        ∙ sym (held-above c (t .setup .events) (getD (t .states) c 0) (getD (t .current) c 0) (getD (t .total) c 0) (t .value) (t .next)
+        ∙ sym (held-above c (start t c) (t .setup .events) (getD (t .states) c 0) (getD (t .current) c 0) (getD (t .total) c 0) (t .value) (t .next)
         (ltb-false c channel-limit p))
 
--- 17's number for a named channel.
-abbrev pub fault-number : Store → ℕ → ℕ
-fault-number t c = number-unless (setup-test (tool-setup-of t) && channel-test (t .setup .events) (t .setup .kind) (read t c)) 17
+-- The number of 17 or 25 for a named channel.
+abbrev pub read-fault : Store → ℕ → ℕ
+read-fault t c = fault-number (setup-test (tool-setup-of t) && channel-test (t .setup .events) (t .setup .kind) (read t c)) (t .states)
 
-module _ (t : Store) (c f : ℕ) (e-fault : f ≡ fault-number t c) where
+-- 25 by the counts of states.
+rows-number : (t : Store) → number-refusal (number-unless (leb (row-count (t .states)) row-limit) 25) ≡ rows-refusal (all-rows (rows t))
+rows-number t = test-refusal (leb (row-count (t .states)) row-limit) 24 ∙ ap rows-refusal (sym (all-rows-are t))
+
+module _ (t : Store) (c f : ℕ) (e-fault : f ≡ read-fault t c) where
   abbrev w : ℕ
   w = c % channel-limit
 
   abbrev k : ℕ
   k = getD (t .states) w 0
 
-  abbrev seventeen : Option Refusal
-  seventeen = plain-unless (setup-test (tool-setup-of t) && test-of t c) 17
+  abbrev read-test : Option (Loaded ℕ) → Bool
+  read-test o = setup-test (tool-setup-of t) && channel-test (t .setup .events) (t .setup .kind) o
 
-  fault-refusal : number-refusal f ≡ seventeen
-  fault-refusal =
-      ap number-refusal e-fault ∙ unless-refusal (setup-test (tool-setup-of t) && channel-test (t .setup .events) (t .setup .kind) (read t c)) 16
-      ∙ ap (λ o. plain-unless (setup-test (tool-setup-of t) && channel-test (t .setup .events) (t .setup .kind) o) 17) (read-same t c)
+  -- 17, then 25.
+  abbrev pub faults : Option Refusal
+  faults = or-else (plain-unless (setup-test (tool-setup-of t) && test-of t c) 17) (rows-refusal (all-rows (rows t)))
+
+  faults-are : number-refusal f ≡ faults
+  faults-are =
+      ap number-refusal e-fault
+      ∙ first-refusal (number-unless (read-test (read t c)) 17) (number-unless (leb (row-count (t .states)) row-limit) 25)
+      ∙ ap₂ or-else (unless-refusal (read-test (read t c)) 16 ∙ ap (λ o. plain-unless (read-test o) 17) (read-same t c)) (rows-number t)
 
   channel-unless : number-refusal (number-unless (ltb c channel-limit) 14) ≡ channel-refusal c
   channel-unless = test-refusal (ltb c channel-limit) 13
 
-  -- 17, then 14.
-  pub channel-refused : number-refusal (channel-number f c) ≡ or-else seventeen (channel-refusal c)
-  channel-refused = first-refusal f (number-unless (ltb c channel-limit) 14) ∙ ap₂ or-else fault-refusal channel-unless
+  -- Then 14.
+  pub channel-refused : number-refusal (channel-number f c) ≡ or-else faults (channel-refusal c)
+  channel-refused = first-refusal f (number-unless (ltb c channel-limit) 14) ∙ ap₂ or-else faults-are channel-unless
 
   -- A channel that they do not refuse is where the code looks.
-  here : or-else seventeen (channel-refusal c) ≡ none → w ≡ c
-  here h = mod-eq-of-lt (channel-below c (or-else-none seventeen (channel-refusal c) h .1))
+  here : or-else faults (channel-refusal c) ≡ none → w ≡ c
+  here h = mod-eq-of-lt (channel-below c (or-else-none faults (channel-refusal c) h .1))
 
-  empty-unless : or-else seventeen (channel-refusal c) ≡ none → number-refusal (number-unless (ltb 0 k) 15) ≡ empty-refusal (channels t c)
+  empty-unless : or-else faults (channel-refusal c) ≡ none → number-refusal (number-unless (ltb 0 k) 15) ≡ empty-refusal (channels t c)
   empty-unless h =
       ap (λ x. number-refusal (number-unless (ltb 0 (getD (t .states) x 0)) 15)) (here h) ∙ test-refusal (ltb 0 (getD (t .states) c 0)) 14
-      ∙ sym (empty-held c (t .setup .events) (getD (t .states) c 0) (getD (t .current) c 0) (getD (t .total) c 0) (t .value) (t .next)
-      (channel-below c (or-else-none seventeen (channel-refusal c) h .1)))
+      ∙ sym (empty-held c (start t c) (t .setup .events) (getD (t .states) c 0) (getD (t .current) c 0) (getD (t .total) c 0) (t .value) (t .next)
+      (channel-below c (or-else-none faults (channel-refusal c) h .1)))
 
   -- Then 15, and what comes after it.
-  pub loaded-refused : number-refusal (loaded-number f c k) ≡ or-else seventeen (or-else (channel-refusal c) (empty-refusal (channels t c)))
+  pub loaded-refused : number-refusal (loaded-number f c k) ≡ or-else faults (or-else (channel-refusal c) (empty-refusal (channels t c)))
   loaded-refused =
       first-refusal (channel-number f c) (number-unless (ltb 0 k) 15)
       ∙ ap (λ o. or-else o (number-refusal (number-unless (ltb 0 k) 15))) channel-refused
-      ∙ or-else-same (or-else seventeen (channel-refusal c)) (number-refusal (number-unless (ltb 0 k) 15)) (empty-refusal (channels t c)) empty-unless
-      ∙ sym (or-else-assoc seventeen (channel-refusal c) (empty-refusal (channels t c)))
+      ∙ or-else-same (or-else faults (channel-refusal c)) (number-refusal (number-unless (ltb 0 k) 15)) (empty-refusal (channels t c)) empty-unless
+      ∙ sym (or-else-assoc faults (channel-refusal c) (empty-refusal (channels t c)))
 
   pub later-refused :
       (n : ℕ) →
       number-refusal (first-number (loaded-number f c k) n)
-      ≡ or-else seventeen (or-else (channel-refusal c) (or-else (empty-refusal (channels t c)) (number-refusal n)))
+      ≡ or-else faults (or-else (channel-refusal c) (or-else (empty-refusal (channels t c)) (number-refusal n)))
   later-refused n =
       let a = channel-refusal c in
       let b = empty-refusal (channels t c) in
       first-refusal (loaded-number f c k) n ∙ ap (λ o. or-else o (number-refusal n)) loaded-refused
-      ∙ sym (or-else-assoc seventeen (or-else a b) (number-refusal n)) ∙ ap (or-else seventeen) (sym (or-else-assoc a b (number-refusal n)))
+      ∙ sym (or-else-assoc faults (or-else a b) (number-refusal n)) ∙ ap (or-else faults) (sym (or-else-assoc a b (number-refusal n)))
 
--- A loaded channel that 17, 14 and 15 do not refuse.
+-- A loaded channel that 17, 25, 14 and 15 do not refuse.
 pub record Ready (t : Store) (c : ℕ) : Type 0 where
   pub setup-passes : setup-test (tool-setup-of t) ≡ true
   pub channel : c < channel-limit
   pub loaded : 0 < getD (t .states) c 0
   pub in-order : test-of t c ≡ true
+  pub rows-fit : row-count (t .states) ≤ row-limit
 
 -- A loaded channel has states.
 loaded-below : (t : Store) (c : ℕ) → c < channel-limit → empty-refusal (channels t c) ≡ none → 0 < getD (t .states) c 0
 loaded-below t c h e =
     ltb-true 0 (getD (t .states) c 0)
     (test-passed (ltb 0 (getD (t .states) c 0)) (Plain 15)
-    (sym (empty-held c (t .setup .events) (getD (t .states) c 0) (getD (t .current) c 0) (getD (t .total) c 0) (t .value) (t .next) h) ∙ e))
+    (sym (empty-held c (start t c) (t .setup .events) (getD (t .states) c 0) (getD (t .current) c 0) (getD (t .total) c 0) (t .value) (t .next) h) ∙ e))
+
+pub rows-fitting : (t : Store) → rows-refusal (all-rows (rows t)) ≡ none → row-count (t .states) ≤ row-limit
+rows-fitting t h =
+    subst (λ n. n ≤ row-limit) (all-rows-are t)
+    (leb-true (all-rows (rows t)) row-limit (test-passed (leb (all-rows (rows t)) row-limit) (Plain 25) h))
 
 pub ready-of :
     (t : Store) (c : ℕ) (later : Option Refusal) →
-    or-else (plain-unless (setup-test (tool-setup-of t) && test-of t c) 17)
+    or-else (or-else (plain-unless (setup-test (tool-setup-of t) && test-of t c) 17) (rows-refusal (all-rows (rows t))))
     (or-else (channel-refusal c) (or-else (empty-refusal (channels t c)) later)) ≡ none →
     Ready t c × (later ≡ none)
 ready-of t c later h =
     let T = setup-test (tool-setup-of t) && test-of t c in
-    let a = or-else-none (plain-unless T 17) (or-else (channel-refusal c) (or-else (empty-refusal (channels t c)) later)) h in
+    let O = rows-refusal (all-rows (rows t)) in
+    let a = or-else-none (or-else (plain-unless T 17) O) (or-else (channel-refusal c) (or-else (empty-refusal (channels t c)) later)) h in
+    let f = or-else-none (plain-unless T 17) O (a .0) in
     let b = or-else-none (channel-refusal c) (or-else (empty-refusal (channels t c)) later) (a .1) in
     let d = or-else-none (empty-refusal (channels t c)) later (b .1) in
-    let passes = plain-none T 17 (a .0) in
+    let passes = plain-none T 17 (f .0) in
     let below = channel-below c (b .0) in (
       record {
         setup-passes = and-left (setup-test (tool-setup-of t)) (test-of t c) passes;
         channel = below;
         loaded = loaded-below t c below (d .0);
         in-order = and-right (setup-test (tool-setup-of t)) (test-of t c) passes;
+        rows-fit = rows-fitting t (f .1);
       },
       d .1,
     )
 
 module _ (t : Store) (c : ℕ) where
   abbrev pub table-of : Machine ℕ ℕ
-  table-of = table-at (rows-start c) (t .setup .events) (getD (t .states) c 0) (t .value) (t .next)
+  table-of = table-at (start t c) (t .setup .events) (getD (t .states) c 0) (t .value) (t .next)
 
   abbrev pub state-of : ℕ
   state-of = getD (t .current) c 0
@@ -168,11 +189,11 @@ module _ (t : Store) (c : ℕ) where
   total-of = getD (t .total) c 0
 
   abbrev pub loaded-with : ℕ → ℕ → Loaded ℕ
-  loaded-with q total = loaded-at (rows-start c) (t .setup .events) (getD (t .states) c 0) q total (t .value) (t .next)
+  loaded-with q total = loaded-at (start t c) (t .setup .events) (getD (t .states) c 0) q total (t .value) (t .next)
 
   module _ (g : Ready t c) where
     pub has : channels t c ≡ some (loaded-with state-of total-of)
-    has = held-some c (t .setup .events) (getD (t .states) c 0) state-of total-of (t .value) (t .next) (g .channel) (g .loaded)
+    has = held-some c (start t c) (t .setup .events) (getD (t .states) c 0) state-of total-of (t .value) (t .next) (g .channel) (g .loaded)
 
     pub ready-facts : ChannelInOrder (t .setup .events) (t .setup .kind) (loaded-with state-of total-of)
     ready-facts =
@@ -181,6 +202,9 @@ module _ (t : Store) (c : ℕ) where
 
     pub ready-events : t .setup .events ≤ event-limit
     ready-events = few-events (tool-setup-of t) (g .setup-passes)
+
+    pub ready-room : start t c + getD (t .states) c 0 * t .setup .events ≤ store-limit
+    ready-room = rows-within t c ready-events (g .channel) (g .rows-fit)
 
     -- The distance of a total within the limit can be told.
     pub measurable : (total : ℕ) → total ≤ total-limit → Measurable (t .wheel) total
@@ -219,7 +243,7 @@ on-event-is :
     or-else (empty-refusal (channels t c)) (occurrence-refusal (t .setup .events) (getD (t .total) c 0) i) ≡ on-event (content t) (channels t c) i
 unfolding or-else
 on-event-is t c i =
-    held-cases c (t .setup .events) (getD (t .states) c 0) (getD (t .current) c 0) (getD (t .total) c 0) (t .value) (t .next)
+    held-cases c (start t c) (t .setup .events) (getD (t .states) c 0) (getD (t .current) c 0) (getD (t .total) c 0) (t .value) (t .next)
     (λ o. or-else (empty-refusal o) (occurrence-refusal (t .setup .events) (getD (t .total) c 0) i) ≡ on-event (content t) o i) refl refl
 
 -- Nothing written.
@@ -234,7 +258,7 @@ record AcceptedEvent (t : Store) (c : ℕ) (i : Occurrence) : Type 0 where
   small : getD (t .total) c 0 + i .pulses ≤ total-limit
 
 -- An event.
-module _ (t : Store) (c : ℕ) (i : Occurrence) (f : ℕ) (e-fault : f ≡ fault-number t c) where
+module _ (t : Store) (c : ℕ) (i : Occurrence) (f : ℕ) (e-fault : f ≡ read-fault t c) where
   abbrev at : ℕ
   at = c % channel-limit
 
@@ -255,7 +279,7 @@ module _ (t : Store) (c : ℕ) (i : Occurrence) (f : ℕ) (e-fault : f ≡ fault
   number-is : number-refusal n ≡ tool-refusal t (event c i)
   number-is =
       later-refused t c f e-fault later
-      ∙ ap (or-else (seventeen t c f e-fault))
+      ∙ ap (or-else (faults t c f e-fault))
       (or-else-same (channel-refusal c) (or-else (empty-refusal (channels t c)) (number-refusal later)) (on-event (content t) (channels t c) i)
       (λ h.
       ap (or-else (empty-refusal (channels t c)))
@@ -275,29 +299,27 @@ module _ (t : Store) (c : ℕ) (i : Occurrence) (f : ℕ) (e-fault : f ≡ fault
       }
 
   -- Its entry lies within the arrays.
-  pub event-bounds : n ≡ 0 → Bounds at (t .setup .events) (getD (t .current) at 0) (i .event)
+  pub event-bounds : n ≡ 0 → Bounds (start t at) (t .setup .events) (getD (t .current) at 0) (i .event)
   event-bounds h =
       let r = accepted-event h in
       let x = ready-facts t c (r .ready) .table in
       let few = ready-events t c (r .ready) in
-      subst (λ d. Bounds d (t .setup .events) (getD (t .current) d 0) (i .event)) (sym (mod-eq-of-lt (r .ready .channel)))
+      subst (λ d. Bounds (start t d) (t .setup .events) (getD (t .current) d 0) (i .event)) (sym (mod-eq-of-lt (r .ready .channel)))
       (record {
-        channel = r .ready .channel;
         row = entries-fit (state-of t c) (t .setup .events) (omega (arith, x .start-in, x .few-states)) few;
         place =
             omega (
               arith,
-              rows-in c (r .ready .channel),
-              entries-fit (getD (t .states) c 0) (t .setup .events) (x .few-states) few,
+              ready-room t c (r .ready),
               index-below (t .setup .events) (getD (t .states) c 0) (state-of t c) (i .event) (x .start-in) (r .event-in),
             );
       })
 
   abbrev value-there : ℕ → ℕ
-  value-there d = getD (t .value) (entry-place d (t .setup .events) (getD (t .current) d 0) (i .event)) 0
+  value-there d = getD (t .value) (entry-place (start t d) (t .setup .events) (getD (t .current) d 0) (i .event)) 0
 
   abbrev next-there : ℕ → ℕ
-  next-there d = getD (t .next) (entry-place d (t .setup .events) (getD (t .current) d 0) (i .event)) 0
+  next-there d = getD (t .next) (entry-place (start t d) (t .setup .events) (getD (t .current) d 0) (i .event)) 0
 
   abbrev decision : ℕ → ℕ → ℕ → Decision
   decision m d total = decided m (getD (t .current) d 0) (getD (t .total) d 0) (value-there d) (next-there d) total
@@ -324,8 +346,8 @@ module _ (t : Store) (c : ℕ) (i : Occurrence) (f : ℕ) (e-fault : f ≡ fault
       ap (λ d. outcome d (decision 0 d (limited (sum d)))) (mod-eq-of-lt (r .ready .channel))
       ∙ ap (λ total. outcome c (decision 0 c total)) (limited-small (sum c) (r .small))
       ∙ ap₂ (λ v q. (returned (reading (t .wheel) v (sum c)), with-current t (set (t .current) c q) (set (t .total) c (sum c))))
-      (sym (getD-part (t .value) (rows-start c) (getD (t .states) c 0 * t .setup .events) (state-of t c * t .setup .events + i .event) k))
-      (sym (getD-part (t .next) (rows-start c) (getD (t .states) c 0 * t .setup .events) (state-of t c * t .setup .events + i .event) k))
+      (sym (getD-part (t .value) (start t c) (getD (t .states) c 0 * t .setup .events) (state-of t c * t .setup .events + i .event) k))
+      (sym (getD-part (t .next) (start t c) (getD (t .states) c 0 * t .setup .events) (state-of t c * t .setup .events + i .event) k))
       ∙ sym
       (ap
       (λ o. (
@@ -349,8 +371,8 @@ module _ (t : Store) (c : ℕ) (i : Occurrence) (f : ℕ) (e-fault : f ≡ fault
           ap (λ u. (refused (Plain (suc m)), u)) (same-store t at)
           ∙ sym (refused-call t (event c i) (Plain (suc m)) (sym number-is ∙ ap number-refusal h))
 
--- Restart and clear.
-module _ (t : Store) (c f : ℕ) (e-fault : f ≡ fault-number t c) where
+-- Restart.
+module _ (t : Store) (c f : ℕ) (e-fault : f ≡ read-fault t c) where
   abbrev x : ℕ
   x = c % channel-limit
 
@@ -375,41 +397,19 @@ module _ (t : Store) (c f : ℕ) (e-fault : f ≡ fault-number t c) where
           ∙ sym (accepted-call t (restart c) (sym h))
       go (suc m) h = ap (λ u. (refused (Plain (suc m)), u)) (same-store t x) ∙ sym (refused-call t (restart c) (Plain (suc m)) (sym h))
 
-  abbrev with-cells : List ℕ → List ℕ → List ℕ → Store
-  with-cells states current total =
-      record { setup = t .setup; wheel = t .wheel; states = states; current = current; total = total; value = t .value; next = t .next }
-
-  abbrev emptied : ℕ → ℕ → ℕ → ℕ → Store
-  emptied d k q total = with-cells (set (t .states) d k) (set (t .current) d q) (set (t .total) d total)
-
-  pub clear-done :
-      (a : Reply (Reading ℕ)) (k q total m : ℕ) → a ≡ plain-reply m → k ≡ kept-number m (getD (t .states) x 0) →
-      q ≡ kept-number m (getD (t .current) x 0) → total ≡ kept-number m (getD (t .total) x 0) → m ≡ channel-number f c →
-      (a, emptied x k q total) ≡ called (clear c) t
-  clear-done a k q total m e1 e2 e3 e4 e5 =
-      ap₂ (λ a k. (a, emptied x k q total)) e1 e2 ∙ ap₂ (λ q total. (plain-reply m, emptied x (kept-number m (getD (t .states) x 0)) q total)) e3 e4
-      ∙ go m (ap number-refusal e5 ∙ channel-refused t c f e-fault)
-    where
-      go :
-          (m : ℕ) → number-refusal m ≡ tool-refusal t (clear c) →
-          _≡_ {A = Reply (Reading ℕ) × Store} (
-            plain-reply m,
-            emptied x (kept-number m (getD (t .states) x 0)) (kept-number m (getD (t .current) x 0)) (kept-number m (getD (t .total) x 0)),
-          ) (called (clear c) t)
-      go zero h = ap (λ d. (accepted, emptied d 0 0 0)) (here t c f e-fault (sym h)) ∙ sym (accepted-call t (clear c) (sym h))
-      go (suc m) h =
-          ap₂ (λ a b. (refused (Plain (suc m)), with-cells a b (set (t .total) x (getD (t .total) x 0)))) (set-getD (t .states) x 0) (set-getD (t .current) x 0)
-          ∙ ap (λ d. (refused (Plain (suc m)), with-cells (t .states) (t .current) d)) (set-getD (t .total) x 0)
-          ∙ sym (refused-call t (clear c) (Plain (suc m)) (sym h))
-
 pub restart-all-done :
     (t : Store) (a : Reply (Reading ℕ)) (l totals : List ℕ) (m : ℕ) → a ≡ plain-reply m → l ≡ kept-numbers m (t .current) →
-    totals ≡ kept-numbers m (t .total) → m ≡ number-unless (tool-test t restart-all) 17 → (a, with-current t l totals) ≡ called restart-all t
+    totals ≡ kept-numbers m (t .total) → m ≡ fault-number (tool-test t restart-all) (t .states) → (a, with-current t l totals) ≡ called restart-all t
 unfolding or-else
 restart-all-done t a l totals m e1 e2 e3 e4 =
     ap (λ a. (a, with-current t l totals)) e1 ∙ ap₂ (λ l totals. (plain-reply m, with-current t l totals)) e2 e3
-    ∙ go m (ap number-refusal e4 ∙ unless-refusal (tool-test t restart-all) 16 ∙ last (plain-unless (tool-test t restart-all) 17))
+    ∙ go m (ap number-refusal e4 ∙ both ∙ last (fault-refusal t restart-all))
   where
+    both : number-refusal (fault-number (tool-test t restart-all) (t .states)) ≡ fault-refusal t restart-all
+    both =
+        first-refusal (number-unless (tool-test t restart-all) 17) (number-unless (leb (row-count (t .states)) row-limit) 25)
+        ∙ ap₂ or-else (unless-refusal (tool-test t restart-all) 16) (rows-number t)
+
     last : (o : Option Refusal) → o ≡ or-else o none
     last none = refl
     last (some r) = refl

@@ -1,11 +1,11 @@
 -- What channels hold; the tests of refusal 17 decide the printed condition.
 use mathlib.Core.{Path.{_≡_, refl, sym, _∙_, ap, ap₂}, Bool.{Bool, true, false, _&&_, and-false, cond, false≢true}, List.{List}}
 use mathlib.Core.Option.{Option, none, some}
-use Prim.Native.Nat.{ℕ, _+_, _*_, _≤_, _<_}
+use Prim.Native.Nat.{ℕ, _+_, _*_, _-_, _≤_, _<_, min}
 use native.Mathlib.Omega.{arith}
-use borrow.Author.Tests.{lt-ltb, le-ltb, le-leb, lt-leb, ltb-true, leb-true}
-use lib.{Dec.{ltb, leb}, ListN.{getD}}
-use Rattle.limits.specs.Limits.{channel-limit, event-limit, value-limit, table-limit, turn-limit, total-limit}
+use borrow.Author.Tests.{lt-ltb, le-ltb, le-leb, lt-leb, ltb-true, ltb-false, leb-true}
+use lib.{Dec.{ltb, leb}, ListN.{length, getD, List·getD-eq-default}}
+use Rattle.limits.specs.Limits.{channel-limit, event-limit, value-limit, table-limit, store-limit, turn-limit, total-limit}
 use Rattle.theory.specs.ValueSetTests.{every}
 use Rattle.theory.proofs.ValueSets.{and-left, and-right, and-both, every-at, every-of}
 use Rattle.refusal.specs.declared.Refusal.the-variants.{Plain}
@@ -14,6 +14,7 @@ use Rattle.refusal.specs.declared.Judgement.the-variants.{Accepted, Refused}
 use Rattle.refusal.specs.RefusalAnswers.{or-else, plain-unless, judgement}
 use Rattle.refusal.proofs.Refusals.{or-else-none, plain-none, judgement-accepted, judgement-refused}
 use Rattle.values.specs.declared.ValueKind.{ValueKind}
+use Rattle.values.specs.declared.ValueKind.the-variants.{Numbered}
 use Rattle.values.specs.ValueTests.{value-fits}
 use Rattle.values.specs.Setup.{setup}
 use Rattle.values.specs.SetupInOrder.{AcceptedSetup}
@@ -24,8 +25,8 @@ use Rattle.channel_log.specs.{Calls.{Loaded}, Distance.{Wheel, WheelFault}}
 use Rattle.channel_log.proofs.Record.{test-passed}
 use Rattle.machines.specs.TableBytes.{entry-width, entry-bytes}
 use Rattle.machines.proofs.{EntryIndex.{index-below, every-entry}, EntryBytes.{table-length}, TableRoundTrip.{entry-length}}
-use Rattle.recorder.specs.ToolTests.{part}
-use Rattle.recorder.specs.Store.{ToolSetup, tool-setup, table-at, loaded-at, rows-start, held}
+use Rattle.recorder.specs.Splicing.{part}
+use Rattle.recorder.specs.Store.{ToolSetup, tool-setup, table-at, loaded-at, held}
 use Rattle.recorder.specs.Store.{ChannelInOrder}
 use Rattle.recorder.specs.ToolTests.{passed, turn-test, wheel-test, tool-setup-refusal, setup-test, entries-test, loaded-test, channel-test}
 use Rattle.recorder.proofs.Rows.{getD-part}
@@ -92,6 +93,9 @@ few-events s h = well-formed-of-test s h .few-events
 pub few-values : (e v t : ℕ) (m : List ℕ) (w : Wheel) → setup-test (tool-setup (setup e v t m) w) ≡ true → v ≤ value-limit
 few-values e v t m w h = well-formed-of-test (tool-setup (setup e v t m) w) h .of-kind .few-values
 
+pub some-values : (e v t : ℕ) (m : List ℕ) (w : Wheel) → setup-test (tool-setup (setup e v t m) w) ≡ true → 0 < v
+some-values e v t m w h = well-formed-of-test (tool-setup (setup e v t m) w) h .of-kind .some-values
+
 pub many-values : (e v t : ℕ) (m : List ℕ) (w : Wheel) → value-limit < v → setup-test (tool-setup (setup e v t m) w) ≡ false
 many-values e v t m w h = go (setup-test (tool-setup (setup e v t m) w)) refl
   where
@@ -131,33 +135,33 @@ module _ (s : ToolSetup) (j : Judgement) (e : j ≡ judgement (tool-setup-refusa
   refused-test r h = sym (ap passed (judgement-refused (tool-setup-refusal s) r (sym e ∙ h)))
 
 -- What a channel holds.
-module _ (c n k q total : ℕ) (L N : List ℕ) where
-  pub held-above : channel-limit ≤ c → held c n k q total L N ≡ none
+module _ (c at n k q total : ℕ) (L N : List ℕ) where
+  pub held-above : channel-limit ≤ c → held c at n k q total L N ≡ none
   unfolding held
   held-above h = simp (le-ltb c channel-limit h)
 
-  pub held-empty : k ≡ 0 → held c n k q total L N ≡ none
+  pub held-empty : k ≡ 0 → held c at n k q total L N ≡ none
   unfolding held
   held-empty h = simp (le-ltb 0 k (omega arith), and-false)
 
-  pub held-some : c < channel-limit → 0 < k → held c n k q total L N ≡ some (loaded-at (rows-start c) n k q total L N)
+  pub held-some : c < channel-limit → 0 < k → held c at n k q total L N ≡ some (loaded-at at n k q total L N)
   unfolding held
   held-some h g = simp (lt-ltb c channel-limit h, lt-ltb 0 k g)
 
-  pub empty-held : c < channel-limit → empty-refusal (held c n k q total L N) ≡ cond (ltb 0 k) none (some (Plain 15))
+  pub empty-held : c < channel-limit → empty-refusal (held c at n k q total L N) ≡ cond (ltb 0 k) none (some (Plain 15))
   unfolding held
   empty-held h = rw (lt-ltb c channel-limit h) (go (ltb 0 k))
     where
-      go : (j : Bool) → empty-refusal {X = Loaded ℕ} (cond j (some (loaded-at (rows-start c) n k q total L N)) none) ≡ cond j none (some (Plain 15))
+      go : (j : Bool) → empty-refusal {X = Loaded ℕ} (cond j (some (loaded-at at n k q total L N)) none) ≡ cond j none (some (Plain 15))
       go true = refl
       go false = refl
 
   -- What is so of an empty channel, and of one with these cells.
-  pub held-cases : (P : Option (Loaded ℕ) → Type 0) → P none → P (some (loaded-at (rows-start c) n k q total L N)) → P (held c n k q total L N)
+  pub held-cases : (P : Option (Loaded ℕ) → Type 0) → P none → P (some (loaded-at at n k q total L N)) → P (held c at n k q total L N)
   unfolding held
   held-cases P a b = go (ltb c channel-limit && ltb 0 k)
     where
-      go : (t : Bool) → P (cond t (some (loaded-at (rows-start c) n k q total L N)) none)
+      go : (t : Bool) → P (cond t (some (loaded-at at n k q total L N)) none)
       go true = b
       go false = a
 
@@ -271,3 +275,29 @@ module _ (at n : ℕ) (kind : ValueKind) (k q total : ℕ) (L N : List ℕ) wher
       (every-at (k * n) (flat-test at n kind k L N)
       (sym (entries-only (f .table .some-states) (f .table .few-states) (f .table .start-in) (f .total))
       ∙ test-of-in-order n kind (loaded-at at n k q total L N) f) i h))
+
+-- Where numbered values would lie behind the lists they read as 0, as next states do, and are in range.
+module _ (at n values k : ℕ) (L N : List ℕ) (sized-values : length L ≡ store-limit) (sized-nexts : length N ≡ store-limit) (some : 0 < values)
+    (loaded : 0 < k) where
+  abbrev in-range : ℕ → Bool
+  in-range = flat-test at n (Numbered values) k L N
+
+  beyond : (i : ℕ) → store-limit ≤ at + i → in-range i ≡ true
+  beyond i h =
+      and-both (ap (λ v. ltb v values) (List·getD-eq-default L 0 {n = at + i} (omega arith)) ∙ lt-ltb 0 values some)
+      (ap (λ q. ltb q k) (List·getD-eq-default N 0 {n = at + i} (omega arith)) ∙ lt-ltb 0 k loaded)
+
+  pub all-beyond : (count : ℕ) → store-limit ≤ at → true ≡ every count in-range
+  all-beyond count h = sym (every-of count in-range (λ i l. beyond i (omega arith)))
+
+  pub clipped : (count : ℕ) → every (min count (store-limit - at)) in-range ≡ every count in-range
+  clipped count =
+      same-test _ _ (λ e. every-of count in-range (inside e))
+      (λ e. every-of (min count (store-limit - at)) in-range (λ i l. every-at count in-range e i (omega arith)))
+    where
+      inside : every (min count (store-limit - at)) in-range ≡ true → (i : ℕ) → i < count → in-range i ≡ true
+      inside e i l = go (ltb i (min count (store-limit - at))) refl
+        where
+          go : (t : Bool) → ltb i (min count (store-limit - at)) ≡ t → in-range i ≡ true
+          go true p = every-at (min count (store-limit - at)) in-range e i (ltb-true i (min count (store-limit - at)) p)
+          go false p = beyond i (omega (arith, ltb-false i (min count (store-limit - at)) p))

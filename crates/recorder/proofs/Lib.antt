@@ -1,9 +1,18 @@
 -- Refusals as numbers.
 pub mod Numbers
--- Parts of lists, copies into them, and where channels' rows lie.
+-- Parts of lists and copies into them; where channels' rows lie, and what a splice makes of them.
 pub mod Rows
+pub mod RowTotals
+pub mod Splices
+pub mod Copies
+-- The largest entry of a part, against a bound.
+pub mod Largest
 -- What channels hold, and the tests of refusal 17.
 pub mod Held
+-- The rows of channels, by what they hold and by the counts.
+pub mod RowCounts
+-- What channels hold once one of them has another table.
+pub mod Shifts
 -- What is decided is what the definitions of the calls say.
 pub mod Decided
 -- The compiler's answer beside an accepted set-up.

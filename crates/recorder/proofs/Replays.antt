@@ -1,5 +1,5 @@
 -- A sequence of events on one channel is the event call repeated; what is decided on it is what its definition says.
-use mathlib.Core.{Path.{_≡_, refl, sym, _∙_, ap, ap₂, subst, subst⁻¹}, Bool.{Bool, true, false, _&&_}, List.{List, [], _∷_, _++_, map}}
+use mathlib.Core.{Path.{_≡_, refl, sym, _∙_, ap, ap₂, subst, subst⁻¹}, Bool.{Bool, true, false}, List.{List, [], _∷_, _++_, map}}
 use mathlib.Core.Option.{Option, none, some}
 use Prim.Native.Nat.{ℕ, zero, suc, _+_, _%_, _≤_, _<_, min}
 use native.Mathlib.{Nat.{mod-eq-of-lt}, Omega.{arith}}
@@ -7,25 +7,26 @@ use borrow.Author.Tests.{ltb-true, lt-ltb, leb-true, leb-false, le-leb}
 use lib.{Dec.{ltb, leb}, ListN.{length, getD, set, take, drop, length-set}}
 use lib.Seq.{paste, take-all, take-nil, take-add, take-append-seam, getD-set-same, set-getD, set-set}
 use Rattle.theory.proofs.{Words.{length-word-values}, ValueSets.{and-both, every-at}}
-use Rattle.limits.specs.Limits.{channel-limit, store-limit, total-limit}
+use Rattle.limits.specs.Limits.{channel-limit, row-limit, store-limit, total-limit}
 use Rattle.theory.specs.MealyMachine.{Machine, Word, after}
 use Rattle.theory.specs.MachineRuns.{word-values}
 use Rattle.refusal.specs.declared.Refusal.{Refusal}
 use Rattle.refusal.specs.{Refusal.{put}, RefusalAnswers.{or-else, plain-unless, put-unless}}
 use Rattle.refusal.proofs.Refusals.{or-else-none, plain-none}
 use Rattle.channel_log.specs.Calls.{event, Reply, returned, replies, final, event-calls, last-returned}
-use Rattle.channel_log.specs.{CallSteps.{channel-refusal, empty-refusal}, Log.{large-total}, Distance.{Wheel, Occurrence, Reading, reading}}
-use Rattle.recorder.specs.Store.{Store, tool-setup-of, table-at, rows-start, channels, occurrences, all-pulses}
+use Rattle.channel_log.specs.{CallSteps.{channel-refusal, empty-refusal}, Log.{large-total}, Rows.{all-rows}}
+use Rattle.channel_log.specs.Distance.{Wheel, Occurrence, Reading, reading}
+use Rattle.recorder.specs.Store.{Store, table-at, channels, rows, occurrences, all-pulses}
 use Rattle.channel_log.proofs.Record.{total-fits}
-use Rattle.recorder.specs.ToolTests.{channel-test, test-of, setup-test}
+use Rattle.recorder.specs.ToolTests.{channel-test}
 use Rattle.recorder.specs.Called.{with-current, called}
 use Rattle.recorder.specs.Replay.{all-returned, word-test, pulses-refusal, replay-refusal, replay-settled, replayed}
 use Rattle.recorder.specs.Decisions.{number-refusal, first-number, number-unless, total-number, limited, sum-of, replay-number, plain-reply}
 use Rattle.recorder.specs.Decisions.{Measurable, end-reply, Runnable}
-use Rattle.recorder.proofs.{Numbers.{first-refusal, unless-refusal, number-some, plain-refused}, Rows.{rows-in, entries-fit}}
+use Rattle.recorder.proofs.{Numbers.{first-refusal, unless-refusal, number-some, plain-refused}, RowCounts.{start, all-rows-are}}
 use Rattle.recorder.proofs.Held.{channel-below, held-some, held-cases, test-of-in-order, flat-next}
-use Rattle.recorder.proofs.Decided.{or-else-same, fault-number, later-refused, Ready, ready-of, table-of, state-of, total-of, loaded-with, has}
-use Rattle.recorder.proofs.Decided.{ready-facts, ready-events, measurable, limited-small, limited-refusal}
+use Rattle.recorder.proofs.Decided.{or-else-same, read-fault, faults, later-refused, Ready, ready-of, table-of, state-of, total-of, loaded-with, has}
+use Rattle.recorder.proofs.Decided.{ready-facts, ready-events, ready-room, measurable, limited-small, limited-refusal}
 
 abbrev moved-to : Store → ℕ → ℕ → ℕ → Store
 moved-to t c q total = with-current t (set (t .current) c q) (set (t .total) c total)
@@ -60,6 +61,7 @@ module _ (t : Store) (c : ℕ) (g : Ready t c) (l : length (t .current) ≡ chan
           has t c g,
           lt-ltb (i .event) (t .setup .events) e,
           le-leb (total-of t c + i .pulses) total-limit small,
+          le-leb (all-rows (rows t)) row-limit (subst⁻¹ (λ n. n ≤ row-limit) (all-rows-are t) (g .rows-fit)),
         )
 
     ready-next : Ready after-it c
@@ -71,10 +73,11 @@ module _ (t : Store) (c : ℕ) (g : Ready t c) (l : length (t .current) ≡ chan
           setup-passes = g .setup-passes;
           channel = g .channel;
           loaded = g .loaded;
+          rows-fit = g .rows-fit;
           in-order =
               ap (channel-test (t .setup .events) (t .setup .kind))
-              (held-some c (t .setup .events) (getD (t .states) c 0) (getD (set (t .current) c q) c 0) (getD (set (t .total) c n) c 0) (t .value) (t .next)
-              (g .channel) (g .loaded)
+              (held-some c (start t c) (t .setup .events) (getD (t .states) c 0) (getD (set (t .current) c q) c 0) (getD (set (t .total) c n) c 0)
+              (t .value) (t .next) (g .channel) (g .loaded)
               ∙ ap₂ (λ q n. some (loaded-with t c q n)) (written q) (summed n))
               ∙ test-of-in-order (t .setup .events) (t .setup .kind) (loaded-with t c q n)
               (record {
@@ -251,13 +254,13 @@ pulses-same :
     ≡ or-else (empty-refusal (channels t c)) (or-else a (or-else (pulses-refusal (channels t c) n) b))
 unfolding or-else
 pulses-same t c n a b =
-    held-cases c (t .setup .events) (getD (t .states) c 0) (getD (t .current) c 0) (getD (t .total) c 0) (t .value) (t .next)
+    held-cases c (start t c) (t .setup .events) (getD (t .states) c 0) (getD (t .current) c 0) (getD (t .total) c 0) (t .value) (t .next)
     (λ o.
     or-else (empty-refusal o) (or-else a (or-else (large-total (getD (t .total) c 0 + n)) b))
     ≡ or-else (empty-refusal o) (or-else a (or-else (pulses-refusal o n) b)))
     refl refl
 
-module _ (t : Store) (c : ℕ) (word pulses out : List ℕ) (f : ℕ) (e-fault : f ≡ fault-number t c) (i : Bool) (s : ℕ) (j : Bool)
+module _ (t : Store) (c : ℕ) (word pulses out : List ℕ) (f : ℕ) (e-fault : f ≡ read-fault t c) (i : Bool) (s : ℕ) (j : Bool)
     (e-word : i ≡ word-test (t .setup .events) word)
     (e-sum : s ≡ limited (getD (t .total) (c % channel-limit) 0 + sum-of (take (length word) pulses)))
     (e-fits : j ≡ leb (length word) (length out)) (m : ℕ)
@@ -300,7 +303,7 @@ module _ (t : Store) (c : ℕ) (word pulses out : List ℕ) (f : ℕ) (e-fault :
       let b = empty-refusal (channels t c) in
       ap number-refusal e-number
       ∙ later-refused t c f e-fault n
-      ∙ ap (or-else (plain-unless (setup-test (tool-setup-of t) && test-of t c) 17))
+      ∙ ap (or-else (faults t c f e-fault))
       (or-else-same (channel-refusal c) (or-else b (number-refusal n))
       (or-else b (or-else sixteen (or-else (pulses-refusal (channels t c) (all-pulses W)) thirteen)))
       (λ h.
@@ -330,21 +333,20 @@ module _ (t : Store) (c : ℕ) (word pulses out : List ℕ) (f : ℕ) (e-fault :
 
     pub runnable :
         length (t .value) ≡ store-limit → length (t .next) ≡ store-limit →
-        Runnable (rows-start w) (t .setup .events) k (getD (t .current) w 0) (t .value) (t .next) word out
+        Runnable (start t w) (t .setup .events) k (getD (t .current) w 0) (t .value) (t .next) word out
     runnable vl nl =
         let g = ready-facts t c (facts .ready) in
         let x = g .table in
         let n = t .setup .events in
-        subst⁻¹ (λ x. Runnable (rows-start x) n (getD (t .states) x 0) (getD (t .current) x 0) (t .value) (t .next) word out) at-c
+        subst⁻¹ (λ x. Runnable (start t x) n (getD (t .states) x 0) (getD (t .current) x 0) (t .value) (t .next) word out) at-c
         (record {
-          room =
-              omega (arith, rows-in c (facts .ready .channel), entries-fit (getD (t .states) c 0) n (x .few-states) (ready-events t c (facts .ready)));
+          room = ready-room t c (facts .ready);
           few-states = x .few-states;
           few-events = ready-events t c (facts .ready);
           value-length = vl;
           next-length = nl;
           state = x .start-in;
-          nexts = flat-next (rows-start c) n (t .setup .kind) (getD (t .states) c 0) (state-of t c) (total-of t c) (t .value) (t .next) g;
+          nexts = flat-next (start t c) n (t .setup .kind) (getD (t .states) c 0) (state-of t c) (total-of t c) (t .value) (t .next) g;
           word-in = subst (λ l. (i : ℕ) → i < length l → getD l i 0 < n) (occurred word pulses) (facts .events-in);
           fits = fits-out;
         })
@@ -366,7 +368,7 @@ module _ (t : Store) (c : ℕ) (word pulses out : List ℕ) (f : ℕ) (e-fault :
 
     pub replay-done :
         (a : Reply (Reading ℕ)) (r : ℕ) (b : List ℕ) → length (t .current) ≡ channel-limit → length (t .total) ≡ channel-limit →
-        r ≡ after (table-at (rows-start w) (t .setup .events) k (t .value) (t .next)) (getD (t .current) w 0) word →
+        r ≡ after (table-at (start t w) (t .setup .events) k (t .value) (t .next)) (getD (t .current) w 0) word →
         b ≡ paste out 0 (values-there w) (length word) → a ≡ end-reply (t .wheel) (take (length word) b) s →
         ((a, with-current t (set (t .current) w r) (set (t .total) w s)), b) ≡ replayed t c W out
     unfolding replayed put-unless

@@ -1,13 +1,11 @@
--- Parts of a list, copies into it and padding; where the rows of channels lie.
-use mathlib.Core.{Path.{_≡_, refl, sym, _∙_, ap, ap₂, subst}, Bool.{Bool, true, false}, Logic.{_⊎_, inl, inr, ⊎-elim}, List.{List, _++_, append-nil}}
+-- Parts of a list, copies into it and padding.
+use mathlib.Core.{Path.{_≡_, sym, _∙_, ap, ap₂, subst}, Logic.{_⊎_, inl, inr}, List.{List, _++_}}
 use Prim.Native.Nat.{ℕ, zero, suc, _+_, _*_, _-_, _≤_, _<_}
-use native.Mathlib.{Nat.{mul-le-mul-right, eq-or-lt-of-le}, Numerals.{add-one}, Omega.{arith}}
-use borrow.Author.Tests.{ltb-true, ltb-false}
-use lib.{Dec.{ltb}, ListN.{length, getD, set, take, drop, replicate, length-append, length-take, length-drop, length-replicate, List·getD-append}}
-use lib.Seq.{paste, paste-suc, drop-length, length-paste-head, length-paste, length-take-le, take-all, getD-append-add, getD-take, getD-drop, ext-getD}
-use Rattle.limits.specs.Limits.{channel-limit, event-limit, table-limit, entry-limit, store-limit}
-use Rattle.recorder.specs.ToolTests.{part}
-use Rattle.recorder.specs.Store.{rows-start}
+use native.Mathlib.{Nat.{mul-le-mul-right}, Numerals.{add-one}, Omega.{arith}}
+use lib.ListN.{length, getD, set, take, drop, replicate, length-append, length-take, length-drop, length-replicate, List·getD-append}
+use lib.Seq.{paste, paste-suc, length-paste-head, length-paste, length-take-le, take-all, getD-append-add, getD-take, getD-drop, ext-getD}
+use Rattle.limits.specs.Limits.{event-limit, table-limit, entry-limit}
+use Rattle.recorder.specs.Splicing.{part}
 use Rattle.recorder.specs.Called.{filled}
 
 pub length-part : (l : List ℕ) (at n : ℕ) → at + n ≤ length l → length (part l at n) ≡ n
@@ -16,7 +14,7 @@ length-part l at n h = simp (length-take, length-drop) (omega arith)
 pub getD-part : (l : List ℕ) (at n i : ℕ) → i < n → getD (part l at n) i 0 ≡ getD l (at + i) 0
 getD-part l at n i h = getD-take n (drop at l) i 0 h ∙ getD-drop at l i 0
 
-drop-zeros : (m i : ℕ) → _≡_ {A = List ℕ} (drop i (replicate m 0)) (replicate (m - i) 0)
+pub drop-zeros : (m i : ℕ) → _≡_ {A = List ℕ} (drop i (replicate m 0)) (replicate (m - i) 0)
 drop-zeros m zero = let e : m ≡ m - zero = omega arith in ap (λ k. replicate k 0) e
 drop-zeros zero (suc i) = let e : zero ≡ zero - suc i = omega arith in ap (λ k. replicate k 0) e
 drop-zeros (suc m) (suc i) = let e : m - i ≡ suc m - suc i = omega arith in drop-zeros m i ∙ ap (λ k. replicate k 0) e
@@ -57,18 +55,13 @@ pasted-zeros n l i h g (inr m) =
     ap₂ (λ a b. a ++ drop b (replicate n 0)) (take-all i l m ∙ sym (take-all n l (omega arith))) z
     ∙ ap (λ x. take n l ++ x) (drop-zeros n i ∙ ap (λ k. replicate k 0) f)
 
--- A turn of a copy to the front of a list, and a copy over the whole of it.
+-- A turn of a copy to the front of a list.
 pub paste-next :
     (d s : List ℕ) (i : ℕ) → i < length d → i < length s → set (paste d 0 s i) i (getD s i 0) ≡ paste d 0 s (i + 1)
 paste-next d s i h g =
     let z : 0 + i ≡ i = omega arith in
     subst (λ x. set (paste d 0 s i) x (getD s i 0) ≡ paste d 0 s (suc i)) z (paste-suc d 0 s i 0 (omega arith) g)
     ∙ ap (paste d 0 s) (sym (add-one i))
-
-pub paste-all : (d s : List ℕ) (n : ℕ) → length d ≡ n → length s ≡ n → paste d 0 s n ≡ s
-paste-all d s n h g =
-    let z : 0 + n ≡ length d = omega arith in
-    ap₂ (λ a b. a ++ drop b d) (take-all n s (omega arith)) z ∙ ap (λ x. s ++ x) (drop-length d) ∙ append-nil s
 
 -- A list after a copy into it.
 module _ (d : List ℕ) (at : ℕ) (s : List ℕ) (n : ℕ) (hd : at + n ≤ length d) (hs : n ≤ length s) where
@@ -129,22 +122,6 @@ module _ (d : List ℕ) (at : ℕ) (s : List ℕ) (n : ℕ) (hd : at + n ≤ len
       let e : b + i ≡ at + n + (b + i - (at + n)) = omega arith in
       getD-part (paste d at s n) b m i k ∙ ap (λ x. getD (paste d at s n) x 0) e ∙ paste-above (b + i - (at + n))
       ∙ ap (λ x. getD d x 0) (sym e) ∙ sym (getD-part d b m i k))
-
--- The rows of a channel lie within the arrays, and those of two channels apart.
-pub rows-in : (c : ℕ) → c < channel-limit → rows-start c + entry-limit ≤ store-limit
-unfolding rows-start
-rows-in c h = omega arith
-
-pub rows-apart : (c d : ℕ) → (d ≡ c → ⊥) → (rows-start d + entry-limit ≤ rows-start c) ⊎ (rows-start c + entry-limit ≤ rows-start d)
-unfolding rows-start
-rows-apart c d h = go (ltb d c) refl
-  where
-    go : (t : Bool) → ltb d c ≡ t → (rows-start d + entry-limit ≤ rows-start c) ⊎ (rows-start c + entry-limit ≤ rows-start d)
-    go true e = let l : d < c = ltb-true d c e in inl (omega arith)
-    go false e = let l : c < d = later (ltb-false d c e) in inr (omega arith)
-      where
-        later : c ≤ d → c < d
-        later l = ⊎-elim (λ p. absurd (h (sym p))) (λ g. g) (eq-or-lt-of-le l)
 
 -- A table's entries fit the rows.
 pub entries-fit : (k n : ℕ) → k ≤ table-limit → n ≤ event-limit → k * n ≤ entry-limit

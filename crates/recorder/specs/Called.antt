@@ -1,20 +1,19 @@
 -- Twin of Store, pinned by product_claims DemandThree.
--- The calls on a tool (document 01, "Tool"; document 02, F-6): what each answers and what the tool holds afterwards, whatever it held before.
-use mathlib.Core.{List.{List, _++_}, Option.{Option, none, some}}
+-- The calls on a tool (document 01, "Tool"; document 02, F-6 and F-12): what each answers and what the tool holds afterwards, whatever it held before.
+use mathlib.Core.{List.{List, [], _++_}, Option.{Option, none, some}}
 use Prim.Native.Nat.{ℕ, _+_, _-_}
-use lib.{ListN.{length, set, take, replicate}, Seq.{paste}}
-use Rattle.limits.specs.Limits.{meet-limit, channel-limit, entry-limit, store-limit}
+use lib.ListN.{length, set, take, replicate}
+use Rattle.limits.specs.Limits.{meet-limit, channel-limit, store-limit}
 use Rattle.refusal.specs.{declared.Refusal.{Refusal}, RefusalAnswers.{or-else, plain-unless}}
 use Rattle.values.specs.{declared.ValueKind.{ValueKind}, declared.ValueKind.the-variants.{Numbered, Register}, Setup.{Setup, setup-of-kind, setup}}
 use Rattle.channel_log.specs.Distance.{Wheel, wheel-of-turn, Occurrence, Reading}
 use Rattle.channel_log.specs.Calls.{Call, load, event, restart, restart-all, clear, Reply, accepted, refused, Loaded}
-use Rattle.channel_log.specs.{CallSteps.{Content, call-refusal, accepted-reply}, Recorded.{recorded}}
-use Rattle.recorder.specs.{Store.{Store, ToolSetup, setup-of, rows-start, channels}, ToolTests.{tool-test, tool-setup-refusal}}
+use Rattle.channel_log.specs.{CallSteps.{Content, call-refusal, accepted-reply}, Log.{rows-refusal}, Recorded.{recorded}, Rows.{all-rows}}
+use Rattle.recorder.specs.{Store.{Store, ToolSetup, setup-of, channels, rows}, ToolTests.{tool-test, tool-setup-refusal}, Splicing.{replaced}}
 use Rattle.recorder.specs.CompiledRule.{rule-judged, states-of-rule, values-of-rule, nexts-of-rule, loaded-rule}
 use Rattle.theory.specs.ValueSets.{pack, top-masks}
-use mathlib.Core.List.{[]}
 
--- The store with other current states and totals; with another table in channel c, at state 0 and with no pulses.
+-- The store with other current states and totals; with other entries and k states in channel c, at state 0 and with no pulses.
 abbrev pub with-current : Store → List ℕ → List ℕ → Store
 with-current t current total =
     record { setup = t .setup; wheel = t .wheel; states = t .states; current = current; total = total; value = t .value; next = t .next }
@@ -31,9 +30,10 @@ with-rows t c k value next =
       next = next;
     }
 
--- A table's entries in the rows of channel c; no other channel's change.
-abbrev pub stored-rows : List ℕ → ℕ → List ℕ → List ℕ
-stored-rows rows c entries = paste rows (rows-start c) entries entry-limit
+-- The store with another table in channel c: so many states, and their entries. The rows of later channels move up or down.
+abbrev pub with-table : Store → ℕ → ℕ → List ℕ → List ℕ → Store
+with-table t c k values nexts =
+    with-rows t c k (replaced (t .setup .events) (t .states) c values (t .value)) (replaced (t .setup .events) (t .states) c nexts (t .next))
 
 -- The state that an event leads to, and the total with its pulses.
 abbrev pub next-state : Option (Loaded ℕ) → ℕ → ℕ
@@ -48,20 +48,23 @@ next-total (some x) pulses = x .total + pulses
 abbrev pub content : Store → Content (Loaded ℕ) Occurrence (Reading ℕ)
 content t = recorded (t .setup .events) (t .wheel) (rule-judged (setup-of t)) (loaded-rule (setup-of t))
 
--- The first refusal in document 01's order: 17, then 14, 15, 16, 19, then 5 to 10.
-abbrev pub tool-refusal : Store → Call Occurrence → Option Refusal
-tool-refusal t call = or-else (plain-unless (tool-test t call) 17) (call-refusal (content t) (channels t) call)
+-- What a handed-in tool is refused with: 17, then 25.
+abbrev pub fault-refusal : Store → Call Occurrence → Option Refusal
+fault-refusal t call = or-else (plain-unless (tool-test t call) 17) (rows-refusal (all-rows (rows t)))
 
--- What an accepted call leaves. After a load the channel's rows beyond the new table are 0; clear leaves its rows as they are.
+-- The first refusal in document 01's order: 17 and 25, then 14, 15, 16, 19, then 5 to 10 and 25.
+abbrev pub tool-refusal : Store → Call Occurrence → Option Refusal
+tool-refusal t call = or-else (fault-refusal t call) (call-refusal (content t) (channels t) call)
+
+-- What an accepted call leaves. Load and clear splice the store: behind the last channel's rows it is 0.
 abbrev pub effect-on : Store → Call Occurrence → Store
 effect-on t (load c r) =
-    with-rows t c (states-of-rule (setup-of t) r)
-    (stored-rows (t .value) c (values-of-rule (setup-of t) r)) (stored-rows (t .next) c (nexts-of-rule (setup-of t) r))
+    with-table t c (states-of-rule (setup-of t) r) (values-of-rule (setup-of t) r) (nexts-of-rule (setup-of t) r)
 effect-on t (event c i) =
     with-current t (set (t .current) c (next-state (channels t c) (i .event))) (set (t .total) c (next-total (channels t c) (i .pulses)))
 effect-on t (restart c) = with-current t (set (t .current) c 0) (set (t .total) c 0)
 effect-on t restart-all = with-current t (replicate channel-limit 0) (replicate channel-limit 0)
-effect-on t (clear c) = with-rows t c 0 (t .value) (t .next)
+effect-on t (clear c) = with-table t c 0 [] []
 
 -- A refused call changes nothing.
 abbrev pub settled-store : Option Refusal → Reply (Reading ℕ) → Store → Store → Reply (Reading ℕ) × Store

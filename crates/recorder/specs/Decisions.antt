@@ -1,14 +1,14 @@
--- What the private functions decide before anything is written: the number of a refusal, 13 to 17 or 19, or 0 where there is none (document 01,
--- "Who can cause a refusal"), and what an event comes to.
+-- What the private functions decide before anything is written: the number of a refusal, 13 to 17, 19 or 25, or 0 where there is none (document
+-- 01, "Who can cause a refusal"), and what an event comes to.
 use mathlib.Core.{Path.{_≡_}, Bool.{Bool, cond}, List.{List, [], _∷_}, Option.{Option, none, some}}
-use Prim.Native.Nat.{ℕ, zero, suc, _+_, _*_, _%_, _≤_, _<_}
-use lib.{Dec.{ltb, leb}, ListN.{getD, length, replicate}}
-use Rattle.limits.specs.Limits.{channel-limit, event-limit, table-limit, entry-limit, store-limit, turn-limit, total-limit}
+use Prim.Native.Nat.{ℕ, zero, suc, _+_, _*_, _≤_, _<_, max}
+use lib.{Dec.{ltb, leb}, ListN.{getD, length, set, replicate}}
+use Rattle.limits.specs.Limits.{channel-limit, event-limit, table-limit, entry-limit, row-limit, store-limit, turn-limit, total-limit}
 use Rattle.refusal.specs.{declared.Refusal.{Refusal}, declared.Refusal.the-variants.{Plain}, declared.Counted.{Counted}}
 use Rattle.refusal.specs.{declared.Counted.the-variants.{Count, Refused as NotCounted}, declared.Judgement.{Judgement}}
 use Rattle.refusal.specs.declared.Judgement.the-variants.{Accepted, Refused}
 use Rattle.channel_log.specs.{Calls.{Reply, accepted, returned, refused}, Distance.{Wheel, Reading, reading}}
-use Rattle.recorder.specs.{Store.{rows-start}, declared.Decision.{Decision}}
+use Rattle.recorder.specs.{Splicing.{row-count}, declared.Decision.{Decision}}
 
 -- The refusal of a number; 0 is none.
 abbrev pub number-refusal : ℕ → Option Refusal
@@ -23,7 +23,10 @@ abbrev pub first-number : ℕ → ℕ → ℕ
 first-number zero later = later
 first-number (suc n) later = suc n
 
--- 17, then 14; then 15; then 16 and 19; for a sequence 16, 19 and 13.
+-- 17, then 25; then 14; then 15; then 16 and 19; for a sequence 16, 19 and 13.
+abbrev pub fault-number : Bool → List ℕ → ℕ
+fault-number in-order states = first-number (number-unless in-order 17) (number-unless (leb (row-count states) row-limit) 25)
+
 abbrev pub channel-number : ℕ → ℕ → ℕ
 channel-number fault c = first-number fault (number-unless (ltb c channel-limit) 14)
 
@@ -60,12 +63,16 @@ decided (suc n) old before value next total = record { refusal = suc n; value = 
 
 -- Where its entry lies, within the arrays.
 abbrev pub entry-place : ℕ → ℕ → ℕ → ℕ → ℕ
-entry-place c events q e = rows-start c + (q * events + e)
+entry-place at events q e = at + (q * events + e)
 
-pub record Bounds (c events q e : ℕ) : Type 0 where
-  pub channel : c < channel-limit
+pub record Bounds (at events q e : ℕ) : Type 0 where
   pub row : q * events ≤ entry-limit
-  pub place : entry-place c events q e < store-limit
+  pub place : entry-place at events q e < store-limit
+
+-- The largest of a list, or 0.
+unfoldable pub largest : List ℕ → ℕ
+largest [] = 0
+largest (n ∷ l) = max n (largest l)
 
 -- A wheel and a total whose distance can be told.
 pub record Measurable (wheel : Wheel) (total : ℕ) : Type 0 where
@@ -92,7 +99,7 @@ end-reply wheel [] total = accepted
 end-reply wheel (v ∷ []) total = returned (reading wheel v total)
 end-reply wheel (v ∷ (w ∷ vs)) total = end-reply wheel (w ∷ vs) total
 
--- What stays beside a refusal and is 0 otherwise: for a restart the state and the total, for clear the count of states too.
+-- What stays beside a refusal and is 0 otherwise: for a restart the state and the total.
 abbrev pub kept-number : ℕ → ℕ → ℕ
 kept-number zero old = 0
 kept-number (suc n) old = old
@@ -107,13 +114,17 @@ abbrev pub judged-reply : Judgement → Reply (Reading ℕ)
 judged-reply Accepted = accepted
 judged-reply (Refused r) = refused r
 
--- For load: what 5 to 10 say, and a value in a tool's byte.
+-- For load: what 5 to 10 say.
 abbrev pub counted-reply : Counted → Reply (Reading ℕ)
 counted-reply (Count n) = accepted
 counted-reply (NotCounted r) = refused r
 
-abbrev pub low-byte : ℕ → ℕ
-low-byte v = v % 256
+-- What storing a table of k states in channel c needs: there is room, before and after.
+pub record Storable (events : ℕ) (states : List ℕ) (c k : ℕ) : Type 0 where
+  pub channel : c < channel-limit
+  pub few-events : events ≤ event-limit
+  pub fits : row-count states ≤ row-limit
+  pub new-fits : row-count (set states c k) ≤ row-limit
 
 -- What a run over a sequence needs: a table in the rows, a state of it, events of it, and room for the values.
 pub record Runnable (from events k q : ℕ) (value next word buffer : List ℕ) : Type 0 where

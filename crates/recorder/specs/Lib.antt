@@ -1,8 +1,10 @@
 -- In reading order.
 -- What a tool holds, however it is represented, and when a call on it is refused.
 pub mod Store
--- What contracts compute with: the tests of 17, what load takes from the compiler, what each call answers and leaves, a sequence of events.
+-- What contracts compute with: the tests of 17, what load takes from the compiler, how rows are
+-- replaced, what each call answers and leaves, a sequence of events.
 pub mod ToolTests
+pub mod Splicing
 pub mod CompiledRule
 pub mod Called
 pub mod Replay

@@ -7,7 +7,7 @@ use Rattle.theory.specs.ValueSetTests.{every}
 use Rattle.refusal.specs.{declared.Refusal.{Refusal}, RefusalAnswers.{or-else, plain-unless, put-unless}}
 use Rattle.channel_log.specs.{Distance.{Occurrence, Reading}, CallSteps.{channel-refusal, empty-refusal}, Log.{large-total}}
 use Rattle.channel_log.specs.Calls.{restart, Loaded, Reply, accepted, returned, refused, replies, final, event-calls, last-returned}
-use Rattle.recorder.specs.{Store.{Store, channels, all-pulses}, ToolTests.{tool-test}, Called.{settled-store, called}}
+use Rattle.recorder.specs.{Store.{Store, channels, all-pulses}, Called.{fault-refusal, settled-store, called}}
 
 -- What replies return.
 abbrev pub all-returned : List (Reply (Reading ℕ)) → List (Reading ℕ)
@@ -25,10 +25,10 @@ abbrev pub pulses-refusal : Option (Loaded ℕ) → ℕ → Option Refusal
 pulses-refusal none pulses = none
 pulses-refusal (some x) pulses = large-total (x .total + pulses)
 
--- 17, 14, 15, then 16 for any event of the sequence, 19, and 13 last: a value for each event.
+-- 17 and 25, 14, 15, then 16 for any event of the sequence, 19, and 13 last: a value for each event.
 abbrev pub replay-refusal : Store → ℕ → List Occurrence → List ℕ → Option Refusal
 replay-refusal t c word buffer =
-    or-else (plain-unless (tool-test t (restart c)) 17)
+    or-else (fault-refusal t (restart c))
     (or-else (channel-refusal c)
     (or-else (empty-refusal (channels t c))
     (or-else (plain-unless (word-test (t .setup .events) (map (λ i. i .event) word)) 16)

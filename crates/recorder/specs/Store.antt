@@ -1,14 +1,16 @@
 -- What a tool holds, however it is represented, and the tool of numbered values as one representation (document 01, "Tool"); when a call on
--- it is refused, and with what ("Who can cause a refusal": 17, 14, 15, 16, 19, then 5 to 10).
+-- it is refused, and with what ("Who can cause a refusal": 17, 25, 14, 15, 16, 19, then 5 to 10 and 25).
 use mathlib.Core.{Path.{_≡_}, Bool.{_&&_, cond}, List.{List, [], _∷_, _++_, map}, Option.{Option, none, some}}
 use Prim.Native.Nat.{ℕ, _+_, _*_, _≤_, _<_}
 use lib.{Dec.{ltb}, ListN.{length, getD, take, drop}}
-use Rattle.limits.specs.Limits.{channel-limit, entry-limit, store-limit, table-limit, total-limit}
-use Rattle.theory.specs.MealyMachine.{Machine, Word}
+use Rattle.limits.specs.Limits.{channel-limit, row-limit, store-limit, table-limit, total-limit}
+use Rattle.theory.specs.{Formula.{Formula}, MealyMachine.{Machine, Word}, ReachableStates.{IsTableOf}}
 use Rattle.values.specs.{declared.ValueKind.{ValueKind}, declared.ValueKind.the-variants.{Numbered, Register}}
-use Rattle.values.specs.Setup.{Setup, setup-of-kind, setup, ValueIn, setup-conditions}
+use Rattle.values.specs.Setup.{Setup, setup-of-kind, setup, setup-meet, setup-top, ValueIn, setup-conditions}
+use Rattle.formulas.specs.RuleConditions.{node-bytes, OfFormula}
 use Rattle.channel_log.specs.Distance.{Wheel, wheel-of-turn, WheelFault, Occurrence, Reading, TotalAbove}
 use Rattle.channel_log.specs.Calls.{Channels, map-option, Loaded, Reply, accepted, returned, refused, Call, load, event, restart, restart-all, clear, concerns}
+use Rattle.channel_log.specs.Rows.{sum-below, all-rows, other-rows}
 use Rattle.recorder.specs.{declared.Tool.{Tool}, declared.Answer.{Answer}}
 use Rattle.recorder.specs.declared.Wheel as declared-wheel
 use Rattle.recorder.specs.declared.Reading as declared-reading
@@ -65,17 +67,20 @@ table-at at events k value next =
 abbrev pub loaded-at : ℕ → ℕ → ℕ → ℕ → ℕ → List ℕ → List ℕ → Loaded ℕ
 loaded-at at events k q total value next = record { states = k; table = table-at at events k value next; current = q; total = total }
 
--- Where the rows of a channel start: each has room for a table's entries.
-unfoldable pub rows-start : ℕ → ℕ
-rows-start c = c * entry-limit
+-- "One store of rows" (document 02, F-12): the rows of a channel start behind those of the channels before it, an entry for each event in a
+-- row. No place is stored, so that no two channels overlap; what would lie behind the lists reads as 0.
+unfoldable pub rows-start : ℕ → List ℕ → ℕ → ℕ
+rows-start events states c = sum-below c (λ d. getD states d 0) * events
 
--- What channel c holds with k states, current state q and a total: nothing where it is above 7 or has no states.
-unfoldable pub held : ℕ → ℕ → ℕ → ℕ → ℕ → List ℕ → List ℕ → Option (Loaded ℕ)
-held c events k q total value next = cond (ltb c channel-limit && ltb 0 k) (some (loaded-at (rows-start c) events k q total value next)) none
+-- What channel c holds with k states from a place on, current state q and a total: nothing where it is above 7 or has no states.
+unfoldable pub held : ℕ → ℕ → ℕ → ℕ → ℕ → ℕ → List ℕ → List ℕ → Option (Loaded ℕ)
+held c at events k q total value next = cond (ltb c channel-limit && ltb 0 k) (some (loaded-at at events k q total value next)) none
 
 -- What the channels hold.
 abbrev pub channels : Store → Channels (Loaded ℕ)
-channels t c = held c (t .setup .events) (getD (t .states) c 0) (getD (t .current) c 0) (getD (t .total) c 0) (t .value) (t .next)
+channels t c =
+    held c (rows-start (t .setup .events) (t .states) c) (t .setup .events) (getD (t .states) c 0) (getD (t .current) c 0) (getD (t .total) c 0)
+    (t .value) (t .next)
 
 -- All cells of eight channels are there, as in every tool: its arrays have these lengths.
 pub record AllCells (t : Store) : Type 0 where
@@ -136,25 +141,46 @@ pub data ToolFault (t : Store) (call : Call Occurrence) : Type 0 where
 abbrev pub channel-condition : ℕ → Condition
 channel-condition c = plain 14 (¬ (c < channel-limit))
 
--- Over the totals of channels, of which an empty one has none: 14, 15, 16, 19, then 5 to 10. A call meets only the conditions that concern
--- its inputs.
-abbrev pub channel-conditions : Setup → Channels ℕ → Call Occurrence → List Condition
-channel-conditions s totals (load c rule) = channel-condition c ∷ rule-conditions-of s rule
-channel-conditions s totals (event c i) = channel-condition c
+-- 25 on a load (document 02, F-12): "rows of the other channels plus those of the new table above 512". `Others n`: the others have n rows.
+pub record RowsAbove (s : Setup) (Others : ℕ → Type 0) (φ : Formula ℕ) : Type 0 where
+  pub others : ℕ
+  pub have : Others others
+  pub states : ℕ
+  pub table : Machine ℕ ℕ
+  pub is-table : IsTableOf (setup-meet s) (setup-top s) (s .events) φ states table
+  pub above : row-limit < others + states
+
+abbrev pub rows-condition : Setup → (ℕ → Type 0) → List ℕ → Condition
+rows-condition s Others rule = plain 25 (OfFormula (node-bytes (s .kind)) rule (RowsAbove s Others))
+
+-- Over the rows of the channels other than each, and the totals, of which an empty channel has none: 14, 15, 16, 19, then 5 to 10 and 25. A
+-- call meets only the conditions that concern its inputs.
+abbrev pub channel-conditions : Setup → (ℕ → ℕ → Type 0) → Channels ℕ → Call Occurrence → List Condition
+channel-conditions s Others totals (load c rule) = channel-condition c ∷ (rule-conditions-of s rule ++ (rows-condition s (Others c) rule ∷ []))
+channel-conditions s Others totals (event c i) = channel-condition c
     ∷ plain 15 (totals c ≡ none)
     ∷ plain 16 (¬ (i .event < s .events))
     ∷ plain 19 (TotalAbove (totals c) (i .pulses))
     ∷ []
-channel-conditions s totals (restart c) = channel-condition c ∷ plain 15 (totals c ≡ none) ∷ []
-channel-conditions s totals restart-all = []
-channel-conditions s totals (clear c) = channel-condition c ∷ []
+channel-conditions s Others totals (restart c) = channel-condition c ∷ plain 15 (totals c ≡ none) ∷ []
+channel-conditions s Others totals restart-all = []
+channel-conditions s Others totals (clear c) = channel-condition c ∷ []
 
--- The totals of a tool's channels. On a tool 17 comes first.
+-- The totals of a tool's channels, and their rows.
 abbrev pub totals : Store → Channels ℕ
 totals t c = map-option (λ x. x .total) (channels t c)
 
+abbrev pub rows : Store → Channels ℕ
+rows t c = map-option (λ x. x .states) (channels t c)
+
+-- 25 "for a handed-in tool whose loaded tables exceed 512, after 17".
+abbrev pub store-condition : Store → Condition
+store-condition t = plain 25 (row-limit < all-rows (rows t))
+
+-- On a tool 17 comes first, then 25.
 unfoldable pub call-conditions : Store → Call Occurrence → List Condition
-call-conditions t call = plain 17 (ToolFault t call) ∷ channel-conditions (setup-of t) (totals t) call
+call-conditions t call =
+    plain 17 (ToolFault t call) ∷ store-condition t ∷ channel-conditions (setup-of t) (λ c n. other-rows c (rows t) ≡ n) (totals t) call
 
 -- A sequence of events with their pulses; events for which there are no more pulses have 0.
 unfoldable pub occurrences : List ℕ → List ℕ → List Occurrence
@@ -166,10 +192,11 @@ unfoldable pub all-pulses : List Occurrence → ℕ
 all-pulses [] = 0
 all-pulses (i ∷ word) = i .pulses + all-pulses word
 
--- 17 is that of every call that names the channel; 16 for any event; 19 where the running total comes to be above the limit, and so, since it
+-- 17 and 25 are those of every call that names the channel; 16 for any event; 19 where the running total comes to be above the limit, and so, since it
 -- never falls, with all pulses; 13 where the buffer has no room for a value each.
 unfoldable pub replay-conditions : Store → ℕ → List Occurrence → List ℕ → List Condition
 replay-conditions t c word buffer = plain 17 (ToolFault t (restart c))
+    ∷ store-condition t
     ∷ channel-condition c
     ∷ plain 15 (totals t c ≡ none)
     ∷ plain 16 (¬ Word (t .setup .events) (map (λ i. i .event) word))

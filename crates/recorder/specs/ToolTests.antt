@@ -1,10 +1,9 @@
 -- Twin of Store, pinned by recorder_claims ToolTestClaim.
 -- Refusal 17, computed: tests that fail where it is met.
 use mathlib.Core.{Bool.{Bool, true, false, _&&_}, Option.{Option, none, some}}
-use mathlib.Core.List.{List}
 use Prim.Native.Nat.{ℕ}
 use Rattle.channel_log.specs.Distance.{Wheel, Occurrence}
-use lib.{Dec.{ltb, leb}, ListN.{take, drop}}
+use lib.Dec.{ltb, leb}
 use Rattle.limits.specs.Limits.{channel-limit, table-limit, turn-limit, total-limit}
 use Rattle.theory.specs.{MealyMachine.{Machine}, ValueSetTests.{every}}
 use Rattle.refusal.specs.{declared.Refusal.{Refusal}, RefusalAnswers.{or-else, plain-unless}}
@@ -55,7 +54,3 @@ named-test t (clear c) = test-of t c
 
 abbrev pub tool-test : Store → Call Occurrence → Bool
 tool-test t call = setup-test (tool-setup-of t) && named-test t call
-
--- So many elements of a list from a place on.
-abbrev pub part : List ℕ → ℕ → ℕ → List ℕ
-part l at n = take n (drop at l)

@@ -1,9 +1,23 @@
-// Document 01, "Tool": one set-up and eight channels, and the calls on them; document 02, F-6: the distance with every event. Refusals 14 to 19.
+// Document 01, "Tool": one set-up and eight channels, and the calls on them; document 02, F-6: the distance with every event, F-12: one store
+// of rows. Refusals 14 to 19, and 25.
 // Each call first decides, then writes and returns the tool once; a refused call returns the tool as it came.
+mod row_store;
+mod widths;
+
+use crate::row_store::largest;
+use crate::row_store::replace;
+use crate::row_store::rows_fit;
+use crate::row_store::rows_left;
+use crate::row_store::rows_start;
+use crate::widths::smaller;
+use crate::widths::wide;
+use crate::widths::wide16;
+use crate::widths::wide32;
+use crate::widths::wide64;
 use limits::CHANNEL_LIMIT;
-use limits::ENTRY_LIMIT;
 use limits::MEET_LIMIT;
 use limits::STORE_LIMIT;
+use limits::TABLE_BYTES;
 use limits::TABLE_LIMIT;
 use limits::TOTAL_LIMIT;
 use limits::TURN_LIMIT;
@@ -11,16 +25,14 @@ use limits::VALUE_LIMIT;
 use refusal::Counted;
 use refusal::Judgement;
 use refusal::Refusal;
-use synthesis::Compiled;
-use synthesis::compile_rule;
+use synthesis::compile;
 ghost use mathlib.Core.Path.{_≡_};
 ghost use mathlib.Core.Bool.{_&&_};
-ghost use mathlib.Core.List.{map};
-ghost use Prim.Native.Nat.{_+_, _*_, _≤_, _<_, min};
-ghost use lib.Dec.{ltb};
+ghost use Prim.Native.Nat.{_+_, _*_, _≤_, _<_};
+ghost use lib.Dec.{ltb, leb};
 ghost use lib.ListN.{length, getD, take, drop};
 ghost use lib.Seq.{paste};
-ghost use Rattle.limits.specs.Limits.{channel-limit, entry-limit, event-limit, meet-limit, store-limit, value-limit};
+ghost use Rattle.limits.specs.Limits.{channel-limit, event-limit, meet-limit, row-limit, state-limit, store-limit, value-limit};
 ghost use Rattle.theory.specs.MealyMachine.{after};
 ghost use Rattle.theory.specs.MachineRuns.{word-values};
 ghost use Rattle.theory.specs.ValueSetTests.{every};
@@ -30,14 +42,15 @@ ghost use Rattle.channel_log.specs.Calls as calls;
 ghost use Rattle.channel_log.specs.Distance.{wheel-of-turn, reading};
 ghost use Rattle.refusal.specs.RefusalAnswers.{judgement};
 ghost use Rattle.recorder.specs.Store.{tool-setup, table-at, rows-start, held, wheel-of, reading-of, occurrences};
+ghost use Rattle.recorder.specs.Splicing.{row-count, column};
 ghost use Rattle.recorder.specs.ToolTests.{turn-test, wheel-test, tool-setup-refusal, setup-test, channel-test};
-ghost use Rattle.recorder.specs.CompiledRule.{compiled-rule};
-ghost use Rattle.recorder.specs.Called.{filled, with-rows, stored-rows, empty-store, called, set-up-called};
+ghost use Rattle.synthesis.specs.Compilation.{compile-answer, compile-contents};
+ghost use Rattle.recorder.specs.Called.{filled, with-table, empty-store, called, set-up-called};
 ghost use Rattle.recorder.specs.Replay.{word-test, replayed};
 ghost use Rattle.recorder.specs.Store.{store-of, reply-of, answer, replay-answer};
-ghost use Rattle.recorder.specs.Decisions.{number-unless, channel-number, loaded-number, event-number, replay-number, limited, sum-of};
+ghost use Rattle.recorder.specs.Decisions.{number-unless, fault-number, channel-number, loaded-number, event-number, replay-number, limited, sum-of};
 ghost use Rattle.recorder.specs.Decisions.{decided, entry-place, Bounds, plain-reply, value-reply, end-reply, kept-number, kept-numbers};
-ghost use Rattle.recorder.specs.Decisions.{pulse-block, Measurable, judged-reply, counted-reply, low-byte, Runnable};
+ghost use Rattle.recorder.specs.Decisions.{pulse-block, Measurable, judged-reply, counted-reply, Storable, Runnable};
 
 // What an accepted event returns: the value, and the distance of the channel's total, in whole millimetres and a remainder in parts of a
 // millimetre, as many to one as the wheel's turn has pulses.
@@ -69,8 +82,8 @@ pub struct ToolSetup {
     pub wheel: Wheel,
 }
 
-// A channel of 0 states is empty. The total is of its pulses. The entries of a channel's table lie from its rows' start on, by state, then
-// event.
+// A channel of 0 states is empty. The total is of its pulses. The channels' tables lie packed in channel order in `value` and `next`, by state,
+// then event; behind the last one both are 0 after a set-up, a load or a clear.
 pub struct Tool {
     pub setup: ToolSetup,
     pub states: [u16; CHANNEL_LIMIT],
@@ -91,38 +104,6 @@ struct Decision {
     value: u8,
     next: u8,
     total: u64,
-}
-
-fn wide(x: u8) -> usize
-    ensures { λ r. ⌜ r ≡ x ⌝ }
-{
-    x as usize
-}
-
-fn wide16(x: u16) -> usize
-    ensures { λ r. ⌜ r ≡ x ⌝ }
-{
-    x as usize
-}
-
-fn wide32(x: u32) -> usize
-    ensures { λ r. ⌜ r ≡ x ⌝ }
-{
-    x as usize
-}
-
-fn wide64(x: u32) -> u64
-    ensures { λ r. ⌜ (r ≡ x) × (r ≤ 4294967295) ⌝ }
-{
-    x as u64
-}
-
-// Where the rows of a channel start.
-fn rows_start(channel: usize) -> usize
-    requires { ⌜ channel < channel-limit ⌝ }
-    ensures { λ r. ⌜ (r ≡ rows-start channel) × (r + entry-limit ≤ store-limit) ⌝ }
-{
-    channel * ENTRY_LIMIT
 }
 
 fn turn_in_order(n: usize) -> bool
@@ -197,34 +178,33 @@ fn entries_in_order<'a>(
     values: usize,
     states: usize,
 ) -> bool
-    requires { ⌜ (from + count ≤ store-limit) × (length (now value) ≡ store-limit) × (length (now next) ≡ store-limit) ⌝ }
+    requires { ⌜ (from + count ≤ store-limit) × (0 < values) × (0 < states) × (length (now value) ≡ store-limit)
+        × (length (now next) ≡ store-limit) ⌝ }
     ensures { λ r. ⌜ r ≡ every count
         (λ i. ltb (getD (now (value .entry)) (from + i) 0) values && ltb (getD (now (next .entry)) (from + i) 0) states) ⌝ }
 {
-    for i in 0..count {
-        if values <= wide(value[from + i]) {
-            return false;
-        }
-        if states <= wide(next[from + i]) {
-            return false;
-        }
+    let most = largest(value, from, count);
+    let last = largest(next, from, count);
+    if wide(most) < values {
+        return wide(last) < states;
     }
-    true
+    false
 }
 
-// Refusal 17's test of one channel.
+// Refusal 17's test of one channel, whose rows start at a place. Rows that would lie behind the store, where 25 answers, are 0, which is in range.
 fn channel_in_order<'a>(
     value: &'a [u8; STORE_LIMIT],
     next: &'a [u8; STORE_LIMIT],
     channel: usize,
+    at: usize,
     events: usize,
     values: usize,
     states: usize,
     current: usize,
     total: u64,
 ) -> bool
-    requires { ⌜ (events ≤ event-limit) × (length (now value) ≡ store-limit) × (length (now next) ≡ store-limit) ⌝ }
-    ensures { λ r. ⌜ r ≡ channel-test events (Numbered values) (held channel events states current total (now (value .entry)) (now (next .entry))) ⌝ }
+    requires { ⌜ (events ≤ event-limit) × (0 < values) × (length (now value) ≡ store-limit) × (length (now next) ≡ store-limit) ⌝ }
+    ensures { λ r. ⌜ r ≡ channel-test events (Numbered values) (held channel at events states current total (now (value .entry)) (now (next .entry))) ⌝ }
 {
     if CHANNEL_LIMIT <= channel {
         return true;
@@ -241,33 +221,45 @@ fn channel_in_order<'a>(
     if TOTAL_LIMIT < total {
         return false;
     }
-    entries_in_order(
-        value,
-        next,
-        rows_start(channel),
-        states * events,
-        values,
-        states,
-    )
+    if STORE_LIMIT <= at {
+        return true;
+    }
+    let count = smaller(states * events, STORE_LIMIT - at);
+    entries_in_order(value, next, at, count, values, states)
 }
 
-// Refusal 17's test of the set-up and one channel: its number, or 0.
+// Refusal 25's test: its number, or 0.
+fn store_fault(states: &[u16; CHANNEL_LIMIT]) -> u8
+    requires { ⌜ length (now states) ≡ channel-limit ⌝ }
+    ensures { λ r. ⌜ r ≡ number-unless (leb (row-count (now (states .entry))) row-limit) 25 ⌝ }
+{
+    if rows_fit(states) {
+        return 0;
+    }
+    refusal::ROW_TOTAL
+}
+
+// Refusal 17's test of the set-up and one channel of so many states, then 25's of the rows: the number of the refusal, or 0.
 fn tool_fault<'a>(
     meet: &'a [u8],
     value: &'a [u8; STORE_LIMIT],
     next: &'a [u8; STORE_LIMIT],
+    states: &'a [u16; CHANNEL_LIMIT],
     events: u8,
     values: u8,
     top: u8,
     wheel: Wheel,
     channel: usize,
-    states: u16,
+    at: usize,
+    count: u16,
     current: u8,
     total: u64,
 ) -> u8
-    requires { ⌜ (length (now meet) ≡ meet-limit) × (length (now value) ≡ store-limit) × (length (now next) ≡ store-limit) ⌝ }
-    ensures { λ r. ⌜ r ≡ number-unless (setup-test (tool-setup (setup events values top (take (values * values) (now (meet .entry)))) (wheel-of wheel))
-        && channel-test events (Numbered values) (held channel events states current total (now (value .entry)) (now (next .entry)))) 17 ⌝ }
+    requires { ⌜ (length (now meet) ≡ meet-limit) × (length (now value) ≡ store-limit) × (length (now next) ≡ store-limit)
+        × (length (now states) ≡ channel-limit) ⌝ }
+    ensures { λ r. ⌜ r ≡ fault-number (setup-test (tool-setup (setup events values top (take (values * values) (now (meet .entry)))) (wheel-of wheel))
+        && channel-test events (Numbered values) (held channel at events count current total (now (value .entry)) (now (next .entry))))
+        (now (states .entry)) ⌝ }
 {
     let n = wide(events);
     let v = wide(values);
@@ -276,19 +268,20 @@ fn tool_fault<'a>(
             value,
             next,
             channel,
+            at,
             n,
             v,
-            wide16(states),
+            wide16(count),
             wide(current),
             total,
         ) {
-            return 0;
+            return store_fault(states);
         }
     }
     refusal::TOOL_CONTENTS
 }
 
-// 17, then 14.
+// 17 and 25, then 14.
 fn channel_refusal(fault: u8, channel: usize) -> u8
     ensures { λ r. ⌜ r ≡ channel-number fault channel ⌝ }
 {
@@ -345,21 +338,21 @@ fn event_refusal(fault: u8, channel: usize, states: u16, events: u8, event: usiz
     0
 }
 
-// What an event comes to beside a refusal's number.
+// What an event comes to beside a refusal's number, on a channel whose rows start at a place.
 fn decide_event<'a>(
     value: &'a [u8; STORE_LIMIT],
     next: &'a [u8; STORE_LIMIT],
     refusal: u8,
-    channel: usize,
+    at: usize,
     events: u8,
     current: u8,
     event: usize,
     before: u64,
     total: u64,
 ) -> Decision
-    requires { ⌜ (length (now value) ≡ store-limit) × (length (now next) ≡ store-limit) × (refusal ≡ 0 → Bounds channel events current event) ⌝ }
-    ensures { λ r. ⌜ r ≡ decided refusal current before (getD (now (value .entry)) (entry-place channel events current event) 0)
-        (getD (now (next .entry)) (entry-place channel events current event) 0) total ⌝ }
+    requires { ⌜ (length (now value) ≡ store-limit) × (length (now next) ≡ store-limit) × (refusal ≡ 0 → Bounds at events current event) ⌝ }
+    ensures { λ r. ⌜ r ≡ decided refusal current before (getD (now (value .entry)) (entry-place at events current event) 0)
+        (getD (now (next .entry)) (entry-place at events current event) 0) total ⌝ }
 {
     if 0 < refusal {
         return Decision {
@@ -369,11 +362,11 @@ fn decide_event<'a>(
             total: before,
         };
     }
-    let at = rows_start(channel) + (wide(current) * wide(events) + event);
+    let place = at + (wide(current) * wide(events) + event);
     Decision {
         refusal: 0,
-        value: value[at],
-        next: next[at],
+        value: value[place],
+        next: next[place],
         total: total,
     }
 }
@@ -411,7 +404,7 @@ fn plain_reply(refusal: u8) -> Reply
     Reply::Accepted
 }
 
-// The state of a restarted or cleared channel, its total, and the count of states of a cleared one: 0, or beside a refusal as it was.
+// The state of a restarted channel, and its total: 0, or beside a refusal as it was.
 fn state_after(refusal: u8, old: u8) -> u8
     ensures { λ r. ⌜ r ≡ kept-number refusal old ⌝ }
 {
@@ -422,15 +415,6 @@ fn state_after(refusal: u8, old: u8) -> u8
 }
 
 fn total_after(refusal: u8, old: u64) -> u64
-    ensures { λ r. ⌜ r ≡ kept-number refusal old ⌝ }
-{
-    if 0 < refusal {
-        return old;
-    }
-    0
-}
-
-fn count_after(refusal: u8, old: u16) -> u16
     ensures { λ r. ⌜ r ≡ kept-number refusal old ⌝ }
 {
     if 0 < refusal {
@@ -451,15 +435,18 @@ pub fn event(mut tool: Tool, channel: usize, event: usize, pulses: u32) -> Answe
     let states = tool.states[c];
     let current = tool.current[c];
     let total = tool.total[c];
+    let at = rows_start(&tool.states, c, events);
     let fault = tool_fault(
         &tool.setup.meet,
         &tool.value,
         &tool.next,
+        &tool.states,
         events,
         values,
         top,
         wheel,
         channel,
+        at,
         states,
         current,
         total,
@@ -470,7 +457,7 @@ pub fn event(mut tool: Tool, channel: usize, event: usize, pulses: u32) -> Answe
         &tool.value,
         &tool.next,
         refusal,
-        c,
+        at,
         events,
         current,
         event,
@@ -498,15 +485,18 @@ pub fn restart(mut tool: Tool, channel: usize) -> Answer
     let states = tool.states[c];
     let current = tool.current[c];
     let total = tool.total[c];
+    let at = rows_start(&tool.states, c, events);
     let fault = tool_fault(
         &tool.setup.meet,
         &tool.value,
         &tool.next,
+        &tool.states,
         events,
         values,
         top,
         wheel,
         channel,
+        at,
         states,
         current,
         total,
@@ -522,41 +512,6 @@ pub fn restart(mut tool: Tool, channel: usize) -> Answer
     }
 }
 
-// Clear: the channel is empty.
-pub fn clear(mut tool: Tool, channel: usize) -> Answer
-    ensures { λ r. ⌜ answer r ≡ called (calls.clear channel) (store-of tool) ⌝ }
-{
-    let events = tool.setup.events;
-    let values = tool.setup.values;
-    let top = tool.setup.top;
-    let wheel = tool.setup.wheel;
-    let c = channel % CHANNEL_LIMIT;
-    let states = tool.states[c];
-    let current = tool.current[c];
-    let total = tool.total[c];
-    let fault = tool_fault(
-        &tool.setup.meet,
-        &tool.value,
-        &tool.next,
-        events,
-        values,
-        top,
-        wheel,
-        channel,
-        states,
-        current,
-        total,
-    );
-    let refusal = channel_refusal(fault, channel);
-    tool.states[c] = count_after(refusal, states);
-    tool.current[c] = state_after(refusal, current);
-    tool.total[c] = total_after(refusal, total);
-    Answer {
-        reply: plain_reply(refusal),
-        tool: tool,
-    }
-}
-
 // Refusal 17's test of all channels.
 fn channels_in_order<'a>(
     value: &'a [u8; STORE_LIMIT],
@@ -564,21 +519,23 @@ fn channels_in_order<'a>(
     states: &'a [u16; CHANNEL_LIMIT],
     current: &'a [u8; CHANNEL_LIMIT],
     total: &'a [u64; CHANNEL_LIMIT],
-    events: usize,
+    events: u8,
     values: usize,
 ) -> bool
-    requires { ⌜ (events ≤ event-limit) × (length (now value) ≡ store-limit) × (length (now next) ≡ store-limit)
+    requires { ⌜ (events ≤ event-limit) × (0 < values) × (length (now value) ≡ store-limit) × (length (now next) ≡ store-limit)
         × (length (now states) ≡ channel-limit) × (length (now current) ≡ channel-limit) × (length (now total) ≡ channel-limit) ⌝ }
     ensures { λ r. ⌜ r ≡ every channel-limit (λ c. channel-test events (Numbered values)
-        (held c events (getD (now (states .entry)) c 0) (getD (now (current .entry)) c 0) (getD (now (total .entry)) c 0)
-        (now (value .entry)) (now (next .entry)))) ⌝ }
+        (held c (rows-start events (now (states .entry)) c) events (getD (now (states .entry)) c 0) (getD (now (current .entry)) c 0)
+        (getD (now (total .entry)) c 0) (now (value .entry)) (now (next .entry)))) ⌝ }
 {
     for c in 0..CHANNEL_LIMIT {
+        let at = rows_start(states, c, events);
         if !channel_in_order(
             value,
             next,
             c,
-            events,
+            at,
+            wide(events),
             values,
             wide16(states[c]),
             wide(current[c]),
@@ -590,7 +547,7 @@ fn channels_in_order<'a>(
     true
 }
 
-// Refusal 17's test of the set-up and all channels: its number, or 0.
+// Refusal 17's test of the set-up and all channels, then 25's of the rows: the number of the refusal, or 0.
 fn all_fault<'a>(
     meet: &'a [u8],
     value: &'a [u8; STORE_LIMIT],
@@ -605,16 +562,16 @@ fn all_fault<'a>(
 ) -> u8
     requires { ⌜ (length (now meet) ≡ meet-limit) × (length (now value) ≡ store-limit) × (length (now next) ≡ store-limit)
         × (length (now states) ≡ channel-limit) × (length (now current) ≡ channel-limit) × (length (now total) ≡ channel-limit) ⌝ }
-    ensures { λ r. ⌜ r ≡ number-unless (setup-test (tool-setup (setup events values top (take (values * values) (now (meet .entry)))) (wheel-of wheel))
+    ensures { λ r. ⌜ r ≡ fault-number (setup-test (tool-setup (setup events values top (take (values * values) (now (meet .entry)))) (wheel-of wheel))
         && every channel-limit (λ c. channel-test events (Numbered values)
-        (held c events (getD (now (states .entry)) c 0) (getD (now (current .entry)) c 0) (getD (now (total .entry)) c 0)
-        (now (value .entry)) (now (next .entry))))) 17 ⌝ }
+        (held c (rows-start events (now (states .entry)) c) events (getD (now (states .entry)) c 0) (getD (now (current .entry)) c 0)
+        (getD (now (total .entry)) c 0) (now (value .entry)) (now (next .entry))))) (now (states .entry)) ⌝ }
 {
     let n = wide(events);
     let v = wide(values);
     if setup_in_order(meet, n, v, wide(top), wheel) {
-        if channels_in_order(value, next, states, current, total, n, v) {
-            return 0;
+        if channels_in_order(value, next, states, current, total, events, v) {
+            return store_fault(states);
         }
     }
     refusal::TOOL_CONTENTS
@@ -795,12 +752,6 @@ fn run<'a>(
 // So many pulses are added up before the total is looked at.
 const PULSE_BLOCK: usize = 4096;
 
-fn smaller(a: usize, b: usize) -> usize
-    ensures { λ r. ⌜ r ≡ min a b ⌝ }
-{
-    if a < b { a } else { b }
-}
-
 // The sum of so many pulses from a place on.
 fn pulse_sum(pulses: &[u32], from: usize, count: usize) -> u64
     requires { ⌜ (from + count ≤ length (now pulses)) × (count ≤ pulse-block) ⌝ }
@@ -830,7 +781,7 @@ fn total_with_all(total: u64, pulses: &[u32], count: usize) -> u64
     sum
 }
 
-// 17, 14, 15, 16, 19, then 13.
+// 17 and 25, 14, 15, 16, 19, then 13.
 fn replay_refusal(
     fault: u8,
     channel: usize,
@@ -889,15 +840,18 @@ pub fn replay<'a>(
     let states = tool.states[c];
     let current = tool.current[c];
     let total = tool.total[c];
+    let at = rows_start(&tool.states, c, events);
     let fault = tool_fault(
         &tool.setup.meet,
         &tool.value,
         &tool.next,
+        &tool.states,
         events,
         count,
         top,
         wheel,
         channel,
+        at,
         states,
         current,
         total,
@@ -912,11 +866,10 @@ pub fn replay<'a>(
             tool: tool,
         };
     }
-    let from = rows_start(c);
     let last = run(
         &tool.value,
         &tool.next,
-        from,
+        at,
         events,
         states,
         current,
@@ -931,62 +884,83 @@ pub fn replay<'a>(
     }
 }
 
-// Compiled values in the tool's bytes.
-fn low_bytes(values: &[u32; ENTRY_LIMIT]) -> [u8; ENTRY_LIMIT]
-    requires { ⌜ length (now values) ≡ entry-limit ⌝ }
-    ensures { λ r. ⌜ r ≡ map low-byte (now (values .entry)) ⌝ }
+// The tool with another table in a channel, at state 0 and with no pulses: so many states, whose entries' bytes these are.
+fn stored(tool: Tool, channel: usize, states: u16, table: &[u8]) -> Tool
+    requires { ⌜ Storable (tool .setup .events) (tool .states) channel states × (states * tool .setup .events * 2 ≤ length (now table)) ⌝ }
+    ensures { λ r. ⌜ store-of r ≡ with-table (store-of tool) channel states (column 0 (now (table .entry)) (states * tool .setup .events))
+        (column 1 (now (table .entry)) (states * tool .setup .events)) ⌝ }
 {
-    let mut bytes = [0u8; ENTRY_LIMIT];
-    let mut i: usize = 0;
-    while i < ENTRY_LIMIT {
-        bytes[i] = (values[i] % 256) as u8;
-        i += 1;
-    }
-    bytes
-}
-
-// Copies a table's entries into the rows from a place on.
-fn store_rows(rows: &mut [u8; STORE_LIMIT], at: usize, entries: &[u8; ENTRY_LIMIT])
-    requires { ⌜ (at + entry-limit ≤ store-limit) × (length (now rows) ≡ store-limit) × (length (now entries) ≡ entry-limit) ⌝ }
-    ensures { λ _. ⌜ now (rows .exit) ≡ paste (now (rows .entry)) at (now (entries .entry)) entry-limit ⌝ }
-{
-    let mut i: usize = 0;
-    while i < ENTRY_LIMIT {
-        rows[at + i] = entries[i];
-        i += 1;
-    }
-}
-
-// The tool with a table in a channel's rows, at state 0 and with no pulses.
-fn stored(
-    tool: Tool,
-    channel: usize,
-    states: u16,
-    values: [u8; ENTRY_LIMIT],
-    nexts: [u8; ENTRY_LIMIT],
-) -> Tool
-    requires { ⌜ channel < channel-limit ⌝ }
-    ensures { λ r. ⌜ store-of r ≡ with-rows (store-of tool) channel states
-        (stored-rows (tool .value) channel values) (stored-rows (tool .next) channel nexts) ⌝ }
-{
-    let at = rows_start(channel);
+    let events = tool.setup.events;
+    let value = replace(&tool.value, &tool.states, channel, events, states, table, 0);
+    let next = replace(&tool.next, &tool.states, channel, events, states, table, 1);
     let mut t = tool;
-    store_rows(&mut t.value, at, &values);
-    store_rows(&mut t.next, at, &nexts);
+    t.value = value;
+    t.next = next;
     t.states[channel] = states;
     t.current[channel] = 0;
     t.total[channel] = 0;
     t
 }
 
-// The compiler's answer for a rule and the tool's set-up.
-fn compile_for(meet: &[u8], events: u8, values: u8, top: u8, rule: &[u8]) -> Compiled
+// Clear: the channel is empty, and its rows are free.
+pub fn clear(tool: Tool, channel: usize) -> Answer
+    ensures { λ r. ⌜ answer r ≡ called (calls.clear channel) (store-of tool) ⌝ }
+{
+    let events = tool.setup.events;
+    let values = tool.setup.values;
+    let top = tool.setup.top;
+    let wheel = tool.setup.wheel;
+    let c = channel % CHANNEL_LIMIT;
+    let states = tool.states[c];
+    let current = tool.current[c];
+    let total = tool.total[c];
+    let at = rows_start(&tool.states, c, events);
+    let fault = tool_fault(
+        &tool.setup.meet,
+        &tool.value,
+        &tool.next,
+        &tool.states,
+        events,
+        values,
+        top,
+        wheel,
+        channel,
+        at,
+        states,
+        current,
+        total,
+    );
+    let refusal = channel_refusal(fault, channel);
+    if 0 < refusal {
+        return Answer {
+            reply: plain_reply(refusal),
+            tool: tool,
+        };
+    }
+    Answer {
+        reply: Reply::Accepted,
+        tool: stored(tool, c, 0, &[]),
+    }
+}
+
+// The compiler's answer for a rule and the tool's set-up: the number of states, or 5 to 10; the table goes to lent bytes.
+fn compile_for(
+    meet: &[u8],
+    events: u8,
+    values: u8,
+    top: u8,
+    rule: &[u8],
+    table: &mut [u8],
+) -> Counted
     requires { ⌜ (length (now meet) ≡ meet-limit) × (values ≤ value-limit) ⌝ }
-    ensures { λ r. ⌜ r ≡ compiled-rule (setup events values top (take (values * values) (now (meet .entry)))) (now (rule .entry)) ⌝ }
+    ensures answer { λ r. ⌜ r ≡ compile-answer state-limit (setup events values top (take (values * values) (now (meet .entry)))) (now (rule .entry))
+        (now (table .entry)) ⌝ }
+    ensures contents { λ _. ⌜ now (table .exit) ≡ compile-contents state-limit (setup events values top (take (values * values) (now (meet .entry))))
+        (now (rule .entry)) (now (table .entry)) ⌝ }
 {
     let v = wide(values);
     let count = v * v;
-    compile_rule(wide(events), v, wide(top), &meet[..count], rule)
+    compile(wide(events), v, wide(top), &meet[..count], rule, table)
 }
 
 fn counted_reply(verdict: Counted) -> Reply
@@ -1010,15 +984,18 @@ pub fn load(tool: Tool, channel: usize, rule: &[u8]) -> Answer
     let states = tool.states[c];
     let current = tool.current[c];
     let total = tool.total[c];
+    let at = rows_start(&tool.states, c, events);
     let fault = tool_fault(
         &tool.setup.meet,
         &tool.value,
         &tool.next,
+        &tool.states,
         events,
         values,
         top,
         wheel,
         channel,
+        at,
         states,
         current,
         total,
@@ -1030,20 +1007,22 @@ pub fn load(tool: Tool, channel: usize, rule: &[u8]) -> Answer
             tool: tool,
         };
     }
-    let compiled = compile_for(&tool.setup.meet, events, values, top, rule);
-    let verdict = compiled.verdict;
+    let mut table = [0u8; TABLE_BYTES];
+    let verdict = compile_for(&tool.setup.meet, events, values, top, rule, &mut table);
     let Counted::Count(n) = verdict else {
         return Answer {
             reply: counted_reply(verdict),
             tool: tool,
         };
     };
-    let entries = compiled.values;
-    let bytes = low_bytes(&entries);
-    let nexts = compiled.nexts;
-    let loaded = stored(tool, c, (n % 65536) as u16, bytes, nexts);
+    if !rows_left(&tool.states, c, n) {
+        return Answer {
+            reply: Reply::Refused(Refusal::Plain(refusal::ROW_TOTAL)),
+            tool: tool,
+        };
+    }
     Answer {
         reply: Reply::Accepted,
-        tool: loaded,
+        tool: stored(tool, c, (n % 65536) as u16, &table),
     }
 }

@@ -1,34 +1,39 @@
 -- Each call on a tool, and a sequence of events, is judged by its conditions.
-use mathlib.Core.{Path.{_≡_, refl, subst}, Logic.{inl, inr}, Bool.{Bool, true, false, cond}, List.{List, [], _∷_}}
+use mathlib.Core.{Path.{_≡_, refl, sym, subst}, Logic.{inl, inr}, Bool.{Bool, true, false, cond}, List.{List, [], _∷_, _++_}}
 use mathlib.Core.Option.{Option, none, some, Option·some-ne-none}
 use Prim.Native.Nat.{ℕ, _+_, _<_, zero, suc}
 use native.Mathlib.Omega.{arith}
 use borrow.Author.Tests.{ltb-true, ltb-false, leb-true, leb-false}
 use lib.{Dec.{ltb, leb}, ListN.{length, getD}}
-use Rattle.limits.specs.Limits.{channel-limit, total-limit}
+use Rattle.limits.specs.Limits.{channel-limit, row-limit, total-limit}
 use Rattle.theory.proofs.ValueSets.{and-left, every-at, every-some}
 use Rattle.refusal.specs.declared.Refusal.{Refusal}
 use Rattle.refusal.specs.declared.Refusal.the-variants.{Plain}
 use Rattle.refusal.specs.Refusal.{has-place, part-of, order, condition-numbers, right-places, Condition, plain, First}
 use Rattle.refusal.specs.RefusalAnswers.{or-else, plain-unless}
-use Rattle.refusal.proofs.Refusals.{plain-none, plain-first, first-append, first-then, judged}
+use Rattle.refusal.proofs.Refusals.{or-else-none, plain-none, plain-first, first-append, first-then, judged}
 use Rattle.channel_log.specs.Calls.{Call, load, event, restart, restart-all, clear}
 use Rattle.channel_log.specs.{CallSteps.{Content, channel-refusal, empty-refusal, on-event}, Log.{large-event, large-total, occurrence-refusal}}
+use Rattle.channel_log.specs.{Log.{rows-refusal}, Rows.{all-rows, other-rows}}
 use Rattle.channel_log.specs.{Calls.{map-option, Loaded}, Distance.{Occurrence, Reading, TotalAbove}}
-use Rattle.recorder.specs.Store.{Store, setup-of, tool-setup-of, channels, all-pulses}
+use Rattle.recorder.specs.Store.{Store, setup-of, tool-setup-of, channels, rows, all-pulses}
 use Rattle.recorder.specs.Store.{ToolFault}
 use Rattle.recorder.specs.ToolTests.{setup-test, named-test, tool-test}
-use Rattle.recorder.specs.CompiledRule.{rule-judged}
-use Rattle.recorder.specs.{Called.{content, tool-refusal}, Replay.{word-test, pulses-refusal, replay-refusal}}
+use Rattle.recorder.specs.CompiledRule.{rule-judged, states-of-rule, table-of-rule}
+use Rattle.recorder.specs.{Called.{content, fault-refusal, tool-refusal}, Replay.{word-test, pulses-refusal, replay-refusal}}
 use Rattle.recorder.proofs.{Held.{accepted-of-test, values-accepted}, Replays.{events-of}}
 use Rattle.synthesis.specs.TableOfRule.{rule-conditions-of}
 use Rattle.recorder_claims.specs.Claims.{fault-condition, empty-condition, event-condition, total-condition}
-use Rattle.recorder.specs.Store.{channel-condition}
+use Rattle.recorder.specs.Store.{channel-condition, store-condition, rows-condition, RowsAbove}
 use Rattle.recorder.specs.Store.{call-conditions}
 use Rattle.recorder.specs.Store.{replay-conditions}
 use Rattle.recorder_claims.specs.Claims.{CallRefusalClaim, ReplayRefusalClaim}
-use Rattle.recorder_claims.proofs.{Claims.{fault-of, tool-tested}, LoadedRules.{rule-first}}
-use Rattle.theory.specs.MealyMachine.{Word}
+use Rattle.recorder_claims.proofs.{Claims.{fault-of, tool-tested}, LoadedRules.{accepted-code, rule-first, rule-well-formed, is-table-of}}
+use Rattle.theory.specs.{MealyMachine.{Word}, ReachableStates.{IsTableOf}}
+use Rattle.values.specs.{Setup.{Setup, SetupValue, setup-meet, setup-top}, SetupTests.{setup-refusal}}
+use Rattle.formulas.specs.{RuleConditions.{node-bytes, OfFormula}, RuleRefusal.{formula-of}}
+use Rattle.formulas.proofs.RuleClaims.{formula-of-only}
+use Rattle.synthesis.proofs.CompileClaims.{one-count}
 
 -- A test that fails exactly where a condition is met.
 told-first :
@@ -75,15 +80,61 @@ no-conditions = refl
 pub after-14 : (c : ℕ) (cs : List Condition) (later : Option Refusal) → First cs later → First (channel-condition c ∷ cs) (or-else (channel-refusal c) later)
 after-14 c cs later h = first-append (channel-condition c ∷ []) cs (channel-refusal c) later (number-first 14 c channel-limit) h
 
--- 17, and what comes after it.
+-- 25 of a tool, and of a load: `Others n` says that the other channels have n rows, and only as many as they have.
+pub rows-first : (n : ℕ) → First (plain 25 (row-limit < n) ∷ []) (rows-refusal n)
+rows-first n = told-first 25 (row-limit < n) (leb n row-limit) (leb-false n row-limit) (λ p l. omega (arith, l, leb-true n row-limit p))
+
+module _ (s : Setup) (ok : setup-refusal s ≡ none) (rule : List ℕ) (Others : ℕ → Type 0) (others : ℕ) (have : Others others)
+    (only : (n : ℕ) → Others n → n ≡ others) where
+  load-rows-first : rule-judged s rule ≡ none → First (rows-condition s Others rule ∷ []) (rows-refusal (others + states-of-rule s rule))
+  load-rows-first fine = told-first 25 _ (leb (others + states-of-rule s rule) row-limit) met unmet
+    where
+      met : leb (others + states-of-rule s rule) row-limit ≡ false → OfFormula (node-bytes (s .kind)) rule (RowsAbove s Others)
+      met f = (
+        formula-of (s .kind) rule,
+        accepted-code s rule fine,
+        record {
+          others = others;
+          have = have;
+          states = states-of-rule s rule;
+          table = table-of-rule s rule;
+          is-table = is-table-of s rule ok fine;
+          above = leb-false (others + states-of-rule s rule) row-limit f;
+        },
+      )
+
+      unmet : leb (others + states-of-rule s rule) row-limit ≡ true → ¬ OfFormula (node-bytes (s .kind)) rule (RowsAbove s Others)
+      unmet p (φ, code, m) =
+          let e = formula-of-only (s .kind) rule φ code in
+          let n =
+          one-count (SetupValue s) (setup-meet s) (setup-top s) (s .events) (formula-of (s .kind) rule) (rule-well-formed s rule ok fine) (m .states)
+          (states-of-rule s rule) (m .table) (table-of-rule s rule)
+          (subst (λ φ. IsTableOf (setup-meet s) (setup-top s) (s .events) φ (m .states) (m .table)) e (m .is-table)) (is-table-of s rule ok fine) in
+          omega (arith, m .above, n, only (m .others) (m .have), leb-true (others + states-of-rule s rule) row-limit p)
+
+  -- 14, 5 to 10, then 25.
+  pub load-first :
+      (c : ℕ) →
+      First (channel-condition c ∷ (rule-conditions-of s rule ++ (rows-condition s Others rule ∷ [])))
+      (or-else (channel-refusal c) (or-else (rule-judged s rule) (rows-refusal (others + states-of-rule s rule))))
+  load-first c =
+      after-14 c (rule-conditions-of s rule ++ (rows-condition s Others rule ∷ [])) _
+      (first-then (rule-conditions-of s rule) (rows-condition s Others rule ∷ []) (rule-judged s rule) _ (rule-first s rule ok) load-rows-first)
+
+-- 17 and 25, and what comes after them.
 module _ (t : Store) where
-  after-17 :
+  after-faults :
       (call : Call Occurrence) (cs : List Condition) (later : Option Refusal) → (setup-test (tool-setup-of t) ≡ true → First cs later) →
-      First (fault-condition t call ∷ cs) (or-else (plain-unless (tool-test t call) 17) later)
-  after-17 call cs later h =
-      first-then (fault-condition t call ∷ []) cs (plain-unless (tool-test t call) 17) later
-      (plain-first 17 (ToolFault t call) (tool-test t call) (fault-of t call) (tool-tested t call .0))
-      (λ e. h (and-left (setup-test (tool-setup-of t)) (named-test t call) (plain-none (tool-test t call) 17 e)))
+      First (fault-condition t call ∷ store-condition t ∷ cs) (or-else (fault-refusal t call) later)
+  after-faults call cs later h =
+      let test = tool-test t call in
+      first-then (fault-condition t call ∷ store-condition t ∷ []) cs (fault-refusal t call) later
+      (first-append (fault-condition t call ∷ []) (store-condition t ∷ []) (plain-unless test 17) (rows-refusal (all-rows (rows t)))
+      (plain-first 17 (ToolFault t call) test (fault-of t call) (tool-tested t call .0)) (rows-first (all-rows (rows t))))
+      (λ e.
+      h
+      (and-left (setup-test (tool-setup-of t)) (named-test t call)
+      (plain-none test 17 (or-else-none (plain-unless test 17) (rows-refusal (all-rows (rows t))) e .0))))
 
 abbrev held-total : Loaded ℕ → ℕ
 held-total x = x .total
@@ -91,21 +142,21 @@ held-total x = x .total
 call-first : (t : Store) (call : Call Occurrence) → First (call-conditions t call) (tool-refusal t call)
 unfolding call-conditions
 call-first t (load c r) =
-    after-17 t (load c r) (channel-condition c ∷ rule-conditions-of (setup-of t) r) (or-else (channel-refusal c) (rule-judged (setup-of t) r))
+    after-faults t (load c r) _ _
     (λ h.
-    after-14 c (rule-conditions-of (setup-of t) r) (rule-judged (setup-of t) r)
-    (rule-first (setup-of t) r (values-accepted (tool-setup-of t) (accepted-of-test (tool-setup-of t) h))))
+    load-first (setup-of t) (values-accepted (tool-setup-of t) (accepted-of-test (tool-setup-of t) h)) r (λ n. other-rows c (rows t) ≡ n)
+    (other-rows c (rows t)) refl (λ n e. sym e) c)
 call-first t (event c i) =
-    after-17 t (event c i) (channel-condition c ∷ empty-condition t c ∷ event-condition t (i .event) ∷ total-condition t c (i .pulses) ∷ [])
+    after-faults t (event c i) (channel-condition c ∷ empty-condition t c ∷ event-condition t (i .event) ∷ total-condition t c (i .pulses) ∷ [])
     (or-else (channel-refusal c) (on-event (content t) (channels t c) i))
     (λ h.
     after-14 c (empty-condition t c ∷ event-condition t (i .event) ∷ total-condition t c (i .pulses) ∷ []) (on-event (content t) (channels t c) i)
     (on-event-first held-total (content t) (t .setup .events) (λ x i. refl) (channels t c) i))
 call-first t (restart c) =
-    after-17 t (restart c) (channel-condition c ∷ empty-condition t c ∷ []) (or-else (channel-refusal c) (empty-refusal (channels t c)))
+    after-faults t (restart c) (channel-condition c ∷ empty-condition t c ∷ []) (or-else (channel-refusal c) (empty-refusal (channels t c)))
     (λ h. after-14 c (empty-condition t c ∷ []) (empty-refusal (channels t c)) (empty-first held-total (channels t c)))
-call-first t restart-all = after-17 t restart-all [] none (λ h. no-conditions)
-call-first t (clear c) = after-17 t (clear c) (channel-condition c ∷ []) (channel-refusal c) (λ h. number-first 14 c channel-limit)
+call-first t restart-all = after-faults t restart-all [] none (λ h. no-conditions)
+call-first t (clear c) = after-faults t (clear c) (channel-condition c ∷ []) (channel-refusal c) (λ h. number-first 14 c channel-limit)
 
 pub call-refusals : CallRefusalClaim
 unfolding call-conditions condition-numbers right-places has-place part-of order
@@ -156,7 +207,7 @@ replay-first t c word buffer =
     let large = plain 16 (¬ Word n (events-of word)) in
     let heavy = total-condition t c (all-pulses word) in
     let short = plain 13 (length buffer < length word) in
-    after-17 t (restart c) (channel-condition c ∷ empty-condition t c ∷ large ∷ heavy ∷ short ∷ [])
+    after-faults t (restart c) (channel-condition c ∷ empty-condition t c ∷ large ∷ heavy ∷ short ∷ [])
     (or-else (channel-refusal c) (or-else (empty-refusal (channels t c)) (or-else O (or-else P F))))
     (λ h.
     after-14 c (empty-condition t c ∷ large ∷ heavy ∷ short ∷ []) (or-else (empty-refusal (channels t c)) (or-else O (or-else P F)))

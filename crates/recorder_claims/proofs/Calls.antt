@@ -1,16 +1,15 @@
 -- Each public entry on tools by what it replies and hands back: judged by its conditions, and a tool's record from the set-up on.
 use mathlib.Core.{Path.{_≡_, refl, sym, _∙_, ap, subst⁻¹}, List.{List, [], _∷_, map}, Option.{Option, none, some}}
-use Prim.Native.Nat.{ℕ, _<_}
+use Prim.Native.Nat.{ℕ}
 use lib.ListN.{length}
-use Rattle.limits.specs.Limits.{channel-limit}
 use Rattle.refusal.specs.{declared.Refusal.{Refusal}, declared.Refusal.the-variants.{Plain}}
 use Rattle.refusal.specs.Refusal.{Judged, JudgedCall, put}
 use Rattle.refusal.specs.RefusalAnswers.{put-unless}
 use Rattle.channel_log.specs.Distance.{Occurrence, Reading}
 use Rattle.channel_log.specs.Calls.{Call, load, event, restart, restart-all, clear, returned, refused, reply-refusal, Channels, replies, final}
-use Rattle.channel_log.specs.Calls.{event-calls, last-returned, struck, replies-on}
-use Rattle.channel_log.specs.CallSteps.{Content, event-reply, accepted-reply}
-use Rattle.recorder.specs.Store.{Store, AllCells, ToolSetup, tool-setup-conditions, tool-setup-of, channels}
+use Rattle.channel_log.specs.Calls.{event-calls, last-returned, accepted-on, replies-on}
+use Rattle.channel_log.specs.{CallSteps.{Content, event-reply, accepted-reply}, Rows.{other-rows}}
+use Rattle.recorder.specs.Store.{Store, AllCells, ToolSetup, tool-setup-conditions, tool-setup-of, channels, rows}
 use Rattle.recorder.specs.ToolTests.{tool-setup-refusal}
 use Rattle.recorder.specs.Called.{content, tool-refusal, effect-on, settled-store, called, new-store, set-up-answer, set-up-called}
 use Rattle.recorder.specs.Replay.{all-returned, replay-refusal, replay-settled, replayed}
@@ -18,8 +17,9 @@ use Rattle.recorder.proofs.{Decided.{refused-call}, Replays.{returned-back}}
 use Rattle.recorder.specs.Store.{call-conditions}
 use Rattle.recorder.specs.Store.{replay-conditions}
 use Rattle.recorder_claims.specs.ChannelLog.{AsLogged}
-use Rattle.recorder_claims.proofs.{Claims.{tool-independence, blank-refused, replay-repeated}, CallRefusals.{call-refusals, replay-refusals}}
-use Rattle.recorder_claims.proofs.{SetUps.{tool-setup-judged}, PrintedLog.{printed-record}}
+use Rattle.recorder_claims.proofs.Claims.{sound, tool-own-calls, tool-other-rows, blank-refused, replay-repeated}
+use Rattle.recorder_claims.proofs.CallRefusals.{call-refusals, replay-refusals}
+use Rattle.recorder_claims.proofs.{SetUps.{tool-setup-judged}, Keeps.{Sound}, PrintedLog.{sound-after, printed-record}}
 
 -- What an accepted call replies is no refusal.
 event-accepted : {X : Type 0} (K : Content X Occurrence (Reading ℕ)) (o : Option X) (i : Occurrence) → reply-refusal (event-reply K o i) ≡ none
@@ -121,6 +121,10 @@ module _ (s : ToolSetup) where
     new-tool : set-up-called s .1 ≡ new-store s
     new-tool = ap (λ o. set-up-answer s o .1) set-up-fine
 
+    -- Every list of calls leaves the tool sound.
+    pub tool-sound : (calls : List (Call Occurrence)) → Sound s (final called calls (set-up-called s .1))
+    tool-sound calls = subst⁻¹ (λ t. Sound s (final called calls t)) new-tool (sound-after s calls (new-store s) (sound s set-up-fine))
+
     -- Demand 3 from the set-up on.
     pub record-of-calls :
         (calls : List (Call Occurrence)) →
@@ -130,14 +134,33 @@ module _ (s : ToolSetup) where
         subst⁻¹ (λ t. AsLogged s calls (replies called calls t) (tool-setup-of (final called calls t)) (channels (final called calls t))) new-tool
         (printed-record s set-up-fine calls)
 
-    pub independence :
-        (c : ℕ) → c < channel-limit → (calls others : List (Call Occurrence)) → struck c calls ≡ struck c others →
+    -- What was accepted on a channel decides it; a load goes by the rows of the others.
+    pub own-calls :
+        (c : ℕ) (calls others : List (Call Occurrence)) →
+        accepted-on c calls (replies called calls (set-up-called s .1)) ≡ accepted-on c others (replies called others (set-up-called s .1)) →
         (replies-on c calls (replies called calls (set-up-called s .1)) ≡ replies-on c others (replies called others (set-up-called s .1)))
         × (channels (final called calls (set-up-called s .1)) c ≡ channels (final called others (set-up-called s .1)) c)
-    independence c l calls others e =
-        let r = tool-independence s set-up-fine c l calls others e in
+        × ((i : Occurrence) →
+        called (event c i) (final called calls (set-up-called s .1)) .0 ≡ called (event c i) (final called others (set-up-called s .1)) .0)
+    own-calls =
         subst⁻¹
         (λ t.
+        (c : ℕ) (calls others : List (Call Occurrence)) →
+        accepted-on c calls (replies called calls t) ≡ accepted-on c others (replies called others t) →
         (replies-on c calls (replies called calls t) ≡ replies-on c others (replies called others t))
-        × (channels (final called calls t) c ≡ channels (final called others t) c))
-        new-tool (r .same-replies, r .same-channel)
+        × (channels (final called calls t) c ≡ channels (final called others t) c)
+        × ((i : Occurrence) → called (event c i) (final called calls t) .0 ≡ called (event c i) (final called others t) .0))
+        new-tool
+        (λ c calls others e. let r = tool-own-calls s set-up-fine c calls others e in (r .same-replies, r .same-channel, r .same-events))
+
+    pub other-rows-decide :
+        (c : ℕ) (rule : List ℕ) (calls others : List (Call Occurrence)) →
+        other-rows c (rows (final called calls (set-up-called s .1))) ≡ other-rows c (rows (final called others (set-up-called s .1))) →
+        called (load c rule) (final called calls (set-up-called s .1)) .0 ≡ called (load c rule) (final called others (set-up-called s .1)) .0
+    other-rows-decide =
+        subst⁻¹
+        (λ t.
+        (c : ℕ) (rule : List ℕ) (calls others : List (Call Occurrence)) →
+        other-rows c (rows (final called calls t)) ≡ other-rows c (rows (final called others t)) →
+        called (load c rule) (final called calls t) .0 ≡ called (load c rule) (final called others t) .0)
+        new-tool (tool-other-rows s set-up-fine)

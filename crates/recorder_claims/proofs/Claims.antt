@@ -1,13 +1,13 @@
 -- The claims of `specs/Claims.antt`.
 use mathlib.Core.{Path.{_≡_, refl, sym, _∙_, ap, subst, subst⁻¹, fun-ext}, Logic.{⊎-elim}, Bool.{Bool, true, false, false≢true}, List.{List}}
 use mathlib.Core.Option.{Option, none, some, Option·some-ne-none}
-use Prim.Native.Nat.{ℕ}
+use Prim.Native.Nat.{ℕ, _≤_}
 use native.Mathlib.Omega.{arith}
 use borrow.Author.Tests.{ltb-true, ltb-false}
-use lib.{Dec.{T, eqb, ltb, eqb→eq, eqb-refl}, ListN.{take, length-replicate}}
+use lib.{Dec.{T, eqb, ltb, eqb→eq, eqb-refl}, ListN.{take, replicate, length-replicate}}
 use Rattle.theory.specs.ValueSetTests.{every}
 use Rattle.theory.proofs.ValueSets.{and-left, and-right, and-failed, and-cases, every-at, every-some}
-use Rattle.limits.specs.Limits.{meet-limit, channel-limit, store-limit}
+use Rattle.limits.specs.Limits.{meet-limit, channel-limit, row-limit, store-limit}
 use Rattle.refusal.specs.declared.Refusal.{Refusal}
 use Rattle.refusal.specs.declared.Refusal.the-variants.{Plain}
 use Rattle.refusal.specs.Refusal.{First}
@@ -21,17 +21,18 @@ use Rattle.values.proofs.Setups.{setup-accepted, square-small}
 use Rattle.formulas.specs.RuleRefusal.{formula-of}
 use Rattle.synthesis.proofs.{LentTable.{laws}, StatePlaces.{getD-zeros}}
 use Rattle.channel_log.specs.Calls.{Call, load, event, restart, restart-all, clear, all-empty, Loaded, concerns}
-use Rattle.channel_log.specs.{CallSteps.{call-refusal}, Distance.{Occurrence}}
-use Rattle.channel_log.proofs.Record.{record-claim, independence-claim}
-use Rattle.recorder.specs.Store.{Store, ToolSetup, tool-setup, tool-setup-conditions, meet-part, tool-setup-of, channels}
-use Rattle.recorder_claims.specs.Claims.{LooksAt}
+use Rattle.channel_log.specs.{CallSteps.{call-refusal}, Distance.{Occurrence}, Log.{rows-refusal}, Rows.{sum-below, all-rows}}
+use Rattle.channel_log.proofs.Record.{record-claim, own-calls-claim, other-rows-claim}
+use Rattle.recorder.specs.Store.{Store, ToolSetup, tool-setup, tool-setup-conditions, meet-part, tool-setup-of, channels, rows}
+use Rattle.recorder_claims.specs.Claims.{LooksAt, table-states}
 use Rattle.recorder.specs.Store.{ToolFault, setup-fails, channel-fails}
 use Rattle.recorder.specs.ToolTests.{passed, tool-setup-refusal, setup-test, channel-test, test-of, named-test, tool-test}
-use Rattle.recorder.specs.{CompiledRule.{rule-judged, loaded-rule}, Called.{content, called, filled, empty-store, meet-cells, new-store, blank}}
+use Rattle.recorder.specs.{CompiledRule.{rule-judged, states-of-rule, loaded-rule}, Splicing.{row-count}}
+use Rattle.recorder.specs.{Called.{content, called, filled, empty-store, meet-cells, new-store, blank}}
 use Rattle.recorder.proofs.Rows.{take-filled}
 use Rattle.recorder.proofs.Held.{held-above, held-empty, accepted-of-test, values-accepted, in-order-of-test, test-of-in-order}
 use Rattle.recorder.proofs.{Decided.{table-of, state-of, total-of, refused-call}, Replays.{word-readings, length-readings, accepted-of, repeated}}
-use Rattle.recorder_claims.specs.Claims.{ToolRecordClaim, ToolIndependenceClaim, BlankClaim, ToolTestClaim, ReplayClaim}
+use Rattle.recorder_claims.specs.Claims.{ToolRecordClaim, ToolOwnCallsClaim, ToolOtherRowsClaim, BlankClaim, ToolTestClaim, ReplayClaim}
 use Rattle.recorder_claims.proofs.{SetUps.{tool-setup-judged}, LoadedRules.{rule-well-formed, rule-table-is, judged-not-17}, Keeps.{Sound, keeps}}
 
 -- A meet table as it is kept and read.
@@ -53,7 +54,11 @@ module _ (s : ToolSetup) (ok : tool-setup-refusal s ≡ none) where
 
   nothing-loaded : channels (new-store s) ≡ all-empty
   unfolding new-store empty-store
-  nothing-loaded = fun-ext λ d. held-empty d (s .values .events) _ _ _ _ _ (getD-zeros channel-limit d)
+  nothing-loaded = fun-ext λ d. held-empty d _ (s .values .events) _ _ _ _ _ (getD-zeros channel-limit d)
+
+  no-rows : row-count (replicate channel-limit 0) ≤ row-limit
+  unfolding sum-below
+  no-rows = omega arith
 
   pub sound : Sound s (new-store s)
   unfolding new-store empty-store
@@ -67,23 +72,37 @@ module _ (s : ToolSetup) (ok : tool-setup-refusal s ≡ none) where
         value-length = length-replicate {A = ℕ} store-limit 0;
         next-length = length-replicate {A = ℕ} store-limit 0;
         in-order = λ d. ap (λ N. channel-test (s .values .events) (s .values .kind) (N d)) nothing-loaded;
+        rows-fit = no-rows;
       }
 
--- Demand 3.
+-- The log counts the rows of an accepted rule's table.
+counts-rows : (s : ToolSetup) (r : List ℕ) → table-states s (formula-of (s .values .kind) r) ≡ loaded-rule (s .values) r .states
+unfolding states-of-rule
+counts-rows s r = refl
+
+-- Demand 3, and the independence of channels.
 pub tool-record : ToolRecordClaim
 tool-record s ok =
     let v = s .values in
     let fine = values-ok s ok in
-    record-claim (SetupValue v) (setup-meet v) (setup-top v) (laws v fine) (v .events) (s .wheel) (rule-judged v) (formula-of (v .kind)) (loaded-rule v)
-    (λ r h. rule-well-formed v r fine h) (λ r h. rule-table-is v r fine h) (λ r. judged-not-17 v r fine)
+    record-claim (SetupValue v) (setup-meet v) (setup-top v) (laws v fine) (v .events) (s .wheel) (rule-judged v) (formula-of (v .kind)) (table-states s)
+    (loaded-rule v) (λ r h. rule-well-formed v r fine h) (λ r h. rule-table-is v r fine h) (λ r h. counts-rows s r) (λ r. judged-not-17 v r fine)
     called channels (Sound s) (keeps s) (new-store s) (sound s ok) (nothing-loaded s ok)
 
-pub tool-independence : ToolIndependenceClaim
-tool-independence s ok =
+pub tool-own-calls : ToolOwnCallsClaim
+tool-own-calls s ok =
     let v = s .values in
     let fine = values-ok s ok in
-    independence-claim (SetupValue v) (setup-meet v) (setup-top v) (laws v fine) (v .events) (s .wheel) (rule-judged v) (formula-of (v .kind)) (loaded-rule v)
-    (λ r h. rule-well-formed v r fine h) (λ r h. rule-table-is v r fine h) (λ r. judged-not-17 v r fine)
+    own-calls-claim (SetupValue v) (setup-meet v) (setup-top v) (laws v fine) (v .events) (s .wheel) (rule-judged v) (formula-of (v .kind)) (table-states s)
+    (loaded-rule v) (λ r h. rule-well-formed v r fine h) (λ r h. rule-table-is v r fine h) (λ r h. counts-rows s r) (λ r. judged-not-17 v r fine)
+    called channels (Sound s) (keeps s) (new-store s) (sound s ok) (nothing-loaded s ok)
+
+pub tool-other-rows : ToolOtherRowsClaim
+tool-other-rows s ok =
+    let v = s .values in
+    let fine = values-ok s ok in
+    other-rows-claim (SetupValue v) (setup-meet v) (setup-top v) (laws v fine) (v .events) (s .wheel) (rule-judged v) (formula-of (v .kind)) (table-states s)
+    (loaded-rule v) (λ r h. rule-well-formed v r fine h) (λ r h. rule-table-is v r fine h) (λ r h. counts-rows s r) (λ r. judged-not-17 v r fine)
     called channels (Sound s) (keeps s) (new-store s) (sound s ok) (nothing-loaded s ok)
 
 blank-test : (kind : ValueKind) → setup-test (tool-setup-of (blank kind)) ≡ false
@@ -95,7 +114,9 @@ pub blank-refused : BlankClaim
 unfolding or-else plain-unless
 blank-refused kind x =
     refused-call (blank kind) x (Plain 17)
-    (ap (λ b. or-else (plain-unless b 17) (call-refusal (content (blank kind)) (channels (blank kind)) x))
+    (ap
+    (λ b.
+    or-else (or-else (plain-unless b 17) (rows-refusal (all-rows (rows (blank kind))))) (call-refusal (content (blank kind)) (channels (blank kind)) x))
     (and-failed (named-test (blank kind) x) (blank-test kind)))
 
 -- The test of a set-up fails where it meets 1 to 3 or 18, and only there.
@@ -118,7 +139,7 @@ module _ (t : Store) where
       go : (i : Bool) → ltb c channel-limit ≡ i → test-of t c ≡ true
       go true p = every-at channel-limit (test-of t) h c (ltb-true c channel-limit p)
       go false p =
-          ap (channel-test (t .setup .events) (t .setup .kind)) (held-above c (t .setup .events) _ _ _ (t .value) (t .next) (ltb-false c channel-limit p))
+          ap (channel-test (t .setup .events) (t .setup .kind)) (held-above c _ (t .setup .events) _ _ _ (t .value) (t .next) (ltb-false c channel-limit p))
 
   named-at : (c d : ℕ) → T (eqb d c) → c ≡ d
   named-at c d h = sym (eqb→eq d c h)

@@ -1,34 +1,38 @@
--- A sound tool stays sound under every call, replies as its channels do, and 17 does not arise.
-use mathlib.Core.{Path.{_≡_, refl, _∙_, ap, subst, subst⁻¹}, Bool.{Bool, true, false, cond}, List.{List}}
+-- A sound tool stays sound under every call, replies as its channels do, and neither 17 nor 25 arises on it, except 25 on a load.
+use mathlib.Core.{Path.{_≡_, refl, _∙_, ap, subst, subst⁻¹}, Bool.{Bool, true, false, cond}, List.{List, []}}
 use mathlib.Core.Option.{Option, none, some}
-use Prim.Native.Nat.{ℕ, _+_, _≤_, _<_}
-use native.Mathlib.Omega.{arith}
-use lib.{Dec.{eqb}, ListN.{length, set, replicate, length-set, length-replicate}, Seq.{length-paste}}
+use Prim.Native.Nat.{ℕ, _+_, _*_, _≤_, _<_}
+use native.Mathlib.{Nat.{zero-mul}, Omega.{arith}}
+use borrow.Author.Tests.{leb-true, le-leb}
+use lib.{Dec.{eqb, leb}, ListN.{length, set, replicate, length-set, length-replicate}}
 use Rattle.theory.proofs.ValueSets.{and-both, every-of}
-use Rattle.limits.specs.Limits.{channel-limit, entry-limit, store-limit, total-limit}
+use Rattle.limits.specs.Limits.{channel-limit, event-limit, row-limit, store-limit, total-limit}
 use Rattle.refusal.specs.declared.Refusal.{Refusal}
+use Rattle.refusal.specs.declared.Refusal.the-variants.{Plain}
 use Rattle.refusal.specs.RefusalAnswers.{or-else, plain-unless}
 use Rattle.refusal.proofs.Refusals.{or-else-none}
 use Rattle.values.specs.declared.ValueKind.{ValueKind}
 use Rattle.values.specs.Setup.{Setup}
 use Rattle.channel_log.specs.Distance.{Wheel, Occurrence, Reading}
-use Rattle.channel_log.specs.Log.{large-event, large-total}
+use Rattle.channel_log.specs.{Log.{large-event, large-total, rows-refusal, load-rows-refusal}, Rows.{all-rows, other-rows}}
 use Rattle.channel_log.specs.Calls.{Call, load, event, restart, restart-all, clear, Reply, Channels, with-channel, map-option}
 use Rattle.channel_log.specs.CallSteps.{Content, channel-refusal}
 use Rattle.channel_log.specs.CallSteps.{empty-refusal, on-event, call-refusal, accepted-reply, effect, settled, step}
 use Rattle.channel_log.specs.Calls.{Loaded}
 use Rattle.channel_log.specs.Recorded.{at-state, recorded}
-use Rattle.channel_log.proofs.Record.{event-fits, total-fits}
-use Rattle.recorder.specs.Store.{Store, ToolSetup, setup-of, tool-setup-of, rows-start, channels}
+use Rattle.channel_log.proofs.Record.{test-passed, event-fits, total-fits}
+use Rattle.recorder.specs.Store.{Store, ToolSetup, setup-of, tool-setup-of, channels, rows}
 use Rattle.recorder.specs.Store.{ChannelInOrder}
 use Rattle.recorder.specs.ToolTests.{tool-setup-refusal, setup-test, channel-test, test-of, named-test, tool-test}
 use Rattle.recorder.specs.CompiledRule.{rule-judged, states-of-rule, values-of-rule, nexts-of-rule, loaded-rule}
-use Rattle.recorder.specs.Called.{with-current, with-rows, stored-rows, next-state, next-total, content, effect-on, settled-store, called}
-use Rattle.recorder.proofs.{Rows.{rows-in}, Held.{channel-below, values-accepted, test-of-accepted, few-events, in-order-of-test, test-of-in-order}}
-use Rattle.recorder_claims.proofs.LoadedRules.{rule-in-order, length-values, length-nexts}
-use Rattle.recorder_claims.proofs.View.{current-view, restarted-view, cleared-view, loaded-view}
+use Rattle.recorder.specs.Called.{with-current, with-rows, with-table, next-state, next-total, content, fault-refusal, effect-on, settled-store, called}
+use Rattle.recorder.specs.Splicing.{row-count}
+use Rattle.recorder.proofs.{RowTotals.{before-moved}, RowCounts.{all-rows-are, others-are}, CompiledRules.{values-length, nexts-length}}
+use Rattle.recorder.proofs.{Held.{channel-below, values-accepted, test-of-accepted, few-events, in-order-of-test, test-of-in-order}}
+use Rattle.recorder_claims.proofs.LoadedRules.{rule-in-order}
+use Rattle.recorder_claims.proofs.View.{current-view, restarted-view, value-sized, next-sized, cleared-view, loaded-view}
 
--- The tool has set-up s, which is accepted, arrays of their lengths, and channels that 17 does not refuse.
+-- The tool has set-up s, which is accepted, arrays of their lengths, channels that 17 does not refuse, and rows that 25 does not.
 pub record Sound (s : ToolSetup) (t : Store) : Type 0 where
   pub setup-is : tool-setup-of t ≡ s
   pub accepted : tool-setup-refusal s ≡ none
@@ -38,6 +42,7 @@ pub record Sound (s : ToolSetup) (t : Store) : Type 0 where
   pub value-length : length (t .value) ≡ store-limit
   pub next-length : length (t .next) ≡ store-limit
   pub in-order : (d : ℕ) → test-of t d ≡ true
+  pub rows-fit : row-count (t .states) ≤ row-limit
 
 with-in-order :
     (n : ℕ) (v : ValueKind) (c : ℕ) (x : Option (Loaded ℕ)) (L : Channels (Loaded ℕ)) → channel-test n v x ≡ true → ((d : ℕ) → channel-test n v (L d) ≡ true) →
@@ -138,15 +143,17 @@ module _ (t : Store) (g : Sound (tool-setup-of t) t) where
       value-length = g .value-length;
       next-length = g .next-length;
       in-order = λ d. ap (λ M. channel-test n v (M d)) e ∙ f d;
+      rows-fit = g .rows-fit;
     },
     e,
   )
 
   -- Another table in a channel.
   kept-rows :
-      (c k : ℕ) (vs ns : List ℕ) (M : Channels (Loaded ℕ)) → length vs ≡ store-limit → length ns ≡ store-limit → channels (with-rows t c k vs ns) ≡ M →
+      (c k : ℕ) (vs ns : List ℕ) (M : Channels (Loaded ℕ)) → length vs ≡ store-limit → length ns ≡ store-limit →
+      row-count (set (t .states) c k) ≤ row-limit → channels (with-rows t c k vs ns) ≡ M →
       ((d : ℕ) → channel-test n v (M d) ≡ true) → Kept (with-rows t c k vs ns) M
-  kept-rows c k vs ns M a b e f = (
+  kept-rows c k vs ns M a b r e f = (
     record {
       setup-is = refl;
       accepted = g .accepted;
@@ -156,6 +163,7 @@ module _ (t : Store) (g : Sound (tool-setup-of t) t) where
       value-length = a;
       next-length = b;
       in-order = λ d. ap (λ M. channel-test n v (M d)) e ∙ f d;
+      rows-fit = r;
     },
     e,
   )
@@ -189,28 +197,50 @@ module _ (t : Store) (g : Sound (tool-setup-of t) t) where
       (length-replicate {A = ℕ} channel-limit 0) (length-replicate {A = ℕ} channel-limit 0) (restarted-view t)
       (λ d. restarted-in-order n v (L d) (g .in-order d))
 
+  events-few : n ≤ event-limit
+  events-few = few-events T setup-passes
+
+  -- 25 is not met by a table of k states in channel c.
+  fits : (c k : ℕ) → c < channel-limit → load-rows-refusal c (rows t) k ≡ none → row-count (set (t .states) c k) ≤ row-limit
+  fits c k i e =
+      subst (λ m. m ≤ row-limit) (others-are t c i (g .states-length) k)
+      (leb-true (other-rows c (rows t) + k) row-limit (test-passed (leb (other-rows c (rows t) + k) row-limit) (Plain 25) e))
+
+  cleared-fits : (c : ℕ) → c < channel-limit → row-count (set (t .states) c 0) ≤ row-limit
+  cleared-fits c i = omega (arith, before-moved (t .states) c 0 (omega (arith, g .states-length)) channel-limit i, g .rows-fit)
+
   keep-clear : (c : ℕ) → call-refusal (content t) L (clear c) ≡ none → Kept (effect-on t (clear c)) (effect (content t) L (clear c))
   keep-clear c h =
-      let l : c < length (t .states) = subst⁻¹ (λ m. c < m) (g .states-length) (channel-below c h) in
-      kept-rows c 0 (t .value) (t .next) (effect (content t) L (clear c)) (g .value-length) (g .next-length) (cleared-view t c l)
+      let i = channel-below c h in
+      let z : length {A = ℕ} [] ≡ 0 * n = omega (arith, zero-mul n) in
+      let r = cleared-fits c i in
+      kept-rows c 0 (with-table t c 0 [] [] .value) (with-table t c 0 [] [] .next) (effect (content t) L (clear c))
+      (value-sized t (g .states-length) (g .current-length) (g .total-length) (g .value-length) (g .next-length) events-few (g .rows-fit) c 0 [] [] i r z z)
+      (next-sized t (g .states-length) (g .current-length) (g .total-length) (g .value-length) (g .next-length) events-few (g .rows-fit) c 0 [] [] i r z z)
+      r
+      (cleared-view t (g .states-length) (g .current-length) (g .total-length) (g .value-length) (g .next-length) events-few (g .rows-fit) c 0 [] [] i r z z
+      refl)
       (with-in-order n v c none L refl (g .in-order))
 
   keep-load :
       (c : ℕ) (r : List ℕ) → call-refusal (content t) L (load c r) ≡ none → Kept (effect-on t (load c r)) (effect (content t) L (load c r))
   keep-load c r h =
-      let a = or-else-none (channel-refusal c) (rule-judged S r) h in
+      let a = or-else-none (channel-refusal c) (content t .load-refusal L c r) h in
+      let b = or-else-none (rule-judged S r) (load-rows-refusal c (rows t) (states-of-rule S r)) (a .1) in
       let i : c < channel-limit = channel-below c (a .0) in
-      let f : ChannelInOrder n v (loaded-rule S r) = rule-in-order S r (values-accepted T (g .accepted)) (a .1) in
+      let f : ChannelInOrder n v (loaded-rule S r) = rule-in-order S r (values-accepted T (g .accepted)) (b .0) in
+      let k = states-of-rule S r in
       let vs = values-of-rule S r in
       let ns = nexts-of-rule S r in
-      let e =
-      loaded-view t (g .states-length) (g .current-length) (g .total-length) (g .value-length) (g .next-length)
-      (few-events T setup-passes) c (states-of-rule S r) vs ns i (f .table .some-states) (f .table .few-states)
-      (length-values S r) (length-nexts S r) (g .in-order) in
-      kept-rows c (states-of-rule S r) (stored-rows (t .value) c vs) (stored-rows (t .next) c ns) (effect (content t) L (load c r))
-      (length-paste (t .value) (rows-start c) vs entry-limit (omega (arith, g .value-length, rows-in c i)) (omega (arith, length-values S r)) ∙ g .value-length)
-      (length-paste (t .next) (rows-start c) ns entry-limit (omega (arith, g .next-length, rows-in c i)) (omega (arith, length-nexts S r)) ∙ g .next-length)
-      e
+      let room = fits c k i (b .1) in
+      let p = values-length S r in
+      let q = nexts-length S r in
+      kept-rows c k (with-table t c k vs ns .value) (with-table t c k vs ns .next) (effect (content t) L (load c r))
+      (value-sized t (g .states-length) (g .current-length) (g .total-length) (g .value-length) (g .next-length) events-few (g .rows-fit) c k vs ns i room p q)
+      (next-sized t (g .states-length) (g .current-length) (g .total-length) (g .value-length) (g .next-length) events-few (g .rows-fit) c k vs ns i room p q)
+      room
+      (loaded-view t (g .states-length) (g .current-length) (g .total-length) (g .value-length) (g .next-length) events-few (g .rows-fit) c k vs ns i room p q
+      (f .table .some-states))
       (with-in-order n v c (some (loaded-rule S r)) L (test-of-in-order n v (loaded-rule S r) f) (g .in-order))
 
   keep : (x : Call Occurrence) → call-refusal (content t) L x ≡ none → Kept (effect-on t x) (effect (content t) L x)
@@ -230,13 +260,20 @@ module _ (t : Store) (g : Sound (tool-setup-of t) t) where
   by-refusal x none h = let k = keep x h in (refl, k .0, k .1)
   by-refusal x (some y) h = (refl, g, refl)
 
+  rows-pass : rows-refusal (all-rows (rows t)) ≡ none
+  rows-pass =
+      ap (λ b. cond b none (some (Plain 25))) (le-leb (all-rows (rows t)) row-limit (subst⁻¹ (λ m. m ≤ row-limit) (all-rows-are t) (g .rows-fit)))
+
+  no-fault : (x : Call Occurrence) → fault-refusal t x ≡ none
+  unfolding or-else plain-unless
+  no-fault x = ap (λ b. or-else (plain-unless b 17) (rows-refusal (all-rows (rows t)))) (tool-passes x) ∙ rows-pass
+
   keeps-here : (x : Call Occurrence) → Steps (called x t) (step (content t) x L)
-  unfolding called or-else plain-unless
+  unfolding called or-else
   keeps-here x =
       subst⁻¹
-      (λ s. Steps (settled-store (or-else (plain-unless s 17) (call-refusal (content t) L x)) (accepted-reply (content t) L x) (effect-on t x) t)
-      (step (content t) x L))
-      (tool-passes x) (by-refusal x (call-refusal (content t) L x) refl)
+      (λ o. Steps (settled-store (or-else o (call-refusal (content t) L x)) (accepted-reply (content t) L x) (effect-on t x) t) (step (content t) x L))
+      (no-fault x) (by-refusal x (call-refusal (content t) L x) refl)
 
 -- The channels of a set-up's tool, as `recorded` says.
 abbrev pub setup-content : ToolSetup → Content (Loaded ℕ) Occurrence (Reading ℕ)

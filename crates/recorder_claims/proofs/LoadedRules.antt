@@ -1,48 +1,39 @@
 -- What a load stores: of the refusals none is 17, and the stored table is that of the rule's formula.
-use mathlib.Core.{Path.{_≡_, refl, _∙_, ap, ap₂, subst, subst⁻¹}, List.{List}, Option.{none}}
-use Prim.Native.Nat.{ℕ, _+_, _*_, _/_, _%_, _≤_, _<_}
+use mathlib.Core.{Path.{_≡_, refl, _∙_, ap, ap₂, subst⁻¹}, List.{List}, Option.{none}}
+use Prim.Native.Nat.{ℕ, _+_, _*_, _<_}
 use native.Mathlib.Omega.{arith}
-use lib.ListN.{length, getD}
-use Rattle.limits.specs.Limits.{state-limit, entry-limit}
+use lib.ListN.{getD}
+use Rattle.limits.specs.Limits.{state-limit}
 use Rattle.theory.specs.FormulaClasses.{WellFormed}
 use Rattle.theory.specs.ReachableStates.{IsTableOf}
-use Rattle.refusal.specs.Refusal.{plain, First, condition-numbers, part-of}
-use Rattle.refusal.proofs.Refusals.{first-rest}
-use Rattle.values.specs.{Setup.{Setup, SetupValue, setup-meet, setup-top, EventsFault}, SetupTests.{setup-refusal}}
-use Rattle.values.proofs.Setups.{setup-accepted}
-use Rattle.formulas.specs.RuleRefusal.{formula-of}
-use Rattle.formulas.proofs.Padding.{padded-length}
+use Rattle.refusal.specs.Refusal.{First, condition-numbers, part-of}
+use Rattle.refusal.proofs.Refusals.{or-else-none}
+use Rattle.values.specs.{Setup.{Setup, SetupValue, setup-meet, setup-top}, SetupTests.{setup-refusal}}
+use Rattle.formulas.specs.{RuleRefusal.{formula-of}, RuleConditions.{encode-formula, node-bytes}}
+use Rattle.formulas.proofs.RuleClaims.{accepted-formula-of}
 use Rattle.machines.specs.TableBytes.{entry-width, entry-bytes}
 use Rattle.machines.proofs.{EntryBytes.{table-length}, TableRoundTrip.{entry-length}, EntryIndex.{index-below, index-state, index-event}}
-use Rattle.synthesis.specs.Compilation.{flat}
-use Rattle.synthesis.proofs.{Compilation.{flat-at}, CompileClaims.{table-agrees, compile-rule-claim}, CompiledTable.{is-table}}
-use Rattle.synthesis.proofs.LentTable.{laws, few, few-events, formula-well-formed, formula-small}
+use Rattle.synthesis.specs.Compilation.{flat, rule-table-refusal}
+use Rattle.synthesis.proofs.{Compilation.{flat-at}, CompileClaims.{table-agrees, rule-first as table-first}, CompiledTable.{is-table}}
+use Rattle.synthesis.proofs.LentTable.{laws, few, formula-well-formed, formula-small}
 use Rattle.channel_log.proofs.Record.{Not, first-not}
-use Rattle.recorder.specs.ToolTests.{part}
+use Rattle.recorder.specs.Splicing.{part}
 use Rattle.recorder.specs.Store.{ChannelInOrder}
 use Rattle.recorder.specs.CompiledRule.{rule-judged, states-of-rule, table-of-rule, values-of-rule, nexts-of-rule, loaded-rule}
-use Rattle.recorder.proofs.{Rows.{getD-part, entries-fit}, CompiledRules.{answer-is, few-states, rule-runs}}
+use Rattle.recorder.proofs.{Rows.{getD-part}, CompiledRules.{few-states, rule-runs}}
 use Rattle.synthesis.specs.TableOfRule.{rule-conditions-of}
 
 module _ (s : Setup) (rule : List ℕ) where
-  pub length-values : length (values-of-rule s rule) ≡ entry-limit
-  unfolding values-of-rule flat
-  length-values =
-      padded-length (λ x. table-of-rule s rule .value (x / s .events) (x % s .events)) (states-of-rule s rule * s .events) entry-limit 0
-
-  pub length-nexts : length (nexts-of-rule s rule) ≡ entry-limit
-  unfolding nexts-of-rule flat
-  length-nexts =
-      padded-length (λ x. table-of-rule s rule .next (x / s .events) (x % s .events)) (states-of-rule s rule * s .events) entry-limit 0
+  -- The bytes of an accepted rule are the code of its formula.
+  pub accepted-code : rule-judged s rule ≡ none → rule ≡ encode-formula (node-bytes (s .kind)) (formula-of (s .kind) rule)
+  unfolding rule-judged rule-table-refusal
+  accepted-code e = accepted-formula-of (s .events) (s .kind) rule (or-else-none _ _ e .0) .written
 
   module _ (ok : setup-refusal s ≡ none) where
     -- 5 to 10 beside an accepted set-up, of which none is 17.
     pub rule-first : First (rule-conditions-of s rule) (rule-judged s rule)
-    rule-first =
-        let w = setup-accepted s .0 ok in
-        subst (First (rule-conditions-of s rule)) (answer-is s rule ok)
-        (first-rest (plain 1 (EventsFault (s .events))) (rule-conditions-of s rule) _ (λ x met. met .0 (w .some-events, w .few-events))
-        (compile-rule-claim state-limit (s .kind) (s .events) (setup-top s) (s .meet) rule (omega arith) (laws s ok) .0 .first))
+    unfolding rule-judged
+    rule-first = table-first s rule ok
 
     pub judged-not-17 : Not 17 (rule-judged s rule)
     unfolding condition-numbers part-of
@@ -53,21 +44,19 @@ module _ (s : Setup) (rule : List ℕ) where
       unfolding rule-judged
       rule-well-formed = formula-well-formed s ok state-limit rule fine
 
-      small : states-of-rule s rule * s .events ≤ entry-limit
-      small = entries-fit (states-of-rule s rule) (s .events) (few-states s rule ok fine) (few-events s ok)
-
       -- The entries that are kept are the table's.
       entry-at :
           (f : ℕ → ℕ → ℕ) (l e : ℕ) → l < states-of-rule s rule → e < s .events →
-          getD (part (flat f (s .events) (states-of-rule s rule * s .events) entry-limit) 0 (states-of-rule s rule * s .events)) (l * s .events + e) 0
+          getD (part (flat f (s .events) (states-of-rule s rule * s .events) (states-of-rule s rule * s .events)) 0 (states-of-rule s rule * s .events))
+          (l * s .events + e) 0
           ≡ f l e
       entry-at f l e p q =
           let i = l * s .events + e in
           let h : i < states-of-rule s rule * s .events = index-below (s .events) (states-of-rule s rule) l e p q in
           let z : 0 + i ≡ i = omega arith in
-          getD-part (flat f (s .events) (states-of-rule s rule * s .events) entry-limit) 0 (states-of-rule s rule * s .events) i h
-          ∙ ap (λ x. getD (flat f (s .events) (states-of-rule s rule * s .events) entry-limit) x 0) z
-          ∙ flat-at f (s .events) (states-of-rule s rule * s .events) entry-limit i h (omega (arith, small))
+          getD-part (flat f (s .events) (states-of-rule s rule * s .events) (states-of-rule s rule * s .events)) 0 (states-of-rule s rule * s .events) i h
+          ∙ ap (λ x. getD (flat f (s .events) (states-of-rule s rule * s .events) (states-of-rule s rule * s .events)) x 0) z
+          ∙ flat-at f (s .events) (states-of-rule s rule * s .events) (states-of-rule s rule * s .events) i h h
           ∙ ap₂ f (index-state (s .events) l e q) (index-event (s .events) l e q)
 
       next-at : (l e : ℕ) → l < states-of-rule s rule → e < s .events → loaded-rule s rule .table .next l e ≡ table-of-rule s rule .next l e
@@ -96,7 +85,7 @@ module _ (s : Setup) (rule : List ℕ) where
             total = omega arith;
           }
 
-      is-table-of : IsTableOf (setup-meet s) (setup-top s) (s .events) (formula-of (s .kind) rule) (states-of-rule s rule) (table-of-rule s rule)
+      pub is-table-of : IsTableOf (setup-meet s) (setup-top s) (s .events) (formula-of (s .kind) rule) (states-of-rule s rule) (table-of-rule s rule)
       unfolding states-of-rule rule-judged
       is-table-of =
           is-table (SetupValue s) (setup-meet s) (setup-top s) (laws s ok) (s .events) state-limit (formula-of (s .kind) rule)

@@ -1,36 +1,38 @@
 -- Document 01's log by its own sentences is the computed log: the tool's replies are its replies, and its only ones.
 use mathlib.Core.{Path.{_≡_, refl, sym, _∙_, ap, ap₂, subst, subst⁻¹}, Bool.{Bool, true, false, cond}, List.{List, [], _∷_, _++_}}
 use mathlib.Core.Option.{Option, none, some, Option·some-ne-none}
-use Prim.Native.Nat.{ℕ, _+_}
+use Prim.Native.Nat.{ℕ, _+_, _<_}
 use lib.Dec.{eqb}
 use Rattle.limits.specs.Limits.{channel-limit}
-use Rattle.theory.specs.FormulaClasses.{WellFormed}
+use Rattle.theory.specs.{Formula.{Formula}, FormulaClasses.{WellFormed}, MealyMachine.{Machine}, ReachableStates.{IsTableOf}}
 use Rattle.theory.proofs.Claims.{answers}
 use Rattle.refusal.specs.declared.Refusal.{Refusal}
 use Rattle.refusal.specs.Refusal.{First}
 use Rattle.refusal.proofs.Refusals.{first-unique, or-else-none}
 use Rattle.values.specs.{Setup.{Setup, SetupValue, setup-meet, setup-top}, SetupTests.{setup-refusal}}
-use Rattle.formulas.specs.RuleConditions.{encode-formula, node-bytes}
 use Rattle.formulas.specs.RuleRefusal.{formula-of}
-use Rattle.formulas.proofs.RuleClaims.{accepted-formula-of, formula-of-only}
-use Rattle.synthesis.specs.Compilation.{rule-table-refusal}
+use Rattle.formulas.proofs.RuleClaims.{formula-of-only}
+use Rattle.synthesis.proofs.CompileClaims.{one-count}
 use Rattle.channel_log.specs.Calls.{Call, load, event, restart, restart-all, clear, Reply, accepted, returned, refused, Channels, all-empty, with-channel}
 use Rattle.channel_log.specs.Calls.{map-option, History, replies, final}
 use Rattle.channel_log.specs.CallSteps.{Content, channel-refusal, empty-refusal, on-event, call-refusal, event-reply, accepted-reply, effect, settled, step}
 use Rattle.channel_log.proofs.Simulation.{second-none}
-use Rattle.channel_log.specs.Distance.{Occurrence, Reading, reading}
-use Rattle.recorder.specs.{Store.{Store, ToolSetup}, ToolTests.{tool-setup-refusal}, CompiledRule.{rule-judged}, Called.{called, new-store}}
-use Rattle.recorder.proofs.Held.{values-accepted}
-use Rattle.synthesis.specs.TableOfRule.{rule-conditions-of}
-use Rattle.recorder_claims.specs.ChannelLog.{history, begun, log-conditions, Takes, refuses, loads, returns, restarts, restarts-all, clears}
-use Rattle.recorder_claims.specs.{ChannelLog.{Logs, no-calls, one-more}, Claims.{setup-log, PrintedRecordClaim}}
-use Rattle.recorder_claims.proofs.{LoadedRules.{rule-first, rule-well-formed}, Keeps.{Sound, keeps}, Claims.{sound, tool-record}}
-use Rattle.recorder_claims.proofs.CallRefusals.{number-first, empty-first, on-event-first, no-conditions, after-14}
+use Rattle.channel_log.specs.{Distance.{Occurrence, Reading, reading}, Rows.{rows-in, all-rows, other-rows}}
+use Rattle.recorder.specs.{Store.{Store, ToolSetup}, ToolTests.{tool-setup-refusal}, Called.{called, new-store}}
+use Rattle.recorder.specs.CompiledRule.{rule-judged, states-of-rule, table-of-rule}
+use Rattle.recorder.proofs.{Held.{values-accepted}, RowTotals.{sum-same}}
+use Rattle.recorder_claims.specs.ChannelLog.{history, begun, RowsOf, OthersHave, log-conditions}
+use Rattle.recorder_claims.specs.ChannelLog.{Takes, refuses, loads, returns, restarts, restarts-all, clears}
+use Rattle.recorder_claims.specs.{ChannelLog.{Logs, no-calls, one-more}, Claims.{table-states, setup-log, PrintedRecordClaim}}
+use Rattle.recorder_claims.proofs.{LoadedRules.{accepted-code, rule-well-formed, is-table-of}, Keeps.{Sound, keeps}, Claims.{sound, tool-record}}
+use Rattle.recorder_claims.proofs.CallRefusals.{number-first, empty-first, on-event-first, no-conditions, after-14, load-first}
 
--- The bytes of an accepted rule are the code of its formula.
-pub accepted-code : (s : Setup) (rule : List ℕ) → rule-judged s rule ≡ none → rule ≡ encode-formula (node-bytes (s .kind)) (formula-of (s .kind) rule)
-unfolding rule-judged rule-table-refusal
-accepted-code s rule e = accepted-formula-of (s .events) (s .kind) rule (or-else-none _ _ e .0) .written
+-- The rows of the others go by the rows of each channel.
+same-others : (c : ℕ) (f g : Channels ℕ) → ((d : ℕ) → d < channel-limit → f d ≡ g d) → other-rows c f ≡ other-rows c g
+unfolding other-rows all-rows
+same-others c f g h =
+    sum-same channel-limit (λ d. rows-in (with-channel c none f d)) (λ d. rows-in (with-channel c none g d))
+    (λ d l. ap (λ n. rows-in (cond (eqb d c) none n)) (h d l))
 
 module _ (s : ToolSetup) (ok : tool-setup-refusal s ≡ none) where
   abbrev K : Content (History ℕ) Occurrence (Reading ℕ)
@@ -47,10 +49,15 @@ module _ (s : ToolSetup) (ok : tool-setup-refusal s ≡ none) where
   abbrev logged-total : History ℕ → ℕ
   logged-total h = h .total
 
-  -- Every rule in the log is well-formed.
+  -- Every rule in the log is well-formed, and its rows are counted.
+  pub record GoodRule (φ : Formula ℕ) : Type 0 where
+    pub well : WellFormed (v .events) (SetupValue v) φ
+    pub table : Machine ℕ ℕ
+    pub is-table : IsTableOf (setup-meet v) (setup-top v) (v .events) φ (table-states s φ) table
+
   abbrev Good : Option (History ℕ) → Type 0
   Good none = Unit {0}
-  Good (some h) = WellFormed (v .events) (SetupValue v) (h .rule)
+  Good (some h) = GoodRule (h .rule)
 
   abbrev AllGood : Channels (History ℕ) → Type 0
   AllGood L = (d : ℕ) → Good (L d)
@@ -70,9 +77,36 @@ module _ (s : ToolSetup) (ok : tool-setup-refusal s ≡ none) where
   good-restarted none g = tt
   good-restarted (some h) g = g
 
+  accepted-load : (L : Channels (History ℕ)) (c : ℕ) (r : List ℕ) → call-refusal K L (load c r) ≡ none → rule-judged v r ≡ none
+  accepted-load L c r e = or-else-none (rule-judged v r) _ (second-none (channel-refusal c) (K .load-refusal L c r) e) .0
+
+  good-loaded : (r : List ℕ) → rule-judged v r ≡ none → GoodRule (formula-of (v .kind) r)
+  unfolding states-of-rule
+  good-loaded r e = record { well = rule-well-formed v r fine e; table = table-of-rule v r; is-table = is-table-of v r fine e }
+
+  -- The rows of channels, and that the log has no others.
+  abbrev rows-logged : Channels (History ℕ) → Channels ℕ
+  rows-logged L d = map-option (λ h. table-states s (h .rule)) (L d)
+
+  rows-there : (o : Option (History ℕ)) → Good o → RowsOf v o (map-option (λ h. table-states s (h .rule)) o)
+  rows-there none g = tt
+  rows-there (some h) g = (g .table, g .is-table)
+
+  rows-only : (o : Option (History ℕ)) (n : Option ℕ) → Good o → RowsOf v o n → n ≡ map-option (λ h. table-states s (h .rule)) o
+  rows-only none none g r = refl
+  rows-only none (some n) g r = absurd r
+  rows-only (some h) none g r = absurd r
+  rows-only (some h) (some n) g r =
+      ap some
+      (one-count (SetupValue v) (setup-meet v) (setup-top v) (v .events) (h .rule) (g .well) n (table-states s (h .rule)) (r .0) (g .table) (r .1)
+      (g .is-table))
+
+  others-only : (L : Channels (History ℕ)) (c n : ℕ) → AllGood L → OthersHave s L c n → n ≡ other-rows c (rows-logged L)
+  others-only L c n a (rows, each, e) = sym e ∙ same-others c rows (rows-logged L) (λ d l. rows-only (L d) (rows d) (a d) (each d l))
+
   good-effect : (L : Channels (History ℕ)) (call : Call Occurrence) → call-refusal K L call ≡ none → AllGood L → AllGood (effect K L call)
   good-effect L (load c r) e a =
-      good-with c (some (K .loaded r)) L (rule-well-formed v r fine (second-none (channel-refusal c) (rule-judged v r) e)) a
+      good-with c (some (K .loaded r)) L (good-loaded r (accepted-load L c r e)) a
   good-effect L (event c i) e a = good-with c (map-option (λ h. K .moved h i) (L c)) L (good-moved (L c) i (a c)) a
   good-effect L (restart c) e a = good-with c (map-option (K .restarted) (L c)) L (good-restarted (L c) (a c)) a
   good-effect L restart-all e a = λ d. good-restarted (L d) (a d)
@@ -86,12 +120,15 @@ module _ (s : ToolSetup) (ok : tool-setup-refusal s ≡ none) where
       go (some r) e = a
 
   -- The list of refusals gives the computed refusal.
-  log-first : (L : Channels (History ℕ)) (call : Call Occurrence) → First (log-conditions s L call) (call-refusal K L call)
-  log-first L (load c r) = after-14 c (rule-conditions-of v r) (rule-judged v r) (rule-first v r fine)
-  log-first L (event c i) = after-14 c _ (on-event K (L c) i) (on-event-first logged-total K (v .events) (λ h i. refl) (L c) i)
-  log-first L (restart c) = after-14 c _ (empty-refusal (L c)) (empty-first logged-total (L c))
-  log-first L restart-all = no-conditions
-  log-first L (clear c) = number-first 14 c channel-limit
+  log-first : (L : Channels (History ℕ)) (call : Call Occurrence) → AllGood L → First (log-conditions s L call) (call-refusal K L call)
+  unfolding states-of-rule
+  log-first L (load c r) a =
+      load-first v fine r (OthersHave s L c) (other-rows c (rows-logged L)) (rows-logged L, λ d l. rows-there (L d) (a d), refl)
+      (λ n h. others-only L c n a h) c
+  log-first L (event c i) a = after-14 c _ (on-event K (L c) i) (on-event-first logged-total K (v .events) (λ h i. refl) (L c) i)
+  log-first L (restart c) a = after-14 c _ (empty-refusal (L c)) (empty-first logged-total (L c))
+  log-first L restart-all a = no-conditions
+  log-first L (clear c) a = number-first 14 c channel-limit
 
   -- What the computed log replies and has after a call with a refusal or none.
   abbrev reply-by : Channels (History ℕ) → Call Occurrence → Option Refusal → Reply (Reading ℕ)
@@ -107,7 +144,7 @@ module _ (s : ToolSetup) (ok : tool-setup-refusal s ≡ none) where
       Takes s L (event c i) (event-reply K o i) (with-channel c (map-option (λ h. K .moved h i) o) L)
   take-event L c i none p f n g = absurd (Option·some-ne-none _ n)
   take-event L c i (some h) p f n g =
-      returns c i h _ f p (answers (SetupValue v) (setup-meet v) (setup-top v) (v .events) (h .rule) g (h .events) (i .event) _ .1 refl)
+      returns c i h _ f p (answers (SetupValue v) (setup-meet v) (setup-top v) (v .events) (h .rule) (g .well) (h .events) (i .event) _ .1 refl)
 
   take-restart :
       (L : Channels (History ℕ)) (c : ℕ) (o : Option (History ℕ)) → L c ≡ o → First (log-conditions s L (restart c)) none →
@@ -119,14 +156,14 @@ module _ (s : ToolSetup) (ok : tool-setup-refusal s ≡ none) where
       (L : Channels (History ℕ)) (call : Call Occurrence) → AllGood L → call-refusal K L call ≡ none → First (log-conditions s L call) none →
       Takes s L call (accepted-reply K L call) (effect K L call)
   take-accepted L (load c r) a e f =
-      loads c r (formula-of (v .kind) r) f (accepted-code v r (second-none (channel-refusal c) (rule-judged v r) e))
+      loads c r (formula-of (v .kind) r) f (accepted-code v r (accepted-load L c r e))
   take-accepted L (event c i) a e f = take-event L c i (L c) refl f (second-none (channel-refusal c) (on-event K (L c) i) e) (a c)
   take-accepted L (restart c) a e f = take-restart L c (L c) refl f (second-none (channel-refusal c) (empty-refusal (L c)) e)
   take-accepted L restart-all a e f = restarts-all
   take-accepted L (clear c) a e f = clears c f
 
   take-step : (L : Channels (History ℕ)) (call : Call Occurrence) → AllGood L → Takes s L call (step K call L .0) (step K call L .1)
-  take-step L call a = go (call-refusal K L call) refl (log-first L call)
+  take-step L call a = go (call-refusal K L call) refl (log-first L call a)
     where
       go : (o : Option Refusal) → call-refusal K L call ≡ o → First (log-conditions s L call) o → Takes s L call (reply-by L call o) (log-by L call o)
       go none e f = take-accepted L call a e f
@@ -137,36 +174,36 @@ module _ (s : ToolSetup) (ok : tool-setup-refusal s ≡ none) where
   Computed L call reply M o = (reply ≡ reply-by L call o) × (M ≡ log-by L call o)
 
   by-refusal :
-      (L : Channels (History ℕ)) (call : Call Occurrence) (reply : Reply (Reading ℕ)) (M : Channels (History ℕ)) (o : Option Refusal) →
+      (L : Channels (History ℕ)) (call : Call Occurrence) (reply : Reply (Reading ℕ)) (M : Channels (History ℕ)) (o : Option Refusal) → AllGood L →
       First (log-conditions s L call) o → Computed L call reply M o → Computed L call reply M (call-refusal K L call)
-  by-refusal L call reply M o f h =
-      subst (Computed L call reply M) (first-unique (log-conditions s L call) o (call-refusal K L call) f (log-first L call)) h
+  by-refusal L call reply M o a f h =
+      subst (Computed L call reply M) (first-unique (log-conditions s L call) o (call-refusal K L call) f (log-first L call a)) h
 
   only-step :
       (L : Channels (History ℕ)) (call : Call Occurrence) (reply : Reply (Reading ℕ)) (M : Channels (History ℕ)) → AllGood L → Takes s L call reply M →
       (reply ≡ step K call L .0) × (M ≡ step K call L .1)
-  only-step L call reply M a (refuses x r f) = by-refusal L x (refused r) L (some r) f (refl, refl)
+  only-step L call reply M a (refuses x r f) = by-refusal L x (refused r) L (some r) a f (refl, refl)
   only-step L call reply M a (loads c r φ f e) =
-      by-refusal L (load c r) accepted (with-channel c (some (begun φ)) L) none f
+      by-refusal L (load c r) accepted (with-channel c (some (begun φ)) L) none a f
       (refl, ap (λ φ. with-channel c (some (begun φ)) L) (formula-of-only (v .kind) r φ e))
   only-step L call reply M a (returns c i h b f p x) =
       let total = h .total + i .pulses in
       let h′ = history (h .rule) (h .events ++ (i .event ∷ [])) total in
-      by-refusal L (event c i) (returned (reading (s .wheel) b total)) (with-channel c (some h′) L) none f
+      by-refusal L (event c i) (returned (reading (s .wheel) b total)) (with-channel c (some h′) L) none a f
       (subst⁻¹
       (λ o.
       (returned (reading (s .wheel) b total) ≡ event-reply K o i)
       × (with-channel c (some h′) L ≡ with-channel c (map-option (λ h. K .moved h i) o) L))
       p (
         ap (λ b. returned (reading (s .wheel) b total))
-            (answers (SetupValue v) (setup-meet v) (setup-top v) (v .events) (h .rule) (subst Good p (a c)) (h .events) (i .event) b .0 x),
+            (answers (SetupValue v) (setup-meet v) (setup-top v) (v .events) (h .rule) (subst Good p (a c) .well) (h .events) (i .event) b .0 x),
         refl,
       ))
   only-step L call reply M a (restarts c h f p) =
-      by-refusal L (restart c) accepted (with-channel c (some (begun (h .rule))) L) none f
+      by-refusal L (restart c) accepted (with-channel c (some (begun (h .rule))) L) none a f
       (refl, ap (λ o. with-channel c (map-option (K .restarted) o) L) (sym p))
   only-step L call reply M a restarts-all = (refl, refl)
-  only-step L call reply M a (clears c f) = by-refusal L (clear c) accepted (with-channel c none L) none f (refl, refl)
+  only-step L call reply M a (clears c f) = by-refusal L (clear c) accepted (with-channel c none L) none a f (refl, refl)
 
   -- The same for a list of calls.
   take-all :
@@ -184,7 +221,7 @@ module _ (s : ToolSetup) (ok : tool-setup-refusal s ≡ none) where
       (ap₂ _∷_ (o .0) (r .0 ∙ ap (replies (step K) xs) (o .1)), r .1 ∙ ap (final (step K) xs) (o .1))
 
 -- A list of calls keeps a tool sound.
-sound-after : (s : ToolSetup) (calls : List (Call Occurrence)) (t : Store) → Sound s t → Sound s (final called calls t)
+pub sound-after : (s : ToolSetup) (calls : List (Call Occurrence)) (t : Store) → Sound s t → Sound s (final called calls t)
 sound-after s [] t g = g
 sound-after s (x ∷ xs) t g = sound-after s xs (called x t .1) (keeps s x t g .1)
 

@@ -1,16 +1,16 @@
 -- Document 01's log ("Tool"), by its own sentences: "It is fed the set-up and the calls with their inputs, nothing of the tool's and no
 -- answers. For each channel it has nothing, or a rule and its events in order; at set-up all have nothing." Document 02, F-6: the total of a
 -- channel's pulses "since its loading or restart; document 01's log keeps it too, and the distances returned are those of the log's total".
-use mathlib.Core.{Path.{_≡_}, List.{List, [], _∷_, _++_}, Option.{none, some}}
-use Prim.Native.Nat.{ℕ, zero, _+_, _≤_, _<_}
-use Rattle.limits.specs.Limits.{channel-limit, table-limit}
-use Rattle.theory.specs.Formula.{Formula, Answers}
+use mathlib.Core.{Path.{_≡_}, List.{List, [], _∷_, _++_}, Option.{Option, none, some}}
+use Prim.Native.Nat.{ℕ, zero, _+_, _<_}
+use Rattle.limits.specs.Limits.{channel-limit}
+use Rattle.theory.specs.{Formula.{Formula, Answers}, MealyMachine.{Machine}, ReachableStates.{IsTableOf}}
 use Rattle.refusal.specs.{declared.Refusal.{Refusal}, Refusal.{Condition, First}}
 use Rattle.values.specs.Setup.{Setup, setup-meet, setup-top}
 use Rattle.formulas.specs.RuleConditions.{encode-formula, node-bytes}
 use Rattle.channel_log.specs.Calls.{Call, load, event, restart, restart-all, clear, Reply, accepted, returned, refused, Channels, with-channel, map-option}
 use Rattle.channel_log.specs.Calls.{History, Loaded, StandsAs, all-empty}
-use Rattle.channel_log.specs.Distance.{Occurrence, Reading, reading}
+use Rattle.channel_log.specs.{Distance.{Occurrence, Reading, reading}, Rows.{other-rows}}
 use Rattle.recorder.specs.Store.{ToolSetup, channel-conditions}
 
 abbrev pub history : Formula ℕ → List ℕ → ℕ → History ℕ
@@ -20,11 +20,22 @@ history φ w total = record { rule = φ; events = w; total = total }
 abbrev pub begun : Formula ℕ → History ℕ
 begun φ = history φ [] zero
 
+-- How many rows a channel has (document 02, F-12): as many as its rule's table has states; none where it has nothing.
+abbrev pub RowsOf : Setup → Option (History ℕ) → Option ℕ → Type 0
+RowsOf s none none = Unit {0}
+RowsOf s none (some n) = ⊥
+RowsOf s (some h) none = ⊥
+RowsOf s (some h) (some n) = (t : Machine ℕ ℕ) × IsTableOf (setup-meet s) (setup-top s) (s .events) (h .rule) n t
+
 module _ (s : ToolSetup) (L : Channels (History ℕ)) where
+  -- The channels other than c have n rows.
+  abbrev pub OthersHave : ℕ → ℕ → Type 0
+  OthersHave c n = (rows : Channels ℕ) × ((d : ℕ) → d < channel-limit → RowsOf (s .values) (L d) (rows d)) × (other-rows c rows ≡ n)
+
   -- "The list of refusals below says whether a call is refused, and with what number and place: there a channel with nothing is empty,
-  -- and any other is loaded": 14, 15, 16, 19, then 5 to 10. "17 never arises."
+  -- and any other is loaded": 14, 15, 16, 19, then 5 to 10 and 25. "17 never arises."
   abbrev pub log-conditions : Call Occurrence → List Condition
-  log-conditions call = channel-conditions (s .values) (λ c. map-option (λ h. h .total) (L c)) call
+  log-conditions call = channel-conditions (s .values) OthersHave (λ c. map-option (λ h. h .total) (L c)) call
 
   -- `Takes call reply L′`: the log's reply to a call, and the log afterwards.
   pub data Takes : Call Occurrence → Reply (Reading ℕ) → Channels (History ℕ) → Type 0 where
@@ -64,9 +75,9 @@ pub record AsLogged (s : ToolSetup) (calls : List (Call Occurrence)) (replied : 
   pub stands : (c : ℕ) → c < channel-limit → StandsAs (setup-meet (s .values)) (setup-top (s .values)) (s .values .events) (after c) (log c)
 
 -- What is claimed of an accepted load on any tool: the channel stands as one with the rule, no events and no pulses, and no other channel
--- changes that has at most as many states as a channel has room for.
+-- changes.
 pub record LoadedAs (s : Setup) (c : ℕ) (rule : List ℕ) (before after : Channels (Loaded ℕ)) : Type 0 where
   pub formula : Formula ℕ
   pub code : rule ≡ encode-formula (node-bytes (s .kind)) formula
   pub stands : StandsAs (setup-meet s) (setup-top s) (s .events) (after c) (some (begun formula))
-  pub others : (d : ℕ) → ¬ (d ≡ c) → ((x : Loaded ℕ) → before d ≡ some x → x .states ≤ table-limit) → after d ≡ before d
+  pub others : (d : ℕ) → ¬ (d ≡ c) → after d ≡ before d

@@ -1,25 +1,32 @@
--- What is claimed of a tool: demand 3 and the independence of channels for the tool of every accepted set-up (document 01, "Tool"),
--- over the calls that the contracts state; the printed condition of 17; what a refused set-up hands back; a sequence of events.
+-- What is claimed of a tool: demand 3 and the independence of channels for the tool of every accepted set-up (document 01, "Tool"; document
+-- 02, F-12), over the calls that the contracts state; the printed condition of 17; what a refused set-up hands back; a sequence of events.
 use mathlib.Core.{Path.{_≡_}, Logic.{_↔_}, Bool.{true}, List.{List, map}, Option.{Option, none}}
 use Prim.Native.Nat.{ℕ, _<_}
 use lib.ListN.{length}
-use Rattle.limits.specs.Limits.{channel-limit}
+use Rattle.limits.specs.Limits.{channel-limit, state-limit}
 use Rattle.recorder_claims.specs.ChannelLog.{AsLogged, LoadedAs}
+use Rattle.theory.specs.Formula.{Formula}
 use Rattle.refusal.specs.{declared.Refusal.the-variants.{Plain}, Refusal.{Condition, Judged, plain}}
 use Rattle.values.specs.{declared.ValueKind.{ValueKind}, Setup.{setup-meet, setup-top}}
 use Rattle.formulas.specs.RuleRefusal.{formula-of}
 use Rattle.channel_log.specs.Distance.{Occurrence, Reading, TotalAbove}
 use Rattle.channel_log.specs.Calls.{Call, event, restart, restart-all, clear, returned, refused, replies, History, Loaded, event-calls, StandsAs, final}
 use Rattle.channel_log.specs.{Calls.{load, accepted}, CallSteps.{Content}, Log.{log}}
-use Rattle.channel_log.specs.Claims.{RecordClaim, IndependenceClaim}
+use Rattle.channel_log.specs.Claims.{RecordClaim, OwnCallsClaim, OtherRowsClaim}
+use Rattle.synthesis.specs.FormulaTable.{formula-states}
 use Rattle.recorder.specs.Store.{Store, ToolSetup, channels, totals, setup-of, tool-setup-of, AllCells, ToolFault, call-conditions, replay-conditions}
 use Rattle.recorder.specs.ToolTests.{tool-test, tool-setup-refusal}
 use Rattle.recorder.specs.{CompiledRule.{rule-judged}, Called.{called, new-store, blank, tool-refusal}, Replay.{replay-refusal}}
 
--- The log of a set-up: 5 to 10 by their list, the rule that accepted bytes are, and its values by the formula semantics.
+-- How many states the table of an accepted rule has.
+abbrev pub table-states : ToolSetup → Formula ℕ → ℕ
+table-states s φ = formula-states (setup-meet (s .values)) (setup-top (s .values)) φ (s .values .events) state-limit
+
+-- The log of a set-up: 5 to 10 by their list, the rule that accepted bytes are, its rows, and its values by the formula semantics.
 abbrev pub setup-log : ToolSetup → Content (History ℕ) Occurrence (Reading ℕ)
 setup-log s =
     log (setup-meet (s .values)) (setup-top (s .values)) (s .values .events) (s .wheel) (rule-judged (s .values)) (formula-of (s .values .kind))
+    (table-states s)
 
 -- How a channel stands by it.
 abbrev pub SetupStandsAs : ToolSetup → Option (Loaded ℕ) → Option (History ℕ) → Type 0
@@ -30,10 +37,14 @@ abbrev pub ToolRecordClaim : Type 0
 ToolRecordClaim =
     (s : ToolSetup) → tool-setup-refusal s ≡ none → RecordClaim called channels (setup-log s) (SetupStandsAs s) (new-store s)
 
--- Two lists that differ only in calls that name another channel.
-abbrev pub ToolIndependenceClaim : Type 0
-ToolIndependenceClaim =
-    (s : ToolSetup) → tool-setup-refusal s ≡ none → IndependenceClaim called channels (setup-log s) (SetupStandsAs s) (new-store s)
+-- Two lists with the same accepted calls on a channel; and two that leave the other channels as many rows.
+abbrev pub ToolOwnCallsClaim : Type 0
+ToolOwnCallsClaim =
+    (s : ToolSetup) → tool-setup-refusal s ≡ none → OwnCallsClaim called channels (setup-log s) (SetupStandsAs s) (new-store s)
+
+abbrev pub ToolOtherRowsClaim : Type 0
+ToolOtherRowsClaim =
+    (s : ToolSetup) → tool-setup-refusal s ≡ none → OtherRowsClaim called channels (setup-log s) (SetupStandsAs s) (new-store s) (λ x. x .states)
 
 -- Every call on what a refused set-up hands back is 17.
 abbrev pub BlankClaim : Type 0

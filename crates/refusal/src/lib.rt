@@ -43,7 +43,7 @@ pub const NODE_TREE: u8 = 7;
 pub const UNBOUND_VARIABLE: u8 = 8;
 // 9: variable with no G between it and its own binder (document 02, F-2); has a place.
 pub const UNPROTECTED_VARIABLE: u8 = 9;
-// 10: over 64 states, where the call makes a table.
+// 10: over 256 states, where the call makes a table (document 02, F-12).
 pub const STATE_COUNT: u8 = 10;
 // 23: more than twelve binders on a path (document 02, F-9).
 pub const BINDER_DEPTH: u8 = 23;

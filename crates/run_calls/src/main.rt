@@ -1,9 +1,12 @@
 // A mixed list of calls on all eight channels of a tool, accepted and refused, against stored output; set-ups with wheels; replays with
-// pulses; then every call on tools that no list of calls makes.
+// pulses; tables that grow and shrink in the one store; then every call on tools that no list of calls makes. Beside each reply stands
+// what it should not have changed, where it did.
 mod answers;
 mod calls;
 mod replays;
+mod same;
 mod spoilt;
+mod stores;
 
 use answers::say;
 use answers::say_number;
@@ -11,6 +14,7 @@ use answers::say_reply;
 use recorder::Tool;
 use replays::replays;
 use spoilt::spoilt_tools;
+use stores::stores;
 
 fn say_call(name: &[u8], channel: usize) {
     say(name);
@@ -173,5 +177,6 @@ fn main() {
     restart_all(t);
     set_ups();
     replays();
+    stores();
     spoilt_tools();
 }

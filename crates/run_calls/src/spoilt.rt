@@ -1,8 +1,8 @@
-// Tools that no list of calls makes: what 17 is said of, and what it passes over.
+// Tools that no list of calls makes: what 17 and 25 are said of, and what they pass over.
 use crate::answers::say;
 use crate::answers::say_number;
 use crate::calls;
-use limits::ENTRY_LIMIT;
+use limits::CHANNEL_LIMIT;
 use limits::MEET_LIMIT;
 use limits::TOTAL_LIMIT;
 use recorder::Tool;
@@ -41,7 +41,7 @@ fn every_call(name: &[u8], tool: Tool) {
     say(b"\n");
 }
 
-// Channels 2 and 7 loaded, with three states each.
+// Channels 2 and 7 loaded, with three states each: entries 0 to 5, and 6 to 11.
 pub fn sound() -> Tool {
     let meet = values::four_values();
     let made = recorder::set_up(2, 4, 3, &meet, 7, 10);
@@ -61,36 +61,96 @@ pub fn sound() -> Tool {
 // One channel is spoilt.
 fn spoilt_channels() {
     let mut t = sound();
-    t.states[2] = 65;
-    every_call(b"states=65 in channel 2", t);
+    t.states[2] = 257;
+    every_call(b"states=257 in channel 2", t);
     let mut t = sound();
     t.current[2] = 3;
     every_call(b"current=3 in channel 2", t);
     let mut t = sound();
-    t.next[2 * ENTRY_LIMIT] = 3;
+    t.next[0] = 3;
     every_call(b"next=3 in channel 2", t);
     let mut t = sound();
-    t.value[7 * ENTRY_LIMIT + 5] = 4;
+    t.value[11] = 4;
     every_call(b"value=4 in channel 7", t);
+    let mut t = sound();
+    t.states[2] = 255;
+    t.next[0] = 255;
+    every_call(b"next=255 in channel 2, of 255 states", t);
+    let mut t = sound();
+    t.states[2] = 256;
+    t.value[511] = 4;
+    every_call(b"value=4 in the last row of channel 2, of 256 states", t);
 }
 
 // The limits themselves, and what is no part of a table.
 fn sound_channels() {
     let mut t = sound();
-    t.states[2] = 64;
-    every_call(b"states=64 in channel 2", t);
+    t.states[2] = 256;
+    every_call(b"states=256 in channel 2", t);
+    let mut t = sound();
+    t.states[2] = 256;
+    t.current[2] = 255;
+    t.next[511] = 255;
+    every_call(b"current=255 and next=255 in channel 2, of 256 states", t);
     let mut t = sound();
     t.current[2] = 2;
     every_call(b"current=2 in channel 2", t);
     let mut t = sound();
-    t.value[2 * ENTRY_LIMIT + 6] = 255;
-    t.next[2 * ENTRY_LIMIT + 6] = 255;
-    every_call(b"255 behind the table of channel 2", t);
+    t.value[12] = 255;
+    t.next[12] = 255;
+    t.value[8191] = 255;
+    t.next[8191] = 255;
+    every_call(b"255 behind the table of channel 7", t);
     let mut t = sound();
     t.current[3] = 255;
-    t.value[3 * ENTRY_LIMIT] = 255;
-    t.next[3 * ENTRY_LIMIT] = 255;
-    every_call(b"255 in channel 3, which is empty", t);
+    every_call(b"current=255 in channel 3, which is empty", t);
+}
+
+// 512 rows, and 513: 25, after 17 and before 14 and 15.
+fn row_totals() {
+    let mut t = sound();
+    t.states[2] = 256;
+    t.states[4] = 253;
+    every_call(b"256, 253 and 3 rows", t);
+    let mut t = sound();
+    t.states[2] = 256;
+    t.states[4] = 254;
+    every_call(b"256, 254 and 3 rows", t);
+    let mut t = sound();
+    t.states[0] = 257;
+    t.states[4] = 249;
+    every_call(b"257, 3, 249 and 3 rows", t);
+    let mut t = sound();
+    t.states[0] = 257;
+    t.states[4] = 250;
+    every_call(b"257, 3, 250 and 3 rows", t);
+    let mut t = sound();
+    t.states = [64u16; CHANNEL_LIMIT];
+    every_call(b"64 rows in each channel", t);
+    t.states[5] = 65;
+    every_call(b"one row more", t);
+}
+
+// Counts whose rows would lie behind the arrays: what lies there is 0, in order, and 25 answers.
+fn rows_behind() {
+    let mut t = sound();
+    t.states[2] = 65535;
+    every_call(b"states=65535 in channel 2", t);
+    let mut t = sound();
+    t.states[0] = 65535;
+    every_call(b"states=65535 in channel 0", t);
+    let mut t = sound();
+    t.states = [65535u16; CHANNEL_LIMIT];
+    every_call(b"states=65535 in each channel", t);
+    let mut t = sound();
+    t.states[0] = 4094;
+    every_call(b"channel 2 across the end of the arrays", t);
+    t.value[8191] = 4;
+    every_call(b"channel 2 across the end of the arrays, value=4", t);
+    let mut t = sound();
+    t.states[0] = 4093;
+    t.next[8191] = 3;
+    every_call(b"channel 2 at the end of the arrays, next=3", t);
 }
 
 // A channel's total is above its limit.
@@ -193,6 +253,8 @@ fn spoilt_meets() {
 pub fn spoilt_tools() {
     spoilt_channels();
     sound_channels();
+    row_totals();
+    rows_behind();
     spoilt_totals();
     sound_totals();
     spoilt_setups();

@@ -93,11 +93,23 @@ fn at_limits() {
         T T T T T T T T T T T T T T T T T T T T T T T T T T T T T T T T T T T T T T T T T T T T T T T T T T \
         T T T T T T T\n",
     );
-    // G0 64 times, then T: 65 states, refusal 10
+    // G0 64 times, then T: 65 states
     show(
         b"events=2\nvalues=4\ntop=3\nmeet=0 0 0 0 0 1 0 1 0 0 2 2 0 1 2 3\nrule=\
         G0 G0 G0 G0 G0 G0 G0 G0 G0 G0 G0 G0 G0 G0 G0 G0 G0 G0 G0 G0 G0 G0 G0 G0 G0 G0 G0 G0 G0 G0 G0 G0 G0 \
         G0 G0 G0 G0 G0 G0 G0 G0 G0 G0 G0 G0 G0 G0 G0 G0 G0 G0 G0 G0 G0 G0 G0 G0 G0 G0 G0 G0 G0 G0 G0 T\n",
+    );
+    // G0, then loops of 15 and of 17 states joined: 1 and 255 states and the empty one, refusal 10
+    show(
+        b"events=2\nvalues=4\ntop=3\nmeet=0 0 0 0 0 1 0 1 0 0 2 2 0 1 2 3\nrule=\
+        G0 A V G0 G0 G0 G0 G0 G0 G0 G0 G0 G0 G0 G0 G0 G0 G0 X0 V G0 G0 G0 G0 G0 G0 G0 G0 G0 G0 G0 G0 G0 G0 \
+        G0 G0 G0 X0\n",
+    );
+    // loops of 16 and of 17 states joined: 272 states and the empty one, refusal 10
+    show(
+        b"events=2\nvalues=4\ntop=3\nmeet=0 0 0 0 0 1 0 1 0 0 2 2 0 1 2 3\nrule=\
+        A V G0 G0 G0 G0 G0 G0 G0 G0 G0 G0 G0 G0 G0 G0 G0 G0 X0 V G0 G0 G0 G0 G0 G0 G0 G0 G0 G0 G0 G0 G0 G0 \
+        G0 G0 G0 X0\n",
     );
 }
 

@@ -1,8 +1,8 @@
--- The claims on the compilers.
+-- The claims on the compiler.
 use mathlib.Core.{Path.{_≡_, refl, sym, _∙_, ap, ap₂, subst}, Logic.{_↔_, inl, inr}, Bool.{Bool, true, false}, Option.{Option, none, some}}
 use mathlib.Core.List.{List, [], _∷_, _++_}
 use Prim.Native.Nat.{ℕ, _+_, _*_, _≤_, _<_}
-use native.Mathlib.{Nat.{mul-le-mul-left}, Omega.{arith}}
+use native.Mathlib.Omega.{arith}
 use borrow.Author.Tests.{leb-true, leb-false}
 use lib.{Dec.{leb}, ListN.{length, getD, drop, length-append, length-drop, List·getD-append}, Seq.{drop-append-seam}}
 use Rattle.theory.specs.ValueSets.{MeetSemilattice}
@@ -13,32 +13,31 @@ use Rattle.theory.specs.{ReachableStates.{IsTable, IsTableOf, StatesAtMost}, De
 use Rattle.theory.proofs.{Claims.{numbering, table-values}, SetMachine.{table-of-iff}}
 use Rattle.refusal.specs.declared.Refusal.{Refusal}
 use Rattle.refusal.specs.declared.Refusal.the-variants.{Plain}
-use Rattle.refusal.specs.Refusal.{Condition, plain, First, has-place, part-of, order, condition-numbers, right-places}
+use Rattle.refusal.specs.Refusal.{Condition, First, has-place, part-of, order, condition-numbers, right-places}
 use Rattle.refusal.specs.RefusalAnswers.{or-else, plain-unless}
-use Rattle.refusal.proofs.Refusals.{first-then, judged, or-else-none, or-else-assoc, plain-none}
+use Rattle.refusal.proofs.Refusals.{first-then, or-else-none, or-else-assoc, plain-none}
 use Rattle.refusal.specs.Refusal.{put}
 use Rattle.refusal.specs.RefusalAnswers.{put-unless}
 use Rattle.values.specs.declared.ValueKind.{ValueKind}
 use Rattle.values.specs.declared.ValueKind.the-variants.{Numbered, Register}
-use Rattle.values.specs.Setup.{ValueIn, meetOf, value-width, Setup, setup-meet, setup-top, EventsFault, setup-conditions}
+use Rattle.values.specs.Setup.{ValueIn, value-width, Setup, setup-meet, setup-top, setup-conditions}
 use Rattle.values.specs.Setup.{masks-value, value-from}
-use Rattle.values.specs.SetupTests.{events-test, setup-refusal}
-use Rattle.values.proofs.Setups.{setup-first, judged-after-setup, events-first}
+use Rattle.values.specs.SetupTests.{setup-refusal}
+use Rattle.values.proofs.Setups.{setup-first, judged-after-setup}
 use Rattle.formulas.specs.RuleRefusal.{rule-refusal, formula-of}
 use Rattle.formulas.specs.RuleConditions.{byte-conditions}
 use Rattle.formulas.specs.Claims.{AcceptedFormula}
 use Rattle.formulas.proofs.RuleClaims.{rule-judged, accepted-formula-of, formula-of-only}
 use Rattle.machines.specs.{TableBytes.{table-bytes, entry-width, entry-bytes, machine-of}, Claims.{Agree}}
-use Rattle.machines.proofs.{EntryBytes.{table-length}, EntryIndex.{index-below, index-state, index-event}}
+use Rattle.machines.proofs.{EntryBytes.{table-length}, EntryIndex.{index-below}}
 use Rattle.machines.proofs.TableRoundTrip.{read-back, entry-length, entry-width-is, entry-within}
 use Rattle.synthesis.specs.FormulaTable.{formula-states, formula-table}
-use Rattle.synthesis.specs.Compilation.{rule-states, rule-table, rule-table-refusal, compile-rule-refusal, entry-count, flat, compiled-within}
+use Rattle.synthesis.specs.Compilation.{rule-states, rule-table-refusal}
 use Rattle.synthesis.specs.Compilation.{setup-states, setup-table, compile-refusal, compile-contents}
-use Rattle.synthesis.specs.TableOfRule.{states-condition, buffer-condition, compile-conditions, IsRuleTable, pair-table-conditions}
+use Rattle.synthesis.specs.TableOfRule.{states-condition, buffer-condition, compile-conditions, rule-conditions-of, pair-table-conditions, IsRuleTable}
 use Rattle.synthesis.specs.Claims.{CompileRefusalClaim, RuleTable, CompiledBytes, CompileClaim}
-use Rattle.synthesis.specs.Claims.{compile-rule-conditions, array-machine, CompiledArrays, CompileRuleClaim}
-use Rattle.synthesis.proofs.{Compilation.{flat-at, few-events}, CompiledTable.{few-states, is-table}, LentTable.{contents-at, laws, few}}
-use Rattle.limits.specs.Limits.{node-limit, state-limit, entry-limit}
+use Rattle.synthesis.proofs.{CompiledTable.{few-states, is-table}, LentTable.{contents-at, laws, few}}
+use Rattle.limits.specs.Limits.{node-limit, state-limit}
 
 -- Machines with the same entries are the same table.
 pub table-agrees :
@@ -59,6 +58,14 @@ table-agrees meet top events φ n t u a (m, first, of, k) = (m, first, of, moved
               ≡ m .next (Rattle.theory.specs.ReachableStates.state-at events m first (k .sequences) l) e))
               (sym (a .nexts-agree l e hl he)) (k .nexts l e hl he);
         }
+
+-- The tables of a rule have one count of states.
+pub one-count :
+    (In : ℕ → Type 0) (meet : ℕ → ℕ → ℕ) (top events : ℕ) (φ : Formula ℕ) → WellFormed events In φ → (n k : ℕ) (t u : Machine ℕ ℕ) →
+    IsTableOf meet top events φ n t → IsTableOf meet top events φ k u → n ≡ k
+one-count In meet top events φ well n k t u x y =
+    numbering In meet top events _ (set-machine meet top φ) (first-set φ) .1 n k t u (table-of-iff meet top φ (well .guarded) events n t .0 x)
+    (table-of-iff meet top φ (well .guarded) events k u .0 y) .0
 
 -- A rule that 5 to 9 let through, over values that obey the laws.
 module _ (meet : ℕ → ℕ → ℕ) (top events : ℕ) (kind : ValueKind) (limit : ℕ) (rule : List ℕ) (L : MeetSemilattice (ValueIn kind) meet top)
@@ -96,11 +103,6 @@ module _ (meet : ℕ → ℕ → ℕ) (top events : ℕ) (kind : ValueKind) (lim
       go false e =
           inl (Plain 10, ((φ₀, there .written, λ h. omega (arith, at-most .1 h, leb-false states limit e)), refl), refl)
 
-  table-one : (n : ℕ) (t u : Machine ℕ ℕ) (k : ℕ) → IsTableOf meet top events φ₀ n t → IsTableOf meet top events φ₀ k u → n ≡ k
-  table-one n t u k x y =
-      numbering (ValueIn kind) meet top events _ (set-machine meet top φ₀) (first-set φ₀) .1 n k t u
-      (table-of-iff meet top φ₀ (well .guarded) events n t .0 x) (table-of-iff meet top φ₀ (well .guarded) events k u .0 y) .0
-
   buffer-first :
       (old : List ℕ) → states ≤ limit →
       First (buffer-condition meet top events kind rule old ∷ []) (plain-unless (leb (states * events * entry-width kind) (length old)) 13)
@@ -117,7 +119,7 @@ module _ (meet : ℕ → ℕ → ℕ) (top events : ℕ) (kind : ValueKind) (lim
           inr (
             (λ r m.
                 let q : m .0 .2 .states ≡ states
-                = table-one (m .0 .2 .states) (m .0 .2 .table) (formula-table meet top φ₀ events limit) states
+                = one-count (ValueIn kind) meet top events φ₀ well (m .0 .2 .states) states (m .0 .2 .table) (formula-table meet top φ₀ events limit)
                 (subst (λ χ. IsTableOf meet top events χ (m .0 .2 .states) (m .0 .2 .table)) (formula-of-only kind rule (m .0 .0) (m .0 .1))
                 (m .0 .2 .is-table)) it in
                 omega (arith, m .0 .2 .shorter, ap (λ x. x * events * entry-width kind) q, leb-true (states * events * entry-width kind) (length old) e)),
@@ -288,96 +290,26 @@ same-contents limit s rule old r e = contents-at limit s rule old _ e
 pub compile-claim : CompileClaim
 compile-claim = record { accepted = compiled-bytes; refused = same-contents }
 
--- The compiler that answers by value.
 append-none : (a : Option Refusal) → or-else a none ≡ a
 unfolding or-else
 append-none none = refl
 append-none (some r) = refl
 
-module _ (limit : ℕ) (kind : ValueKind) (events top : ℕ) (table rule : List ℕ) (little : limit ≤ state-limit)
-    (L : MeetSemilattice (ValueIn kind) (meetOf kind table) top) where
-  rule-first : First (compile-rule-conditions limit kind events top table rule) (compile-rule-refusal kind events top table rule limit)
-  unfolding compile-rule-refusal rule-table-refusal First
-  rule-first =
-      first-then (plain 1 (EventsFault events) ∷ [])
-      (byte-conditions events kind rule
-      ++ (states-condition (meetOf kind table) top events kind rule limit ∷ []))
-      (plain-unless (events-test events) 1)
-      (or-else (rule-refusal events kind rule) (plain-unless (leb (rule-states kind events top table rule limit) limit) 10))
-      (events-first events)
-      (λ e. subst
-      (First (byte-conditions events kind rule
-      ++ (states-condition (meetOf kind table) top events kind rule limit ∷ [])))
-      (append-none (or-else (rule-refusal events kind rule) (plain-unless (leb (rule-states kind events top table rule limit) limit) 10)))
-      (ten-first (meetOf kind table) top events kind limit rule L [] none (λ fine h. refl)))
+-- A rule beside an accepted set-up: 5 to 10; and a set-up and a rule: 1 to 3 before these.
+module _ (s : Setup) (rule : List ℕ) where
+  pub rule-first :
+      setup-refusal s ≡ none → First (rule-conditions-of s rule) (rule-table-refusal (s .kind) (s .events) (setup-top s) (s .meet) rule state-limit)
+  unfolding rule-table-refusal First
+  rule-first ok =
+      subst (First (rule-conditions-of s rule))
+      (append-none (or-else (rule-refusal (s .events) (s .kind) rule)
+      (plain-unless (leb (rule-states (s .kind) (s .events) (setup-top s) (s .meet) rule state-limit) state-limit) 10)))
+      (ten-first (setup-meet s) (setup-top s) (s .events) (s .kind) state-limit rule (laws s ok) [] none (λ fine h. refl))
 
-  module _ (accepted : compile-rule-refusal kind events top table rule limit ≡ none) where
-    abbrev count : ℕ
-    count = rule-states kind events top table rule limit
-
-    parts : (events-test events ≡ true) × (rule-refusal events kind rule ≡ none) × (count ≤ limit)
-    unfolding compile-rule-refusal rule-table-refusal
-    parts =
-        let ten : Option Refusal = plain-unless (leb count limit) 10 in
-        let a = or-else-none (plain-unless (events-test events) 1) (or-else (rule-refusal events kind rule) ten) accepted in
-        let b = or-else-none (rule-refusal events kind rule) ten (a .1) in
-        (plain-none (events-test events) 1 (a .0), b .0, leb-true count limit (plain-none (leb count limit) 10 (b .1)))
-
-    within : count * events ≤ entry-limit
-    within = omega (arith, mul-le-mul-left count (few-events events (parts .0)), parts .2, little)
-
-    values-are : compiled-within limit kind events top table rule .values ≡ flat (rule-table kind events top table rule limit .value) events
-        (count * events) entry-limit
-    unfolding compiled-within entry-count
-    values-are = ap (λ a. flat (rule-table kind events top table rule limit .value) events (entry-count a (count * events)) entry-limit) accepted
-
-    nexts-are : compiled-within limit kind events top table rule .nexts ≡ flat (rule-table kind events top table rule limit .next) events (count * events)
-        entry-limit
-    unfolding compiled-within entry-count
-    nexts-are = ap (λ a. flat (rule-table kind events top table rule limit .next) events (entry-count a (count * events)) entry-limit) accepted
-
-    entry-there :
-        (f : ℕ → ℕ → ℕ) (array : List ℕ) → array ≡ flat f events (count * events) entry-limit → (l e : ℕ) → l < count → e < events →
-        getD array (l * events + e) 0 ≡ f l e
-    entry-there f array q l e hl he =
-        let h : l * events + e < count * events = index-below events count l e hl he in
-        ap (λ x. getD x (l * events + e) 0) q
-        ∙ flat-at f events (count * events) entry-limit (l * events + e) h (omega (arith, h, within))
-        ∙ ap₂ f (index-state events l e he) (index-event events l e he)
-
-    arrays : CompiledArrays limit kind events top table rule
-    arrays =
-        record {
-          few = parts .2;
-          table-is =
-              rule-table-is (meetOf kind table) top events kind limit rule L (parts .1) (array-machine limit kind events top table rule)
-              (parts .2)
-              (record {
-                values-agree = entry-there (rule-table kind events top table rule limit .value) (compiled-within limit kind events top table rule .values)
-                    values-are;
-                nexts-agree = entry-there (rule-table kind events top table rule limit .next) (compiled-within limit kind events top table rule .nexts)
-                    nexts-are;
-              });
-        }
-
-pub compile-rule-claim : CompileRuleClaim
-unfolding condition-numbers right-places has-place part-of order
-compile-rule-claim limit kind events top table rule little L =
-    (judged _ _ (rule-first limit kind events top table rule little L) refl refl, arrays limit kind events top table rule little L)
-
--- A set-up and a rule: 1 to 3, then 5 to 10.
-pub setup-rule-first :
-    (s : Setup) (rule : List ℕ) →
-    First (pair-table-conditions s rule)
-    (or-else (setup-refusal s) (rule-table-refusal (s .kind) (s .events) (setup-top s) (s .meet) rule state-limit))
-unfolding rule-table-refusal First
-setup-rule-first s rule =
-    first-then (setup-conditions s) _ (setup-refusal s) _ (setup-first s)
-    (λ ok. subst
-    (First (byte-conditions (s .events) (s .kind) rule ++ (states-condition (setup-meet s) (setup-top s) (s .events) (s .kind) rule state-limit ∷ [])))
-    (append-none (or-else (rule-refusal (s .events) (s .kind) rule)
-    (plain-unless (leb (rule-states (s .kind) (s .events) (setup-top s) (s .meet) rule state-limit) state-limit) 10)))
-    (ten-first (setup-meet s) (setup-top s) (s .events) (s .kind) state-limit rule (laws s ok) [] none (λ fine h. refl)))
+  pub setup-rule-first :
+      First (pair-table-conditions s rule)
+      (or-else (setup-refusal s) (rule-table-refusal (s .kind) (s .events) (setup-top s) (s .meet) rule state-limit))
+  setup-rule-first = first-then (setup-conditions s) (rule-conditions-of s rule) (setup-refusal s) _ (setup-first s) rule-first
 
 -- What is claimed of a rule's table, in document 01's words alone.
 pub printed-table :

@@ -1,7 +1,6 @@
 -- From what the walks and loops answer to the formula's table.
-use mathlib.Core.{Path.{_≡_, refl, sym, _∙_, ap, ap₂, subst, fun-ext}, Bool.{Bool}, List.{List, []}}
+use mathlib.Core.{Path.{_≡_, sym, _∙_, ap, ap₂, subst, fun-ext}, Bool.{Bool}, List.{List, []}}
 use Prim.Native.Nat.{ℕ, _*_, _/_, _%_, _<_, _≤_}
-use native.Mathlib.Omega.{arith}
 use lib.ListN.{length}
 use Rattle.limits.specs.Limits.{node-limit}
 use Rattle.theory.specs.Formula.{Formula, size}
@@ -11,23 +10,21 @@ use Rattle.theory.specs.Exploration.{explored, numbered, member, bits, same-bit
 use Rattle.formulas.specs.{NodeReading.{Reads}, NodeWalks.{field}}
 use Rattle.formulas.proofs.Walking.{size-positive}
 use Rattle.synthesis.specs.{NodeWords.{set-at, bits-at}, KeptDemands.{RowsKept, KeepsDemands}}
-use Rattle.synthesis.specs.{Exploring.{next-bits, Unchanged, Kept, Counted, sequences}, TableEntries.{state-value, EntriesTo}}
+use Rattle.synthesis.specs.{Exploring.{next-bits, Kept, Counted, sequences}, TableEntries.{state-value, EntriesTo}}
 use Rattle.synthesis.specs.{FormulaTable.{formula-states, formula-table}, MadeTable.{Tabled, Tables}}
 use Rattle.synthesis.proofs.{NodeWords.{member-bits-at}, KeptSets.{kept-first}, Stepping.{stepped-moved}, TableEntries.{value-from}}
 
 -- What the parts of the code answer, for some count of nodes.
 pub record Parts (kinds firsts fields rows states : List ℕ) (meet : ℕ → ℕ → ℕ) (top events limit n : ℕ)
-    (values nexts values′ nexts′ : List ℕ) (count : ℕ) : Type 0 where
+    (values nexts : List ℕ) (count : ℕ) : Type 0 where
   pub counted :
       Counted (next-bits kinds firsts rows count) (bits-at rows 0) events limit
-      (sequences (next-bits kinds firsts rows count) (bits-at rows 0) events limit) n (n * events) states nexts′
-  pub valued : n ≤ limit → EntriesTo (state-value meet top kinds firsts fields count states) events (n * events) values′
-  pub values-kept : n ≤ limit → Unchanged (n * events) values values′
-  pub nexts-kept : n ≤ limit → Unchanged (n * events) nexts nexts′
+      (sequences (next-bits kinds firsts rows count) (bits-at rows 0) events limit) n (n * events) states nexts
+  pub valued : n ≤ limit → EntriesTo (state-value meet top kinds firsts fields count states) events (n * events) values
 
 module _ (kinds firsts fields rows states : List ℕ) (meet : ℕ → ℕ → ℕ) (top events limit n : ℕ)
-    (values nexts values′ nexts′ : List ℕ) (φ : Formula ℕ) (d : Reads (field kinds) (field firsts) (field fields) 0 φ) (kept : RowsKept rows φ)
-    (p : Parts kinds firsts fields rows states meet top events limit n values nexts values′ nexts′ (size φ)) where
+    (values nexts : List ℕ) (φ : Formula ℕ) (d : Reads (field kinds) (field firsts) (field fields) 0 φ) (kept : RowsKept rows φ)
+    (p : Parts kinds firsts fields rows states meet top events limit n values nexts (size φ)) where
   abbrev next : List Bool → ℕ → List Bool
   next = next-bits kinds firsts rows (size φ)
 
@@ -60,10 +57,10 @@ module _ (kinds firsts fields rows states : List ℕ) (meet : ℕ → ℕ → �
       ap₂ (λ (h : List Bool → ℕ → List Bool) (x : List Bool). length (explored same-bits h x events limit)) next-is start-is
 
   module _ (small : n ≤ limit) where
-    k : Kept next start events (sequences next start events limit) n (n * events) states nexts′
+    k : Kept next start events (sequences next start events limit) n (n * events) states nexts
     k = p .counted .all small
 
-    value-at : EntriesTo (formula-table meet top φ events limit .value) events (n * events) values′
+    value-at : EntriesTo (formula-table meet top φ events limit .value) events (n * events) values
     value-at x h =
         let l : x / events < n = k .entry x h .of-state in
         p .valued small x h
@@ -72,10 +69,10 @@ module _ (kinds firsts fields rows states : List ℕ) (meet : ℕ → ℕ → �
         (sym (member-bits-at states (x / events * 4)) ∙ ap member (k .state (x / events) l))
         ∙ ap (λ T. T .value (x / events) (x % events)) table-is
 
-    next-at : EntriesTo (formula-table meet top φ events limit .next) events (n * events) nexts′
+    next-at : EntriesTo (formula-table meet top φ events limit .next) events (n * events) nexts
     next-at x h = sym (k .entry x h .number) ∙ ap (λ T. T .next (x / events) (x % events)) table-is
 
-  tabled : Tabled meet top φ events limit values nexts values′ nexts′ n
+  tabled : Tabled meet top φ events limit values nexts n
   tabled =
       record {
         at-most = p .counted .at-most;
@@ -83,19 +80,15 @@ module _ (kinds firsts fields rows states : List ℕ) (meet : ℕ → ℕ → �
         more = λ h. subst (λ x. limit < x) length-is (p .counted .more h);
         values-are = value-at;
         nexts-are = next-at;
-        values-after = p .values-kept;
-        nexts-after = p .nexts-kept;
       }
 
 pub tables :
-    (kinds firsts fields rows states : List ℕ) (meet : ℕ → ℕ → ℕ) (top events limit n count : ℕ) (values nexts values′ nexts′ : List ℕ) →
+    (kinds firsts fields rows states : List ℕ) (meet : ℕ → ℕ → ℕ) (top events limit n count : ℕ) (values nexts : List ℕ) →
     KeepsDemands kinds firsts count rows →
     Counted (next-bits kinds firsts rows count) (bits-at rows 0) events limit
-    (sequences (next-bits kinds firsts rows count) (bits-at rows 0) events limit) n (n * events) states nexts′ →
-    (n ≤ limit → EntriesTo (state-value meet top kinds firsts fields count states) events (n * events) values′) →
-    (n ≤ limit → Unchanged (n * events) values values′) → (n ≤ limit → Unchanged (n * events) nexts nexts′) →
-    Tables kinds firsts fields count meet top events limit values nexts values′ nexts′ n
-tables kinds firsts fields rows states meet top events limit n count values nexts values′ nexts′ keeps co va vk nk φ d q shallow closed guarded =
-    tabled kinds firsts fields rows states meet top events limit n values nexts values′ nexts′ φ d (keeps (field fields) φ d q shallow closed guarded)
-    (subst (Parts kinds firsts fields rows states meet top events limit n values nexts values′ nexts′) (sym q)
-    (record { counted = co; valued = va; values-kept = vk; nexts-kept = nk }))
+    (sequences (next-bits kinds firsts rows count) (bits-at rows 0) events limit) n (n * events) states nexts →
+    (n ≤ limit → EntriesTo (state-value meet top kinds firsts fields count states) events (n * events) values) →
+    Tables kinds firsts fields count meet top events limit values nexts n
+tables kinds firsts fields rows states meet top events limit n count values nexts keeps co va φ d q shallow closed guarded =
+    tabled kinds firsts fields rows states meet top events limit n values nexts φ d (keeps (field fields) φ d q shallow closed guarded)
+    (subst (Parts kinds firsts fields rows states meet top events limit n values nexts) (sym q) (record { counted = co; valued = va }))

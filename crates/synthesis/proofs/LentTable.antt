@@ -1,9 +1,9 @@
 -- The answer and the buffer's later contents of `compile`, case by case.
-use mathlib.Core.{Path.{_≡_, sym, _∙_, ap, ap₂, subst}, Bool.{Bool, true, false}, List.{List}, Option.{Option, none, some}}
+use mathlib.Core.{Path.{_≡_, refl, sym, _∙_, ap, ap₂, subst}, Logic.{⊎-elim}, Bool.{Bool, true, false}, List.{List}, Option.{Option, none, some}}
 use Prim.Native.Nat.{ℕ, _*_, _/_, _%_, _≤_, _<_}
-use native.Mathlib.{Nat.{mul-le-mul-left}, Omega.{arith}}
-use borrow.Author.Tests.{leb-true}
-use lib.{Dec.{leb}, ListN.{length, getD}}
+use native.Mathlib.{Nat.{mul-le-mul-right}, Decide.{decLe}, Omega.{arith}}
+use borrow.Author.Tests.{leb-true, le-leb, lt-leb}
+use lib.{Dec.{leb}, ListN.{length}}
 use Rattle.theory.specs.Formula.{size}
 use Rattle.theory.specs.FormulaClasses.{WellFormed}
 use Rattle.theory.specs.MealyMachine.{States, Runs}
@@ -14,24 +14,25 @@ use Rattle.refusal.specs.declared.Counted.the-variants.{Count, Refused}
 use Rattle.refusal.specs.RefusalAnswers.{or-else, plain-unless, judgement, counted}
 use Rattle.refusal.specs.Refusal.{put}
 use Rattle.refusal.specs.RefusalAnswers.{put-unless}
-use Rattle.refusal.proofs.Refusals.{judgement-accepted, judgement-refused, counted-accepted, counted-refused, or-else-none, plain-none}
+use Rattle.refusal.proofs.Refusals.{judgement-accepted, judgement-refused, or-else-none, plain-none}
 use Rattle.values.specs.declared.ValueKind.{ValueKind}
 use Rattle.values.specs.declared.ValueKind.the-variants.{Numbered, Register}
-use Rattle.values.specs.Setup.{ValueIn, topOf, Setup, setup-of-kind, setup, setup-meet, setup-top}
+use Rattle.values.specs.Setup.{ValueIn, meetOf, topOf, Setup, setup-of-kind, setup, setup-meet, setup-top}
 use Rattle.values.specs.SetupInOrder.{SetupLaws}
 use Rattle.values.specs.SetupTests.{kind-refusal, setup-refusal}
-use Rattle.values.proofs.Setups.{setup-accepted, laws-hold, accepted-events, accepted-count, kind-passed}
-use Rattle.formulas.specs.RuleRefusal.{rule-refusal, formula-of}
-use Rattle.formulas.proofs.{RuleClaims.{accepted-formula-of}, Padding.{padded-length}}
-use Rattle.machines.specs.{TableBytes.{table-bytes, entry-width, entry-bytes}, StoredEntries.{kept-bytes, stored, storable, after-store}}
+use Rattle.values.specs.ValueTests.{value-fits}
+use Rattle.values.proofs.Setups.{setup-accepted, laws-hold, accepted-count, kind-passed}
+use Rattle.formulas.specs.declared.Nodes.{Nodes}
+use Rattle.formulas.specs.{RuleConditions.{node-width}, NodeWalks.{field}, NodeArrays.{decoded}}
+use Rattle.formulas.specs.RuleRefusal.{count-fits, fields-refusal, rule-refusal, formula-of}
+use Rattle.formulas.proofs.RuleClaims.{accepted-formula-of, decoded-reads}
+use Rattle.machines.specs.{TableBytes.{table-bytes, entry-width, entry-bytes}, StoredEntries.{kept-bytes, stored, storable}}
 use Rattle.machines.specs.Claims.{OfBytes}
 use Rattle.machines.proofs.{Stores.{stored-table, storable-room, after-none, after-all}, EntryIndex.{state-below, event-below}}
-use Rattle.synthesis.specs.declared.Compiled.{Compiled}
-use Rattle.synthesis.specs.Compilation.{rule-states, rule-table, rule-table-refusal, compile-rule-refusal, entry-count, flat, compiled-within, compiled}
-use Rattle.synthesis.specs.Compilation.{Made, setup-states, setup-table, compile-refusal, compile-contents}
-use Rattle.synthesis.proofs.{Compilation.{flat-at}, CompiledTable.{table-runs}}
-use Rattle.synthesis.proofs.Compilation as C
-use Rattle.limits.specs.Limits.{event-limit, value-limit, node-limit, state-limit, entry-limit}
+use Rattle.synthesis.specs.Compilation.{rule-states, rule-table, rule-table-refusal, setup-states, setup-table}
+use Rattle.synthesis.specs.{Compilation.{compile-refusal, compile-answer, compile-contents}, MadeTable.{Tabled, Attempted, Answered, attempt-answer}}
+use Rattle.synthesis.proofs.{Compilation.{judged-nodes, answer-many, answer-short, answer-stored}, CompiledTable.{table-runs, wider}}
+use Rattle.limits.specs.Limits.{event-limit, value-limit, node-limit, state-limit}
 
 -- The lent buffer beside an answer.
 pub contents-at :
@@ -56,7 +57,7 @@ module _ (s : Setup) (ok : setup-refusal s ≡ none) where
   laws = laws-hold s ok
 
   pub few-events : s .events ≤ event-limit
-  few-events = C.few-events (s .events) (accepted-events s ok)
+  few-events = setup-accepted s .0 ok .few-events
 
   module _ (limit : ℕ) (rule : List ℕ) (fine : rule-table-refusal (s .kind) (s .events) (setup-top s) (s .meet) rule limit ≡ none) where
     rule-fine : rule-refusal (s .events) (s .kind) rule ≡ none
@@ -123,149 +124,158 @@ module _ (limit : ℕ) (s : Setup) (rule old : List ℕ) where
   unfolding counted put-unless
   accepted-there e = (sym (ap (λ a. counted a states) e), sym (contents-at limit s rule old _ e))
 
-  -- Beside an accepted set-up, 1 is not met again.
-  rule-answer :
-      setup-refusal s ≡ none → compile-rule-refusal (s .kind) (s .events) (setup-top s) (s .meet) rule limit ≡ from-rule
-  unfolding compile-rule-refusal or-else plain-unless
-  rule-answer e = ap (λ b. or-else (plain-unless b 1) from-rule) (accepted-events s e)
+  module _ (ok : setup-refusal s ≡ none) where
+    from-nodes : (o : Option Refusal) → rule-refusal (s .events) (s .kind) rule ≡ o → from-rule ≡ or-else o (plain-unless (leb states limit) 10)
+    unfolding rule-table-refusal
+    from-nodes o e = ap (λ a. or-else a (plain-unless (leb states limit) 10)) e
 
-  module _ (ok : setup-refusal s ≡ none) (c : Compiled)
-      (made : c ≡ compiled-within limit (s .kind) (s .events) (setup-top s) (s .meet) rule) where
-    verdict-is : c .verdict ≡ counted from-rule states
-    unfolding compiled-within
-    verdict-is = ap (λ d. d .verdict) made ∙ ap (λ a. counted a states) (rule-answer ok)
+    case-rule :
+        (r : Refusal) → rule-refusal (s .events) (s .kind) rule ≡ some r →
+        (Refused r ≡ counted answer states) × (old ≡ compile-contents limit s rule old)
+    unfolding or-else
+    case-rule r e = refused-there r (answer-rule ok r (from-nodes (some r) e))
 
-    pub case-rule :
-        (r : Refusal) → c .verdict ≡ Refused r → (c .verdict ≡ counted answer states) × (old ≡ compile-contents limit s rule old)
-    case-rule r e =
-        let w = refused-there r (answer-rule ok r (counted-refused from-rule states r (sym verdict-is ∙ e))) in
-        (e ∙ w .0, w .1)
+    module _ (fine : rule-refusal (s .events) (s .kind) rule ≡ none) (new : List ℕ) (n : ℕ) (b : Bool)
+        (t : Attempted (s .kind) (decoded (s .kind) rule .kinds) (decoded (s .kind) rule .firsts) (decoded (s .kind) rule .values)
+        (decoded (s .kind) rule .count) (setup-meet s) (setup-top s) (s .events) limit old new n b) where
+      tabled : Tabled (setup-meet s) (setup-top s) (formula-of (s .kind) rule) (s .events) limit (t .values) (t .nexts) n
+      tabled =
+          let a = accepted-formula-of (s .events) (s .kind) rule fine in
+          let d = decoded-reads (s .kind) rule (formula-of (s .kind) rule) (a .written) (a .accepted .within) in
+          let w = a .accepted .well-formed in
+          t .tables (formula-of (s .kind) rule) (d .reads) (sym (d .counted)) (a .accepted .shallow) (w .closed) (w .guarded)
 
-    module _ (n : ℕ) (e : c .verdict ≡ Count n) where
-      fine : (from-rule ≡ none) × (states ≡ n)
-      fine = counted-accepted from-rule states n (sym verdict-is ∙ e)
+      case-many : limit < n → (attempt-answer limit n b ≡ counted answer states) × (new ≡ compile-contents limit s rule old)
+      unfolding or-else plain-unless
+      case-many h =
+          let ten : leb states limit ≡ false = lt-leb states limit (tabled .more (omega (arith, tabled .at-most, h))) in
+          let w = refused-there (Plain 10) (answer-rule ok (Plain 10) (from-nodes none fine ∙ ap (λ x. plain-unless x 10) ten)) in
+          (sym (answer-many limit n b h) ∙ w .0, t .more h ∙ w .1)
 
-      pub few-of : n ≤ limit
-      few-of = subst (λ x. x ≤ limit) (fine .1) (few s ok limit rule (fine .0))
+      module _ (h : n ≤ limit) where
+        states-are : states ≡ n
+        states-are = tabled .states h
 
-      values-are : c .values ≡ flat (setup-table limit s rule .value) (s .events) (states * s .events) entry-limit
-      unfolding compiled-within entry-count
-      values-are =
-          ap (λ d. d .values) made
-          ∙ ap (λ a. flat (setup-table limit s rule .value) (s .events) (entry-count a (states * s .events)) entry-limit) (rule-answer ok ∙ fine .0)
+        through : from-rule ≡ none
+        unfolding or-else plain-unless
+        through = from-nodes none fine ∙ ap (λ x. plain-unless x 10) (le-leb states limit (omega (arith, states-are, h)))
 
-      nexts-are : c .nexts ≡ flat (setup-table limit s rule .next) (s .events) (states * s .events) entry-limit
-      unfolding compiled-within entry-count
-      nexts-are =
-          ap (λ d. d .nexts) made
-          ∙ ap (λ a. flat (setup-table limit s rule .next) (s .events) (entry-count a (states * s .events)) entry-limit) (rule-answer ok ∙ fine .0)
-
-      module _ (little : n * s .events ≤ entry-limit) where
-        entry-is :
-            (f : ℕ → ℕ → ℕ) (l : List ℕ) → l ≡ flat f (s .events) (states * s .events) entry-limit → (i : ℕ) → i < n * s .events →
-            getD l i 0 ≡ f (i / s .events) (i % s .events)
-        entry-is f l q i h =
-            let k : states * s .events ≡ n * s .events = ap (λ y. y * s .events) (fine .1) in
-            ap (λ x. getD x i 0) q ∙ flat-at f (s .events) (states * s .events) entry-limit i (omega (arith, k, h)) (omega (arith, h, little))
-
-        pub sized : (length (c .values) ≡ entry-limit) × (length (c .nexts) ≡ entry-limit)
-        unfolding flat
-        sized = (
-          ap length values-are ∙ padded-length (λ x. setup-table limit s rule .value (x / s .events) (x % s .events)) (states * s .events) entry-limit 0,
-          ap length nexts-are ∙ padded-length (λ x. setup-table limit s rule .next (x / s .events) (x % s .events)) (states * s .events) entry-limit 0,
-        )
-
-        room-is : storable (entry-width (s .kind)) (c .values) (c .nexts) (n * s .events) old ≡ leb (states * s .events * entry-width (s .kind)) (length old)
+        room-is : b ≡ leb (states * s .events * entry-width (s .kind)) (length old)
         room-is =
-            storable-room (entry-width (s .kind)) (c .values) (c .nexts) (n * s .events) old (omega (arith, sized .0, little)) (omega (arith, sized .1, little))
-            ∙ ap (λ x. leb (x * s .events * entry-width (s .kind)) (length old)) (sym (fine .1))
+            let little = mul-le-mul-right (s .events) h in
+            t .fits h
+            ∙ storable-room (entry-width (s .kind)) (t .values) (t .nexts) (n * s .events) old (omega (arith, t .room .0, little))
+            (omega (arith, t .room .1, little))
+            ∙ ap (λ x. leb (x * s .events * entry-width (s .kind)) (length old)) (sym states-are)
 
-        pub case-room :
-            (now : List ℕ) → storable (entry-width (s .kind)) (c .values) (c .nexts) (n * s .events) old ≡ false →
-            now ≡ after-store (entry-width (s .kind)) (kept-bytes (s .kind)) (c .values) (c .nexts) (n * s .events) old →
-            (Refused (Plain 13) ≡ counted answer states) × (now ≡ compile-contents limit s rule old)
-        unfolding plain-unless
-        case-room now f q =
-            let w = refused-there (Plain 13) (answer-room ok (fine .0) ∙ ap (λ b. plain-unless b 13) (sym room-is ∙ f)) in
-            (w .0, q ∙ after-none (entry-width (s .kind)) (kept-bytes (s .kind)) (c .values) (c .nexts) (n * s .events) old f ∙ w .1)
-
-        bytes-are : stored (kept-bytes (s .kind)) (c .values) (c .nexts) (n * s .events) ≡ table-bytes (entry-bytes (s .kind)) (s .events)
+        bytes-are : stored (kept-bytes (s .kind)) (t .values) (t .nexts) (n * s .events) ≡ table-bytes (entry-bytes (s .kind)) (s .events)
             (setup-table limit s rule) states
         bytes-are =
-            stored-table (s .kind) (s .events) n (setup-table limit s rule) (c .values) (c .nexts)
-            (entry-is (setup-table limit s rule .value) (c .values) values-are)
-            (entry-is (setup-table limit s rule .next) (c .nexts) nexts-are)
-            (λ i h.
+            stored-table (s .kind) (s .events) n (setup-table limit s rule) (t .values) (t .nexts) (tabled .values-are h) (tabled .nexts-are h)
+            (λ i l.
             of-bytes (s .kind) (s .top) (s .meet) (kind-passed s ok) _
-            (subst (ValueIn (s .kind)) (sym (entry-is (setup-table limit s rule .value) (c .values) values-are i h))
-            (entries-run s ok limit rule (fine .0) .value-in (i / s .events)
-            (subst (λ x. i / s .events < x) (sym (fine .1)) (state-below (s .events) n i h)) (i % s .events) (event-below (s .events) n i h))))
-            ∙ ap (table-bytes (entry-bytes (s .kind)) (s .events) (setup-table limit s rule)) (sym (fine .1))
+            (subst (ValueIn (s .kind)) (sym (tabled .values-are h i l))
+            (entries-run s ok limit rule through .value-in (i / s .events)
+            (subst (λ x. i / s .events < x) (sym states-are) (state-below (s .events) n i l)) (i % s .events) (event-below (s .events) n i l))))
+            ∙ ap (table-bytes (entry-bytes (s .kind)) (s .events) (setup-table limit s rule)) (sym states-are)
 
-        pub case-stored :
-            (now : List ℕ) → storable (entry-width (s .kind)) (c .values) (c .nexts) (n * s .events) old ≡ true →
-            now ≡ after-store (entry-width (s .kind)) (kept-bytes (s .kind)) (c .values) (c .nexts) (n * s .events) old →
-            (Count n ≡ counted answer states) × (now ≡ compile-contents limit s rule old)
+        case-few : (attempt-answer limit n b ≡ counted answer states) × (new ≡ compile-contents limit s rule old)
         unfolding plain-unless
-        case-stored now f q =
-            let w = accepted-there (answer-room ok (fine .0) ∙ ap (λ b. plain-unless b 13) (sym room-is ∙ f)) in (
-              ap Count (sym (fine .1)) ∙ w .0,
-              q ∙ after-all (entry-width (s .kind)) (kept-bytes (s .kind)) (c .values) (c .nexts) (n * s .events) old f ∙ ap (λ x. put x old) bytes-are ∙ w .1,
-            )
+        case-few = go b refl
+          where
+            fit : (x : Bool) → b ≡ x → storable (entry-width (s .kind)) (t .values) (t .nexts) (n * s .events) old ≡ x
+            fit x e = sym (t .fits h) ∙ e
+
+            go : (x : Bool) → b ≡ x → (attempt-answer limit n b ≡ counted answer states) × (new ≡ compile-contents limit s rule old)
+            go true e =
+                let w = accepted-there (answer-room ok through ∙ ap (λ y. plain-unless y 13) (sym room-is ∙ e)) in (
+                  sym (answer-stored limit n b h e) ∙ ap Count (sym states-are) ∙ w .0,
+                  t .contents h ∙ after-all (entry-width (s .kind)) (kept-bytes (s .kind)) (t .values) (t .nexts) (n * s .events) old (fit true e)
+                      ∙ ap (λ x. put x old) bytes-are ∙ w .1,
+                )
+            go false e =
+                let w = refused-there (Plain 13) (answer-room ok through ∙ ap (λ y. plain-unless y 13) (sym room-is ∙ e)) in (
+                  sym (answer-short limit n b h e) ∙ w .0,
+                  t .contents h ∙ after-none (entry-width (s .kind)) (kept-bytes (s .kind)) (t .values) (t .nexts) (n * s .events) old (fit false e) ∙ w .1,
+                )
 
   pub case-setup :
       (r : Refusal) → judgement (setup-refusal s) ≡ RefusedJudgement r →
       (Refused r ≡ counted answer states) × (old ≡ compile-contents limit s rule old)
   case-setup r e = refused-there r (answer-setup r (judgement-refused (setup-refusal s) r e))
 
--- At document 01's limit, for an accepted set-up as it is handed in.
-module _ (events : ℕ) (kind : ValueKind) (top : ℕ) (meet rule old : List ℕ) (ok : setup-refusal (setup-of-kind events kind top meet) ≡ none)
-    (top-is : topOf kind top ≡ top) where
+-- What is answered within a limit is answered within a larger one.
+module _ (a c : ℕ) (s : Setup) (rule old : List ℕ) (few-states : setup-states a s rule ≤ a) (l : a ≤ c) where
+  same : (setup-states c s rule ≡ setup-states a s rule) × (setup-table c s rule ≡ setup-table a s rule)
+  same = wider (setup-meet s) (setup-top s) (formula-of (s .kind) rule) (s .events) a c few-states l
+
+  wider-refusal : compile-refusal a s rule old ≡ compile-refusal c s rule old
+  unfolding compile-refusal rule-table-refusal
+  wider-refusal =
+      ap₂ (λ t n. or-else (setup-refusal s) (or-else (or-else (rule-refusal (s .events) (s .kind) rule) (plain-unless t 10))
+      (plain-unless (leb (n * s .events * entry-width (s .kind)) (length old)) 13)))
+      (le-leb (setup-states a s rule) a few-states ∙ sym (le-leb (setup-states c s rule) c (omega (arith, same .0, few-states, l)))) (sym (same .0))
+
+  wider-answer : compile-answer a s rule old ≡ compile-answer c s rule old
+  wider-answer = ap₂ counted wider-refusal (sym (same .0))
+
+  wider-contents : compile-contents a s rule old ≡ compile-contents c s rule old
+  unfolding compile-contents
+  wider-contents =
+      ap₂ (λ o x. put-unless o x old) wider-refusal
+      (ap₂ (table-bytes (entry-bytes (s .kind)) (s .events)) (sym (same .1)) (sym (same .0)))
+
+-- A set-up that was accepted, as it is handed in, and nodes as they were decoded.
+module _ (events : ℕ) (kind : ValueKind) (top : ℕ) (meet rule : List ℕ) (ok : setup-refusal (setup-of-kind events kind top meet) ≡ none)
+    (top-is : topOf kind top ≡ top) (nodes : Nodes) (d : nodes ≡ decoded kind rule) where
   abbrev s₀ : Setup
   s₀ = setup-of-kind events kind top meet
 
-  abbrev c₀ : Compiled
-  c₀ = compiled kind events top meet rule
+  abbrev judged : Option Refusal
+  judged =
+      or-else (plain-unless (count-fits (node-width kind) node-limit (length rule)) 5)
+      (fields-refusal (field (nodes .kinds)) (field (nodes .firsts)) (field (nodes .values)) (nodes .count) (value-fits kind) events)
 
-  within : c₀ ≡ compiled-within state-limit kind events (topOf kind top) meet rule
-  unfolding compiled
-  within = ap (λ t. compiled-within state-limit kind events t meet rule) (sym top-is)
+  pub rule-case :
+      (old : List ℕ) (r : Refusal) → judgement judged ≡ RefusedJudgement r →
+      (Refused r ≡ compile-answer state-limit s₀ rule old) × (old ≡ compile-contents state-limit s₀ rule old)
+  rule-case old r e =
+      case-rule state-limit s₀ rule old ok r (sym (judged-nodes events kind rule nodes d) ∙ judgement-refused judged r e)
 
-  module _ (verdict : Counted) (entries nexts : List ℕ) (made : Made c₀ verdict entries nexts) where
-    pub rule-case :
-        (r : Refusal) → verdict ≡ Refused r →
-        (verdict ≡ counted (compile-refusal state-limit s₀ rule old) (setup-states state-limit s₀ rule)) × (old ≡ compile-contents state-limit s₀ rule old)
-    rule-case r e =
-        let w = case-rule state-limit s₀ rule old ok c₀ within r (sym (made .answer) ∙ e) in
-        (made .answer ∙ w .0, w .1)
+  module _ (accepted : judgement judged ≡ AcceptedJudgement) (old new : List ℕ) (answer : Counted)
+      (x : Answered kind (nodes .kinds) (nodes .firsts) (nodes .values) (nodes .count) (meetOf kind meet) top events old new answer) where
+    fine : rule-refusal events kind rule ≡ none
+    fine = sym (judged-nodes events kind rule nodes d) ∙ judgement-accepted judged accepted
 
-    module _ (n : ℕ) (e : verdict ≡ Count n) where
-      counts : c₀ .verdict ≡ Count n
-      counts = sym (made .answer) ∙ e
+    abbrev By : Nodes → ℕ → Type 0
+    By y t = Attempted kind (y .kinds) (y .firsts) (y .values) (y .count) (meetOf kind meet) t events (x .limit) old new (x .states) (x .is-stored)
 
-      pub entries-few : n * events ≤ entry-limit
-      entries-few = omega (arith, mul-le-mul-left n (few-events s₀ ok), few-of state-limit s₀ rule old ok c₀ within n counts)
+    attempt₀ : By (decoded kind rule) (topOf kind top)
+    attempt₀ = subst (λ y. By y (topOf kind top)) d (subst (By nodes) (sym top-is) (x .attempt))
 
-      stores : {A : Type 0} (f : List ℕ → List ℕ → ℕ → List ℕ → A) → f entries nexts (n * events) old ≡ f (c₀ .values) (c₀ .nexts) (n * events) old
-      stores f = ap₂ (λ a b. f a b (n * events) old) (made .entries n e .0) (made .entries n e .1)
+    abbrev Right : ℕ → Type 0
+    Right limit =
+        (attempt-answer limit (x .states) (x .is-stored) ≡ compile-answer limit s₀ rule old) × (new ≡ compile-contents limit s₀ rule old)
 
-      pub room-case :
-          (now : List ℕ) (b : Bool) → b ≡ storable (entry-width kind) entries nexts (n * events) old → b ≡ false →
-          now ≡ after-store (entry-width kind) (kept-bytes kind) entries nexts (n * events) old →
-          (Refused (Plain 13) ≡ counted (compile-refusal state-limit s₀ rule old) (setup-states state-limit s₀ rule))
-          × (now ≡ compile-contents state-limit s₀ rule old)
-      room-case now b q f z =
-          case-room state-limit s₀ rule old ok c₀ within n counts entries-few now
-          (sym (stores (storable (entry-width kind))) ∙ sym q ∙ f) (z ∙ stores (after-store (entry-width kind) (kept-bytes kind)))
+    within : x .states ≤ x .limit → Right state-limit
+    within h =
+        let w = case-few (x .limit) s₀ rule old ok fine new (x .states) (x .is-stored) attempt₀ h in
+        let k : setup-states (x .limit) s₀ rule ≤ x .limit =
+        omega (arith, states-are (x .limit) s₀ rule old ok fine new (x .states) (x .is-stored) attempt₀ h, h) in (
+          ap (λ b. counted (or-else (plain-unless b 10) (plain-unless (x .is-stored) 13)) (x .states))
+              (le-leb (x .states) state-limit (omega (arith, h, x .few)) ∙ sym (le-leb (x .states) (x .limit) h))
+              ∙ w .0 ∙ wider-answer (x .limit) state-limit s₀ rule old k (x .few),
+          w .1 ∙ wider-contents (x .limit) state-limit s₀ rule old k (x .few),
+        )
 
-      pub stored-case :
-          (now : List ℕ) (b : Bool) → b ≡ storable (entry-width kind) entries nexts (n * events) old → b ≡ true →
-          now ≡ after-store (entry-width kind) (kept-bytes kind) entries nexts (n * events) old →
-          (Count n ≡ counted (compile-refusal state-limit s₀ rule old) (setup-states state-limit s₀ rule))
-          × (now ≡ compile-contents state-limit s₀ rule old)
-      stored-case now b q f z =
-          case-stored state-limit s₀ rule old ok c₀ within n counts entries-few now
-          (sym (stores (storable (entry-width kind))) ∙ sym q ∙ f) (z ∙ stores (after-store (entry-width kind) (kept-bytes kind)))
+    at-last : x .limit ≡ state-limit → Dec (x .states ≤ x .limit) → Right state-limit
+    at-last e (yes h) = within h
+    at-last e (no h) = subst Right e (case-many (x .limit) s₀ rule old ok fine new (x .states) (x .is-stored) attempt₀ (omega (arith, h)))
+
+    pub nodes-case : (answer ≡ compile-answer state-limit s₀ rule old) × (new ≡ compile-contents state-limit s₀ rule old)
+    nodes-case =
+        let w = ⊎-elim within (λ e. at-last e (decLe (x .states) (x .limit))) (x .last) in
+        (x .answer-is ∙ w .0, w .1)
 
 -- Document 01's set-up as it is handed in.
 module _ (events values top : ℕ) (meet : List ℕ) (e : judgement (setup-refusal (setup events values top meet)) ≡ AcceptedJudgement) where

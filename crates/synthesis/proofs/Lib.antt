@@ -18,4 +18,3 @@ pub mod Compilation
 pub mod CompiledTable
 pub mod LentTable
 pub mod CompileClaims
-pub mod SetupArrays

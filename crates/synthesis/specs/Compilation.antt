@@ -1,16 +1,15 @@
 -- Twin of TableOfRule, pinned by product_claims DemandTwo.
--- What the two compilers answer: the computing twins of the conditions and claims in `Claims`.
-use mathlib.Core.{Path.{_≡_}, List.{List}, Option.{Option, none, some}}
+-- What the compiler answers: the computing twins of the conditions and claims in `Claims`.
+use mathlib.Core.{List.{List}, Option.{Option}}
 use Prim.Native.Nat.{ℕ, _*_, _/_, _%_}
-use lib.{Dec.{leb}, ListN.{length, replicate}}
+use lib.{Dec.{leb}, ListN.{length}}
 use Rattle.theory.specs.MealyMachine.{Machine}
-use Rattle.refusal.specs.{declared.Refusal.{Refusal}, declared.Counted.{Counted}, declared.Counted.the-variants.{Count, Refused}}
+use Rattle.refusal.specs.{declared.Refusal.{Refusal}, declared.Counted.{Counted}}
 use Rattle.refusal.specs.RefusalAnswers.{or-else, plain-unless, counted, put-unless}
-use Rattle.values.specs.{declared.ValueKind.{ValueKind}, Setup.{meetOf, Setup, setup-top}, SetupTests.{events-test, setup-refusal}}
+use Rattle.values.specs.{declared.ValueKind.{ValueKind}, Setup.{meetOf, Setup, setup-top}, SetupTests.{setup-refusal}}
 use Rattle.formulas.specs.{RuleRefusal.{rule-refusal, formula-of}, NodeArrays.{padded}}
 use Rattle.machines.specs.TableBytes.{table-bytes, entry-width, entry-bytes}
-use Rattle.synthesis.specs.{declared.Compiled.{Compiled}, FormulaTable.{formula-states, formula-table}}
-use Rattle.limits.specs.Limits.{entry-limit, state-limit}
+use Rattle.synthesis.specs.FormulaTable.{formula-states, formula-table}
 
 -- The rule in these bytes, over values of a kind with a meet table and top.
 module _ (kind : ValueKind) (events top : ℕ) (table rule : List ℕ) where
@@ -25,55 +24,9 @@ module _ (kind : ValueKind) (events top : ℕ) (table rule : List ℕ) where
   unfoldable pub rule-table-refusal : ℕ → Option Refusal
   rule-table-refusal limit = or-else (rule-refusal events kind rule) (plain-unless (leb (rule-states limit) limit) 10)
 
-  -- 1, then 5 to 10.
-  unfoldable pub compile-rule-refusal : ℕ → Option Refusal
-  compile-rule-refusal limit = or-else (plain-unless (events-test events) 1) (rule-table-refusal limit)
-
--- How many entries there are beside an answer: none beside a refusal.
-unfoldable pub entry-count : Option Refusal → ℕ → ℕ
-entry-count none entries = entries
-entry-count (some refusal) entries = 0
-
 -- Entries by state and then event, and zeros after them.
 unfoldable pub flat : (ℕ → ℕ → ℕ) → ℕ → ℕ → ℕ → List ℕ
 flat f events entries size = padded (λ x. f (x / events) (x % events)) entries size 0
-
--- The table beside a refusal.
-unfoldable pub refused : Refusal → Compiled
-refused refusal =
-    record { verdict = Refused refusal; values = replicate entry-limit 0; nexts = replicate entry-limit 0 }
-
--- The answer of `compile_rule`.
-unfoldable pub compiled-within : ℕ → ValueKind → ℕ → ℕ → List ℕ → List ℕ → Compiled
-compiled-within limit kind events top table rule =
-    record {
-      verdict = counted (compile-rule-refusal kind events top table rule limit) (rule-states kind events top table rule limit);
-      values =
-          flat (rule-table kind events top table rule limit .value) events
-          (entry-count (compile-rule-refusal kind events top table rule limit) (rule-states kind events top table rule limit * events))
-          entry-limit;
-      nexts =
-          flat (rule-table kind events top table rule limit .next) events
-          (entry-count (compile-rule-refusal kind events top table rule limit) (rule-states kind events top table rule limit * events))
-          entry-limit;
-    }
-
-unfoldable pub compiled : ValueKind → ℕ → ℕ → List ℕ → List ℕ → Compiled
-compiled = compiled-within state-limit
-
--- The answer of `compile_rule` for a set-up of either kind, which it judges first: 1 to 3, or 1 and 20.
-unfoldable pub compiled-unless : Option Refusal → Compiled → Compiled
-compiled-unless none made = made
-compiled-unless (some refusal) made = refused refusal
-
-unfoldable pub compiled-setup : Setup → List ℕ → Compiled
-compiled-setup s rule = compiled-unless (setup-refusal s) (compiled (s .kind) (s .events) (setup-top s) (s .meet) rule)
-
--- What `make_table` leaves: the answer, and beside a number of states the entries.
-pub record Made (c : Compiled) (verdict : Counted) (values nexts : List ℕ) : Type 0 where
-  pub sized : (length values ≡ entry-limit) × (length nexts ≡ entry-limit)
-  pub answer : verdict ≡ c .verdict
-  pub entries : (n : ℕ) → verdict ≡ Count n → (values ≡ c .values) × (nexts ≡ c .nexts)
 
 -- The answer of `compile` for a set-up of either kind, a rule and what the lent buffer held.
 module _ (limit : ℕ) (s : Setup) (rule : List ℕ) where

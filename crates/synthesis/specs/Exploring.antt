@@ -44,10 +44,6 @@ pub record Found (states : List ℕ) (n : ℕ) (set : List ℕ) (r : ℕ) : Type
   pub before : (j : ℕ) → j < r → bits-at states (j * set-words) ≡ bits-at set 0 → ⊥
   pub here : r < n → bits-at states (r * set-words) ≡ bits-at set 0
 
--- From m on the array is as before.
-abbrev pub Unchanged : ℕ → List ℕ → List ℕ → Type 0
-Unchanged m before after = (x : ℕ) → m ≤ x → getD after x 0 ≡ getD before x 0
-
 module _ (next : List Bool → ℕ → List Bool) (start : List Bool) where
   -- The state that a sequence reaches, its last event first.
   abbrev pub state-of : List ℕ → List Bool

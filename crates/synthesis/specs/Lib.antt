@@ -1,7 +1,7 @@
 -- In reading order.
 -- The conditions of compiling.
 pub mod TableOfRule
--- What the contracts of the compilers compute with, and what is claimed of it.
+-- What the contracts of the compiler compute with, and what is claimed of it.
 pub mod FormulaTable
 pub mod KeptSets
 pub mod Compilation

@@ -2,6 +2,7 @@
 use mathlib.Core.{Path.{_≡_}, List.{List}}
 use Prim.Native.Nat.{ℕ, _+_, _*_, _/_, _%_, _^_, _<_}
 use lib.{Bits.{bitXor}, ListN.{getD}}
+use Rattle.limits.specs.Limits.{state-limit}
 use Rattle.synthesis.specs.NodeWords.{set-words, bits-at}
 
 -- How many places there are, and how many states can be linked.
@@ -9,7 +10,7 @@ abbrev pub place-count : ℕ
 place-count = 131
 
 abbrev pub link-count : ℕ
-link-count = 256
+link-count = state-limit
 
 -- Word w of the set from base on.
 abbrev pub set-word : List ℕ → ℕ → ℕ → ℕ

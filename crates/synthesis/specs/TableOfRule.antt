@@ -1,13 +1,13 @@
 -- The table of a rule in bytes (document 01, "Table of a rule", refusals 10 and 13; document 02, F-7): the conditions that compiling meets.
 use mathlib.Core.{Path.{_≡_}, List.{List, [], _∷_, _++_}}
-use Prim.Native.Nat.{ℕ, zero, _*_, _≤_, _<_}
-use lib.ListN.{length, getD}
+use Prim.Native.Nat.{ℕ, zero, _*_, _<_}
+use lib.ListN.{length}
 use Rattle.theory.specs.{Formula.{Formula, Answers}, MealyMachine.{Machine, Word, after}, ReachableStates.{IsTableOf, StatesAtMost}}
 use Rattle.limits.specs.Limits.{state-limit}
 use Rattle.refusal.specs.Refusal.{Condition, plain}
 use Rattle.values.specs.{declared.ValueKind.{ValueKind}, Setup.{Setup, setup-meet, setup-top, setup-conditions}}
 use Rattle.formulas.specs.RuleConditions.{node-bytes, encode-formula, OfFormula, byte-conditions}
-use Rattle.machines.specs.TableBytes.{entry-width, entries}
+use Rattle.machines.specs.TableBytes.{entry-width}
 
 module _ (meet : ℕ → ℕ → ℕ) (top events : ℕ) (kind : ValueKind) where
   -- The buffer is shorter than the output: so many bytes an entry of the formula's table.
@@ -50,8 +50,3 @@ pub record IsRuleTable (s : Setup) (rule : List ℕ) (n : ℕ) (t : Machine ℕ 
   pub only : (χ : Formula ℕ) → rule ≡ encode-formula (node-bytes (s .kind)) χ → χ ≡ formula
   pub is-table : IsTableOf (setup-meet s) (setup-top s) (s .events) formula n t
   pub answers : (w : List ℕ) → Word (s .events) w → (e : ℕ) → e < s .events → Answers (setup-meet s) (setup-top s) formula w e (t .value (after t zero w) e)
-
--- The same in two arrays, entries by state, then event, and zeros after them.
-pub record ArraysHold (s : Setup) (rule values nexts : List ℕ) (n : ℕ) : Type 0 where
-  pub table : IsRuleTable s rule n (entries (s .events) (λ i. getD values i 0) (λ i. getD nexts i 0))
-  pub zeros : (i : ℕ) → n * s .events ≤ i → (getD values i 0 ≡ 0) × (getD nexts i 0 ≡ 0)

@@ -13,15 +13,14 @@ ghost use mathlib.Core.Path.{_≡_};
 ghost use Prim.Native.Nat.{_+_, _*_, _<_, _≤_};
 ghost use lib.ListN.{length};
 ghost use Rattle.values.specs.Setup.{meetOf};
-ghost use Rattle.limits.specs.Limits.{event-limit, node-limit};
+ghost use Rattle.limits.specs.Limits.{event-limit, node-limit, state-limit};
 ghost use Rattle.synthesis.specs.NodeWords.{set-words, row};
 ghost use Rattle.synthesis.specs.MarkedNodes.{word-set, marked-in, Came};
-ghost use Rattle.synthesis.specs.Exploring.{Unchanged};
 ghost use Rattle.synthesis.specs.TableEntries.{state-value, EntriesTo, RowTo, Met};
 
 // Every event of a state gets top.
 fn open_row(top: u32, state: usize, events: usize, to: &mut [u32])
-    requires { ⌜ (state < 256) × (events ≤ event-limit) × (state * events + events ≤ length (now to)) ⌝ }
+    requires { ⌜ (state < state-limit) × (events ≤ event-limit) × (state * events + events ≤ length (now to)) ⌝ }
     ensures { λ _. ⌜ RowTo (λ e. top) events state events (now (to .entry)) (now (to .exit)) ⌝ }
 {
     let mut event: usize = 0;
@@ -43,7 +42,7 @@ fn meet_node(
     events: usize,
     to: &mut [u32],
 )
-    requires { ⌜ (node < node-limit) × (state < 256) × (events ≤ event-limit) × (length (now firsts) ≡ node-limit)
+    requires { ⌜ (node < node-limit) × (state < state-limit) × (events ≤ event-limit) × (length (now firsts) ≡ node-limit)
         × (length (now values) ≡ node-limit) × (state * events + events ≤ length (now to)) ⌝ }
     ensures { λ _. ⌜ Met (meetOf kind (now (meet .entry))) (now (firsts .entry)) (now (values .entry)) events state node
         (now (to .entry)) (now (to .exit)) ⌝ }
@@ -69,7 +68,7 @@ fn meet_word(
     events: usize,
     to: &mut [u32],
 )
-    requires { ⌜ (base + 64 ≤ node-limit) × (state < 256) × (events ≤ event-limit) × (length (now firsts) ≡ node-limit)
+    requires { ⌜ (base + 64 ≤ node-limit) × (state < state-limit) × (events ≤ event-limit) × (length (now firsts) ≡ node-limit)
         × (length (now values) ≡ node-limit) × (state * events + events ≤ length (now to)) ⌝ }
     ensures { λ _. ⌜ (length (now (to .exit)) ≡ length (now (to .entry)))
         × Came (Met (meetOf kind (now (meet .entry))) (now (firsts .entry)) (now (values .entry)) events state) (word-set word base) (base + 64)
@@ -96,7 +95,7 @@ fn meet_row(
     events: usize,
     to: &mut [u32],
 )
-    requires { ⌜ (state < 256) × (events ≤ event-limit) × (length (now firsts) ≡ node-limit) × (length (now values) ≡ node-limit)
+    requires { ⌜ (state < state-limit) × (events ≤ event-limit) × (length (now firsts) ≡ node-limit) × (length (now values) ≡ node-limit)
         × (length (now marks) ≡ set-words) × (state * set-words + set-words ≤ length (now states)) × (state * events + events ≤ length (now to)) ⌝ }
     ensures { λ _. ⌜ Came (Met (meetOf kind (now (meet .entry))) (now (firsts .entry)) (now (values .entry)) events state)
         (marked-in (row (now (states .entry)) state) (now (marks .entry))) node-limit (now (to .entry)) 0 (now (to .exit)) ⌝ }
@@ -123,9 +122,9 @@ pub fn fill_values(
     events: usize,
     to: &mut [u32],
 )
-    requires { ⌜ (count ≤ node-limit) × (n ≤ 256) × (events ≤ event-limit) × (length (now kinds) ≡ node-limit) × (length (now firsts) ≡ node-limit)
+    requires { ⌜ (count ≤ node-limit) × (n ≤ state-limit) × (events ≤ event-limit) × (length (now kinds) ≡ node-limit) × (length (now firsts) ≡ node-limit)
         × (length (now values) ≡ node-limit) × (n * set-words ≤ length (now states)) × (n * events ≤ length (now to)) ⌝ }
-    ensures { λ _. ⌜ (length (now (to .exit)) ≡ length (now (to .entry))) × Unchanged (n * events) (now (to .entry)) (now (to .exit))
+    ensures { λ _. ⌜ (length (now (to .exit)) ≡ length (now (to .entry)))
         × EntriesTo (state-value (meetOf kind (now (meet .entry))) top (now (kinds .entry)) (now (firsts .entry)) (now (values .entry)) count
         (now (states .entry)))
         events (n * events) (now (to .exit)) ⌝ }

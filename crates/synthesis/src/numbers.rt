@@ -1,6 +1,6 @@
 // Changes of width, and the place of a table's entry.
 ghost use mathlib.Core.Path.{_≡_};
-ghost use Rattle.limits.specs.Limits.{event-limit};
+ghost use Rattle.limits.specs.Limits.{event-limit, state-limit};
 ghost use Prim.Native.Nat.{_+_, _*_, _≤_, _<_};
 
 pub fn wide(x: u8) -> usize
@@ -24,7 +24,7 @@ pub fn word(x: u64) -> u64
 
 // The entry of a state and an event.
 pub fn entry_at(state: usize, events: usize, event: usize) -> usize
-    requires { ⌜ (state < 256) × (event < events) × (events ≤ event-limit) ⌝ }
+    requires { ⌜ (state < state-limit) × (event < events) × (events ≤ event-limit) ⌝ }
     ensures { λ r. ⌜ r ≡ state * events + event ⌝ }
 {
     state * events + event

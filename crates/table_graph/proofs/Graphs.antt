@@ -1,12 +1,16 @@
 -- Digraphs piece by piece, and how long they are.
 use Prim.Native.Nat.{ℕ, _+_, _*_, _/_, _%_, _≤_, _<_}
-use mathlib.Core.{Path.{_≡_, refl, sym, ap, ap₂}, List.{List, _++_, append-assoc}, Bool.{Bool, true, false, cond}}
-use native.Mathlib.{Omega.{arith}, Nat.{mod-lt, div-lt-iff-lt-mul, mul-le-mul}}
+use mathlib.Core.{Path.{_≡_, refl, sym, ap, ap₂, subst}, List.{List, _++_, append-assoc}, Bool.{Bool, true, false, cond}}
+use native.Mathlib.{Omega.{arith}, Nat.{div-add-mod', mod-lt, div-lt-iff-lt-mul, mul-le-mul}}
 use lib.{Dec.{eqb}, ListN.{length, getD, length-append}}
 use borrow.Author.Tests.{eq-eqb, ne-eqb}
+use Rattle.limits.specs.Limits.{value-limit}
+use Rattle.theory.specs.{ValueSets.{Below}, MealyMachine.{States, Runs}}
+use Rattle.values.specs.declared.ValueKind.the-variants.{Numbered}
+use Rattle.machines.specs.TableBytes.{machine-of}
 use Rattle.text_format.specs.Texts.{ascii}
 use Rattle.text_format.specs.Texts.{numeral, each}
-use Rattle.text_output.proofs.Outputs.{numeral-length, numeral-short, each-length}
+use Rattle.text_output.proofs.Outputs.{numeral-short, each-length}
 use Rattle.table_graph.specs.{GraphText.{value-text, arrow-line, entry-arrow, graph-text}, Graph.{graph-limit}}
 use Rattle.table_rows.specs.Claims.{FewEntries}
 
@@ -37,24 +41,24 @@ graph-parts events states top bytes = refl
 
 -- ---- lengths
 
-value-length : (top value : ℕ) → length (value-text top value) ≤ 21
+value-length : (top value : ℕ) → value < 1000 → length (value-text top value) ≤ 5
 unfolding value-text
-value-length top value = go (eqb value top)
+value-length top value h = go (eqb value top)
   where
-    go : (b : Bool) → length (cond b (ascii "/open") (ascii "/" ++ numeral value)) ≤ 21
+    go : (b : Bool) → length (cond b (ascii "/open") (ascii "/" ++ numeral value)) ≤ 5
     go true = omega arith
-    go false = omega (arith, numeral-length value, length-append (ascii "/") (numeral value))
+    go false = omega (arith, numeral-short value h, length-append (ascii "/") (numeral value))
 
-arrow-length : (top l e v n : ℕ) → l < 100 → e < 100 → length (arrow-line top l e v n) ≤ 64
-arrow-length top l e v n hl he =
+arrow-length : (top l e v n : ℕ) → l < 1000 → e < 1000 → v < 1000 → n < 1000 → length (arrow-line top l e v n) ≤ 33
+arrow-length top l e v n hl he hv hn =
     let d = ascii " [label=\"" ++ numeral e in
     let w = value-text top v ++ ascii "\"];\n" in
     omega (
       arith,
       numeral-short l hl,
       numeral-short e he,
-      numeral-length n,
-      value-length top v,
+      numeral-short n hn,
+      value-length top v hv,
       ap length (arrow-parts top l e v n),
       length-append (ascii "  " ++ numeral l) ((ascii " -> " ++ numeral n) ++ (d ++ w)),
       length-append (ascii " -> " ++ numeral n) (d ++ w),
@@ -65,22 +69,27 @@ arrow-length top l e v n hl he =
       length-append (ascii " [label=\"") (numeral e),
     )
 
-pub graph-length : (events states top : ℕ) (bytes : List ℕ) → FewEntries events states → length (graph-text events states top bytes) ≤ graph-limit
+pub graph-length : (events values states top : ℕ) (bytes : List ℕ) → FewEntries events states → values ≤ value-limit
+    → Runs events (Below values) (States states) (machine-of (Numbered values) events bytes) → length (graph-text events states top bytes) ≤ graph-limit
 unfolding graph-text
-graph-length events states top bytes few =
+graph-length events values states top bytes few few-values runs =
     let r = each (entry-arrow events top bytes) (states * events) 0 in
     omega (
       arith,
       mul-le-mul (few .few-states) (few .few-events),
       length-append (ascii "digraph table {\n") (r ++ ascii "}\n"),
       length-append r (ascii "}\n"),
-      each-length (entry-arrow events top bytes) 64 (states * events) 0 one,
+      each-length (entry-arrow events top bytes) 33 (states * events) 0 one,
     )
   where
-    one : (i : ℕ) → 0 ≤ i → i < 0 + states * events → length (entry-arrow events top bytes i) ≤ 64
+    one : (i : ℕ) → 0 ≤ i → i < 0 + states * events → length (entry-arrow events top bytes i) ≤ 33
     one i low high =
         let at-most = few .few-states in
         let at-most-events = few .few-events in
         let l : i / events < states = div-lt-iff-lt-mul (few .some-events) .1 (omega arith) in
         let e : i % events < events = mod-lt i (few .some-events) in
-        arrow-length top (i / events) (i % events) (getD bytes (i * 2) 0) (getD bytes (i * 2 + 1) 0) (omega arith) (omega arith)
+        let v : getD bytes (i * 2) 0 < values
+        = subst (λ j. getD bytes (j * 2) 0 < values) (div-add-mod' i events) (runs .value-in (i / events) l (i % events) e) in
+        let n : getD bytes (i * 2 + 1) 0 < states
+        = subst (λ j. getD bytes (j * 2 + 1) 0 < states) (div-add-mod' i events) (runs .next-in (i / events) l (i % events) e) in
+        arrow-length top (i / events) (i % events) (getD bytes (i * 2) 0) (getD bytes (i * 2 + 1) 0) (omega arith) (omega arith) (omega arith) (omega arith)

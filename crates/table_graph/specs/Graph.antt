@@ -28,7 +28,7 @@ GraphRefusalClaim =
 
 -- Every digraph has room in so many bytes.
 abbrev pub graph-limit : ℕ
-graph-limit = entry-limit * 64 + 18
+graph-limit = entry-limit * 33 + 18
 
 abbrev pub GraphLengthClaim : Type 0
 GraphLengthClaim =

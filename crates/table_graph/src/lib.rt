@@ -16,7 +16,7 @@ use text_output::put_word;
 use values::ValueKind;
 
 // Every digraph has room in so many bytes.
-pub const GRAPH_LENGTH: usize = ENTRY_LIMIT * 64 + 18;
+pub const GRAPH_LENGTH: usize = ENTRY_LIMIT * 33 + 18;
 
 // A value behind a slash, `open` for the top value. This and the functions below put their texts as those of text_output do.
 fn put_value(out: &mut [u8], at: usize, top: usize, value: usize) -> usize

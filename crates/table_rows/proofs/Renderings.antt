@@ -4,7 +4,8 @@ use mathlib.Core.{Path.{_≡_, refl, sym, ap, ap₂, _∙_, subst}, List.{List},
 use native.Mathlib.Omega.{arith}
 use lib.{Dec.{leb}, ListN.{length}}
 use borrow.Author.Tests.{lt-leb, le-leb, leb-true, leb-false}
-use Rattle.limits.specs.Limits.{event-limit, table-limit}
+use Rattle.limits.specs.Limits.{event-limit, value-limit, table-limit}
+use Rattle.theory.specs.{ValueSets.{Below}, MealyMachine.{States, Runs}}
 use Rattle.theory.proofs.ValueSets.{and-left, and-right}
 use Rattle.refusal.specs.declared.{Refusal.{Refusal}, Counted.{Counted}}
 use Rattle.refusal.specs.declared.Refusal.the-variants.{Plain}
@@ -18,7 +19,7 @@ use Rattle.refusal.proofs.Refusals.{plain-first, first-append, judged, or-else-
 use Rattle.values.specs.declared.ValueKind.the-variants.{Numbered}
 use Rattle.values.specs.SetupTests.{events-test, values-test}
 use Rattle.values.proofs.Setups.{events-first, values-first, values-small}
-use Rattle.machines.specs.TableRefusal.{table-refusal}
+use Rattle.machines.specs.{TableBytes.{machine-of}, TableRefusal.{table-refusal}}
 use Rattle.machines.proofs.TableRefusals.{table-refusal-first, none-in-order, accepted-table}
 use Rattle.text_output.specs.Output.{Puts}
 use Rattle.text_output.proofs.Outputs.{puts-long, puts-again}
@@ -74,6 +75,12 @@ module _ (events values top states : ℕ) (bytes : List ℕ) where
           few-states = none-in-order table-limit events (Numbered values) states 0 bytes (later-passed .1) .few-states;
         }
 
+    pub few-values : values ≤ value-limit
+    few-values = values-small values top (later-passed .0)
+
+    pub handed-runs : Runs events (Below values) (States states) (machine-of (Numbered values) events bytes)
+    handed-runs = accepted-table table-limit events (Numbered values) states 0 bytes (later-passed .1) .runs
+
   pub handed-none : events-test events ≡ true → values-test values top ≡ true
       → table-refusal table-limit events (Numbered values) states 0 bytes ≡ none → handed-refusal events values top states bytes ≡ none
   unfolding handed-refusal or-else plain-unless
@@ -95,9 +102,8 @@ module _ (events values top states : ℕ) (bytes : List ℕ) where
 
 pub rows-length : RowsLengthClaim
 rows-length events values states bytes passed =
-    let later = later-passed events values 0 states bytes passed in
-    table-length events states values _ (few-entries events values 0 states bytes passed) (values-small values 0 (later .0))
-    (accepted-table table-limit events (Numbered values) states 0 bytes (later .1) .runs)
+    table-length events states values _ (few-entries events values 0 states bytes passed) (few-values events values 0 states bytes passed)
+    (handed-runs events values 0 states bytes passed)
 
 -- ---- the answer
 

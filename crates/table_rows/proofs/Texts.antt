@@ -1,4 +1,4 @@
--- Lines, piece by piece, and how long they are: entries of an accepted table have at most two digits.
+-- Lines, piece by piece, and how long they are: numbers of an accepted table have at most three digits.
 use Prim.Native.Nat.{ℕ, _+_, _*_, _/_, _%_, _≤_, _<_}
 use mathlib.Core.{Path.{_≡_, refl, sym, ap, ap₂, _∙_}, List.{List, [], _∷_, _++_, append-assoc}}
 use native.Mathlib.{Omega.{arith}, Nat.{div-add-mod', mod-lt, div-lt-iff-lt-mul, mul-le-mul}}
@@ -39,7 +39,7 @@ table-parts events n m = refl
 pub line-length : (key s : List ℕ) → length (line key s) ≡ length key + (length s + 1)
 line-length key s = omega (arith, length-append key (s ++ (10 ∷ [])), length-append s (10 ∷ []))
 
-row-length : (l e v n : ℕ) → l < 100 → e < 100 → v < 100 → n < 100 → length (row-line l e v n) ≤ 16
+row-length : (l e v n : ℕ) → l < 1000 → e < 1000 → v < 1000 → n < 1000 → length (row-line l e v n) ≤ 20
 row-length l e v n hl he hv hn =
     let a = numeral-short l hl in
     let b = numeral-short e he in
@@ -71,10 +71,10 @@ table-length events n values m few few-values runs =
       length-append (line (ascii "states=") (numeral n)) r,
       line-length (ascii "events=") (numeral events),
       line-length (ascii "states=") (numeral n),
-      each-length (entry-line events m) 16 (n * events) 0 entry-length,
+      each-length (entry-line events m) 20 (n * events) 0 entry-length,
     )
   where
-    entry-length : (i : ℕ) → 0 ≤ i → i < 0 + n * events → length (entry-line events m i) ≤ 16
+    entry-length : (i : ℕ) → 0 ≤ i → i < 0 + n * events → length (entry-line events m i) ≤ 20
     entry-length i low high =
         let l : i / events < n = div-lt-iff-lt-mul (few .some-events) .1 (omega arith) in
         let e : i % events < events = mod-lt i (few .some-events) in

@@ -18,4 +18,4 @@ PrintsRows events values states bytes old new r =
 
 -- Every output has room in so many bytes.
 abbrev pub rows-limit : ℕ
-rows-limit = entry-limit * 24 + 24
+rows-limit = entry-limit * 20 + 24

@@ -24,7 +24,7 @@ use values::events_in_limits;
 use values::values_in_limits;
 
 // Every output has room in so many bytes.
-pub const ROWS_LENGTH: usize = ENTRY_LIMIT * 24 + 24;
+pub const ROWS_LENGTH: usize = ENTRY_LIMIT * 20 + 24;
 
 // 1 and 2 for the numbers of a set-up, then 11 for a table.
 pub fn check_handed(

@@ -172,8 +172,8 @@ pub numeral-length : (v : ℕ) → length (numeral v) ≤ 20
 unfolding numeral
 numeral-length v = decimal-length 19 v
 
-pub numeral-short : (v : ℕ) → v < 100 → length (numeral v) ≤ 2
-numeral-short v h = omega (arith, ap length (numeral-within 18 1 v refl h), decimal-length 1 v)
+pub numeral-short : (v : ℕ) → v < 1000 → length (numeral v) ≤ 3
+numeral-short v h = omega (arith, ap length (numeral-within 17 2 v refl h), decimal-length 2 v)
 
 -- ---- items
 

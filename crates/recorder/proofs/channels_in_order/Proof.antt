@@ -7,7 +7,7 @@ use Rattle.limits.specs.Limits.{channel-limit}
 use Rattle.theory.proofs.ValueSets.{every-none, every-more, every-not, every-done}
 use Rattle.theory.specs.ValueSetTests.{every}
 use Rattle.values.specs.declared.ValueKind.the-variants.{Numbered}
-use Rattle.recorder.specs.Store.{held}
+use Rattle.recorder.specs.Store.{rows-start, held}
 use Rattle.recorder.specs.ToolTests.{channel-test}
 use Rattle.recorder.proofs.channels_in_order.Statement.{statement}
 use Rattle.recorder.proofs.channels_in_order.Tie as tie
@@ -15,7 +15,10 @@ use Rattle.recorder.proofs.channels_in_order.Tie as tie
 abbrev Inv-loop : tie.InvT-loop
 Inv-loop value next states current total events values c₀ c =
     (c ≤ channel-limit)
-    × (every c (λ d. channel-test events (Numbered values) (held d events (getD states d 0) (getD current d 0) (getD total d 0) value next)) ≡ true)
+    × (every c
+    (λ d. channel-test events (Numbered values)
+    (held d (rows-start events states d) events (getD states d 0) (getD current d 0) (getD total d 0) value next))
+    ≡ true)
 
 abbrev μ-loop : tie.MeasureT-loop
 μ-loop value next states current total events values c₀ c = channel-limit - c
@@ -25,23 +28,32 @@ loop-holds c = (search needs, every-none _)
 
 returns : tie.Need-returns Inv-loop μ-loop
 returns c =
-    sym
-    (every-not _ _ (c .before .before .before .before .before .before .before .before .loop .c) (search needs)
-    (sym (rw (c .before .before .before .before .before .wide16 .ensures, c .before .before .before .wide .ensures) at (c .before .channel-in-order .ensures))
-    ∙ not-true _ (c .if1 .taken)))
+    let e =
+    rw (
+      c .before .before .before .before .before .before .before .before .rows-start .ensures,
+      c .before .before .before .before .before .before .before .wide .ensures,
+      c .before .before .before .before .before .wide16 .ensures .0,
+      c .before .before .before .wide2 .ensures,
+    ) at (c .before .channel-in-order .ensures) in
+    let l = c .before .before .before .before .before .before .before .before .before .before .loop in
+    sym (every-not _ _ (l .c) (search needs) (sym e ∙ not-true _ (c .if1 .taken)))
 
 loop-again : tie.Need-loop-again Inv-loop μ-loop
-loop-again c = (
-  search needs,
-  every-more _ _ (c .before .before .before .before .before .before .before .before .loop .inv .1)
-      (sym (rw (c .before .before .before .before .before .wide16 .ensures, c .before .before .before .wide .ensures) at (c .before .channel-in-order .ensures))
-      ∙ not-false _ (c .if1 .left)),
-)
+loop-again c =
+    let e =
+    rw (
+      c .before .before .before .before .before .before .before .before .rows-start .ensures,
+      c .before .before .before .before .before .before .before .wide .ensures,
+      c .before .before .before .before .before .wide16 .ensures .0,
+      c .before .before .before .wide2 .ensures,
+    ) at (c .before .channel-in-order .ensures) in
+    let l = c .before .before .before .before .before .before .before .before .before .before .loop in
+    (search needs, every-more _ _ (l .inv .1) (sym e ∙ not-false _ (c .if1 .left)))
 
 returns-2 : tie.Need-returns-2 Inv-loop μ-loop
 returns-2 c = sym (every-done _ _ _ (c .before .loop .inv .0) (search needs) (c .before .loop .inv .1))
 
 pub channels-in-order-spec : {M : Type 1} → statement M
-channels-in-order-spec = tie.close (tie.spec Inv-loop μ-loop loop-holds (λ c. search needs) (λ c. search needs) (λ c κs. search needs)
-    (λ c. search needs) (λ c κs. search needs) (λ c. search needs) (λ c. search needs) (λ c κs. search needs) returns (λ c. search needs)
-    (λ c. search needs) loop-again returns-2)
+channels-in-order-spec = tie.close (tie.spec Inv-loop μ-loop loop-holds (λ c κs. search needs) (λ c κs. search needs) (λ c. search needs)
+    (λ c. search needs) (λ c κs. search needs) (λ c. search needs) (λ c κs. search needs) (λ c. search needs) (λ c. search needs)
+    (λ c κs. search needs) returns (λ c. search needs) (λ c. search needs) loop-again returns-2)

@@ -12,46 +12,54 @@ use Rattle.recorder.proofs.replay.Tie as tie
 
 returns : tie.Need-returns
 returns c =
-    let e = c .before .before .before .before .before in
-    let a = e .before .before .before .before .before .before .before .before .before .before .before .before .before .args in
-    let f = e .tool-fault in
+    let g = c .before .before .before .before .before in
+    let r = g .before .before .before .before .before .before .before in
+    let b = r .before .before .before .before .before .before .before .before .before .before in
+    let a = b .args in
+    let f = g .tool-fault in
+    let h = rw (r .rows-start .ensures) at (f .ensures) in
     let w = c .before .before .before .before .word-in-order in
     let s = c .before .before .before .total-with-all in
     let n = c .before .before .replay-refusal in
-    replay-refused (store-of (a .t1)) (a .channel) (a .word .now) (a .pulses .now) (a .values .now) (f .result) (f .ensures) (w .result) (s .result) _
+    replay-refused (store-of (a .t1)) (a .channel) (a .word .now) (a .pulses .now) (a .values .now) (f .result) h (w .result) (s .result) _
     (w .ensures) (s .ensures) refl (n .result) (n .ensures) _ (c .plain-reply .ensures) (c .before .if1 .taken)
 
 run-requires : tie.Need-run-requires
 run-requires c κs =
-    let e = c .before .before .before .before .before .before .before .before .before in
-    let b = e .before .before .before .before .before .before .before .before .before .before .before .before .before in
+    let g = c .before .before .before .before .before .before .before .before in
+    let r = g .before .before .before .before .before .before .before in
+    let b = r .before .before .before .before .before .before .before .before .before .before in
     let a = b .args in
-    let f = e .tool-fault in
-    let w = c .before .before .before .before .before .before .before .before .word-in-order in
-    let s = c .before .before .before .before .before .before .before .total-with-all in
-    let n = c .before .before .before .before .before .before .replay-refusal in
-    let z : n .result ≡ 0 = omega (arith, c .before .before .before .before .before .if1 .left) in
-    let g = b .good .0 .1 .1 .1 .1 .1 .1 in
-    let vl : length (a .t1 .value) ≡ store-limit = rw length-map at (g .0 .1 .0 .1) in
-    let nl : length (a .t1 .next) ≡ store-limit = rw length-map at (g .1 .0 .1 .0 .1) in
-    rw (c .before .before .before .before .rows-start .ensures .0)
-    (runnable (store-of (a .t1)) (a .channel) (a .word .now) (a .pulses .now) (a .values .now) (f .result) (f .ensures) (w .result) (s .result) _
+    let f = g .tool-fault in
+    let h = rw (r .rows-start .ensures) at (f .ensures) in
+    let w = c .before .before .before .before .before .before .before .word-in-order in
+    let s = c .before .before .before .before .before .before .total-with-all in
+    let n = c .before .before .before .before .before .replay-refusal in
+    let z : n .result ≡ 0 = omega (arith, c .before .before .before .before .if1 .left) in
+    let l = b .good .0 .1 .1 .1 .1 .1 .1 in
+    let vl : length (a .t1 .value) ≡ store-limit = rw length-map at (l .0 .1 .0 .1) in
+    let nl : length (a .t1 .next) ≡ store-limit = rw length-map at (l .1 .0 .1 .0 .1) in
+    rw (r .rows-start .ensures)
+    (runnable (store-of (a .t1)) (a .channel) (a .word .now) (a .pulses .now) (a .values .now) (f .result) h (w .result) (s .result) _
     (w .ensures) (s .ensures) refl (n .result) (n .ensures) z vl nl)
 
 end-reply-requires : tie.Need-end-reply-requires
 end-reply-requires c κs =
-    let e = c .before .before .before .before .before .before .before .before .before .before .before .before .before in
-    let a = e .before .before .before .before .before .before .before .before .before .before .before .before .before .args in
-    let f = e .tool-fault in
-    let w = c .before .before .before .before .before .before .before .before .before .before .before .before .word-in-order in
-    let s = c .before .before .before .before .before .before .before .before .before .before .before .total-with-all in
-    let n = c .before .before .before .before .before .before .before .before .before .before .replay-refusal in
-    let z : n .result ≡ 0 = omega (arith, c .before .before .before .before .before .before .before .before .before .if1 .left) in (
+    let g = c .before .before .before .before .before .before .before .before .before .before .before .before in
+    let r = g .before .before .before .before .before .before .before in
+    let b = r .before .before .before .before .before .before .before .before .before .before in
+    let a = b .args in
+    let f = g .tool-fault in
+    let h = rw (r .rows-start .ensures) at (f .ensures) in
+    let w = c .before .before .before .before .before .before .before .before .before .before .before .word-in-order in
+    let s = c .before .before .before .before .before .before .before .before .before .before .total-with-all in
+    let n = c .before .before .before .before .before .before .before .before .before .replay-refusal in
+    let z : n .result ≡ 0 = omega (arith, c .before .before .before .before .before .before .before .before .if1 .left) in (
       subst⁻¹ (λ n. length (a .word .now) ≤ n) (c .before .before .before .run .kept .1 .1 .1 .1 .1 .1 .1 .0)
-          (fits-out (store-of (a .t1)) (a .channel) (a .word .now) (a .pulses .now) (a .values .now) (f .result) (f .ensures) (w .result) (s .result) _
+          (fits-out (store-of (a .t1)) (a .channel) (a .word .now) (a .pulses .now) (a .values .now) (f .result) h (w .result) (s .result) _
           (w .ensures) (s .ensures) refl (n .result) (n .ensures) z),
-      replay-measurable (store-of (a .t1)) (a .channel) (a .word .now) (a .pulses .now) (a .values .now) (f .result) (f .ensures) (w .result) (s .result)
-          _ (w .ensures) (s .ensures) refl (n .result) (n .ensures) z,
+      replay-measurable (store-of (a .t1)) (a .channel) (a .word .now) (a .pulses .now) (a .values .now) (f .result) h (w .result) (s .result) _
+          (w .ensures) (s .ensures) refl (n .result) (n .ensures) z,
     )
 
 same-length : tie.Need-same-length
@@ -59,24 +67,25 @@ same-length c = c .before .before .before .before .run .kept .1 .1 .1 .1 .1 .1 .
 
 returns-2 : tie.Need-returns-2
 returns-2 c =
-    let e = c .before .before .before .before .before .before .before .before .before .before .before .before .before .before in
-    let b = e .before .before .before .before .before .before .before .before .before .before .before .before .before in
+    let g = c .before .before .before .before .before .before .before .before .before .before .before .before .before in
+    let r = g .before .before .before .before .before .before .before in
+    let b = r .before .before .before .before .before .before .before .before .before .before in
     let a = b .args in
-    let f = e .tool-fault in
-    let w = c .before .before .before .before .before .before .before .before .before .before .before .before .before .word-in-order in
-    let s = c .before .before .before .before .before .before .before .before .before .before .before .before .total-with-all in
-    let n = c .before .before .before .before .before .before .before .before .before .before .before .replay-refusal in
-    let r = c .before .before .before .before .before .before .before .before .before .rows-start in
+    let f = g .tool-fault in
+    let h = rw (r .rows-start .ensures) at (f .ensures) in
+    let w = c .before .before .before .before .before .before .before .before .before .before .before .before .word-in-order in
+    let s = c .before .before .before .before .before .before .before .before .before .before .before .total-with-all in
+    let n = c .before .before .before .before .before .before .before .before .before .before .replay-refusal in
     let u = c .before .before .before .before .run in
-    let z : n .result ≡ 0 = omega (arith, c .before .before .before .before .before .before .before .before .before .before .if1 .left) in
-    let g = b .good .0 .1 .1 .1 .1 in
-    let cl : length (a .t1 .current) ≡ channel-limit = rw length-map at (g .0 .1 .0 .1) in
-    let tl : length (a .t1 .total) ≡ channel-limit = rw length-map at (g .1 .0 .1 .0 .1) in
-    replay-done (store-of (a .t1)) (a .channel) (a .word .now) (a .pulses .now) (a .values .now) (f .result) (f .ensures) (w .result) (s .result) _
-    (w .ensures) (s .ensures) refl (n .result) (n .ensures) z _ (u .result) _ cl tl (rw (r .ensures .0) at (u .ensures .0))
-    (rw (r .ensures .0) at (u .ensures .1)) (c .end-reply .ensures)
+    let z : n .result ≡ 0 = omega (arith, c .before .before .before .before .before .before .before .before .before .if1 .left) in
+    let l = b .good .0 .1 .1 .1 .1 in
+    let cl : length (a .t1 .current) ≡ channel-limit = rw length-map at (l .0 .1 .0 .1) in
+    let tl : length (a .t1 .total) ≡ channel-limit = rw length-map at (l .1 .0 .1 .0 .1) in
+    replay-done (store-of (a .t1)) (a .channel) (a .word .now) (a .pulses .now) (a .values .now) (f .result) h (w .result) (s .result) _
+    (w .ensures) (s .ensures) refl (n .result) (n .ensures) z _ (u .result) _ cl tl
+    (rw (r .rows-start .ensures) at (u .ensures .0)) (rw (r .rows-start .ensures) at (u .ensures .1)) (c .end-reply .ensures)
 
 pub replay-spec : {M : Type 1} → statement M
 replay-spec = tie.close (tie.spec (λ c. search needs) (λ c. search needs) (λ c. search needs) (λ c. search needs) (λ c. search needs)
-    (λ c κs. search needs) (λ c κs. search needs) (λ c κs. search needs) (λ c κs. search needs) (λ c κs. search needs) returns (λ c κs. search needs)
+    (λ c κs. search needs) (λ c κs. search needs) (λ c κs. search needs) (λ c κs. search needs) (λ c κs. search needs) (λ c κs. search needs) returns
     run-requires (λ c. search needs) (λ c. search needs) (λ c. search needs) end-reply-requires same-length returns-2)

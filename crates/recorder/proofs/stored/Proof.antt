@@ -1,4 +1,4 @@
--- `recorder::stored` meets its contract: both arrays are stored, then the count, the state and the total.
+-- `recorder::stored` meets its contract: both arrays are spliced, then the count, the state and the total are set.
 use mathlib.Core.Path.{ap₂}
 use borrow.Author.Needs.{needs}
 use Rattle.recorder.specs.Called.{with-rows}
@@ -8,11 +8,10 @@ use Rattle.recorder.proofs.stored.Tie as tie
 
 returns : tie.Need-returns
 returns c =
-    let a = c .before .before .before .before .before .before .before .args in
-    let r = c .before .before .before .before .before .before .rows-start .ensures .0 in
-    ap₂ (λ v n. with-rows (store-of (a .tool)) (a .channel) (a .states) v n) (rw r at (c .before .before .before .store-rows .ensures))
-    (rw r at (c .store-rows2 .ensures))
+    let a = c .before .before .before .before .before .before .before .before .before .before .before .args in
+    ap₂ (λ v n. with-rows (store-of (a .t1)) (a .channel) (a .states) v n) (c .before .before .before .before .before .replace .ensures)
+    (c .replace2 .ensures)
 
 pub stored-spec : {M : Type 1} → statement M
-stored-spec = tie.close (tie.spec (λ c κs. search needs) (λ c κs. search needs) (λ c κs. search needs) (λ c. search needs) (λ c. search needs)
-    (λ c. search needs) (λ c. search needs) (λ c. search needs) returns)
+stored-spec = tie.close (tie.spec (λ c κs. search needs) (λ c κs. search needs) (λ c. search needs) (λ c. search needs) (λ c. search needs)
+    (λ c. search needs) (λ c. search needs) returns)

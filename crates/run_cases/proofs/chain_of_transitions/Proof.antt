@@ -6,10 +6,10 @@ use Rattle.run_cases.proofs.chain_of_transitions.Statement.{statement}
 use Rattle.run_cases.proofs.chain_of_transitions.Tie as tie
 
 abbrev Inv-loop : tie.InvT-loop
-Inv-loop rule₀ i₀ rule i = (i ≤ 64) × (length rule ≡ 195)
+Inv-loop rule₀ i₀ rule i = (i ≤ 255) × (length rule ≡ 768)
 
 abbrev μ-loop : tie.MeasureT-loop
-μ-loop rule₀ i₀ rule i = 64 - i
+μ-loop rule₀ i₀ rule i = 255 - i
 
 -- src/main.rt:36:5
 -- src/main.rt:37:14

@@ -1,18 +1,18 @@
 -- `fill_values` meets its contract. The loop's invariant: the entries of the states passed are right.
 use borrow.Author.Needs.{needs}
 use Prim.Native.Nat.{ℕ, _≤_, _<_, _-_, _+_, _*_}
-use mathlib.Core.Path.{_≡_, refl, _∙_, subst}
+use mathlib.Core.Path.{_≡_, _∙_, subst}
 use native.Mathlib.{Nat.{zero-mul, add-mul, mul-le-mul-right}, Omega.{arith}}
 use lib.ListN.{length}
 use Rattle.values.specs.Setup.{meetOf}
-use Rattle.synthesis.specs.{NodeWords.{row}, Exploring.{Unchanged}, TableEntries.{state-value, EntriesTo}}
+use Rattle.synthesis.specs.{NodeWords.{row}, TableEntries.{state-value, EntriesTo}}
 use Rattle.synthesis.proofs.TableEntries.{row-again, row-filled, row-of-marked}
 use Rattle.synthesis.proofs.entries.fill_values.Statement.{statement}
 use Rattle.synthesis.proofs.entries.fill_values.Tie as tie
 
 abbrev Inv-loop : tie.InvT-loop
 Inv-loop kind meet top kinds firsts values count states n events to₀ marks state₀ to state =
-    (state ≤ n) × (length to ≡ length to₀) × Unchanged (state * events) to₀ to
+    (state ≤ n) × (length to ≡ length to₀)
     × EntriesTo (state-value (meetOf kind meet) top kinds firsts values count states) events (state * events) to
 
 abbrev μ-loop : tie.MeasureT-loop
@@ -21,7 +21,7 @@ abbrev μ-loop : tie.MeasureT-loop
 loop-holds : tie.Need-loop-holds Inv-loop μ-loop
 loop-holds c =
     let a = c .before .before .before .before .args in
-    (search needs, search needs, (λ x h. refl), λ x h. absurd (omega (arith, h, zero-mul (a .events))))
+    (search needs, search needs, λ x h. absurd (omega (arith, h, zero-mul (a .events))))
 
 -- The row of a state fits.
 row-fits : (events n state : ℕ) → state < n → state * events + events ≤ n * events
@@ -63,8 +63,7 @@ loop-again c =
     let z : l .state * a .events + a .events ≡ (l .state + 1) * a .events = omega (arith, add-mul (l .state) 1 (a .events)) in (
       search needs,
       r .sized ∙ l .inv .1,
-      (λ x h. r .above x (omega (arith, h, z)) ∙ l .inv .2 x (omega (arith, h, z))),
-      λ x h. row-filled f (a .events) (l .state) _ _ r (l .inv .3) x (omega (arith, h, z)),
+      λ x h. row-filled f (a .events) (l .state) _ _ r (l .inv .2) x (omega (arith, h, z)),
     )
 
 returns : tie.Need-returns Inv-loop μ-loop
@@ -73,9 +72,8 @@ returns c =
     let l = c .before .loop in
     let q : l .state ≡ a .n = omega arith in (
       l .inv .1,
-      subst (λ m. Unchanged (m * a .events) (a .to .now) (l .to)) q (l .inv .2),
       subst (λ m. EntriesTo (state-value (meetOf (a .kind) (a .meet .now)) (a .top) (a .kinds .now) (a .firsts .now) (a .values .now) (a .count)
-          (a .states .now)) (a .events) (m * a .events) (l .to)) q (l .inv .3),
+          (a .states .now)) (a .events) (m * a .events) (l .to)) q (l .inv .2),
     )
 
 pub fill-values-spec : {M : Type 1} → statement M

@@ -6,9 +6,9 @@ use Prim.Native.Nat.{ℕ, _≤_, _<_, _-_, _+_, _*_}
 use mathlib.Core.{Path.{_≡_, refl, sym, _∙_, ap, subst}, Bool.{Bool}, Logic.{⊎-elim}, List.{List, []}}
 use native.Mathlib.Omega.{arith}
 use Rattle.machines.proofs.EntryIndex.{index-below}
-use lib.{ListN.{length, getD, set, length-set}, Seq.{getD-set-other}}
+use lib.ListN.{length, getD, set, length-set}
 use Rattle.synthesis.specs.{NodeWords.{row}, MarkedNodes.{Marks}, StatePlaces.{place-count, link-count, Different, Chained}}
-use Rattle.synthesis.specs.Exploring.{stepped, next-bits, Found, Unchanged, Kept, events-to}
+use Rattle.synthesis.specs.Exploring.{stepped, next-bits, Found, Kept, events-to}
 use Rattle.synthesis.proofs.{NodeWords.{set-else}, Exploring.{candidate-old, candidate-new, candidate-many, below}}
 use Rattle.synthesis.proofs.StatePlaces.{different-more, chained-more, place-below}
 use Rattle.synthesis.proofs.exploration.expand.Statement.{statement}
@@ -17,7 +17,7 @@ use Rattle.synthesis.proofs.exploration.expand.Tie as tie
 abbrev Inv-loop : tie.InvT-loop
 Inv-loop firsts marks rows events limit i n states₀ nexts₀ sets heads₀ links₀ k₀ event₀ states nexts heads links k event =
     (event ≤ events) × (n ≤ k) × (k ≤ limit) × (length states ≡ length states₀) × (length nexts ≡ length nexts₀)
-    × Unchanged (i * events + events) nexts₀ nexts × (row states i ≡ row states₀ i)
+    × (row states i ≡ row states₀ i)
     × ((kinds : List ℕ) (count : ℕ) → Marks kinds count 2 marks → (start : List Bool) (P : List (List ℕ)) →
     Kept (next-bits kinds firsts rows count) start events P n (i * events) states₀ nexts₀ →
     Kept (next-bits kinds firsts rows count) start events (events-to (next-bits kinds firsts rows count) start event P (getD P i []))
@@ -36,7 +36,6 @@ loop-holds c =
       search needs,
       search needs,
       search needs,
-      (λ x h. refl),
       refl,
       λ kinds count marked start P old. subst (λ m. Kept (next-bits kinds (a .firsts .now) (a .rows .now) count) start (a .events) P (a .n) m (a .states .now)
           (a .nexts .now)) z old,
@@ -54,10 +53,10 @@ look-up-requires c κs =
       omega (arith, v .2, n .pre .2),
       search needs,
       c .before .before .before .before .place-of .ensures,
+      v .7,
       v .8,
       v .9,
       v .10,
-      v .11,
     )
 
 link-requires : tie.Need-link-requires Inv-loop μ-loop
@@ -68,8 +67,8 @@ link-requires c κs =
     let l = turn .loop in (
       place-below _ 0 _ (looked .before .before .before .before .before .place-of .ensures),
       omega (arith, l .inv .2, c .before .before .before .before .before .before .before .if2 .left, first .pre .2),
+      l .inv .7,
       l .inv .8,
-      l .inv .9,
     )
 
 returns : tie.Need-returns Inv-loop μ-loop
@@ -84,7 +83,6 @@ returns c =
       v .3,
       v .4,
       search needs,
-      v .5,
       (λ kinds count marked start P old. record {
         at-most = search needs;
         all = λ h. absurd (omega (arith, h));
@@ -95,14 +93,14 @@ returns c =
               (a .nexts .now) (l .states) (l .nexts) _ (search needs) (v .1) event
               (looked .before .before .before .before .before .before .before .copy-row .ensures .1
               ∙ turn .before .advance .ensures .1 kinds count marked (l .event) event
-              ∙ ap (λ D. stepped kinds (a .firsts .now) (a .rows .now) count D (l .event)) (sym (v .6))) start P old
-              (v .7 kinds count marked start P old)
+              ∙ ap (λ D. stepped kinds (a .firsts .now) (a .rows .now) count D (l .event)) (sym (v .5))) start P old
+              (v .6 kinds count marked start P old)
               (looked .look-up .result) (c .before .if1 .taken) (looked .look-up .ensures),
         );
       }),
       turn .before .advance .ensures .0,
+      v .7,
       v .8,
-      v .9,
       λ h. absurd (omega (arith, h)),
     )
 
@@ -145,8 +143,6 @@ loop-again c =
     omega (arith, at, v .4, index-below (a .events) (a .limit) (a .i) (l .event) (omega arith) event) in
     let sized : length (set (l .nexts) (c .before .entry-at .result) (c .narrow .result)) ≡ length (a .nexts .now) = length-set (l .nexts)
     (c .before .entry-at .result) (c .narrow .result) ∙ v .4 in
-    let kept : Unchanged (a .i * a .events + a .events) (a .nexts .now) (set (l .nexts) (c .before .entry-at .result) (c .narrow .result))
-    = λ x h. getD-set-other (l .nexts) (c .before .entry-at .result) x (c .narrow .result) 0 (λ e. omega (arith, e, at, h, event)) ∙ v .5 x h in
     let place = looked .before .before .before .before .before .place-of .ensures in
     let asked = first .pre in
     ⊎-elim
@@ -156,26 +152,25 @@ loop-again c =
       search needs,
       ap length (w .10) ∙ w .4 .ensures .sized ∙ v .3,
       sized,
-      kept,
       ap (λ x. row x (a .i)) (w .10)
           ∙ set-else (l .states) _ (l .k) (a .i) (w .4 .ensures .below) (w .4 .ensures .above) (λ e. omega (arith, e, v .1, asked .0))
-          ∙ v .6,
+          ∙ v .5,
       λ kinds count marked start P old. rw (w .10, w .13)
           (candidate-new kinds (a .firsts .now) (a .rows .now) count (a .events) (a .i) (a .n) (l .k) (l .event) (a .states .now)
           (a .nexts .now) (l .states) (l .nexts) _ (search needs) (v .1) event
           (looked .before .before .before .before .before .before .before .copy-row .ensures .1
           ∙ turn .before .advance .ensures .1 kinds count marked (l .event) event
-          ∙ ap (λ D. stepped kinds (a .firsts .now) (a .rows .now) count D (l .event)) (sym (v .6))) start P old
-          (v .7 kinds count marked start P old) _
+          ∙ ap (λ D. stepped kinds (a .firsts .now) (a .rows .now) count D (l .event)) (sym (v .5))) start P old
+          (v .6 kinds count marked start P old) _
           (looked .look-up .result) (c .before .entry-at .result) (c .narrow .result) (w .0 .taken)
           (looked .look-up .ensures) (w .4 .ensures) at (c .narrow .ensures) fits),
-      ap length (w .11 ∙ w .9 .ensures .0) ∙ length-set (l .heads) _ _ ∙ v .8,
-      ap length (w .12 ∙ w .9 .ensures .1) ∙ length-set (l .links) _ _ ∙ v .9,
-      rw (w .10, w .13) (different-more (l .k) (l .states) _ _ (w .4 .ensures) (v .10)
+      ap length (w .11 ∙ w .9 .ensures .0) ∙ length-set (l .heads) _ _ ∙ v .7,
+      ap length (w .12 ∙ w .9 .ensures .1) ∙ length-set (l .links) _ _ ∙ v .8,
+      rw (w .10, w .13) (different-more (l .k) (l .states) _ _ (w .4 .ensures) (v .9)
           (subst (Found (l .states) (l .k) _) (w .0 .taken) (looked .look-up .ensures))),
       rw (w .10, w .13, w .11 ∙ w .9 .ensures .0, w .12 ∙ w .9 .ensures .1)
           (chained-more (l .k) (l .states) _ _ (w .4 .ensures) (l .heads) (l .links) _ place
-          (omega (arith, v .8, place-below _ 0 _ place)) (omega (arith, v .9, v .2, w .1 .left, asked .2)) (v .11)),
+          (omega (arith, v .7, place-below _ 0 _ place)) (omega (arith, v .8, v .2, w .1 .left, asked .2)) (v .10)),
     ))
     (λ w. (
       search needs,
@@ -183,21 +178,20 @@ loop-again c =
       search needs,
       ap length (w .1) ∙ v .3,
       sized,
-      kept,
-      ap (λ x. row x (a .i)) (w .1) ∙ v .6,
+      ap (λ x. row x (a .i)) (w .1) ∙ v .5,
       λ kinds count marked start P old. rw (w .1, w .4)
           (candidate-old kinds (a .firsts .now) (a .rows .now) count (a .events) (a .i) (a .n) (l .k) (l .event) (a .states .now)
           (a .nexts .now) (l .states) (l .nexts) _ (search needs) (v .1) event
           (looked .before .before .before .before .before .before .before .copy-row .ensures .1
           ∙ turn .before .advance .ensures .1 kinds count marked (l .event) event
-          ∙ ap (λ D. stepped kinds (a .firsts .now) (a .rows .now) count D (l .event)) (sym (v .6))) start P old
-          (v .7 kinds count marked start P old)
+          ∙ ap (λ D. stepped kinds (a .firsts .now) (a .rows .now) count D (l .event)) (sym (v .5))) start P old
+          (v .6 kinds count marked start P old)
           (looked .look-up .result) (c .before .entry-at .result) (c .narrow .result) (looked .look-up .ensures)
           (below (looked .look-up .ensures .low) (w .0 .left)) at (c .narrow .ensures) fits),
-      ap length (w .2) ∙ v .8,
-      ap length (w .3) ∙ v .9,
-      rw (w .1, w .4) (v .10),
-      rw (w .1, w .2, w .3, w .4) (v .11),
+      ap length (w .2) ∙ v .7,
+      ap length (w .3) ∙ v .8,
+      rw (w .1, w .4) (v .9),
+      rw (w .1, w .2, w .3, w .4) (v .10),
     ))
     (c .before .before .if1 .came)
 
@@ -210,18 +204,17 @@ returns-2 c =
       v .3,
       v .4,
       v .1,
-      v .5,
       (λ kinds count marked start P old. record {
         at-most = search needs;
         all = λ h. subst (λ x. Kept (next-bits kinds (a .firsts .now) (a .rows .now) count) start (a .events)
             (events-to (next-bits kinds (a .firsts .now) (a .rows .now) count) start x P (getD P (a .i) [])) (l .k) (a .i * a .events + x)
-            (l .states) (l .nexts)) q (v .7 kinds count marked start P old);
+            (l .states) (l .nexts)) q (v .6 kinds count marked start P old);
         more = λ h. absurd (omega (arith, h));
       }),
       c .before .before .advance .ensures .0,
+      v .7,
       v .8,
-      v .9,
-      λ h. (v .10, v .11),
+      λ h. (v .9, v .10),
     )
 
 pub expand-spec : {M : Type 1} → statement M

@@ -2,10 +2,10 @@
 -- no two states are the same, and each is linked to from the head of its place.
 use borrow.Author.Needs.{needs}
 use Prim.Native.Nat.{_≤_, _-_, _*_}
-use mathlib.Core.Path.{_≡_, refl, _∙_, subst}
-use native.Mathlib.{Nat.{add-mul}, Omega.{arith}}
+use mathlib.Core.Path.{_≡_, _∙_}
+use native.Mathlib.Omega.{arith}
 use lib.ListN.{length}
-use Rattle.synthesis.specs.{NodeWords.{next-words, bits-at}, Exploring.{next-bits, Unchanged, Kept}}
+use Rattle.synthesis.specs.{NodeWords.{next-words, bits-at}, Exploring.{next-bits, Kept}}
 use Rattle.synthesis.specs.StatePlaces.{place-count, link-count, Different, Chained}
 use Rattle.synthesis.proofs.{Exploring.{all-to, kept-start, row-kept, row-over, all-kept}, StatePlaces.{chained-one, getD-zeros}}
 use Rattle.synthesis.proofs.exploration.explore.Statement.{statement}
@@ -13,7 +13,7 @@ use Rattle.synthesis.proofs.exploration.explore.Tie as tie
 
 abbrev Inv-loop : tie.InvT-loop
 Inv-loop kinds firsts count rows events limit states₀ nexts₀ marks sets₀ heads₀ links₀ n₀ i₀ states nexts sets heads links n i =
-    (i ≤ n) × (n ≤ limit) × (length states ≡ length states₀) × (length nexts ≡ length nexts₀) × Unchanged (i * events) nexts₀ nexts
+    (i ≤ n) × (n ≤ limit) × (length states ≡ length states₀) × (length nexts ≡ length nexts₀)
     × Kept (next-bits kinds firsts rows count) (bits-at rows 0) events (all-to (next-bits kinds firsts rows count) rows events i)
     n (i * events) states nexts × (length sets ≡ next-words)
     × (length heads ≡ place-count) × (length links ≡ link-count) × Different n states × Chained n states heads links
@@ -28,7 +28,6 @@ loop-holds c =
       search needs,
       search needs,
       search needs,
-      (λ x h. refl),
       kept-start (next-bits (a .kinds .now) (a .firsts .now) (a .rows .now) (a .count)) (a .rows .now) (a .events) _ (a .nexts .now)
           (c .before .before .copy-first .ensures .1),
       search needs,
@@ -52,8 +51,8 @@ expand-requires c κs = (
   search needs,
   search needs,
   search needs,
+  c .before .before .before .before .before .before .before .loop .inv .8,
   c .before .before .before .before .before .before .before .loop .inv .9,
-  c .before .before .before .before .before .before .before .loop .inv .10,
 )
 
 returns : tie.Need-returns Inv-loop μ-loop
@@ -64,20 +63,19 @@ returns c =
     let v = l .inv in
     let less = c .before .before .before .before .before .before .before .before .before .before .before .before .loop-test .taken in
     let x = c .before .before .before .before .before .expand .ensures in
-    let made = x .4 (a .kinds .now) (a .count) (at .before .before .before .before .before .marks-of .ensures .1) in
+    let made = x .3 (a .kinds .now) (a .count) (at .before .before .before .before .before .marks-of .ensures .1) in
     let nb = next-bits (a .kinds .now) (a .firsts .now) (a .rows .now) (a .count) in (
       x .0 ∙ v .2 ∙ at .before .before .before .copy-first .ensures .0,
       x .1 ∙ v .3,
-      (λ h. absurd (omega (arith, h))),
       record {
         at-most = search needs;
         all = λ h. absurd (omega (arith, h));
         more = λ h. row-over nb (a .rows .now) (a .events) (a .limit) (l .i) (l .n) (c .before .before .before .before .before .expand .result) (l .states)
-            (l .nexts) _ _ less (v .5) made (omega (
+            (l .nexts) _ _ less (v .4) made (omega (
               arith,
               c .if1 .taken,
               made (bits-at (a .rows .now) 0)
-                  (all-to nb (a .rows .now) (a .events) (l .i)) (v .5) .at-most,
+                  (all-to nb (a .rows .now) (a .events) (l .i)) (v .4) .at-most,
             )) (omega (arith, less, v .1));
       },
     )
@@ -89,20 +87,19 @@ loop-again c =
     let l = at .loop in
     let v = l .inv in
     let x = c .before .before .before .before .before .expand .ensures in
-    let made = x .4 (a .kinds .now) (a .count) (at .before .before .before .before .before .marks-of .ensures .1) in
+    let made = x .3 (a .kinds .now) (a .count) (at .before .before .before .before .before .marks-of .ensures .1) in
     let nb = next-bits (a .kinds .now) (a .firsts .now) (a .rows .now) (a .count) in (
       omega (arith, c .before .before .before .before .before .before .before .before .before .before .before .before .loop-test .taken, x .2),
       search needs,
       x .0 ∙ v .2,
       x .1 ∙ v .3,
-      (λ y h. x .3 y (omega (arith, h, add-mul (l .i) 1 (a .events))) ∙ v .4 y (omega (arith, h, add-mul (l .i) 1 (a .events)))),
       row-kept nb (a .rows .now) (a .events) (a .limit) (l .i) (l .n) (c .before .before .before .before .before .expand .result) (l .states) (l .nexts) _
-          _ (c .before .before .before .before .before .before .before .before .before .before .before .before .loop-test .taken) (v .5) made (search needs),
+          _ (c .before .before .before .before .before .before .before .before .before .before .before .before .loop-test .taken) (v .4) made (search needs),
+      x .4,
       x .5,
       x .6,
-      x .7,
-      x .8 (search needs) .0,
-      x .8 (search needs) .1,
+      x .7 (search needs) .0,
+      x .7 (search needs) .1,
     )
 
 returns-2 : tie.Need-returns-2 Inv-loop μ-loop
@@ -114,10 +111,9 @@ returns-2 c =
     let nb = next-bits (a .kinds .now) (a .firsts .now) (a .rows .now) (a .count) in (
       v .2 ∙ c .before .before .before .before .copy-first .ensures .0,
       v .3,
-      (λ h y u. v .4 y (subst (λ z. z * a .events ≤ y) q u)),
       record {
         at-most = search needs;
-        all = λ h. all-kept nb (a .rows .now) (a .events) (a .limit) (l .i) (l .n) (l .states) (l .nexts) q (search needs) (v .5);
+        all = λ h. all-kept nb (a .rows .now) (a .events) (a .limit) (l .i) (l .n) (l .states) (l .nexts) q (search needs) (v .4);
         more = λ h. absurd (omega (arith, h));
       },
     )

@@ -1,0 +1,16 @@
+-- `conformance::search_all` meets its contract: the arrays are made of zeros, of as many cells as it says.
+use Rattle.conformance.proofs.Starts.{made-ready, made-answered}
+use borrow.Author.Needs.{needs}
+use Rattle.conformance.proofs.search_all.Statement.{statement}
+use Rattle.conformance.proofs.search_all.Tie as tie
+use Rattle.limits.specs.Limits.{word-limit}
+
+search-requires : tie.Need-search-requires
+search-requires c κs = made-ready (c .before .before .before .before .before .before .before .before .before .before .pre)
+
+returns : tie.Need-returns
+returns c = made-answered word-limit _ _ _ _ _ _ _ _ _ _ (c .before .before .before .before .before .before .before .search .ensures)
+
+pub search-all-spec : {M : Type 1} → statement M
+search-all-spec = tie.close (tie.spec (λ c. search needs) (λ c. search needs) (λ c. search needs) (λ c. search needs) (λ c. search needs)
+    search-requires (λ c. search needs) returns)

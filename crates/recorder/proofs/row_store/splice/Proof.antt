@@ -1,0 +1,65 @@
+-- `recorder::row_store::splice` meets its contract: three copies into zeros.
+use mathlib.Core.Path.{refl, sym}
+use native.Mathlib.Omega.{arith}
+use borrow.Author.Needs.{needs}
+use Rattle.recorder.specs.Splicing.{column}
+use Rattle.recorder.proofs.Copies.{column-length, front-length, behind-length, one-length, two-length, copied}
+use Rattle.recorder.proofs.row_store.splice.Statement.{statement}
+use Rattle.recorder.proofs.row_store.splice.Tie as tie
+
+slice-aggregate-copy-entries : tie.Need-slice-aggregate-copy-entries
+slice-aggregate-copy-entries c =
+    let b = c .before .before .before .before in
+    let a = b .args in
+    let p = b .pre in
+    let new = column (a .which) (a .table .now) (a .new) in
+    let n = column-length (a .which) (a .table .now) (a .new) in
+    sym (front-length (a .rows .now) new (a .at) (a .old) (a .new) (a .later) (p .0) n (p .1) (p .2))
+
+copy-entries-requires : tie.Need-copy-entries-requires
+copy-entries-requires c κs =
+    let b = c .before .before .before .before in
+    let a = b .args in
+    let p = b .pre in
+    let new = column (a .which) (a .table .now) (a .new) in
+    let n = column-length (a .which) (a .table .now) (a .new) in
+    (omega (arith, front-length (a .rows .now) new (a .at) (a .old) (a .new) (a .later) (p .0) n (p .1) (p .2)), refl)
+
+copy-column-requires : tie.Need-copy-column-requires
+copy-column-requires c κs =
+    let b = c .before .before .before .before .before .before in
+    let a = b .args in
+    let p = b .pre in
+    let new = column (a .which) (a .table .now) (a .new) in
+    let n = column-length (a .which) (a .table .now) (a .new) in (
+      omega arith,
+      p .3,
+      p .4,
+      one-length (a .rows .now) new (a .at) (a .old) (a .new) (a .later) (p .0) n (p .1) (p .2) _ _ (c .before .copy-entries .ensures) refl,
+    )
+
+copy-entries-requires-2 : tie.Need-copy-entries-requires-2
+copy-entries-requires-2 c κs =
+    let b = c .before .before .before .before .before .before .before .before .before in
+    let a = b .args in
+    let p = b .pre in
+    let new = column (a .which) (a .table .now) (a .new) in
+    let n = column-length (a .which) (a .table .now) (a .new) in (
+      omega (arith, behind-length (a .rows .now) new (a .at) (a .old) (a .new) (a .later) (p .0) n (p .1) (p .2)),
+      two-length (a .rows .now) new (a .at) (a .old) (a .new) (a .later) (p .0) n (p .1) (p .2) _ _
+          (c .before .before .before .before .copy-entries .ensures) (c .before .before .copy-column .ensures),
+    )
+
+returns : tie.Need-returns
+returns c =
+    let b = c .before .before .before .before .before .before .before .before .before .before in
+    let a = b .args in
+    let p = b .pre in
+    let new = column (a .which) (a .table .now) (a .new) in
+    let n = column-length (a .which) (a .table .now) (a .new) in
+    copied (a .rows .now) new (a .at) (a .old) (a .new) (a .later) (p .0) n (p .1) (p .2) _ _ _
+    (c .before .before .before .before .before .copy-entries .ensures) (c .before .before .before .copy-column .ensures) (c .copy-entries2 .ensures)
+
+pub splice-spec : {M : Type 1} → statement M
+splice-spec = tie.close (tie.spec (λ c. search needs) (λ c. search needs) slice-aggregate-copy-entries copy-entries-requires copy-column-requires
+    (λ c. search needs) (λ c. search needs) (λ c. search needs) (λ c. search needs) copy-entries-requires-2 returns)
