@@ -40,6 +40,18 @@
  *             printf("chain of %u: nodes=%llu\n", states, (unsigned long long)gurvazze_yield(answer));
  *     }
  *
+ *     static void say_states_of_steps(unsigned count)
+ *     {
+ *         static char text[4096];
+ *         static uint8_t table[GURVAZZE_TABLE_BYTES];
+ *         int length = sprintf(text, "events=1\nvalues=1\ntop=0\nmeet=0\nrule=");
+ *         for (unsigned step = 0; step < count; step++)
+ *             length += sprintf(text + length, "G0 ");
+ *         length += sprintf(text + length, "T\n");
+ *         uint64_t answer = gurvazze_table((const uint8_t *)text, (size_t)length, table, sizeof table);
+ *         printf("%u steps: refused=%u states=%u\n", count, gurvazze_refusal(answer), gurvazze_states(answer));
+ *     }
+ *
  *     int main(void)
  *     {
  *         static const uint8_t file[] =
@@ -67,6 +79,9 @@
  *         printf("refused=%u\n", gurvazze_refusal(answer));
  *         say_rule_of_chain(12);
  *         say_rule_of_chain(13);
+ *         say_rule_of_chain(256);
+ *         say_states_of_steps(64);
+ *         say_states_of_steps(255);
  *         return 0;
  *     }
  *
@@ -82,6 +97,9 @@
  *     refused=23
  *     chain of 12: nodes=49
  *     chain of 13: refused=23
+ *     chain of 256: refused=12
+ *     64 steps: refused=0 states=65
+ *     255 steps: refused=0 states=256
  */
 #ifndef GURVAZZE_H
 #define GURVAZZE_H
@@ -93,10 +111,11 @@
 extern "C" {
 #endif
 
-/* Every table, every rule and every word has room in so many bytes; a word buffer has at least so many. */
-#define GURVAZZE_TABLE_BYTES 2048
+/* Every table (256 states, 16 events, two bytes an entry), every rule and every word has room in so many bytes; a word buffer has at least
+ * so many. */
+#define GURVAZZE_TABLE_BYTES 8192
 #define GURVAZZE_RULE_BYTES 768
-#define GURVAZZE_WORD_BYTES 4096
+#define GURVAZZE_WORD_BYTES 16384
 
 /* What a trial yields for a pass: every event sequence ends in equal values, or some ends in one strictly below the rule's. The length of
  * a failing word is neither. */
@@ -105,7 +124,8 @@ extern "C" {
 
 /* The table of a channel file's rule, value and next state, one byte each, by state and then event. Yields its numbers.
  * Refusals 4, 1 to 3, 5 to 8, 23, 9, 10, 13. Here and below, a variable is in order when a G lies between it and its own binder; refusal 9
- * is given only where none does. Refusal 23: a path with more than twelve V nodes, counted from the root. */
+ * is given only where none does. Refusal 23: a path with more than twelve V nodes, counted from the root. Refusal 10: more than 256
+ * states. */
 uint64_t gurvazze_table(const uint8_t *text, size_t text_length, uint8_t *to, size_t to_length);
 
 /* The values of a channel file's rule on a sequence of events, one byte each. Yields 0. Refusals 4, 1 to 3, 5 to 8, 23, 9, 10,
@@ -113,23 +133,23 @@ uint64_t gurvazze_table(const uint8_t *text, size_t text_length, uint8_t *to, si
 uint64_t gurvazze_replay(const uint8_t *text, size_t text_length, const uint8_t *events, size_t events_length, uint8_t *to,
                          size_t to_length);
 
-/* Trial of a device against a channel file's rule. Yields GURVAZZE_SAME, 0, for a pass with equal values on every event sequence,
- * GURVAZZE_STRICTER, 65,536, for any other pass, and else the length of the failing word, 1 to 4,096. The word stands at the front of the
- * word buffer: the first word after whose last event the device's value is not at or below the rule's, the shortest, and among those the
- * one with the smaller event at the first difference. Word and length are fixed by the two tables.
- * A rule covers another of the same set-up, so that every device that satisfies it satisfies the other, exactly if its gurvazze_table, as
- * a device from state 0, passes against the other.
+/* Trial of a device, of 1 to 64 states, against a channel file's rule. Yields GURVAZZE_SAME, 0, for a pass with equal values on every event
+ * sequence, GURVAZZE_STRICTER, 65,536, for any other pass, and else the length of the failing word, 1 to 16,384. The word stands at the
+ * front of the word buffer: the first word after whose last event the device's value is not at or below the rule's, the shortest, and
+ * among those the one with the smaller event at the first difference. Word and length are fixed by the two tables.
+ * A rule whose table has at most 64 states covers another of the same set-up, so that every device that satisfies it satisfies the other,
+ * exactly if its gurvazze_table, as a device from state 0, passes against the other.
  * Refusals 4, 1 to 3, 5 to 8, 23, 9, 10, 11, 13. */
 uint64_t gurvazze_trial(const uint8_t *text, size_t text_length, size_t device_states, size_t device_start, const uint8_t *device,
                         size_t device_length, uint8_t *word, size_t word_length);
 
-/* The same against a rule's table, from its state 0: a pass yields GURVAZZE_SAME or GURVAZZE_STRICTER, and a failing word is the first
+/* The same against a rule's table, of 1 to 256 states, from its state 0: a pass yields GURVAZZE_SAME or GURVAZZE_STRICTER, and a failing word is the first
  * here too. Refusals 1 to 3, 11, 13. */
 uint64_t gurvazze_trial_table(size_t events, size_t values, size_t top, const uint8_t *meet, size_t meet_length, size_t states,
                               const uint8_t *table, size_t table_length, size_t device_states, size_t device_start,
                               const uint8_t *device, size_t device_length, uint8_t *word, size_t word_length);
 
-/* The rule of a table from a start, three bytes a node. Yields the number of nodes. Refusals 1 to 3, 11, 12, 23, 13. What is written is
+/* The rule of a table, of 1 to 256 states, from a start, three bytes a node. Yields the number of nodes. Refusals 1 to 3, 11, 12, 23, 13. What is written is
  * always a rule that gurvazze_table takes. A path of it has a V node for each state that is open there, and 23 is given for more than
  * twelve. */
 uint64_t gurvazze_rule(size_t events, size_t values, size_t top, const uint8_t *meet, size_t meet_length, size_t states, size_t start,

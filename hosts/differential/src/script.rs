@@ -5,8 +5,8 @@ use gurvazze_reference::formula::Rule;
 use gurvazze_reference::generate::{
     has_most_binders, has_variable_under_inner_binder, inner_binders, under, Generator, RawTable,
 };
-use gurvazze_reference::table::Table;
-use gurvazze_reference::tool::{Tool, Wheel, CHANNELS, MAX_PER_TURN, MAX_TOTAL};
+use gurvazze_reference::table::{Table, MAX_DEVICE_STATES, MAX_STATES};
+use gurvazze_reference::tool::{Tool, Wheel, CHANNELS, MAX_PER_TURN, MAX_ROWS, MAX_TOTAL};
 use gurvazze_reference::values::{RawSetUp, SetUp};
 
 use crate::session::{file_head, Answer, Session, LINE_BYTES};
@@ -42,6 +42,8 @@ impl Script {
             script.add(&mut session, &[writer.before_device()]);
         }
         script.add(&mut session, &limits());
+        script.add(&mut session, &limits_of_states());
+        script.add(&mut session, &limits_of_rows());
         script.add(&mut session, &limits_of_distances());
         for part in 1..=PARTS {
             let set_up = session.set_up().expect("a set-up was accepted").clone();
@@ -49,7 +51,8 @@ impl Script {
             while script.ends.len() < part * lines / PARTS {
                 for _ in 0..100 {
                     let set_up = session.set_up().expect("a set-up was accepted").clone();
-                    script.add(&mut session, &writer.commands(&set_up));
+                    let commands = writer.commands(&set_up, session.rows());
+                    script.add(&mut session, &commands);
                 }
             }
         }
@@ -80,6 +83,7 @@ impl Script {
     }
 
     fn add_answer(&mut self, session: &mut Session, line: &[u8]) {
+        let rows = session.rows();
         let Some(answer) = session.answer(line) else {
             return self.tally.count("line", "skipped");
         };
@@ -89,6 +93,7 @@ impl Script {
             self.count_set_up(tool);
         }
         self.count_distance(session, line, &answer);
+        self.count_rows(rows, session, line, &answer);
         if let (false, Some(set_up)) = (answer.is_refused(), session.set_up()) {
             // Document 02, F-2 and F-9.
             let rules = rules_in(set_up, line, &answer.text);
@@ -98,6 +103,40 @@ impl Script {
             if rules.iter().any(has_most_binders) {
                 self.tally.count("twelve binders in", answer.command);
             }
+            // Document 02, F-12.
+            let of_device = session.device().filter(|_| answer.command == "write").map(|device| device.states);
+            let of_rules = rules.iter().filter_map(|rule| Table::of_rule(set_up, rule).ok()).map(|table| table.states());
+            let most = of_rules.chain(of_device).max().unwrap_or(0);
+            if most > MAX_DEVICE_STATES {
+                self.tally.count("over 64 states in", answer.command);
+            }
+            if most == MAX_STATES {
+                self.tally.count("256 states in", answer.command);
+            }
+        }
+    }
+
+    /// Document 02, F-12: what became of the rows that there were.
+    fn count_rows(&mut self, old: [usize; CHANNELS], session: &Session, line: &[u8], answer: &Answer) {
+        let new = session.rows();
+        let in_all = |rows: [usize; CHANNELS]| rows.iter().sum::<usize>();
+        let Some(channel) = (0..CHANNELS).find(|&channel| Some(channel) == named(line)) else { return };
+        let (was, is) = (old[channel], new[channel]);
+        let between = was > 0 && new[channel + 1..].iter().any(|&rows| rows > 0);
+        let is_load = answer.command == "load" && !answer.is_refused();
+        for (arises, kind) in [
+            (is_load && between && is > was, "grows"),
+            (is_load && between && is < was, "shrinks"),
+            (answer.command == "clear" && between && is == 0, "closes"),
+            (is_load && in_all(new) == MAX_ROWS, "full"),
+            (is_load && in_all(old) + is > MAX_ROWS, "reuses"),
+        ] {
+            if arises {
+                self.tally.count("store", kind);
+            }
+        }
+        if answer.text == "refused=25\n" {
+            self.tally.count("no rows for", if was > 0 { "loaded" } else { "empty" });
         }
     }
 
@@ -135,6 +174,12 @@ impl Script {
             _ => {}
         }
     }
+}
+
+/// The channel that a command on one names.
+fn named(line: &[u8]) -> Option<usize> {
+    let line = String::from_utf8_lossy(line);
+    line.split(' ').filter(|word| !word.is_empty()).nth(1)?.parse().ok()
 }
 
 /// Whether a refused event has more pulses than its channel, which is loaded, has room for.
@@ -252,16 +297,17 @@ impl Writer {
     }
 
     /// Some commands of any kind that belong together.
-    fn commands(&mut self, set_up: &SetUp) -> Vec<Vec<u8>> {
+    fn commands(&mut self, set_up: &SetUp, rows: [usize; CHANNELS]) -> Vec<Vec<u8>> {
         let mut commands = match self.0.below(100) {
             0 | 1 => self.set_up_and_loads(),
             2..=4 => vec![self.damaged_set_up()],
-            5..=13 => vec![self.miscounted_or_no_number(set_up)],
-            14..=17 => vec![self.no_command()],
-            18..=23 => self.device_and_trials(set_up),
-            24..=28 => self.device_and_rule(set_up),
-            29..=34 => vec![self.covers(set_up)],
-            35 => vec![self.any_wheel()],
+            5..=14 => vec![self.miscounted_or_no_number(set_up)],
+            15 | 16 => vec![self.no_command()],
+            17..=23 => self.device_and_trials(set_up),
+            24..=29 => self.device_and_rule(set_up),
+            30..=35 => vec![self.covers(set_up)],
+            36 => vec![self.any_wheel()],
+            37 if self.0.once_in(3) => self.loads_about_rows(set_up, rows),
             _ => vec![self.call(set_up)],
         };
         if self.0.once_in(25) {
@@ -277,9 +323,9 @@ impl Writer {
     // Set-ups.
 
     fn set_up(&mut self) -> SetUp {
-        match self.0.below(6) {
+        match self.0.below(8) {
             // The sets of four things, which are 16 values.
-            0 => {
+            0 | 2 => {
                 let meet = (0..16u8).flat_map(|b| (0..16u8).map(move |c| b & c)).collect();
                 let raw = RawSetUp { events: self.0.between(1, 3), values: 16, top: 15, meet };
                 SetUp::new(raw).expect("intersections obey the laws")
@@ -348,12 +394,10 @@ impl Writer {
     fn call(&mut self, set_up: &SetUp) -> Vec<u8> {
         let channel = self.channel();
         match self.0.below(86) {
-            // Tables of many events are long, so most are loaded and not printed.
-            0..=17 if set_up.events() > 3 && !self.0.once_in(12) => self.load(&channel, set_up),
-            0..=8 => self.tokens("table", set_up),
-            9..=17 => self.tokens("dot", set_up),
-            18..=29 => self.load(&channel, set_up),
-            30..=48 => self.one_event(channel, set_up),
+            0..=8 => self.printed("table", &channel, set_up),
+            9..=17 => self.printed("dot", &channel, set_up),
+            18..=31 => self.load(&channel, set_up),
+            32..=48 => self.one_event(channel, set_up),
             49..=60 => self.events(channel, set_up),
             61..=65 => self.spaced(&["restart".to_string(), channel]),
             66 => self.spaced(&["restart".to_string(), "all".to_string()]),
@@ -362,6 +406,46 @@ impl Writer {
             80..=82 => self.tokens("trial", set_up),
             _ => "write".into(),
         }
+    }
+
+    /// A table to print. One of many entries is long, so most such are loaded and not printed, and the longest never.
+    fn printed(&mut self, command: &str, channel: &str, set_up: &SetUp) -> Vec<u8> {
+        let tokens = self.any_tokens(set_up);
+        let entries = table_of(set_up, &String::from_utf8_lossy(&tokens)).map_or(0, |table| table.entries().len());
+        if entries > 1024 || entries > 64 && !self.0.once_in(16) {
+            return self.with_tokens(&format!("load {channel}"), &tokens);
+        }
+        self.with_tokens(command, &tokens)
+    }
+
+    /// Loads into all channels of about as many rows as there is room for, at times one more, with clears and short rules among them, and
+    /// what those channels do then on one event again and again. So many rows are there before.
+    fn loads_about_rows(&mut self, set_up: &SetUp, mut rows: [usize; CHANNELS]) -> Vec<Vec<u8>> {
+        let event = self.0.below(set_up.events());
+        let mut commands = Vec::new();
+        for _ in 0..self.0.between(10, 25) {
+            let channel = self.0.below(CHANNELS);
+            match self.0.below(10) {
+                0..=4 => {
+                    let room = MAX_ROWS - (rows.iter().sum::<usize>() - rows[channel]);
+                    let states = self.0.rows_about(room);
+                    if states <= room {
+                        rows[channel] = states;
+                    }
+                    commands.push(format!("load {channel} {}", self.0.tokens_of_states(set_up, event, states)).into());
+                }
+                5 => {
+                    rows[channel] = 0;
+                    commands.push(format!("clear {channel}").into());
+                }
+                6 => commands.push(format!("show {channel}").into()),
+                _ => {
+                    let times = if self.0.once_in(4) { self.0.between(40, MAX_STATES) } else { self.0.between(1, 12) };
+                    commands.push(format!("events {channel}{}", format!(" {event}").repeat(times)).into());
+                }
+            }
+        }
+        commands
     }
 
     /// Few channels are used much, so that their histories grow long.
@@ -412,8 +496,8 @@ impl Writer {
 
     fn events(&mut self, channel: String, set_up: &SetUp) -> Vec<u8> {
         let length = match self.0.below(40) {
-            0 => self.0.between(1000, 4100),
-            1..=3 => 0,
+            0 if self.0.once_in(3) => self.0.between(1000, 4100),
+            0..=3 => 0,
             4..=8 => self.0.below(200),
             _ => self.0.below(12),
         };
@@ -488,10 +572,10 @@ impl Writer {
         .into()
     }
 
-    /// A load, more often of a good rule than not.
+    /// A load, about as often of a good rule as not.
     fn load(&mut self, channel: &str, set_up: &SetUp) -> Vec<u8> {
         let head = format!("load {channel}");
-        if self.0.once_in(2) {
+        if !self.0.once_in(3) {
             return self.tokens(&head, set_up);
         }
         format!("{head} {}", self.0.good_tokens(set_up)).into()
@@ -523,10 +607,14 @@ impl Writer {
     /// A command with tokens of any kind.
     fn tokens(&mut self, head: &str, set_up: &SetUp) -> Vec<u8> {
         let tokens = self.any_tokens(set_up);
+        self.with_tokens(head, &tokens)
+    }
+
+    fn with_tokens(&mut self, head: &str, tokens: &[u8]) -> Vec<u8> {
         let spaces = if self.0.once_in(12) { self.0.between(1, 3) } else { 1 };
         let mut line = head.as_bytes().to_vec();
         line.resize(head.len() + spaces, b' ');
-        line.extend_from_slice(&tokens);
+        line.extend_from_slice(tokens);
         line
     }
 
@@ -546,9 +634,10 @@ impl Writer {
     /// A device near a rule's table or any other, then trials.
     fn device_and_trials(&mut self, set_up: &SetUp) -> Vec<Vec<u8>> {
         let tokens = self.0.good_tokens(set_up);
-        let device = match (self.0.below(8), table_of(set_up, &tokens)) {
-            (0 | 1, _) => self.0.damaged_table(set_up),
-            (2, _) | (_, None) => self.0.table(set_up),
+        let device = match (self.0.below(16), table_of(set_up, &tokens)) {
+            (0 | 1, _) => self.0.damaged_device(set_up),
+            (2, _) => self.0.table(set_up),
+            (3 | 4, _) | (_, None) => self.0.device(set_up),
             (_, Some(table)) => self.0.device_near(set_up, &table),
         };
         let mut commands = vec![self.device(&device), format!("trial {tokens}").into()];
@@ -625,16 +714,16 @@ impl Writer {
 
     /// Comments, empty lines, words that name nothing, lines at the limit and beyond it; and help.
     fn no_command(&mut self) -> Vec<u8> {
-        match self.0.below(12) {
+        match self.0.below(9) {
             0 => Vec::new(),
             1 => " ".repeat(self.0.between(1, 4)).into(),
             2 => self.0.one_of(&["# a comment", "#", "  #event 0 0", "# setup 2 1 0 0"]).into(),
-            3..=6 => self
+            3..=5 => self
                 .0
                 .one_of(&["Event 0 0", "eventss 0 0", "even 0 0", "0", "show\t0", "show\r", "\u{e9}", "all", "set up 2", "-"])
                 .into(),
-            7..=9 => {
-                let length = LINE_BYTES - 1 + self.0.below(4);
+            6 => {
+                let length = LINE_BYTES + self.0.below(4);
                 let mut line = self.0.one_of(&["show 0", "# a comment", "", "restart 0", "events 0"]).as_bytes().to_vec();
                 line.resize(length, b' ');
                 if self.0.once_in(4) {
@@ -642,7 +731,7 @@ impl Writer {
                 }
                 line
             }
-            10 => self.0.one_of(&["help", " help", "help  "]).into(),
+            7 => self.0.one_of(&["help", " help", "help  "]).into(),
             _ => {
                 let length = self.0.below(20);
                 self.0.bytes(length).into_iter().filter(|&byte| byte != b'\n').collect()
@@ -678,7 +767,7 @@ fn rule_of(set_up: &SetUp, tokens: &str) -> Option<Rule> {
     Some(channel_file::read(text.as_bytes()).ok()?.rule)
 }
 
-/// The table of a rule in tokens, if it has at most 64 states.
+/// The table of a rule in tokens, if it has at most 256 states.
 fn table_of(set_up: &SetUp, tokens: &str) -> Option<Table> {
     Table::of_rule(set_up, &rule_of(set_up, tokens)?).ok()
 }
@@ -687,13 +776,15 @@ fn table_of(set_up: &SetUp, tokens: &str) -> Option<Table> {
 fn limits() -> Vec<Vec<u8>> {
     let mut commands = Vec::new();
     for states in [12, 13, 63, 64] {
-        commands.push(format!("load 0 {}T", "G0 ".repeat(states)));
+        commands.push(format!("load 0 {}", steps(states)));
         commands.push(chain(states));
         commands.push("write".to_string());
     }
     for nodes in [12, 13, 255, 256] {
         commands.push(format!("table {}", under(nodes, "T")));
         commands.push(format!("dot {}T", "A T ".repeat(nodes / 2)));
+        commands.extend(["table", "dot"].map(|command| format!("{command} {}", under(12, &steps(nodes / 12)))));
+        commands.push(format!("load 0 {}", "T ".repeat(nodes + 1).trim_end()));
     }
     // Twelve and thirteen binders: in either part of an A, in both together, with G nodes, and in rules that 6 to 9 refuse.
     for binders in [12, 13] {
@@ -717,24 +808,40 @@ fn limits() -> Vec<Vec<u8>> {
             commands.extend([format!("covers {tokens} / T"), format!("covers T / {tokens}")]);
         }
     }
-    // A device loop of 64 states against a rule loop of 63: the failing word has 64 × 63 events.
-    for (states, others) in [(64, 63), (63, 64), (64, 64), (61, 59)] {
+    // A device loop of 64 states against a rule loop of 251: the failing word has 64 × 251 events.
+    for (states, others) in [(64, 63), (63, 64), (64, 64), (64, 251), (64, 252), (65, 251)] {
         commands.push(device_of(states, |state| (if state + 1 == states { 3 } else { 1 }, (state + 1) % states)));
         commands.push(format!("trial V {}A O0.1 G0 X0", "G0 ".repeat(others - 1)));
     }
     // The same with the table of a rule's loop as the device.
-    for (states, others) in [(64, 63), (63, 64), (64, 64), (61, 59)] {
+    for (states, others) in [(64, 63), (61, 59), (63, 251), (65, 63)] {
         let first = format!("V {}G0 X0", "A O0.1 G0 ".repeat(states - 1));
         let second = format!("V {}A O0.1 G0 X0", "G0 ".repeat(others - 1));
         commands.push(format!("covers {first} / {second}"));
         commands.push(format!("covers {second} / {first}"));
     }
-    for (first, second) in [(63, 63), (63, 64), (64, 63), (255, 255), (255, 256), (256, 255)] {
-        commands.push(format!("covers {}T / {}T", "G0 ".repeat(first), "G0 ".repeat(second)));
+    for (first, second) in [(63, 63), (63, 64), (64, 63), (63, 255), (255, 255), (255, 256), (256, 255)] {
+        commands.push(format!("covers {} / {}", steps(first), steps(second)));
     }
     for (first, second) in [(12, 12), (12, 13), (13, 12), (255, 256), (256, 255)] {
         commands.push(format!("covers {} / {}", under(first, "T"), under(second, "T")));
     }
+    // Lines of as many bytes as there may be, and of one more.
+    for length in [LINE_BYTES, LINE_BYTES + 1, LINE_BYTES + 1] {
+        commands.extend(["show 0", "# a comment", "restart 0", "help", "clear 8"].map(|command| format!("{command:length$}")));
+    }
+    commands.extend(several("setup, setup 1, setup 1 1, help, restart 8, show 8, event 8 0, help, covers G1 T / T"));
+    commands.extend([8, 9, 10, 16, 255, 256, 65_536].map(|channel| format!("clear {channel}")));
+    // Rules on each of sixteen events.
+    let sixteen = SET_UP.replacen("setup 1 ", "setup 16 ", 1);
+    for event in 0..16 {
+        commands.extend([
+            sixteen.clone(),
+            format!("load 0 V A O{event}.1 G{event} X0"),
+            format!("events 0 0 {event} {event} 15"),
+        ]);
+    }
+    commands.push(SET_UP.to_string());
     // Each inner binder has its outer one's demands twice or ten times: plain recursion takes up to 10^11 steps. The last two are 23.
     for (brackets, variables) in [(3, 2), (7, 2), (11, 2), (11, 10), (12, 2), (42, 2)] {
         let tokens = inner_binders(brackets, variables);
@@ -749,6 +856,101 @@ fn limits() -> Vec<Vec<u8>> {
         commands.push(format!("trial V {}X0", "G0 ".repeat(63)));
         commands.push("trial T".to_string());
     }
+    commands.into_iter().map(String::into_bytes).collect()
+}
+
+/// Commands at document 02's limits of states, for one event: 256 of a rule and of any device but a trial's, 64 of that.
+fn limits_of_states() -> Vec<Vec<u8>> {
+    let mut commands = Vec::new();
+    // 15 × 17 states, one more for what is demanded on the first event alone, two more for what is demanded on the second.
+    let most = joined_loops(15, 17);
+    let rules = [
+        steps(64),
+        steps(254),
+        steps(255),
+        most.clone(),
+        format!("A O0.1 {most}"),
+        format!("A {most} O0.2"),
+        format!("V {}X0", "G0 ".repeat(250)),
+        format!("A {most} G0 O0.1"),
+        joined_loops(16, 17),
+        steps(256),
+    ];
+    for tokens in &rules {
+        commands.extend([format!("table {tokens}"), format!("load 0 {tokens}")]);
+        commands.extend([format!("covers T / {tokens}"), format!("covers {tokens} / T"), format!("covers {tokens} / X0")]);
+        for states in [1, 64, 65] {
+            commands.extend([chain(states), format!("trial {tokens}")]);
+        }
+        commands.push(device_of(64, |state| (0, (state + 1) % 64)));
+        commands.extend([format!("trial {tokens}"), "clear 0".to_string()]);
+    }
+    commands.extend([0, 2, 4, 5, 8].map(|rule| format!("dot {}", rules[rule])));
+    // The rules of 256 states once more, against devices of any size that pass and that fail.
+    for rule in [2, 4, 5] {
+        for states in [1, 2, 3, 16, 31, 63, 64] {
+            commands.push(device_of(states, |state| (state % 4, (state * 7 + 5) % states)));
+            commands.push(format!("trial {}", rules[rule]));
+            commands.push(format!("covers V {}X0 / {}", "A O0.1 G0 ".repeat(states), rules[rule]));
+        }
+    }
+    // From its last state on a chain is one state long, whatever stands before it.
+    for states in [64, 65, 255, 256, 257] {
+        for start in [states - 1, states - 2, states - 12, states - 13, 0, states] {
+            let device = chain(states).replacen(" 0", &format!(" {start}"), 1);
+            commands.extend([device, "write".to_string(), "trial T".to_string()]);
+        }
+    }
+    for start in 245..256 {
+        commands.extend([chain(256).replacen(" 0", &format!(" {start}"), 1), "write".to_string()]);
+    }
+    // A number that no byte holds is no next state, and no value.
+    for number in ["254", "255", "256", "257", "511", "65535", "65791", "4294967551", "18446744073709551871"] {
+        let before = chain(256).replacen(" 0", " 255", 1);
+        let before = before.rsplit_once(" 3 ").expect("the last entry has value 3").0;
+        commands.extend([format!("{before} 3 {number}"), "write".to_string()]);
+        commands.extend([format!("{before} {number} 255"), "write".to_string()]);
+        commands.extend([format!("device 1 0 3 {number}"), "trial T".to_string(), "write".to_string()]);
+    }
+    commands.into_iter().map(String::into_bytes).collect()
+}
+
+/// Commands at document 02's limit of rows, for one event.
+fn limits_of_rows() -> Vec<Vec<u8>> {
+    let mut commands = vec![SET_UP.to_string()];
+    let load = |channel: usize, states: usize| format!("load {channel} {}", steps(states - 1));
+    // 256 + 256 + 1, with the rule's own refusals before 25; then a row less.
+    commands.extend([load(3, 256), load(5, 256), load(0, 1), load(4, 1), load(7, 1), load(8, 1), load(5, 256)]);
+    commands.extend(several("load 7 V X0, load 7 X0, load 7 A T, load 7 G1 T, event 7 0, show 3, show 5, clear 7"));
+    commands.push(format!("load 7 {}", joined_loops(16, 17)));
+    commands.extend([load(5, 255), load(7, 2), load(7, 1), load(6, 1)]);
+    // Each has 64 rows; its own are free, and no more.
+    commands.push(SET_UP.to_string());
+    commands.extend((0..CHANNELS).map(|channel| load(channel, 64)));
+    for channel in 0..CHANNELS {
+        commands.extend([load(channel, 65), load(channel, 64), format!("show {channel}")]);
+    }
+    // A long rule that comes, is replaced by a short one, comes again and goes, between others that go on.
+    for long in [0, 3, 7] {
+        commands.push(SET_UP.to_string());
+        let others: Vec<usize> = (0..CHANNELS).filter(|&channel| channel != long).collect();
+        let on_others = |command: &str, end: &str| -> Vec<String> {
+            others.iter().map(|channel| format!("{command} {channel}{end}")).collect()
+        };
+        commands
+            .extend(others.iter().map(|&channel| format!("load {channel} {}O0.{}", "G0 ".repeat(28 + channel), channel % 3)));
+        commands.extend(on_others("events", &" 0".repeat(20)));
+        for (steps, times) in [(253, 256), (1, 4), (253, 300)] {
+            commands.push(format!("load {long} {}O0.1", "G0 ".repeat(steps)));
+            commands.extend(on_others("events", " 0 0"));
+            commands.push(format!("events {long}{}", " 0".repeat(times)));
+        }
+        commands.push(format!("clear {long}"));
+        commands.extend(on_others("events", &" 0".repeat(12)));
+        commands.push("restart all".to_string());
+        commands.extend(on_others("events", &" 0".repeat(38)));
+    }
+    commands.push(SET_UP.to_string());
     commands.into_iter().map(String::into_bytes).collect()
 }
 
@@ -798,6 +1000,17 @@ fn wheel_at_set_ups(pulses: &str, millimetres: &str) -> Vec<String> {
 /// Commands with a comma between two.
 fn several(commands: &str) -> Vec<String> {
     commands.split(", ").map(str::to_string).collect()
+}
+
+/// Event 0 so many times, then T.
+fn steps(count: usize) -> String {
+    "G0 ".repeat(count) + "T"
+}
+
+/// Two loops on event 0, of these lengths, joined by A.
+fn joined_loops(first: usize, second: usize) -> String {
+    let of = |length: usize| format!("V {}X0", "G0 ".repeat(length));
+    format!("A {} {}", of(first), of(second))
 }
 
 /// A chain of states whose last returns to itself, as a device.

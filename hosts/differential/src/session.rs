@@ -10,8 +10,8 @@ use gurvazze_reference::trial::{covers, trial_of_rule, Grade, Outcome, WORD_BYTE
 use gurvazze_reference::values::{RawSetUp, SetUp};
 use gurvazze_reference::{channel_file, characteristic, render, Refusal};
 
-/// "A line has at most 8,192 bytes".
-pub const LINE_BYTES: usize = 8192;
+/// "A line has at most 32,768 bytes".
+pub const LINE_BYTES: usize = 32_768;
 
 const HELP: &str = "\
 setup EVENTS VALUES TOP MEET...   the set-up; channels are empty
@@ -95,6 +95,16 @@ impl Session {
         self.ready.as_ref().map(|ready| &ready.tool)
     }
 
+    /// How many rows each channel has (document 02, F-12).
+    pub fn rows(&self) -> [usize; CHANNELS] {
+        self.tool().map_or([0; CHANNELS], |tool| std::array::from_fn(|channel| tool.channels[channel].states))
+    }
+
+    /// The device, once one was kept.
+    pub fn device(&self) -> Option<&RawTable> {
+        self.device.as_ref()
+    }
+
     /// The wheel that the next set-up is given.
     pub fn wheel(&self) -> Wheel {
         self.wheel
@@ -165,10 +175,16 @@ impl Session {
         Ok("ok\n".to_string())
     }
 
-    /// The device is judged when it is used.
+    /// The device is judged when it is used. A number that no byte holds is too large in every table: the device is kept as one of no
+    /// states, which is 11 too.
     fn keep_device(&mut self, line: &Line) -> Reply {
         line.at_least(3)?;
-        self.device = Some(RawTable { states: line.number(1)?, start: line.number(2)?, bytes: line.bytes_from(3)? });
+        let (states, start, numbers) = (line.number(1)?, line.number(2)?, line.numbers_from(3)?);
+        let bytes: Option<Vec<u8>> = numbers.into_iter().map(|number| u8::try_from(number).ok()).collect();
+        self.device = Some(match bytes {
+            Some(bytes) => RawTable { states, start, bytes },
+            None => RawTable { states: 0, start, bytes: Vec::new() },
+        });
         Ok("ok\n".to_string())
     }
 }
@@ -353,7 +369,7 @@ impl<'a> Line<'a> {
         self.words[index.min(self.words.len())..].iter().map(|word| number(word)).collect()
     }
 
-    /// Numbers above 255 stand as 255, too large all the same.
+    /// Numbers above 255 stand as 255, too large for a value all the same.
     fn bytes_from(&self, index: usize) -> Result<Vec<u8>, Problem> {
         Ok(self.numbers_from(index)?.into_iter().map(|number| u8::try_from(number).unwrap_or(u8::MAX)).collect())
     }

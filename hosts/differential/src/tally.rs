@@ -8,12 +8,12 @@ use crate::session::Answer;
 const ENOUGH: usize = 20;
 
 /// Every answer that each command can have.
-const EXPECTED: [(&str, &str); 27] = [
+const EXPECTED: [(&str, &str); 32] = [
     ("setup", "ok refused=1 refused=2 refused=3 refused=18 error=arguments error=number"),
     ("wheel", "ok error=arguments error=number"),
     ("table", "states refused=5 refused=6 refused=7 refused=8 refused=23 refused=9 refused=10 error=setup error=tokens"),
     ("dot", "digraph refused=5 refused=6 refused=7 refused=8 refused=23 refused=9 refused=10 error=setup error=tokens"),
-    ("load", "states refused=5 refused=6 refused=7 refused=8 refused=23 refused=9 refused=10 refused=14"),
+    ("load", "states refused=5 refused=6 refused=7 refused=8 refused=23 refused=9 refused=10 refused=25 refused=14"),
     ("load", "error=setup error=arguments error=number error=tokens"),
     ("event", "value mm refused=14 refused=15 refused=16 refused=19 error=setup error=arguments error=number"),
     ("events", "values refused=14 refused=15 refused=16 error=setup error=arguments error=number"),
@@ -27,7 +27,8 @@ const EXPECTED: [(&str, &str); 27] = [
         "pass=same pass=stricter fail refused=5 refused=6 refused=7 refused=8 refused=23 refused=9 refused=10 refused=11",
     ),
     ("trial", "error=setup error=device error=tokens"),
-    ("covers", "yes no refused=5 refused=6 refused=7 refused=8 refused=23 refused=9 refused=10 error=setup error=tokens"),
+    ("covers", "yes no refused=5 refused=6 refused=7 refused=8 refused=23 refused=9 refused=10 refused=11"),
+    ("covers", "error=setup error=tokens"),
     ("write", "rule refused=11 refused=12 refused=23 error=setup error=arguments error=device"),
     ("help", "help"),
     ("unknown", "error=command"),
@@ -46,7 +47,22 @@ const EXPECTED: [(&str, &str); 27] = [
     ("inner binder in", "table dot load trial covers"),
     // Rules that were accepted, or written, with as many binders on a path as it may have.
     ("twelve binders in", "table dot load trial covers write"),
+    // Rules that were accepted, and devices that were written, with more states than document 01 alone has.
+    ("over 64 states in", "load trial covers write"),
+    // Those of as many states as there may be.
+    ("256 states in", "load trial covers write"),
+    // Accepted loads and clears in a channel that was loaded and has a loaded one behind it; loads after which there is no room left, and
+    // those that have room only where the old rows were.
+    ("store", "grows shrinks closes full reuses"),
+    // Loads that 25 refuses, in a loaded channel and in an empty one.
+    ("no rows for", "loaded empty"),
 ];
+
+/// Answers that are long, so that there are few of them.
+const LONG: [(&str, &str); 2] = [("over 64 states in", "table dot"), ("256 states in", "table dot")];
+
+/// So few of them are enough.
+const ENOUGH_LONG: usize = 2;
 
 /// Counts by command and kind of answer.
 #[derive(Default)]
@@ -65,9 +81,13 @@ impl Tally {
 
     /// What hardly arose, though it should.
     pub fn missing(&self) -> Vec<String> {
-        let all = EXPECTED.iter().flat_map(|&(command, kinds)| kinds.split(' ').map(move |kind| (command, kind)));
-        all.filter(|&(command, kind)| self.0.get(&(command, kind.to_string())).is_none_or(|&count| count < ENOUGH))
-            .map(|(command, kind)| format!("{command} {kind}"))
+        let each = |these: &'static [(&str, &str)], enough: usize| {
+            these.iter().flat_map(move |&(command, kinds)| kinds.split(' ').map(move |kind| (command, kind, enough)))
+        };
+        each(&EXPECTED, ENOUGH)
+            .chain(each(&LONG, ENOUGH_LONG))
+            .filter(|&(command, kind, enough)| self.0.get(&(command, kind.to_string())).is_none_or(|&count| count < enough))
+            .map(|(command, kind, _)| format!("{command} {kind}"))
             .collect()
     }
 

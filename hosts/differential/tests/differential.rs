@@ -12,8 +12,11 @@ use gurvazze_reference::generate::{
     has_most_binders, has_variable_under_inner_binder, inner_binders, under, Generator, RawTable,
 };
 use gurvazze_reference::table::Table;
-use gurvazze_reference::trial::{first_word, same_values, Grade, Outcome};
+use gurvazze_reference::trial::{first_word, same_values, Grade, Outcome, WORD_BYTES};
 use gurvazze_reference::values::{RawSetUp, SetUp};
+
+/// Every table has room in so many bytes: 256 states, 16 events, two bytes an entry.
+const TABLE_BYTES: usize = 8192;
 
 /// So many seeds, times the number in the environment's SEEDS_TIMES where there is one.
 fn seeds(count: u64) -> std::ops::Range<u64> {
@@ -54,6 +57,7 @@ impl Tally {
 /// A channel file, good or damaged.
 fn text(generator: &mut Generator) -> Vec<u8> {
     match generator.below(10) {
+        0 if generator.once_in(3) => large_file(generator),
         0..=5 => generator.file(),
         6 | 7 => generator.loose_file(),
         8 => generator.damaged_file(),
@@ -62,6 +66,14 @@ fn text(generator: &mut Generator) -> Vec<u8> {
             generator.long_file(length)
         }
     }
+}
+
+/// A channel file whose rule has many states (document 02, F-12), at times too many.
+fn large_file(generator: &mut Generator) -> Vec<u8> {
+    let set_up = generator.set_up();
+    let event = generator.below(set_up.events());
+    let rule = generator.large_rule(&set_up, event);
+    channel_file::to_text(&set_up, &rule).into_bytes()
 }
 
 /// A good channel file and what it says.
@@ -100,28 +112,31 @@ fn shown(text: &[u8]) -> String {
 #[test]
 fn tables() {
     let mut tally = Tally::default();
-    let (mut wide, mut deep) = (0, 0);
+    let (mut wide, mut deep, mut large, mut most) = (0, 0, 0, 0);
     for seed in seeds(100_000) {
         let mut generator = Generator::new(seed);
         let text = text(&mut generator);
-        let output = match table::reference(&text, &[0; 2048]).0 {
+        let output = match table::reference(&text, &[0; TABLE_BYTES]).0 {
             Ok((states, events, _, _)) => states * events * 2,
-            Err(_) => 2048,
+            Err(_) => 512,
         };
         let old = buffer(&mut generator, output);
         let library = table::library(&text, &old);
         wide += usize::from(library.0.is_ok() && is_wide(&text));
         deep += usize::from(library.0.is_ok() && is_deep(&text));
+        large += usize::from(library.0.is_ok_and(|numbers| numbers.0 > 64));
+        most += usize::from(library.0.is_ok_and(|numbers| numbers.0 == 256));
         tally.compare(library, table::reference(&text, &old), &old, || format!("seed {seed}: {}", shown(&text)));
     }
     tally.has(&[0, 1, 2, 3, 4, 5, 6, 7, 8, 23, 9, 10, 13]);
     assert!(wide > 1000 && deep > 200, "{wide} wide, {deep} deep");
+    assert!(large > 1000 && most > 200, "{large} of more than 64 states, {most} of 256");
 }
 
 #[test]
 fn replays() {
     let mut tally = Tally::default();
-    let (mut wide, mut deep) = (0, 0);
+    let (mut wide, mut deep, mut far) = (0, 0, 0);
     for seed in seeds(50_000) {
         let mut generator = Generator::new(seed);
         let (text, events) = if generator.once_in(4) {
@@ -130,8 +145,22 @@ fn replays() {
             let (text, file) = good(&mut generator);
             (text, file.set_up.events())
         };
-        let length = if generator.once_in(50) { generator.below(20_000) } else { generator.below(200) };
-        let mut word: Vec<u8> = (0..length).map(|_| generator.below(events) as u8).collect();
+        let (text, events, often) = match generator.below(20) {
+            // An event that a long rule goes far on.
+            0 => {
+                let set_up = generator.set_up();
+                let event = generator.below(set_up.events());
+                let rule = generator.large_rule(&set_up, event);
+                (channel_file::to_text(&set_up, &rule).into_bytes(), set_up.events(), Some(event as u8))
+            }
+            _ => (text, events, None),
+        };
+        let length = match often {
+            Some(_) => generator.between(200, 600),
+            None if generator.once_in(50) => generator.below(20_000),
+            None => generator.below(200),
+        };
+        let mut word: Vec<u8> = (0..length).map(|_| often.unwrap_or_else(|| generator.below(events) as u8)).collect();
         if length > 0 && generator.once_in(6) {
             let at = generator.below(length);
             word[at] = (events + generator.one_of(&[0, 1, 16, 200])) as u8;
@@ -140,31 +169,33 @@ fn replays() {
         let library = replay::library(&text, &word, &old);
         wide += usize::from(library.0.is_ok() && is_wide(&text));
         deep += usize::from(library.0.is_ok() && is_deep(&text));
+        far += usize::from(library.0.is_ok() && often.is_some());
         tally.compare(library, replay::reference(&text, &word, &old), &old, || {
             format!("seed {seed}: {} {word:?}", shown(&text))
         });
     }
     tally.has(&[0, 1, 2, 3, 4, 5, 6, 7, 8, 23, 9, 10, 13, 16]);
-    assert!(wide > 1000 && deep > 200, "{wide} wide, {deep} deep");
+    assert!(wide > 1000 && deep > 200 && far > 500, "{wide} wide, {deep} deep, {far} by long rules");
 }
 
 /// A device: any table, one near the rule's, or a damaged one.
 fn device(generator: &mut Generator, set_up: &SetUp, rule: Option<&Table>) -> RawTable {
     match (generator.below(8), rule) {
-        (0, _) => generator.damaged_table(set_up),
-        (1, _) | (_, None) => generator.table(set_up),
+        (0, _) => generator.damaged_device(set_up),
+        (1, _) | (_, None) => generator.device(set_up),
         (_, Some(table)) => generator.device_near(set_up, table),
     }
 }
 
 fn word_buffer(generator: &mut Generator) -> Vec<u8> {
     let length = match generator.below(12) {
-        0 => 4095,
-        1 => generator.below(4096),
-        2 => 4096,
-        _ => 4096 + generator.below(100),
+        0 => WORD_BYTES - 1,
+        1 => generator.below(WORD_BYTES),
+        2 => WORD_BYTES,
+        _ => WORD_BYTES + generator.below(100),
     };
-    generator.bytes(length)
+    let first = generator.below(256);
+    (0..length).map(|index| (first + 7 * index) as u8).collect()
 }
 
 /// After the word's last event the device's value is not at or below the table's, and before it is everywhere.
@@ -227,10 +258,15 @@ fn trials() {
     let mut tally = Tally::default();
     let mut verdicts = Verdicts::default();
     let mut of_wide = Verdicts::default();
+    let mut of_large = Verdicts::default();
     let mut deep = 0;
     for seed in seeds(50_000) {
         let mut generator = Generator::new(seed);
-        let text = if generator.once_in(4) { text(&mut generator) } else { generator.file() };
+        let text = match generator.below(16) {
+            0..=3 => text(&mut generator),
+            4 => large_file(&mut generator),
+            _ => generator.file(),
+        };
         let file = channel_file::read(&text).ok();
         let of_rule = file.as_ref().and_then(|file| Table::of_rule(&file.set_up, &file.rule).ok());
         let set_up = file.map_or_else(|| generator.set_up(), |file| file.set_up);
@@ -239,7 +275,13 @@ fn trials() {
         let library = trial::library(&text, &device, &old);
         deep += usize::from(library.0.is_ok() && is_deep(&text));
         if let (Ok(outcome), Some(table)) = (library.0, &of_rule) {
-            let verdicts = if is_wide(&text) { &mut of_wide } else { &mut verdicts };
+            let verdicts = if table.states() > 64 {
+                &mut of_large
+            } else if is_wide(&text) {
+                &mut of_wide
+            } else {
+                &mut verdicts
+            };
             verdicts.judge(&set_up, &device, table, outcome, &library.1);
         }
         tally.compare(library, trial::reference(&text, &device, &old), &old, || {
@@ -249,6 +291,7 @@ fn trials() {
     tally.has(&[0, 1, 2, 3, 4, 5, 6, 7, 8, 23, 9, 10, 11, 13]);
     verdicts.are_many(1000);
     of_wide.are_many(200);
+    of_large.are_many(100);
     assert!(deep > 200, "{deep}");
 }
 
@@ -256,6 +299,7 @@ fn trials() {
 fn trials_of_tables() {
     let mut tally = Tally::default();
     let mut verdicts = Verdicts::default();
+    let mut of_large = Verdicts::default();
     for seed in seeds(50_000) {
         let mut generator = Generator::new(seed);
         let set_up = generator.set_up();
@@ -268,6 +312,7 @@ fn trials_of_tables() {
         // A damaged set-up may be another good one.
         if let (Ok(outcome), Ok(set_up)) = (library.0, SetUp::new(raw.clone())) {
             let typed = RawTable { start: 0, ..table.clone() }.lent().table(&set_up).unwrap();
+            let verdicts = if typed.states() > 64 { &mut of_large } else { &mut verdicts };
             verdicts.judge(&set_up, &device, &typed, outcome, &library.1);
         }
         tally.compare(library, trial_table::reference(&raw, &table, &device, &old), &old, || {
@@ -276,12 +321,13 @@ fn trials_of_tables() {
     }
     tally.has(&[0, 1, 2, 3, 11, 13]);
     verdicts.are_many(1000);
+    of_large.are_many(20);
 }
 
 /// Document 02, F-14: one rule implies another exactly if its table, as a device, passes.
 #[test]
 fn covering() {
-    let (mut yes, mut no, mut refused, mut longest, mut wide, mut deep) = (0, 0, 0, 0, 0, 0);
+    let (mut yes, mut no, mut refused, mut no_device, mut longest, mut wide, mut deep) = (0, 0, 0, 0, 0, 0, 0);
     for seed in seeds(30_000) {
         let mut generator = Generator::new(seed);
         let set_up = generator.set_up();
@@ -297,11 +343,13 @@ fn covering() {
                 no += 1;
                 longest = longest.max(word.len());
             }
+            // The first rule has more states than a device may have (document 02, F-12).
+            Err((11, _)) => no_device += 1,
             Err(_) => refused += 1,
         }
     }
-    println!("{yes} yes, {no} no, {refused} refused, longest word {longest}, {wide} with an inner binder, {deep} deep");
-    assert!(yes > 5000 && no > 5000 && refused > 500 && longest > 20 && wide > 1000 && deep > 200);
+    println!("{yes} yes, {no} no, {refused} refused, {no_device} no device, longest {longest}, {wide} with an inner binder, {deep} deep");
+    assert!(yes > 5000 && no > 5000 && refused > 200 && no_device > 200 && longest > 20 && wide > 1000 && deep > 200);
 }
 
 /// Document 02, F-14: two rules joined by A have the meet of both values.
@@ -378,9 +426,9 @@ fn grades_of_loops() {
     let mut tally = Tally::default();
     let one = RawSetUp::four_values(1);
     for (low, grade) in [(usize::MAX, Grade::Same), (0, Grade::Stricter), (63, Grade::Stricter)] {
-        for others in [1, 63, 64] {
+        for others in [1, 63, 64, 65, 255, 256] {
             let (device, table) = (ring(64, low), ring(others, usize::MAX));
-            let old = vec![170; 4096];
+            let old = vec![170; WORD_BYTES];
             let library = trial_table::library(&one, &table, &device, &old);
             assert_eq!(library.0, Ok(Outcome::Passes(grade)));
             tally.compare(library, trial_table::reference(&one, &table, &device, &old), &old, || {
@@ -388,6 +436,11 @@ fn grades_of_loops() {
             });
         }
     }
+}
+
+/// Two loops on event 0, of these lengths, joined by A.
+fn loops(first: usize, second: usize) -> String {
+    format!("A V {}X0 V {}X0", "G0 ".repeat(first), "G0 ".repeat(second))
 }
 
 /// About twelve binders on a path (document 02, F-9): in a row, in either part of an A, with G nodes between, in rules that other
@@ -413,6 +466,7 @@ fn deep_rules() -> impl Iterator<Item = String> {
             under(binders, "T T"),
             under(binders, "G16 T"),
             under(binders, &("G0 ".repeat(64) + "T")),
+            under(binders - 1, &loops(16, 17)),
             deep,
         ]
     });
@@ -431,7 +485,14 @@ fn limits() {
     let steps = |count: usize| format!("{}T", "G0 ".repeat(count));
     let mut texts: Vec<Vec<u8>> = Vec::new();
     for events in [1, 2, 16] {
-        texts.extend([0, 1, 62, 63, 64, 100, 255, 256].map(|count| four(&steps(count), events)));
+        texts.extend([0, 1, 62, 63, 64, 100, 254, 255, 256].map(|count| four(&steps(count), events)));
+        // About 256 states: 15 × 17, the empty set, and what is demanded on the first events alone; then 16 × 17.
+        for (first, second) in [(15, 16), (15, 17), (16, 17)] {
+            let both = loops(first, second);
+            texts.extend(
+                [both.clone(), format!("A O0.1 {both}"), format!("A {both} G0 O0.1")].map(|items| four(&items, events)),
+            );
+        }
         texts.extend(deep_rules().map(|items| four(&items, events)));
         texts.push(four(&format!("{}T{}", "A ".repeat(127), " T".repeat(127)), events));
         texts.push(four(&format!("{}T{}", "A T ".repeat(127), ""), events));
@@ -448,14 +509,16 @@ fn limits() {
         }
     }
     for text in &texts {
-        for length in [0, 1, 2, 127, 128, 2047, 2048, 3000] {
+        for length in [0, 1, 2, 127, 128, 511, 512, 1023, 1024, 8191, 8192, 9000] {
             let old = vec![170; length];
             tally.compare(table::library(text, &old), table::reference(text, &old), &old, || shown(text));
         }
     }
     // One event, a chain of states whose last returns to itself: 49 nodes for 12 states, then 23; 12 for 64.
     let one = RawSetUp::four_values(1);
-    for (states, answer) in [(1, Ok(5)), (2, Ok(9)), (12, Ok(49)), (13, Err(23)), (62, Err(23)), (63, Err(23)), (64, Err(12))] {
+    let chains = [(1, Ok(5)), (2, Ok(9)), (12, Ok(49)), (13, Err(23)), (62, Err(23)), (63, Err(23)), (64, Err(12))];
+    let long_chains = [(65, Err(12)), (255, Err(12)), (256, Err(12)), (257, Err(11)), (512, Err(11))];
+    for (states, answer) in chains.into_iter().chain(long_chains) {
         let chain = RawTable::chain(states, 3);
         for length in [0, 3, 145, 146, 147, 148, 756, 757, 758, 759, 768] {
             let old = vec![170; length];
@@ -466,18 +529,55 @@ fn limits() {
             tally.compare(library, rule::reference(&one, &chain, &old), &old, || format!("{chain:?}"));
         }
     }
-    // A device loop of 64 states against a rule loop of 63: the failing word has 64 × 63 events.
-    for (device, table) in [(64, 63), (63, 64), (64, 64), (61, 59)] {
+    // From its last states on a chain is short, whatever stands before it.
+    for states in [64, 65, 255, 256, 257] {
+        for left in [0, 1, 11, 12, 13] {
+            let chain = RawTable { start: states - left, ..RawTable::chain(states, 3) };
+            let old = vec![170; 768];
+            let library = rule::library(&one, &chain, &old);
+            let answer = match left {
+                _ if states > 256 => Err((11, None)),
+                0 => Err((11, None)),
+                13 => Err((23, None)),
+                left => Ok(4 * left + 1),
+            };
+            assert_eq!(library.0, answer, "{states} states from {}", chain.start);
+            tally.compare(library, rule::reference(&one, &chain, &old), &old, || format!("{chain:?}"));
+        }
+    }
+    // A table of 65 states is no device, one of 257 no table.
+    for states in [1, 63, 64, 65, 255, 256, 257, 512] {
+        let (small, large) = (ring(1, 0), ring(states, usize::MAX));
+        let old = vec![170; WORD_BYTES];
+        let text = four("T", 1);
+        let as_device = if states > 64 { Err((11, None)) } else { Ok(Outcome::Passes(Grade::Same)) };
+        let as_table = if states > 256 { Err((11, None)) } else { Ok(Outcome::Passes(Grade::Stricter)) };
+        let by_text = trial::library(&text, &large, &old);
+        let by_tables = trial_table::library(&one, &ring(1, usize::MAX), &large, &old);
+        assert_eq!((by_text.0, by_tables.0), (as_device, as_device), "{states} states");
+        tally.compare(by_text, trial::reference(&text, &large, &old), &old, || format!("{large:?}"));
+        tally.compare(by_tables, trial_table::reference(&one, &ring(1, usize::MAX), &large, &old), &old, || {
+            format!("{large:?}")
+        });
+        let library = trial_table::library(&one, &large, &small, &old);
+        assert_eq!(library.0, as_table, "{states} states");
+        tally.compare(library, trial_table::reference(&one, &large, &small, &old), &old, || format!("{large:?}"));
+    }
+    // A device loop of 63 states against a rule loop of 254: the failing word has 63 × 254 events.
+    for (device, table) in [(64, 63), (63, 64), (64, 64), (61, 59), (63, 254), (64, 255), (64, 256), (63, 256)] {
         let mut device = ring(device, usize::MAX);
         device.bytes.iter_mut().step_by(2).for_each(|value| *value = 1);
         let last = 2 * (device.states - 1);
         device.bytes[last] = 3;
         let table = ring(table, table - 1);
-        for length in [4095, 4096, 5000] {
+        for length in [4096, WORD_BYTES - 1, WORD_BYTES, 17_000] {
             let old = vec![170; length];
             let library = trial_table::library(&one, &table, &device, &old);
-            if (device.states, table.states, length) == (64, 63, 4096) {
-                assert_eq!(library.0, Ok(Outcome::Fails(64 * 63)));
+            match (device.states, table.states) {
+                _ if length < WORD_BYTES => assert_eq!(library.0, Err((13, None))),
+                (63, 254) => assert_eq!(library.0, Ok(Outcome::Fails(16_002))),
+                (64, 255) => assert_eq!(library.0, Ok(Outcome::Fails(16_320))),
+                _ => {}
             }
             tally.compare(library, trial_table::reference(&one, &table, &device, &old), &old, || {
                 format!("{device:?} {table:?}")

@@ -1,8 +1,8 @@
 //! Seeded random inputs, good and damaged, for property tests and for comparing two versions. Equal seeds give equal inputs.
 
 use crate::formula::{joined, Node, Rule, MAX_BINDERS, MAX_NODES};
-use crate::table::{Entry, Table, MAX_STATES};
-use crate::tool::{Call, Wheel, MAX_PER_TURN, MAX_TOTAL};
+use crate::table::{Entry, Table, MAX_DEVICE_STATES, MAX_STATES};
+use crate::tool::{Call, Wheel, CHANNELS, MAX_PER_TURN, MAX_ROWS, MAX_TOTAL};
 use crate::values::{RawSetUp, SetUp, MAX_VALUES};
 use crate::{channel_file, characteristic};
 
@@ -307,26 +307,107 @@ impl Generator {
         }
     }
 
-    /// A rule of loops of different lengths, which has many states and often too many.
+    /// A rule of loops of different lengths, which has many states and often too many; at times all of them are on one event.
     pub fn rule_of_loops(&mut self, set_up: &SetUp) -> Rule {
         let loops = self.between(1, 4);
+        let same_event = self.once_in(2).then(|| self.below(set_up.events()));
         let mut nodes = Vec::new();
         for index in 0..loops {
             if index + 1 < loops {
                 nodes.push(Node::Both);
             }
-            nodes.push(Node::Greatest);
-            let event = self.below(set_up.events()) as u8;
-            for _ in 0..self.one_of(&[1, 2, 3, 4, 5, 7, 8, 13]) {
-                nodes.push(Node::After(event));
-                if self.once_in(3) {
-                    nodes.push(Node::Both);
-                    nodes.push(Node::Output(event, self.below(set_up.values()) as u8));
-                }
-            }
-            nodes.push(Node::Variable(0));
+            let event = same_event.unwrap_or_else(|| self.below(set_up.events()));
+            let length = self.one_of(&[1, 2, 3, 4, 5, 7, 8, 13, 16, 17]);
+            self.add_loop(set_up, event, length, &mut nodes);
         }
         Rule::from_bytes(set_up, &bytes_of(&nodes)).expect("no refusal holds of the rule")
+    }
+
+    /// A loop of so many G nodes, some of them with a demand before them.
+    fn add_loop(&mut self, set_up: &SetUp, event: usize, length: usize, nodes: &mut Vec<Node>) {
+        let event = event as u8;
+        nodes.push(Node::Greatest);
+        for _ in 0..length {
+            if self.once_in(3) {
+                nodes.extend([Node::Both, Node::Output(event, self.below(set_up.values()) as u8)]);
+            }
+            nodes.push(Node::After(event));
+        }
+        nodes.push(Node::Variable(0));
+    }
+
+    /// A rule whose table has so many states, 1 to 256: this event again and again, with demands on the way as far as nodes are left.
+    pub fn rule_of_states(&mut self, set_up: &SetUp, event: usize, states: usize) -> Rule {
+        let event = event as u8;
+        // The empty set is a state, and so is a demand at the end.
+        let last = if states > 1 { Node::Output(event, self.below(set_up.values()) as u8) } else { Node::True };
+        let steps = states.saturating_sub(2);
+        let mut left = (MAX_NODES - steps - 1) / 2;
+        let mut nodes = Vec::new();
+        for step in 0..steps {
+            // As many demands as there is room for, anywhere.
+            if left > 0 && self.below(steps - step) < left {
+                left -= 1;
+                nodes.extend([Node::Both, Node::Output(event, self.below(set_up.values()) as u8)]);
+            }
+            nodes.push(Node::After(event));
+        }
+        nodes.push(last);
+        Rule::from_nodes(nodes).expect("no refusal holds of the rule")
+    }
+
+    /// A rule of many states on one event, more than a device may have: at times as many as there may be, or too many.
+    pub fn large_rule(&mut self, set_up: &SetUp, event: usize) -> Rule {
+        let lengths = match self.below(8) {
+            // With more than one event, 255 or 240 states and the empty set; then too many.
+            0 => &[15, 17][..],
+            1 => &[15, 16],
+            2 => &[16, 17],
+            3 => &[5, 7, 9],
+            4 => {
+                let length = self.between(MAX_DEVICE_STATES, 150);
+                return self.rule_of_loop(set_up, event, length);
+            }
+            5 => {
+                let states = self.between(MAX_DEVICE_STATES + 1, MAX_STATES);
+                return self.rule_of_states(set_up, event, states);
+            }
+            _ => {
+                let states = self.one_of(&[MAX_DEVICE_STATES, MAX_DEVICE_STATES + 1, MAX_STATES - 1, MAX_STATES]);
+                return self.rule_of_states(set_up, event, states);
+            }
+        };
+        let mut nodes = vec![Node::Both; lengths.len() - 1];
+        for &length in lengths {
+            self.add_loop(set_up, event, length, &mut nodes);
+        }
+        Rule::from_nodes(nodes).expect("no refusal holds of the rule")
+    }
+
+    /// A rule of two loops that has too many states.
+    pub fn rule_of_too_many_states(&mut self, set_up: &SetUp) -> Rule {
+        let event = self.below(set_up.events());
+        let mut nodes = vec![Node::Both];
+        for lengths in [[16, 19, 25], [17, 23, 27]] {
+            let length = self.one_of(&lengths);
+            self.add_loop(set_up, event, length, &mut nodes);
+        }
+        Rule::from_nodes(nodes).expect("no refusal holds of the rule")
+    }
+
+    /// A rule of one loop, of so many G nodes up to 150.
+    fn rule_of_loop(&mut self, set_up: &SetUp, event: usize, length: usize) -> Rule {
+        let event = event as u8;
+        let mut nodes = vec![Node::Greatest];
+        // One demand for each three nodes, so that there is room for all.
+        for step in 0..length {
+            if step % 3 == 0 {
+                nodes.extend([Node::Both, Node::Output(event, self.below(set_up.values()) as u8)]);
+            }
+            nodes.push(Node::After(event));
+        }
+        nodes.push(Node::Variable(0));
+        Rule::from_nodes(nodes).expect("no refusal holds of the rule")
     }
 
     /// A rule of one loop on this event, of two to seven states, each with a demand: repeated, the event moves it for ever.
@@ -343,7 +424,12 @@ impl Generator {
 
     /// Two rules, often such that the first implies the second (document 02, F-14) or nearly does.
     pub fn pair_of_rules(&mut self, set_up: &SetUp) -> (Rule, Rule) {
-        let draw = |g: &mut Generator| if g.once_in(4) { g.rule_of_loops(set_up) } else { g.rule(set_up) };
+        let event = self.below(set_up.events());
+        let draw = |g: &mut Generator| match g.below(16) {
+            0 => g.large_rule(set_up, event),
+            1..=3 => g.rule_of_loops(set_up),
+            _ => g.rule(set_up),
+        };
         let (one, any) = (draw(self), draw(self));
         let other = match self.below(8) {
             // Both of the two, where that is a rule.
@@ -447,17 +533,51 @@ impl Generator {
         (0..length).map(|_| self.below(set_up.events()) as u8).collect()
     }
 
-    /// A table and a start; most are small.
+    /// A table that is no device, and a start; most are small.
     pub fn table(&mut self, set_up: &SetUp) -> RawTable {
-        let states = if self.once_in(8) { self.between(1, MAX_STATES) } else { self.between(1, 5) };
+        let states = self.count_of_states(MAX_STATES);
+        self.table_of_states(set_up, states)
+    }
+
+    /// A device and its start; most are small.
+    pub fn device(&mut self, set_up: &SetUp) -> RawTable {
+        let states = self.count_of_states(MAX_DEVICE_STATES);
+        self.table_of_states(set_up, states)
+    }
+
+    /// A number of states, often few, at times about the limit of a device or as many as there may be.
+    fn count_of_states(&mut self, most: usize) -> usize {
+        match self.below(16) {
+            0 => self.between(1, most),
+            1 => self.one_of(&[MAX_DEVICE_STATES - 1, MAX_DEVICE_STATES, MAX_DEVICE_STATES + 1, most - 1, most]).min(most),
+            _ => self.between(1, 5),
+        }
+    }
+
+    /// A table of so many states and a start.
+    fn table_of_states(&mut self, set_up: &SetUp, states: usize) -> RawTable {
         let bytes =
             (0..states * set_up.events()).flat_map(|_| [self.below(set_up.values()) as u8, self.below(states) as u8]).collect();
         RawTable { states, start: self.below(states), bytes }
     }
 
     /// A table that may be written as a rule: on some event each state goes to the next one, on the others mostly to one before it, so
-    /// few paths are long. At times the longest one has about as many states as its rule may have binders on a path.
+    /// few paths are long. At times the longest one has about as many states as its rule may have binders on a path. At times other
+    /// states stand before the start, so that a state has a large number.
     pub fn chain(&mut self, set_up: &SetUp) -> RawTable {
+        let RawTable { states, bytes, .. } = self.chain_from_0(set_up);
+        if !self.once_in(8) {
+            return RawTable { states, start: 0, bytes };
+        }
+        let before = if self.once_in(2) { MAX_STATES - states } else { self.between(1, MAX_STATES - states) };
+        let all = before + states;
+        let mut moved: Vec<u8> =
+            (0..before * set_up.events()).flat_map(|_| [self.below(set_up.values()) as u8, self.below(all) as u8]).collect();
+        moved.extend(bytes.chunks_exact(2).flat_map(|entry| [entry[0], entry[1] + before as u8]));
+        RawTable { states: all, start: before, bytes: moved }
+    }
+
+    fn chain_from_0(&mut self, set_up: &SetUp) -> RawTable {
         let states =
             if self.once_in(3) { self.between(MAX_BINDERS - 1, MAX_BINDERS + 2) } else { self.between(1, MAX_BINDERS) };
         let mut bytes = Vec::with_capacity(2 * states * set_up.events());
@@ -478,14 +598,15 @@ impl Generator {
     }
 
     /// A device made from a table: states doubled, and the values of none, one or half of its entries lowered, so that it passes
-    /// against that table as same or as stricter; and often one value set anew, so that it may fail.
+    /// against that table as same or as stricter; and often one value set anew, so that it may fail. A table of more states than a device
+    /// may have is folded.
     pub fn device_near(&mut self, set_up: &SetUp, table: &Table) -> RawTable {
-        let copies = if table.states() * 2 <= MAX_STATES { self.between(1, 2) } else { 1 };
-        let states = copies * table.states();
+        let copies = if table.states() * 2 <= MAX_DEVICE_STATES { self.between(1, 2) } else { 1 };
+        let states = (copies * table.states()).min(MAX_DEVICE_STATES);
         let mut bytes = Vec::with_capacity(2 * states * set_up.events());
         for state in 0..states {
             for event in 0..set_up.events() {
-                let Entry { value, next } = table.entry(state / copies, event);
+                let Entry { value, next } = self.folded_entry(set_up, table, state / copies, event);
                 bytes.extend_from_slice(&[value, next * copies as u8 + self.below(copies) as u8]);
             }
         }
@@ -504,9 +625,31 @@ impl Generator {
         RawTable { states, start: self.below(copies), bytes }
     }
 
-    /// A table damaged in one way that 11 refuses.
+    /// The entry of a state of a device that stands for each 64th state of a table from that one on: the meet of their values, mostly, and
+    /// a next state of one of them.
+    fn folded_entry(&mut self, set_up: &SetUp, table: &Table, state: usize, event: usize) -> Entry {
+        let all: Vec<Entry> =
+            (state..table.states()).step_by(MAX_DEVICE_STATES).map(|state| table.entry(state, event)).collect();
+        let of = self.one_of(&all);
+        let meet = all.iter().fold(of.value, |meet, entry| set_up.meet(meet, entry.value));
+        let value = if self.once_in(64) { of.value } else { meet };
+        Entry { value, next: of.next % MAX_DEVICE_STATES as u8 }
+    }
+
+    /// A table damaged in one way that 11 refuses for any table.
     pub fn damaged_table(&mut self, set_up: &SetUp) -> RawTable {
-        let mut table = self.table(set_up);
+        self.damaged_of(set_up, MAX_STATES)
+    }
+
+    /// A device damaged in one way that 11 refuses for a device, at times no more than by its number of states.
+    pub fn damaged_device(&mut self, set_up: &SetUp) -> RawTable {
+        self.damaged_of(set_up, MAX_DEVICE_STATES)
+    }
+
+    fn damaged_of(&mut self, set_up: &SetUp, most: usize) -> RawTable {
+        // A table of 256 states has no next state that is too large.
+        let states = self.count_of_states(most).min(MAX_STATES - 1);
+        let mut table = self.table_of_states(set_up, states);
         match self.below(8) {
             0 => {
                 table.states = 0;
@@ -514,8 +657,9 @@ impl Generator {
                 table.bytes.clear();
             }
             1 => {
-                table.states = self.one_of(&[65, 66, 255, 256, 257]);
-                table.bytes = vec![0; 2 * table.states * set_up.events()];
+                let too_many = [65, 66, 255, 256, 257, 258, 320, 512].into_iter().filter(|&states| states > most);
+                let states = self.one_of(&too_many.collect::<Vec<usize>>());
+                table = self.table_of_states(set_up, states);
             }
             2 => table.states += 1,
             3 => table.bytes.truncate(table.bytes.len() - self.between(1, 2)),
@@ -530,7 +674,7 @@ impl Generator {
             }
             _ => {
                 let at = 2 * self.below(table.bytes.len() / 2) + 1;
-                table.bytes[at] = self.one_of(&[table.states as u8, 64, 255]).max(table.states as u8);
+                table.bytes[at] = self.one_of(&[states as u8, 64, 255]).max(states as u8);
             }
         }
         table
@@ -629,6 +773,61 @@ impl Generator {
         calls
     }
 
+    /// So many calls on all channels whose loads have about as many rows as there is room for, at times one more, which 25 refuses, with
+    /// clears and short rules among them. One event is met again and again, so that long rules go far.
+    pub fn calls_about_rows(&mut self, set_up: &SetUp, length: usize) -> Vec<Call> {
+        let event = self.below(set_up.events());
+        let mut rows = [0; CHANNELS];
+        let mut calls = Vec::new();
+        while calls.len() < length {
+            let channel = self.below(CHANNELS);
+            match self.below(12) {
+                0..=3 => {
+                    let room = MAX_ROWS - (rows.iter().sum::<usize>() - rows[channel]);
+                    let states = self.rows_about(room);
+                    if states <= room {
+                        rows[channel] = states;
+                    }
+                    let rule = self.rule_of_states(set_up, event, states).to_bytes();
+                    calls.push(Call::Load { channel, rule });
+                }
+                4 => {
+                    rows[channel] = 0;
+                    calls.push(Call::Clear { channel });
+                }
+                5 => {
+                    let rule = self.damaged_rule(set_up);
+                    // What is accepted by chance would take rows that are not counted here.
+                    if Rule::from_bytes(set_up, &rule).is_err() {
+                        calls.push(Call::Load { channel, rule });
+                    }
+                }
+                6 => calls.push(Call::RestartOne { channel }),
+                7 if self.once_in(4) => calls.push(Call::RestartAll),
+                _ => {
+                    let times = if self.once_in(8) { self.between(1, MAX_STATES) } else { self.between(1, 8) };
+                    for _ in 0..times {
+                        let event = if self.once_in(64) { self.below(set_up.events() + 1) } else { event };
+                        calls.push(Call::Event { channel, event, pulses: self.below(3) as u32 });
+                    }
+                }
+            }
+        }
+        calls
+    }
+
+    /// How many states a rule may have where there is room for so many rows: often all of them, or one more.
+    pub fn rows_about(&mut self, room: usize) -> usize {
+        match self.below(8) {
+            0 | 1 => room,
+            2 | 3 => room + 1,
+            4 => 3,
+            5 => self.one_of(&[MAX_DEVICE_STATES, MAX_DEVICE_STATES + 1, MAX_STATES - 1, MAX_STATES]),
+            _ => self.between(1, MAX_STATES),
+        }
+        .clamp(1, MAX_STATES)
+    }
+
     fn call(&mut self, set_up: &SetUp) -> Call {
         let channel = match self.below(20) {
             0 => self.one_of(&[8, 9, 16, 255, 256, 257, usize::MAX]),
@@ -637,6 +836,10 @@ impl Generator {
         };
         match self.below(30) {
             0..=3 => Call::Load { channel, rule: self.rule(set_up).to_bytes() },
+            4 if self.once_in(2) => {
+                let event = self.below(set_up.events());
+                Call::Load { channel, rule: self.large_rule(set_up, event).to_bytes() }
+            }
             4 => Call::Load { channel, rule: self.rule_of_loops(set_up).to_bytes() },
             5 => Call::Load { channel, rule: self.damaged_rule(set_up) },
             6 => Call::RestartOne { channel },
@@ -811,6 +1014,11 @@ impl Generator {
         tokens_of(self.rule_of_one_loop(set_up, event).nodes())
     }
 
+    /// The tokens of a rule of so many states.
+    pub fn tokens_of_states(&mut self, set_up: &SetUp, event: usize, states: usize) -> String {
+        tokens_of(self.rule_of_states(set_up, event, states).nodes())
+    }
+
     /// The tokens of two rules, often such that the first implies the second or nearly does.
     pub fn pair_of_tokens(&mut self, set_up: &SetUp) -> (String, String) {
         let (first, second) = self.pair_of_rules(set_up);
@@ -819,16 +1027,22 @@ impl Generator {
 
     /// Tokens of any kind: good, in the form with 5 to 10 and 23 among them, or damaged in their bytes.
     pub fn tokens(&mut self, set_up: &SetUp) -> Vec<u8> {
-        let mut tokens = match self.below(16) {
+        let mut tokens = match self.below(17) {
             0..=3 => tokens_of(&self.misplaced_variables(set_up)),
             4..=8 => {
                 let good = self.good_tokens(set_up);
                 self.loose_items(&good)
             }
-            // About 64 states, and about 256 nodes.
-            9 => format!("{}T", "G0 ".repeat(self.between(61, 66))),
-            10 => format!("{}T", "G0 ".repeat(self.between(253, 260))),
+            // About 64 states; about 256 states or nodes.
+            9 if self.once_in(2) => format!("{}T", "G0 ".repeat(self.between(61, 66))),
+            9 => {
+                let event = self.below(set_up.events());
+                tokens_of(self.large_rule(set_up, event).nodes())
+            }
+            10 if self.once_in(2) => format!("{}T", "G0 ".repeat(self.between(254, 262))),
+            10 => format!("{}T", "T ".repeat(self.between(254, 258))),
             11 | 12 => tokens_of(&self.about_most_binders(set_up)),
+            13 if !self.once_in(3) => tokens_of(self.rule_of_too_many_states(set_up).nodes()),
             _ => self.good_tokens(set_up),
         }
         .into_bytes();

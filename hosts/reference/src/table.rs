@@ -5,8 +5,10 @@ use crate::refusal::room;
 use crate::values::{RawSetUp, SetUp, MAX_EVENTS};
 use crate::Refusal;
 
-/// "At most 64."
-pub const MAX_STATES: usize = 64;
+/// "A rule's table may have up to 256 states" (document 02, F-12), and so may every table handed in but a trial's device.
+pub const MAX_STATES: usize = 256;
+/// "Devices stay at 64" (document 02, F-12).
+pub const MAX_DEVICE_STATES: usize = 64;
 /// "A table entry is a value and a next state, one byte each where lent".
 pub const ENTRY_BYTES: usize = 2;
 
@@ -19,7 +21,7 @@ pub struct Entry {
     pub next: u8,
 }
 
-/// A table of 1 to 64 states whose values and next states are in range; "ordered by state, then event".
+/// A table of 1 to 256 states whose values and next states are in range; "ordered by state, then event".
 #[derive(Clone, Debug, PartialEq, Eq, Hash)]
 pub struct Table {
     events: usize,
@@ -54,7 +56,7 @@ impl Table {
             for (&value, follower) in values.iter().zip(&followers).take(events) {
                 let next = match states.iter().position(|state| state == follower) {
                     Some(next) => next,
-                    // 10: "over 64 states".
+                    // 10: over 256 states, "which is 10's new limit" (document 02, F-12).
                     None if states.len() == MAX_STATES => return Err(Refusal::new(10)),
                     None => {
                         states.push(*follower);
@@ -135,11 +137,21 @@ pub struct Lent<'a> {
 }
 
 impl Lent<'_> {
-    /// 11: "states not 1 to 64, entry count not states × events, start, value or next state too large".
+    /// A device: at most 64 states.
+    pub fn device(&self, set_up: &SetUp) -> Result<Table, Refusal> {
+        self.within(set_up, MAX_DEVICE_STATES)
+    }
+
+    /// Any other table: at most 256 states (document 02, F-12).
     pub fn table(&self, set_up: &SetUp) -> Result<Table, Refusal> {
+        self.within(set_up, MAX_STATES)
+    }
+
+    /// 11: "states not 1 to" so many, "entry count not states × events, start, value or next state too large".
+    fn within(&self, set_up: &SetUp, most: usize) -> Result<Table, Refusal> {
         let refusal = Refusal::new(11);
         let events = set_up.events();
-        if self.states > MAX_STATES || self.start >= self.states || self.bytes.len() != self.states * events * ENTRY_BYTES {
+        if self.states > most || self.start >= self.states || self.bytes.len() != self.states * events * ENTRY_BYTES {
             return Err(refusal);
         }
         let entries: Vec<Entry> =
@@ -151,7 +163,7 @@ impl Lent<'_> {
     }
 }
 
-/// The limits of 11 without the start.
+/// The limits of 11, without the start, for a table that is no device.
 pub(crate) fn within_limits(events: usize, values: usize, states: usize, entries: &[Entry]) -> bool {
     (1..=MAX_STATES).contains(&states)
         && entries.len() == states * events

@@ -3,12 +3,12 @@
 
 use crate::formula::{Node, Rule};
 use crate::refusal::room;
-use crate::table::{Lent, Table, MAX_STATES};
+use crate::table::{Lent, Table, MAX_DEVICE_STATES};
 use crate::values::{Comparison, RawSetUp, SetUp};
 use crate::Refusal;
 
-/// "a word of 1 to 4,096 events"; "The word buffer has at least 4,096 bytes".
-pub const WORD_BYTES: usize = 4096;
+/// "a failing word may have up to 16,384 events, its buffer at least 16,384 bytes" (document 02, F-12).
+pub const WORD_BYTES: usize = 16_384;
 
 /// How a device passes: "passes as same, passes as stricter" (document 02, F-5).
 #[derive(Clone, Copy, Debug, PartialEq, Eq, Hash)]
@@ -25,7 +25,7 @@ pub enum Verdict {
     /// "The device passes when the start is simulated (definition 1) by state 0 of the rule's table." "The two passes together
     /// are the old pass" (document 02, F-5).
     Passes(Grade),
-    /// "a word of 1 to 4,096 events after whose last event the device's value is not at or below the table's": "the first: shortest, and
+    /// A word of 1 to 16,384 events "after whose last event the device's value is not at or below the table's": "the first: shortest, and
     /// among those the one with the smaller event at the first difference" (document 02, F-1).
     Fails(Vec<u8>),
 }
@@ -66,10 +66,10 @@ pub fn trial(set_up: &SetUp, device: (&Table, usize), table: (&Table, usize)) ->
 pub fn failing_word(set_up: &SetUp, device: (&Table, usize), table: (&Table, usize)) -> Option<Vec<u8>> {
     let (device, device_start) = device;
     let (table, table_start) = table;
-    // For each state of the device, the states of the table met with it.
-    let mut met = [0u64; MAX_STATES];
+    // By device state, then table state, whether the two were met.
+    let mut met = vec![false; device.states() * table.states()];
     let mut pairs = vec![Pair { device: device_start as u8, table: table_start as u8, before: 0, event: 0 }];
-    met[device_start] |= 1 << table_start;
+    met[pair_number(table, device_start, table_start)] = true;
     let mut taken = 0;
     while taken < pairs.len() {
         let (s, t) = (usize::from(pairs[taken].device), usize::from(pairs[taken].table));
@@ -80,9 +80,9 @@ pub fn failing_word(set_up: &SetUp, device: (&Table, usize), table: (&Table, usi
         }
         for event in 0..set_up.events() {
             let (s, t) = (device.entry(s, event).next, table.entry(t, event).next);
-            let met = &mut met[usize::from(s)];
-            if *met & 1 << t == 0 {
-                *met |= 1 << t;
+            let met = &mut met[pair_number(table, s.into(), t.into())];
+            if !*met {
+                *met = true;
                 pairs.push(Pair { device: s, table: t, before: taken, event: event as u8 });
             }
         }
@@ -106,12 +106,13 @@ fn word_to(pairs: &[Pair], mut pair: usize, last: u8) -> Vec<u8> {
 /// failure. The same word as `failing_word`, found from the other end.
 pub fn first_word(set_up: &SetUp, device: (&Table, usize), table: (&Table, usize)) -> Option<Vec<u8>> {
     let ((device, mut s), (table, mut t)) = (device, table);
-    let away = distances(set_up, device, table);
+    let fails = |b: u8, c: u8| !set_up.at_or_below(b, c);
+    let away = distances(device, table, fails);
     let mut word = Vec::new();
-    for left in (0..away[s][t]?).rev() {
+    for left in (0..away[pair_number(table, s, t)]?).rev() {
         let nearer = |&event: &usize| match left {
-            0 => fails_on(set_up, device, table, (s, t), event),
-            _ => away_after(&away, device, table, (s, t), event) == Some(left),
+            0 => fails(device.entry(s, event).value, table.entry(t, event).value),
+            _ => away[pair_after(device, table, (s, t), event)] == Some(left),
         };
         let event = (0..set_up.events()).find(nearer)?;
         word.push(event as u8);
@@ -120,71 +121,56 @@ pub fn first_word(set_up: &SetUp, device: (&Table, usize), table: (&Table, usize
     Some(word)
 }
 
-/// For each pair of states the length of the shortest word on which the device fails from there, where it does: 1 where it fails on
-/// some event, and one more than the least of its successors otherwise.
-fn distances(set_up: &SetUp, device: &Table, table: &Table) -> Vec<Vec<Option<usize>>> {
-    let mut away = vec![vec![None; table.states()]; device.states()];
-    for length in 1.. {
-        let mut found = false;
-        for (s, t) in all_pairs(device, table) {
-            let near = |event: usize| match length {
-                1 => fails_on(set_up, device, table, (s, t), event),
-                _ => away_after(&away, device, table, (s, t), event) == Some(length - 1),
-            };
-            if away[s][t].is_none() && (0..set_up.events()).any(near) {
-                away[s][t] = Some(length);
-                found = true;
+/// Whether every event sequence ends in equal values: from the starts no word comes to two that are not, found from the other end. What
+/// `trial` calls same, by equality itself.
+pub fn same_values(set_up: &SetUp, device: (&Table, usize), table: (&Table, usize)) -> bool {
+    let away = distances(device.0, table.0, |b, c| set_up.compare(b, c) != Comparison::Equal);
+    away[pair_number(table.0, device.1, table.1)].is_none()
+}
+
+/// For each pair of states the length of the shortest word from there whose last values are apart, where there is one: 1 where they are
+/// apart on some event, and one more than the least of its successors otherwise. Found backwards, from the pairs where they are apart.
+fn distances(device: &Table, table: &Table, apart: impl Fn(u8, u8) -> bool) -> Vec<Option<usize>> {
+    let events = device.events();
+    let pairs: Vec<(usize, usize)> = (0..device.states()).flat_map(|s| (0..table.states()).map(move |t| (s, t))).collect();
+    // The pairs before each pair, one behind another: the last of them, and for each pair and event the one before it.
+    let mut last_before = vec![None; pairs.len()];
+    let mut before_that = vec![None; pairs.len() * events];
+    let mut away = vec![None; pairs.len()];
+    let mut reached = Vec::new();
+    for (number, &(s, t)) in pairs.iter().enumerate() {
+        for event in 0..events {
+            let step = number * events + event;
+            before_that[step] = last_before[pair_after(device, table, (s, t), event)].replace(step);
+        }
+        if (0..events).any(|event| apart(device.entry(s, event).value, table.entry(t, event).value)) {
+            away[number] = Some(1);
+            reached.push(number);
+        }
+    }
+    let mut taken = 0;
+    while taken < reached.len() {
+        let length = away[reached[taken]].map(|length| length + 1);
+        let mut step = last_before[reached[taken]];
+        while let Some(this) = step {
+            if away[this / events].is_none() {
+                away[this / events] = length;
+                reached.push(this / events);
             }
+            step = before_that[this];
         }
-        if !found {
-            break;
-        }
+        taken += 1;
     }
     away
 }
 
-fn all_pairs(device: &Table, table: &Table) -> impl Iterator<Item = (usize, usize)> {
-    let states = table.states();
-    (0..device.states()).flat_map(move |s| (0..states).map(move |t| (s, t)))
+/// Pairs are numbered by device state, then table state.
+fn pair_number(table: &Table, s: usize, t: usize) -> usize {
+    s * table.states() + t
 }
 
-fn fails_on(set_up: &SetUp, device: &Table, table: &Table, (s, t): (usize, usize), event: usize) -> bool {
-    !set_up.at_or_below(device.entry(s, event).value, table.entry(t, event).value)
-}
-
-fn away_after(
-    away: &[Vec<Option<usize>>],
-    device: &Table,
-    table: &Table,
-    (s, t): (usize, usize),
-    event: usize,
-) -> Option<usize> {
-    away[usize::from(device.entry(s, event).next)][usize::from(table.entry(t, event).next)]
-}
-
-/// Whether every event sequence ends in equal values, by the greatest relation between the states of both whose related states have
-/// equal values and related successors on every event: it starts with all pairs and falls until nothing changes. What `trial` calls
-/// same, by equality itself and found from the other end.
-pub fn same_values(set_up: &SetUp, device: (&Table, usize), table: (&Table, usize)) -> bool {
-    let ((device, device_start), (table, table_start)) = (device, table);
-    let mut related = vec![vec![true; table.states()]; device.states()];
-    loop {
-        let mut fell = false;
-        for (s, t) in all_pairs(device, table) {
-            let agree = |event: usize| {
-                let (ours, theirs) = (device.entry(s, event), table.entry(t, event));
-                set_up.compare(ours.value, theirs.value) == Comparison::Equal
-                    && related[usize::from(ours.next)][usize::from(theirs.next)]
-            };
-            if related[s][t] && !(0..set_up.events()).all(agree) {
-                related[s][t] = false;
-                fell = true;
-            }
-        }
-        if !fell {
-            return related[device_start][table_start];
-        }
-    }
+fn pair_after(device: &Table, table: &Table, (s, t): (usize, usize), event: usize) -> usize {
+    pair_number(table, device.entry(s, event).next.into(), table.entry(t, event).next.into())
 }
 
 /// Trial against a rule's table that is handed in too, its states and its entries; it starts at state 0: refusals 1 to 3, 11, 13.
@@ -196,7 +182,7 @@ pub fn trial_of_table(
     word: &mut [u8],
 ) -> Result<Outcome, Refusal> {
     let set_up = SetUp::new(set_up.clone())?;
-    let of_device = device.table(&set_up)?;
+    let of_device = device.device(&set_up)?;
     let of_rule = Lent { states, start: 0, bytes: table }.table(&set_up)?;
     judge(&set_up, (&of_device, device.start), &of_rule, word)
 }
@@ -205,11 +191,11 @@ pub fn trial_of_table(
 pub fn trial_of_rule(set_up: &RawSetUp, device: Lent<'_>, rule: &[u8], word: &mut [u8]) -> Result<Outcome, Refusal> {
     let set_up = SetUp::new(set_up.clone())?;
     let of_rule = Table::of_rule(&set_up, &Rule::from_bytes(&set_up, rule)?)?;
-    let of_device = device.table(&set_up)?;
+    let of_device = device.device(&set_up)?;
     judge(&set_up, (&of_device, device.start), &of_rule, word)
 }
 
-/// 13: "a trial's word buffer shorter than 4,096 bytes", also where the device passes. Bytes "after the word keep their
+/// 13: a trial's word buffer shorter than 16,384 bytes (document 02, F-12), also where the device passes. Bytes "after the word keep their
 /// contents, as does the whole buffer on a pass".
 fn judge(set_up: &SetUp, device: (&Table, usize), table: &Table, lent: &mut [u8]) -> Result<Outcome, Refusal> {
     room(lent, WORD_BYTES)?;
@@ -225,14 +211,14 @@ fn judge(set_up: &SetUp, device: (&Table, usize), table: &Table, lent: &mut [u8]
 /// Whether the first rule implies the second: "every finite device satisfying the first satisfies the second, also one larger than a
 /// trial takes" (document 02, F-14). Nothing where it does, else the first failing word of its table against the second's.
 ///
-/// Refusals 1 to 3, 5 to 8, 23, 9, 10 of the first rule, the same of the second, then 11 where the first's table has more states than a device
-/// may have. Today both have at most 64, so 11 does not arise.
+/// Refusals 1 to 3, 5 to 8, 23, 9, 10 of the first rule, the same of the second, then 11 where the first's table has more states than a
+/// device may have.
 pub fn covers(set_up: &RawSetUp, first: &[u8], second: &[u8]) -> Result<Option<Vec<u8>>, Refusal> {
     let set_up = SetUp::new(set_up.clone())?;
     let first = Table::of_rule(&set_up, &Rule::from_bytes(&set_up, first)?)?;
     let second = Table::of_rule(&set_up, &Rule::from_bytes(&set_up, second)?)?;
     // "exactly when its table, taken as a device from state 0, passes against the second"
-    let device = Lent { states: first.states(), start: 0, bytes: &first.to_bytes() }.table(&set_up)?;
+    let device = Lent { states: first.states(), start: 0, bytes: &first.to_bytes() }.device(&set_up)?;
     Ok(failing_word(&set_up, (&device, 0), (&second, 0)))
 }
 
@@ -248,7 +234,7 @@ pub fn satisfies(set_up: &SetUp, rule: &Rule, device: &Table, start: usize) -> b
 /// too, and no set has to be filled again when an outer one has fallen.
 pub fn satisfying(set_up: &SetUp, rule: &Rule, device: &Table) -> u64 {
     let nodes = rule.nodes();
-    let all = u64::MAX >> (MAX_STATES - device.states());
+    let all = u64::MAX >> MAX_DEVICE_STATES.checked_sub(device.states()).expect("a device has at most 64 states");
     let states_where = |holds: &dyn Fn(usize) -> bool| {
         (0..device.states()).filter(|&state| holds(state)).fold(0u64, |set, state| set | 1 << state)
     };

@@ -6,7 +6,7 @@ use std::sync::mpsc::channel;
 use std::thread::spawn;
 use std::time::Duration;
 
-use common::{bytes, file, four, reading, rule, seeds, table, WHEEL};
+use common::{bytes, file, four, joined_loops, reading, rule, seeds, table, WHEEL};
 use gurvazze_reference::formula::{Formulas, Node, Rule};
 use gurvazze_reference::generate::{
     has_most_binders, has_variable_under_inner_binder, inner_binders, under, Generator, RawTable,
@@ -303,11 +303,11 @@ fn twenty_three_comes_after_8_and_before_9() {
         (under(13, "X12"), Refusal::new(23)),
         (format!("A V X0 {thirteen}"), Refusal::new(23)),
         (format!("A {thirteen} V X0"), Refusal::new(23)),
-        (under(13, &("G0 ".repeat(64) + "T")), Refusal::new(23)),
+        (under(13, &joined_loops(16, 17)), Refusal::new(23)),
         (under(12, "X0"), Refusal::at(9, 12)),
         (under(12, "X11"), Refusal::at(9, 12)),
         (format!("A V X0 {}", under(12, "T")), Refusal::at(9, 2)),
-        (under(12, &("G0 ".repeat(64) + "T")), Refusal::new(10)),
+        (under(11, &joined_loops(16, 17)), Refusal::new(10)),
     ] {
         assert_eq!(table(&set_up, &items), Err(refusal), "{items}");
         assert_eq!(render::program(&file(items.trim_end())), render::refusal(refusal), "{items}");

@@ -2,7 +2,7 @@
 
 mod common;
 
-use common::{bytes, file, four, rule, table};
+use common::{bytes, file, four, joined_loops, rule, steps, table};
 use gurvazze_reference::formula::{joined, Formulas, Rule};
 use gurvazze_reference::generate::{under, Generator, RawTable};
 use gurvazze_reference::table::{Lent, Table};
@@ -170,16 +170,19 @@ fn one_rule_covers_another() {
     ] {
         assert_eq!(answer(first, second), Ok(word), "{first} / {second}");
     }
-    // A device loop of 64 states against a rule loop of 63.
-    let (first, second) = (format!("V {}G0 X0", "A O0.1 G0 ".repeat(63)), format!("V {}A O0.1 G0 X0", "G0 ".repeat(62)));
-    assert_eq!(covers(four(1).raw(), &bytes(&first), &bytes(&second)), Ok(Some(vec![0; 64 * 63])));
+    // A device loop of 64 states against a rule loop of 63, and one of 63 against one of 251 (document 02, F-12).
+    for (states, others) in [(64, 63), (63, 251)] {
+        let first = format!("V {}G0 X0", "A O0.1 G0 ".repeat(states - 1));
+        let second = format!("V {}A O0.1 G0 X0", "G0 ".repeat(others - 1));
+        assert_eq!(covers(four(1).raw(), &bytes(&first), &bytes(&second)), Ok(Some(vec![0; states * others])));
+    }
 }
 
-/// Document 02, F-14: 1 to 3, then 5 to 10 and 23 of the first rule, then of the second.
+/// Document 02, F-14: 1 to 3, then 5 to 10 and 23 of the first rule, then of the second; then 11 where the first has over 64 states.
 #[test]
 fn refusals_of_covering() {
     let set_up = four(2);
-    let (over, deep) = ("G0 ".repeat(64) + "T", under(13, "T"));
+    let (over, deep, large) = (joined_loops(16, 17), under(13, "T"), steps(64));
     for (first, second, refusal) in [
         ("V X0", "X0", Refusal::at(9, 1)),
         ("X0", "V X0", Refusal::at(8, 0)),
@@ -193,13 +196,18 @@ fn refusals_of_covering() {
         (&deep, "T T", Refusal::new(23)),
         ("T", &deep, Refusal::new(23)),
         (&over, &deep, Refusal::new(10)),
+        (&large, "X0", Refusal::at(8, 0)),
+        (&large, &over, Refusal::new(10)),
+        (&large, "T", Refusal::new(11)),
+        (&large, &large, Refusal::new(11)),
     ] {
         assert_eq!(covers(set_up.raw(), &bytes(first), &bytes(second)), Err(refusal), "{first} / {second}");
         let damaged = RawSetUp { top: 4, ..set_up.raw().clone() };
         assert_eq!(covers(&damaged, &bytes(first), &bytes(second)), Err(Refusal::new(2)));
     }
-    let most = "G0 ".repeat(63) + "T";
-    assert_eq!(covers(set_up.raw(), &bytes(&most), &bytes(&most)), Ok(None));
+    for second in [63, 64, 255] {
+        assert_eq!(covers(set_up.raw(), &bytes(&steps(63)), &bytes(&steps(second))), Ok(None));
+    }
 }
 
 /// Document 02, F-14: an A node, then the two rules; its values are the meets.
@@ -213,17 +221,55 @@ fn two_rules_joined() {
     assert_eq!(table.run(0, &[1, 1, 0]).0, [3, 3, 2]);
 }
 
+/// "document 01's G0 64 times is now accepted with 65 states" (document 02, F-12). With as many nodes as a rule may have, 256.
 #[test]
-fn sixty_four_states_and_no_more() {
-    let set_up = four(2);
-    let most = "G0 ".repeat(63) + "T";
-    assert_eq!(table(&set_up, &most).unwrap().states(), 64);
-    let over = "G0 ".repeat(64) + "T";
-    assert_eq!(table(&set_up, &over), Err(Refusal::new(10)));
-    assert!(rule(&set_up, &over).is_ok());
+fn a_state_for_each_step_and_one_more() {
+    for events in [1, 2, 16] {
+        for count in [0, 1, 62, 63, 64, 127, 254, 255] {
+            assert_eq!(table(&four(events), &steps(count)).unwrap().states(), count + 1, "{count} steps, {events} events");
+        }
+    }
+    assert_eq!(rule(&four(1), &steps(256)), Err(Refusal::new(5)));
+    // One event: each state goes to the next, and the last, which is empty, to itself.
+    let chain = RawTable::chain(256, 3);
+    assert_eq!(table(&four(1), &steps(255)).unwrap().to_bytes(), chain.bytes);
+    // Two events: on the other one every state goes to the empty set, which is number 2.
+    let of_two = table(&four(2), &steps(255)).unwrap();
+    assert_eq!((of_two.entry(0, 0).next, of_two.entry(0, 1).next), (1, 2));
+    assert_eq!((of_two.entry(1, 0).next, of_two.entry(255, 0).next, of_two.entry(255, 1).next), (3, 2, 2));
+    let printed = render::program(&file(&steps(255)));
+    assert!(printed.starts_with("events=2\nstates=256\n") && printed.ends_with("\nrow=255 0 3 2\nrow=255 1 3 2\n"));
+}
+
+/// Two loops joined reach as many sets as the product of their lengths, where those have no common divisor, and with a second event the
+/// empty set too. 10 at 257 states.
+#[test]
+fn two_hundred_fifty_six_states_and_no_more() {
+    for (first, second, events, states) in [
+        (15, 16, 1, Ok(240)),
+        (15, 16, 2, Ok(241)),
+        (15, 17, 1, Ok(255)),
+        (15, 17, 2, Ok(256)),
+        (1, 250, 1, Ok(250)),
+        (16, 16, 1, Ok(16)),
+        (16, 17, 1, Err(Refusal::new(10))),
+        (16, 17, 2, Err(Refusal::new(10))),
+        (3, 86, 1, Err(Refusal::new(10))),
+    ] {
+        let items = joined_loops(first, second);
+        let made = table(&four(events), &items).map(|table| table.states());
+        assert_eq!(made, states, "loops of {first} and {second}, {events} events");
+    }
+    // What is demanded on the first event alone makes state 0 a set that is not met again; what is demanded on the second, two sets.
+    let one = four(1);
+    let beside = |more: &str| table(&one, &format!("A {more} {}", joined_loops(15, 17))).map(|table| table.states());
+    assert_eq!(beside("T"), Ok(255));
+    assert_eq!(beside("O0.1"), Ok(256));
+    assert_eq!(beside("G0 O0.1"), Err(Refusal::new(10)));
+    let over = joined_loops(16, 17);
+    assert!(rule(&four(2), &over).is_ok());
     assert_eq!(render::program(&file(&over)), "refused=10\n");
     assert!(channel_file::read(&file(&over)).is_ok());
-    assert_eq!(table(&four(1), &most).unwrap().states(), 64);
 }
 
 /// "document 01's chain of 63 states is refused and a chain of 12 is accepted" (document 02, F-9). 64 states have 257 nodes.
@@ -234,7 +280,7 @@ fn chains_of_12_13_63_and_64_states() {
     let written: Rule = characteristic::rule_of(&chain(12), 0).unwrap();
     assert_eq!(written.nodes().len(), 49);
     assert_eq!(Table::of_rule(&set_up, &written), Ok(chain(12)));
-    for (states, number) in [(13, 23), (63, 23), (64, 12)] {
+    for (states, number) in [(13, 23), (63, 23), (64, 12), (65, 12), (255, 12), (256, 12)] {
         assert_eq!(characteristic::rule_of(&chain(states), 0), Err(Refusal::new(number)), "{states} states");
     }
     // From these states on it is 63, 13 and 12 states long.

@@ -2,9 +2,9 @@
 
 mod common;
 
-use common::{bytes, reading, seeds, WHEEL};
+use common::{joined_loops, reading, seeds, Both, WHEEL};
 use gurvazze_reference::generate::Generator;
-use gurvazze_reference::tool::{Answer, Call, Distance, Log, Reading, Tool, Wheel, CHANNELS, MAX_TOTAL};
+use gurvazze_reference::tool::{Answer, Call, Distance, Log, Tool, Wheel, CHANNELS, MAX_TOTAL};
 use gurvazze_reference::values::RawSetUp;
 use gurvazze_reference::Refusal;
 
@@ -14,60 +14,25 @@ fn refused<T>(number: u8) -> Result<T, Refusal> {
     Err(Refusal::new(number))
 }
 
-/// A tool and its log, which answer the same.
-struct Both {
-    tool: Tool,
-    log: Log,
+/// The four-value set, two events, with a rule in these channels.
+fn loaded(wheel: Wheel, channels: &[usize]) -> Both {
+    let mut both = Both::new(2, wheel);
+    for &channel in channels {
+        both.load(channel, "T").unwrap();
+    }
+    both
 }
 
-impl Both {
-    /// The four-value set, two events; every channel is empty.
-    fn new(wheel: Wheel) -> Both {
-        let raw = RawSetUp::four_values(2);
-        Both { tool: Tool::new(raw.clone(), wheel).unwrap(), log: Log::new(raw, wheel).unwrap() }
+/// 256 events with the most pulses, which leave room for 256 more.
+fn fill(both: &mut Both, channel: usize) {
+    for _ in 0..256 {
+        both.event(channel, 0, MOST).unwrap();
     }
+    assert_eq!(total_of(both, channel), MAX_TOTAL - 256);
+}
 
-    /// The same with a rule in these channels.
-    fn loaded(wheel: Wheel, channels: &[usize]) -> Both {
-        let mut both = Both::new(wheel);
-        for &channel in channels {
-            both.load(channel, "T").unwrap();
-        }
-        both
-    }
-
-    fn call(&mut self, call: Call) -> Answer {
-        let before = self.tool.clone();
-        let answer = self.tool.call(&call);
-        assert_eq!(answer, self.log.call(&call), "{call:?}");
-        if answer.is_err() {
-            assert_eq!(self.tool, before, "a refused call changes nothing: {call:?}");
-        }
-        for (number, channel) in self.tool.channels.iter().enumerate() {
-            assert_eq!(channel.total, self.log.record(number).map_or(0, |record| record.total()), "{call:?}");
-        }
-        answer
-    }
-
-    fn load(&mut self, channel: usize, items: &str) -> Answer {
-        self.call(Call::Load { channel, rule: bytes(items) })
-    }
-
-    fn event(&mut self, channel: usize, event: usize, pulses: u32) -> Result<Reading, Refusal> {
-        self.call(Call::Event { channel, event, pulses }).map(|reading| reading.expect("an event returns a reading"))
-    }
-
-    /// 256 events with the most pulses, which leave room for 256 more.
-    fn fill(&mut self, channel: usize) {
-        for _ in 0..256 {
-            self.event(channel, 0, MOST).unwrap();
-        }
-        assert_eq!(self.total(channel), MAX_TOTAL - 256);
-    }
-
-    fn total(&self, channel: usize) -> u64 {
-        self.tool.channels[channel].total
-    }
+fn total_of(both: &Both, channel: usize) -> u64 {
+    both.tool.channels[channel].total
 }
 
 /// 18: "P or C outside its range".
@@ -109,8 +74,8 @@ fn a_wheel_is_judged_after_the_set_up() {
 /// 19: "a total above 1,099,511,627,776". The greatest total itself is accepted.
 #[test]
 fn totals_at_the_limit() {
-    let mut both = Both::loaded(WHEEL, &[0]);
-    both.fill(0);
+    let mut both = loaded(WHEEL, &[0]);
+    fill(&mut both, 0);
     assert_eq!(both.event(0, 0, 257), refused(19));
     assert_eq!(both.event(0, 0, MOST), refused(19));
     // One less than the greatest.
@@ -122,7 +87,7 @@ fn totals_at_the_limit() {
     assert_eq!(both.event(0, 0, 1), refused(19));
     assert_eq!(both.event(0, 0, 0), Ok(reading(3, 1_099_511_627_776, 0)));
     assert_eq!(both.event(0, 0, MOST), refused(19));
-    assert_eq!(both.total(0), 1 << 40);
+    assert_eq!(total_of(&both, 0), 1 << 40);
 }
 
 #[test]
@@ -134,8 +99,8 @@ fn the_exact_room_is_accepted_in_one_event() {
         ((65_535, 65_535), (1_099_511_627_776, 0)),
         ((7, 10), (1_570_730_896_822, 6)),
     ] {
-        let mut both = Both::loaded(Wheel { pulses: wheel.0, millimetres: wheel.1 }, &[7]);
-        both.fill(7);
+        let mut both = loaded(Wheel { pulses: wheel.0, millimetres: wheel.1 }, &[7]);
+        fill(&mut both, 7);
         assert_eq!(both.event(7, 1, 257), refused(19));
         assert_eq!(both.event(7, 1, 256), Ok(reading(3, distance.0, distance.1)));
         assert_eq!(both.event(7, 1, 1), refused(19));
@@ -145,10 +110,10 @@ fn the_exact_room_is_accepted_in_one_event() {
 /// A refused event leaves the current state as it was, and the value that it would have had is still to come.
 #[test]
 fn an_event_refused_by_19_does_not_move() {
-    let mut both = Both::new(WHEEL);
+    let mut both = Both::new(2, WHEEL);
     // Event 1 repeated gives 3, then 1 for ever; event 0 begins anew.
     both.load(0, "V A A G1 O1.1 G1 X0 G0 X0").unwrap();
-    both.fill(0);
+    fill(&mut both, 0);
     assert_eq!(both.event(0, 1, 257), refused(19));
     assert_eq!(both.event(0, 1, 0).unwrap().value, 3);
     assert_eq!(both.event(0, 1, 257), refused(19));
@@ -159,8 +124,8 @@ fn an_event_refused_by_19_does_not_move() {
 /// "after 16", and 14 and 15 before it.
 #[test]
 fn order_of_an_events_refusals() {
-    let mut both = Both::loaded(WHEEL, &[0]);
-    both.fill(0);
+    let mut both = loaded(WHEEL, &[0]);
+    fill(&mut both, 0);
     assert_eq!(both.event(8, 2, MOST), refused(14));
     assert_eq!(both.event(1, 2, MOST), refused(15));
     assert_eq!(both.event(0, 2, MOST), refused(16));
@@ -176,7 +141,7 @@ fn order_of_an_events_refusals() {
 /// "A refused event adds no pulses."
 #[test]
 fn refused_events_add_nothing() {
-    let mut both = Both::loaded(Wheel { pulses: 10, millimetres: 3 }, &[0]);
+    let mut both = loaded(Wheel { pulses: 10, millimetres: 3 }, &[0]);
     assert_eq!(both.event(0, 0, 5), Ok(reading(3, 1, 5)));
     assert_eq!(both.event(0, 2, 1000), refused(16));
     assert_eq!(both.event(1, 0, 1000), refused(15));
@@ -196,22 +161,22 @@ fn loading_restarting_and_clearing_zero_the_total() {
         |both| both.call(Call::RestartOne { channel: 0 }),
         |both| both.call(Call::RestartAll),
         |both| {
-            both.call(Call::Clear { channel: 0 })?;
+            both.clear(0)?;
             assert_eq!(both.event(0, 0, 1), refused(15));
             both.load(0, "O0.3")
         },
     ];
     for zero in zeros {
-        let mut both = Both::loaded(Wheel { pulses: 4, millimetres: 1 }, &[0]);
+        let mut both = loaded(Wheel { pulses: 4, millimetres: 1 }, &[0]);
         for total in [1, 9, MOST, 0] {
             both.event(0, 0, total).unwrap();
             assert_eq!(zero(&mut both), Ok(None));
-            assert_eq!(both.total(0), 0);
+            assert_eq!(total_of(&both, 0), 0);
             assert_eq!(both.event(0, 1, 7), Ok(reading(3, 1, 3)));
             assert_eq!(zero(&mut both), Ok(None));
         }
         // Also where there is no room.
-        both.fill(0);
+        fill(&mut both, 0);
         assert_eq!(both.event(0, 0, 257), refused(19));
         assert_eq!(zero(&mut both), Ok(None));
         assert_eq!(both.event(0, 0, MOST), Ok(reading(3, 1_073_741_823, 3)));
@@ -221,9 +186,9 @@ fn loading_restarting_and_clearing_zero_the_total() {
 /// "a refused loading changes neither its channel nor any other", nor does another refused call.
 #[test]
 fn refused_calls_keep_the_total() {
-    let mut both = Both::loaded(WHEEL, &[0]);
+    let mut both = loaded(WHEEL, &[0]);
     both.event(0, 0, 9).unwrap();
-    for items in ["", "V X0", "X0", "T T", &("G0 ".repeat(64) + "T")] {
+    for items in ["", "V X0", "X0", "T T", &joined_loops(16, 17)] {
         assert!(both.load(0, items).is_err());
     }
     assert_eq!(both.call(Call::RestartOne { channel: 8 }), refused(14));
@@ -235,7 +200,7 @@ fn refused_calls_keep_the_total() {
 /// "Distances obey the same independence of channels as values."
 #[test]
 fn each_channel_has_its_own_total() {
-    let mut both = Both::loaded(WHEEL, &[0, 1, 2, 3, 4, 5, 6, 7]);
+    let mut both = loaded(WHEEL, &[0, 1, 2, 3, 4, 5, 6, 7]);
     for round in 1..=3 {
         for channel in 0..CHANNELS {
             let pulses = 10u32.pow(channel as u32);
@@ -244,18 +209,18 @@ fn each_channel_has_its_own_total() {
     }
     // A full channel leaves the room of the others.
     both.call(Call::RestartOne { channel: 3 }).unwrap();
-    both.fill(3);
+    fill(&mut both, 3);
     assert_eq!(both.event(3, 0, 257), refused(19));
     assert_eq!(both.event(4, 0, 257), Ok(reading(3, 30_257, 0)));
     // Restarting one, clearing and loading leave the totals of the others.
     both.call(Call::RestartOne { channel: 3 }).unwrap();
     both.call(Call::Clear { channel: 5 }).unwrap();
     both.load(6, "T").unwrap();
-    let totals: Vec<u64> = (0..CHANNELS).map(|channel| both.total(channel)).collect();
+    let totals: Vec<u64> = (0..CHANNELS).map(|channel| total_of(&both, channel)).collect();
     assert_eq!(totals, [3, 30, 300, 0, 30_257, 0, 0, 30_000_000]);
     // Restart all zeroes each, and an empty one remains empty.
     both.call(Call::RestartAll).unwrap();
-    assert!((0..CHANNELS).all(|channel| both.total(channel) == 0));
+    assert!((0..CHANNELS).all(|channel| total_of(&both, channel) == 0));
     assert_eq!(both.event(5, 0, 0), refused(15));
 }
 
@@ -277,10 +242,10 @@ fn the_law_of_distances() {
     for seed in seeds(200) {
         let mut g = Generator::new(seed);
         let wheel = g.wheel();
-        let mut both = Both::loaded(wheel, &[0]);
+        let mut both = loaded(wheel, &[0]);
         for _ in 0..20 {
             let reading = both.event(0, 0, g.pulses()).unwrap();
-            assert!(holds(wheel, both.total(0), reading.distance), "{wheel:?} {reading:?}");
+            assert!(holds(wheel, total_of(&both, 0), reading.distance), "{wheel:?} {reading:?}");
         }
     }
 }
@@ -288,13 +253,13 @@ fn the_law_of_distances() {
 /// The pulses of the event itself are counted in, and P and C are not each other.
 #[test]
 fn distances_by_hand() {
-    let mut both = Both::loaded(Wheel { pulses: 100, millimetres: 314 }, &[0]);
+    let mut both = loaded(Wheel { pulses: 100, millimetres: 314 }, &[0]);
     assert_eq!(both.event(0, 0, 0), Ok(reading(3, 0, 0)));
     assert_eq!(both.event(0, 0, 1), Ok(reading(3, 3, 14)));
     assert_eq!(both.event(0, 0, 99), Ok(reading(3, 314, 0)));
     assert_eq!(both.event(0, 0, 50), Ok(reading(3, 471, 0)));
     assert_eq!(both.event(0, 0, 7), Ok(reading(3, 492, 98)));
-    let mut both = Both::loaded(Wheel { pulses: 314, millimetres: 100 }, &[0]);
+    let mut both = loaded(Wheel { pulses: 314, millimetres: 100 }, &[0]);
     assert_eq!(both.event(0, 0, 157), Ok(reading(3, 50, 0)));
     assert_eq!(both.event(0, 0, 1), Ok(reading(3, 50, 100)));
 }

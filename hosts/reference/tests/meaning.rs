@@ -206,11 +206,16 @@ fn a_rule_is_its_formula_and_so_is_each_follower() {
 
 #[test]
 fn a_table_has_the_values_of_its_rule() {
-    let (mut tables, mut wide, mut deep, mut over) = (0, 0, 0, 0);
+    let (mut tables, mut wide, mut deep, mut large, mut over) = (0, 0, 0, 0, 0);
     for seed in seeds(1500) {
         let mut g = Generator::new(seed);
         let set_up = g.set_up();
-        let rule = if g.once_in(4) { g.rule_of_loops(&set_up) } else { g.rule(&set_up) };
+        let event = g.below(set_up.events());
+        let rule = match g.below(8) {
+            0 => g.large_rule(&set_up, event),
+            1 | 2 => g.rule_of_loops(&set_up),
+            _ => g.rule(&set_up),
+        };
         let Ok(table) = Table::of_rule(&set_up, &rule) else {
             over += 1;
             continue;
@@ -218,16 +223,21 @@ fn a_table_has_the_values_of_its_rule() {
         tables += 1;
         wide += usize::from(has_variable_under_inner_binder(&rule));
         deep += usize::from(has_most_binders(&rule));
+        large += usize::from(table.states() > 64);
         let mut formulas = Formulas::new(set_up.clone());
         let root = formulas.of_rule(&rule);
+        // A long rule is one of few events, repeated.
+        let far = vec![event as u8; table.states() + 10];
+        assert_eq!(table.run(0, &far).0, formulas.values(root, &far), "seed {seed}: {:?}", rule.nodes());
         for _ in 0..4 {
             let length = g.between(1, 40);
             let word = g.word(&set_up, length);
             assert_eq!(table.run(0, &word).0, formulas.values(root, &word), "seed {seed}: {:?}", rule.nodes());
         }
     }
-    assert!(tables > 1000 && over > 20, "{tables} tables, {over} over 64 states");
+    assert!(tables > 1000 && over > 20, "{tables} tables, {over} over 256 states");
     assert!(wide > 100 && deep > 10, "{wide} tables of wide rules, {deep} with twelve binders on a path");
+    assert!(large > 100, "{large} tables of more than 64 states");
 }
 
 /// "The demands of a node", as a plain set, kept for each node.
@@ -338,7 +348,7 @@ fn opened_on_event_0(table: &Table, start: usize) -> usize {
 
 #[test]
 fn a_written_rule_has_the_values_of_its_state() {
-    let (mut rules, mut twelve, mut over, mut deep, mut not_on_event_0) = (0, 0, 0, 0, 0);
+    let (mut rules, mut twelve, mut over, mut deep, mut not_on_event_0, mut large) = (0, 0, 0, 0, 0, 0);
     for seed in seeds(800) {
         let mut g = Generator::new(seed);
         let mut set_up = g.set_up();
@@ -380,8 +390,10 @@ fn a_written_rule_has_the_values_of_its_state() {
         }
         assert_eq!(trial(&set_up, (&table, raw.start), (&again, 0)), Verdict::Passes(Grade::Same));
         assert_eq!(trial(&set_up, (&again, 0), (&table, raw.start)), Verdict::Passes(Grade::Same));
-        assert!(satisfies(&set_up, &rule, &table, raw.start));
+        large += usize::from(table.states() > 64);
+        assert!(table.states() > 64 || satisfies(&set_up, &rule, &table, raw.start));
     }
+    assert!(large > 20, "{large} rules of tables of more than 64 states");
     assert!(rules > 300 && twelve > 20, "{rules} rules, {twelve} with twelve binders on a path");
     assert!(over > 20 && deep > 20, "{over} over 256 nodes, {deep} over twelve binders on a path");
     assert!(not_on_event_0 > 10, "{not_on_event_0} of {deep} not on event 0 alone");
@@ -417,19 +429,25 @@ fn below_on(set_up: &SetUp, device: (&Table, usize), table: (&Table, usize), wor
 
 #[test]
 fn trial_is_simulation_and_satisfaction() {
-    let (mut passes, mut fails, mut longest, mut wide, mut deep) = (0, 0, 0, [0; 2], [0; 2]);
+    let (mut passes, mut fails, mut longest, mut wide, mut deep, mut large) = (0, 0, 0, [0; 2], [0; 2], [0; 2]);
     for seed in seeds(1500) {
         let mut g = Generator::new(seed);
         let set_up = g.set_up();
-        let rule = if g.once_in(5) { g.rule_of_loops(&set_up) } else { g.rule(&set_up) };
+        let event = g.below(set_up.events());
+        let rule = match g.below(10) {
+            0 => g.large_rule(&set_up, event),
+            1 | 2 => g.rule_of_loops(&set_up),
+            _ => g.rule(&set_up),
+        };
         let Ok(table) = Table::of_rule(&set_up, &rule) else { continue };
-        let raw = if g.once_in(3) { g.table(&set_up) } else { g.device_near(&set_up, &table) };
-        let device = raw.lent().table(&set_up).unwrap();
+        let raw = if g.once_in(3) { g.device(&set_up) } else { g.device_near(&set_up, &table) };
+        let device = raw.lent().device(&set_up).unwrap();
         let (ours, theirs) = ((&device, raw.start), (&table, 0));
         let verdict = trial(&set_up, ours, theirs);
         let passed = matches!(verdict, Verdict::Passes(_));
         wide[usize::from(passed)] += usize::from(has_variable_under_inner_binder(&rule));
         deep[usize::from(passed)] += usize::from(has_most_binders(&rule));
+        large[usize::from(passed)] += usize::from(table.states() > 64);
         if device.states() * table.states() <= 400 {
             let related = simulation(&set_up, &device, &table);
             assert_eq!(related.contains(&(raw.start, 0)), passed, "seed {seed}");
@@ -450,7 +468,7 @@ fn trial_is_simulation_and_satisfaction() {
             Verdict::Fails(word) => {
                 fails += 1;
                 longest = longest.max(word.len());
-                assert!((1..=4096).contains(&word.len()));
+                assert!((1..=16_384).contains(&word.len()));
                 assert_eq!(by_distances.as_ref(), Some(&word), "seed {seed}");
                 let below = below_on(&set_up, ours, theirs, &word);
                 assert_eq!(below.iter().position(|below| !below), Some(word.len() - 1), "seed {seed}");
@@ -466,6 +484,7 @@ fn trial_is_simulation_and_satisfaction() {
     assert!(passes > 300 && fails > 300 && longest > 5, "{passes} pass, {fails} fail, longest {longest}");
     assert!(wide.iter().all(|&count| count > 50), "of wide rules fail and pass: {wide:?}");
     assert!(deep.iter().all(|&count| count > 5), "of rules with twelve binders on a path fail and pass: {deep:?}");
+    assert!(large.iter().all(|&count| count > 20), "of rules of more than 64 states fail and pass: {large:?}");
 }
 
 #[test]
@@ -504,8 +523,8 @@ fn same_is_given_exactly_for_equal_values() {
         let mut g = Generator::new(seed);
         let set_up = g.set_up();
         let Some(table) = some_table(&mut g, &set_up) else { continue };
-        let raw = if g.once_in(6) { g.table(&set_up) } else { g.device_near(&set_up, &table) };
-        let device = raw.lent().table(&set_up).unwrap();
+        let raw = if g.once_in(6) { g.device(&set_up) } else { g.device_near(&set_up, &table) };
+        let device = raw.lent().device(&set_up).unwrap();
         let (ours, theirs) = ((&device, raw.start), (&table, 0));
         let verdict = trial(&set_up, ours, theirs);
         let is_same = verdict == Verdict::Passes(Grade::Same);
@@ -571,7 +590,7 @@ fn falling_sets_are_the_set_definition() {
         let mut g = Generator::new(seed);
         let set_up = g.set_up();
         let rule = small_rule(&mut g, &set_up, 16);
-        let raw = g.table(&set_up);
+        let raw = g.device(&set_up);
         let binders = rule.nodes().iter().filter(|&&node| node == Node::Greatest).count();
         if raw.states > 3 || binders > 3 {
             continue;
@@ -659,11 +678,15 @@ impl Device {
     }
 }
 
-/// Two rules and their tables, each of at most 64 states.
+/// Two rules and their tables, the first of at most 64 states.
 fn pair(g: &mut Generator) -> Option<(SetUp, [(Rule, Table); 2])> {
     let set_up = g.set_up();
     let (first, second) = g.pair_of_rules(&set_up);
     let tables = (Table::of_rule(&set_up, &first).ok()?, Table::of_rule(&set_up, &second).ok()?);
+    if tables.0.states() > 64 {
+        assert_eq!(covers(set_up.raw(), &first.to_bytes(), &second.to_bytes()), Err(Refusal::new(11)));
+        return None;
+    }
     Some((set_up, [(first, tables.0), (second, tables.1)]))
 }
 
@@ -677,6 +700,9 @@ fn sets_of_any_device_are_those_of_a_small_one() {
         let mut g = Generator::new(seed);
         let Some((set_up, pair)) = pair(&mut g) else { continue };
         for (table, rule) in pair.iter().flat_map(|(_, table)| pair.iter().map(move |(rule, _)| (table, rule))) {
+            if table.states() > 64 {
+                continue;
+            }
             let expected = satisfying(&set_up, rule, table);
             let found = Device::copies(&mut g, table, 1).satisfying(&set_up, rule);
             assert!((0..table.states()).all(|state| found[state] == (expected >> state & 1 == 1)), "seed {seed}");
@@ -752,7 +778,7 @@ fn meets(set_up: &SetUp, [first, second]: [&[u8]; 2]) -> Vec<u8> {
 #[test]
 fn joined_rules_have_the_meet_of_both_values() {
     let (mut covered, mut uncovered, mut over) = (0, 0, 0);
-    for seed in seeds(1500) {
+    for seed in seeds(2500) {
         let mut g = Generator::new(seed);
         let Some((set_up, [(first, table), (second, other)])) = pair(&mut g) else { continue };
         let both = joined(&first.to_bytes(), &second.to_bytes());
@@ -777,5 +803,5 @@ fn joined_rules_have_the_meet_of_both_values() {
         assert_eq!(same_values(&set_up, (&of_both, 0), (&table, 0)), is_covered, "seed {seed}");
         *if is_covered { &mut covered } else { &mut uncovered } += 1;
     }
-    assert!(covered > 300 && uncovered > 300 && over > 5, "{covered} covered, {uncovered} not, {over} over 64 states");
+    assert!(covered > 300 && uncovered > 300 && over > 5, "{covered} covered, {uncovered} not, {over} over 256 states");
 }

@@ -2,7 +2,7 @@
 
 mod common;
 
-use common::{bytes, file, four, reading, rule, table, WHEEL};
+use common::{bytes, file, four, joined_loops, reading, rule, steps, table, WHEEL};
 use gurvazze_reference::channel_file::{self, lines, read, tokens};
 use gurvazze_reference::formula::{Formulas, Rule};
 use gurvazze_reference::generate::{inner_binders, under, RawTable};
@@ -271,7 +271,7 @@ fn the_empty_set_is_a_state() {
 #[test]
 fn thirteen_is_last() {
     let raw = RawSetUp::four_values(2);
-    let over = bytes(&("G0 ".repeat(64) + "T"));
+    let over = bytes(&joined_loops(16, 17));
     assert_eq!(compile(&raw, &over, &mut []), Err(refused(10)));
     assert_eq!(compile(&raw, &bytes("T"), &mut [7; 3]), Err(refused(13)));
     let mut lent = [7; 6];
@@ -298,6 +298,7 @@ fn thirteen_is_last() {
     assert_eq!(trial_of_rule(&raw, Lent { states: 0, ..closed }, &over, &mut word), Err(refused(10)));
     assert_eq!(trial_of_rule(&raw, Lent { states: 0, ..closed }, &bytes("T"), &mut word), Err(refused(11)));
     assert_eq!(trial_of_table(&raw, closed, 2, closed.bytes, &mut word), Err(refused(11)));
+    assert_eq!(word.len(), 16_383);
     assert!(word.iter().all(|&byte| byte == 7));
     let mut word = [7; WORD_BYTES + 1];
     assert_eq!(trial_of_rule(&raw, closed, &bytes("T"), &mut word), Ok(Outcome::Passes(Grade::Stricter)));
@@ -337,7 +338,14 @@ fn files_in_lent_memory() {
 fn tables_handed_in() {
     let set_up = four(2);
     let rows = [3, 1, 2, 0, 1, 1, 0, 0];
-    let given = |states, start, bytes| Lent { states, start, bytes }.table(&set_up).map(|table: Table| table.to_bytes());
+    let given = |states: usize, start: usize, bytes: &[u8]| {
+        let lent = Lent { states, start, bytes };
+        let made = lent.table(&set_up).map(|table: Table| table.to_bytes());
+        // A device has at most 64 states (document 02, F-12).
+        let of_device = if states > 64 { Err(refused(11)) } else { made.clone() };
+        assert_eq!(lent.device(&set_up).map(|table| table.to_bytes()), of_device);
+        made
+    };
     assert_eq!(given(2, 1, &rows), Ok(rows.to_vec()));
     for (states, start, bytes) in [
         (0, 0, &rows[..0]),
@@ -348,25 +356,89 @@ fn tables_handed_in() {
         (2, 0, &rows[..6]),
         (2, 0, &[3, 1, 4, 0, 1, 1, 0, 0]),
         (2, 0, &[3, 1, 2, 0, 1, 2, 0, 0]),
-        (65, 0, &[0; 260]),
+        (65, 65, &[0; 260]),
+        (256, 256, &[0; 1024]),
+        (257, 0, &[0; 1028]),
+        (257, 256, &[0; 1028]),
         (usize::MAX, 0, &rows),
     ] {
         assert_eq!(given(states, start, bytes), Err(refused(11)), "{states} {start} {bytes:?}");
     }
-    assert!(given(64, 63, &[0; 256]).is_ok());
+    for states in [64, 65, 255, 256] {
+        assert!(given(states, states - 1, &vec![0; 4 * states]).is_ok(), "{states}");
+        // The last state is a next state, and no other is.
+        let mut rows = vec![0; 4 * states];
+        rows[1] = (states - 1) as u8;
+        assert!(given(states, 0, &rows).is_ok(), "{states}");
+        if states < 256 {
+            rows[1] += 1;
+            assert_eq!(given(states, 0, &rows), Err(refused(11)), "{states}");
+        }
+    }
 }
 
+/// "Devices stay at 64; the rule side of a trial, writing ... take 256" (document 02, F-12).
 #[test]
-fn long_failing_word() {
-    // A device loop of 64 against a rule loop of 63, each with one place where they disagree.
+fn sizes_of_tables_at_the_calls() {
     let one = RawSetUp::four_values(1);
-    let device: Vec<u8> = (0..64).flat_map(|state: u8| [if state == 63 { 3 } else { 0 }, (state + 1) % 64]).collect();
-    let of_rule: Vec<u8> = (0..63).flat_map(|state: u8| [if state == 62 { 0 } else { 3 }, (state + 1) % 63]).collect();
-    let mut word = [7; WORD_BYTES];
-    let device = Lent { states: 64, start: 0, bytes: &device };
-    assert_eq!(trial_of_table(&one, device, 63, &of_rule, &mut word), Ok(Outcome::Fails(4032)));
-    assert!(word[..4032].iter().all(|&event| event == 0));
-    assert!(word[4032..].iter().all(|&byte| byte == 7));
+    for (states, as_device, as_table, written) in [
+        (64, Ok(Outcome::Passes(Grade::Same)), Ok(Outcome::Passes(Grade::Stricter)), 12),
+        (65, Err(refused(11)), Ok(Outcome::Passes(Grade::Stricter)), 12),
+        (255, Err(refused(11)), Ok(Outcome::Passes(Grade::Stricter)), 12),
+        (256, Err(refused(11)), Ok(Outcome::Passes(Grade::Stricter)), 12),
+        (257, Err(refused(11)), Err(refused(11)), 11),
+    ] {
+        let chain = RawTable::chain(states, 3);
+        let small = Lent { states: 1, start: 0, bytes: &[0, 0] };
+        let mut word = vec![7; 16_384];
+        assert_eq!(trial_of_rule(&one, chain.lent(), &bytes("T"), &mut word), as_device, "{states}");
+        assert_eq!(trial_of_table(&one, chain.lent(), 1, &[3, 0], &mut word), as_device, "{states}");
+        assert_eq!(trial_of_table(&one, small, states, &chain.bytes, &mut word), as_table, "{states}");
+        assert_eq!(characteristic::write_rule(&one, chain.lent(), &mut []), Err(refused(written)), "{states}");
+        // From the last state on it is one state long.
+        let last = Lent { start: states - 1, ..chain.lent() };
+        let from_last = if written == 12 { Ok(5) } else { Err(refused(11)) };
+        assert_eq!(characteristic::write_rule(&one, last, &mut [0; 15]), from_last, "{states}");
+    }
+    // A rule of 256 states takes a device of 64, and a buffer of exactly so many bytes.
+    let closed = Lent { states: 64, start: 63, bytes: &[0; 128] };
+    let mut lent = [7; 513];
+    assert_eq!(compile(&one, &bytes(&steps(255)), &mut lent[..511]), Err(refused(13)));
+    assert_eq!(lent, [7; 513]);
+    assert_eq!(compile(&one, &bytes(&steps(255)), &mut lent), Ok(256));
+    assert_eq!((lent[510], lent[511], lent[512]), (3, 255, 7));
+    let mut word = vec![7; 16_384];
+    assert_eq!(trial_of_rule(&one, closed, &bytes(&steps(255)), &mut word), Ok(Outcome::Passes(Grade::Stricter)));
+    assert_eq!(trial_of_rule(&one, closed, &bytes(&steps(255)), &mut word[1..]), Err(refused(13)));
+    assert!(word.iter().all(|&byte| byte == 7));
+}
+
+/// States in a row on one event, the last of which goes back to one of them; each has one value, and the last another.
+fn loop_back(states: usize, to: usize, value: u8, last: u8) -> Vec<u8> {
+    let next = |state: usize| if state + 1 == states { to } else { state + 1 };
+    (0..states).flat_map(|state| [if state + 1 == states { last } else { value }, next(state) as u8]).collect()
+}
+
+/// A device loop against a table's, each with one place where they disagree. In the last one the table's state 0 is not met again.
+#[test]
+fn long_failing_words() {
+    let one = RawSetUp::four_values(1);
+    for (device, start, table, to, length) in [
+        (64, 0, 63, 0, 4032),
+        (63, 0, 254, 0, 16_002),
+        (63, 0, 256, 0, 16_128),
+        (64, 0, 255, 0, 16_320),
+        (64, 0, 256, 0, 256),
+        (64, 63, 256, 1, 16_321),
+    ] {
+        let rows = loop_back(device, 0, 0, 3);
+        let mut word = [7; WORD_BYTES];
+        let device = Lent { states: device, start, bytes: &rows };
+        let answer = trial_of_table(&one, device, table, &loop_back(table, to, 3, 0), &mut word);
+        assert_eq!(answer, Ok(Outcome::Fails(length)), "{device:?} against {table} states");
+        assert!(word[..length].iter().all(|&event| event == 0));
+        assert!(word[length..].iter().all(|&byte| byte == 7));
+    }
 }
 
 #[test]
@@ -391,7 +463,7 @@ fn order_of_refusals_on_a_tool() {
     assert_eq!(tool.event(0, 256, 0), Err(refused(16)));
     assert_eq!(tool.event(0, 1, 7), Ok(reading(3, 7, 0)));
     let loaded = tool.clone();
-    let over = bytes(&("G0 ".repeat(64) + "T"));
+    let over = bytes(&joined_loops(16, 17));
     assert_eq!(tool.load(0, &over), Err(refused(10)));
     assert_eq!(tool, loaded);
 
@@ -424,7 +496,8 @@ fn order_of_refusals_on_a_tool() {
     }
 
     for spoil in [
-        |channel: &mut Channel| channel.states = 65,
+        |channel: &mut Channel| channel.states = 257,
+        |channel: &mut Channel| channel.states = 65_535,
         |channel: &mut Channel| channel.states = 2,
         |channel: &mut Channel| channel.entries.clear(),
         |channel: &mut Channel| channel.entries[1].value = 4,
@@ -439,7 +512,12 @@ fn order_of_refusals_on_a_tool() {
         assert_eq!(spoilt.restart_one(0), Err(refused(17)));
         assert_eq!(spoilt.restart_all(), Err(refused(17)));
         assert_eq!(spoilt.clear(0), Err(refused(17)));
-        // It is no other channel's.
+        // It is no other channel's, but for its rows (document 02, F-12).
+        if spoilt.channels[0].states == 65_535 {
+            assert_eq!(spoilt.load(1, &t), Err(refused(25)));
+            assert_eq!(spoilt.load(8, &t), Err(refused(25)));
+            continue;
+        }
         assert_eq!(spoilt.load(1, &t), Ok(()));
         assert_eq!(spoilt.event(1, 0, 5), Ok(reading(3, 5, 0)));
     }
@@ -457,8 +535,8 @@ fn order_of_refusals_on_a_tool() {
 fn the_log_judges_the_same() {
     let event = |channel: usize, event: usize| Call::Event { channel, event, pulses: 6 };
     let mut log = Log::new(RawSetUp::four_values(2), WHEEL).unwrap();
-    let over = bytes(&("G0 ".repeat(64) + "T"));
-    let most = bytes(&("G0 ".repeat(63) + "T"));
+    let over = bytes(&joined_loops(16, 17));
+    let most = bytes(&steps(255));
     assert_eq!(log.call(&Call::Load { channel: 0, rule: over }), Err(refused(10)));
     assert_eq!(log.call(&Call::Load { channel: 0, rule: most }), Ok(None));
     assert_eq!(log.call(&event(0, 0)), Ok(Some(reading(3, 6, 0))));

@@ -6,10 +6,10 @@
 use std::fmt;
 
 /// The bytes that a trial's word buffer has at least.
-pub const WORD_BYTES: usize = 4096;
+pub const WORD_BYTES: usize = 16_384;
 
-/// The bytes that every table has room in: 64 states, 16 events, two bytes an entry.
-pub const TABLE_BYTES: usize = 2048;
+/// The bytes that every table has room in: 256 states, 16 events, two bytes an entry.
+pub const TABLE_BYTES: usize = 8192;
 
 /// The bytes that every rule has room in: 256 nodes, three bytes each.
 pub const RULE_BYTES: usize = 768;
@@ -82,7 +82,7 @@ pub struct SetUp<'a> {
 /// A table handed in: value and next state, one byte each, by state and then event.
 #[derive(Clone, Copy, Debug)]
 pub struct Table<'a> {
-    /// How many states.
+    /// How many states: 1 to 64 of a trial's device, 1 to 256 of any other table. Refusal 11 is given where it is not.
     pub states: usize,
     /// The start; a rule's table starts at state 0.
     pub start: usize,
@@ -128,6 +128,23 @@ pub struct Table<'a> {
 /// assert_eq!(gurvazze::table(&binders(12), &mut to)?.states, 1);
 /// let refusal = gurvazze::table(&binders(13), &mut to).unwrap_err();
 /// assert_eq!((refusal.number, refusal.place), (23, None));
+/// # Ok::<(), gurvazze::Refusal>(())
+/// ```
+///
+/// A table has at most 256 states. Refusal 10 is given where a rule reaches more.
+///
+/// ```
+/// let head = "events=1\nvalues=4\ntop=3\nmeet=0 0 0 0 0 1 0 1 0 0 2 2 0 1 2 3\n";
+/// let steps = |count: usize| format!("{head}rule={}T\n", "G0 ".repeat(count)).into_bytes();
+/// let mut to = [0; gurvazze::TABLE_BYTES];
+/// assert_eq!(gurvazze::table(&steps(64), &mut to)?.states, 65);
+/// assert_eq!(gurvazze::table(&steps(255), &mut to)?.states, 256);
+/// // State 254 goes to 255, which stays.
+/// assert_eq!(to[508..512], [3, 255, 3, 255]);
+/// // Loops of 16 and 17 have 272 states together.
+/// let loops = format!("{head}rule=A V {}X0 V {}X0\n", "G0 ".repeat(16), "G0 ".repeat(17)).into_bytes();
+/// let refusal = gurvazze::table(&loops, &mut to).unwrap_err();
+/// assert_eq!((refusal.number, refusal.place), (10, None));
 /// # Ok::<(), gurvazze::Refusal>(())
 /// ```
 pub fn table(text: &[u8], to: &mut [u8]) -> Result<TableNumbers, Refusal> {
@@ -177,7 +194,8 @@ pub fn replay(text: &[u8], events: &[u8], to: &mut [u8]) -> Result<(), Refusal> 
 /// # Ok::<(), gurvazze::Refusal>(())
 /// ```
 ///
-/// A rule covers another of the same set-up, so that the other may be dropped, exactly if its table, as a device from state 0, passes.
+/// A rule whose table has at most 64 states covers another of the same set-up, so that the other may be dropped, exactly if its table, as a
+/// device from state 0, passes.
 ///
 /// ```
 /// use gurvazze::{Grade, Table, Verdict};
@@ -211,7 +229,7 @@ pub fn trial(text: &[u8], device: Table<'_>, word: &mut [u8]) -> Result<Verdict,
     verdict(code)
 }
 
-/// Trial of a device against a rule's table. Refusals 1 to 3, 11, 13.
+/// Trial of a device, of up to 64 states, against a rule's table, of up to 256. Refusals 1 to 3, 11, 13.
 ///
 /// ```
 /// use gurvazze::{Grade, SetUp, Table, Verdict};
@@ -224,6 +242,27 @@ pub fn trial(text: &[u8], device: Table<'_>, word: &mut [u8]) -> Result<Verdict,
 /// // Its other state is 1 for ever, and its first is not reached from there.
 /// let other = Table { start: 1, ..device };
 /// assert_eq!(gurvazze::trial_of_table(set_up, 1, &[1, 0], other, &mut word)?, Verdict::Pass(Grade::Same));
+/// # Ok::<(), gurvazze::Refusal>(())
+/// ```
+///
+/// A failing word may be long: here two loops disagree only where both are at their last state.
+///
+/// ```
+/// use gurvazze::{SetUp, Table, Verdict};
+///
+/// let set_up = SetUp { events: 1, values: 2, top: 1, meet: &[0, 0, 0, 1] };
+/// let round = |states: usize, last: u8| {
+///     let entry = |state: usize| [if state + 1 == states { last } else { 1 - last }, ((state + 1) % states) as u8];
+///     (0..states).flat_map(entry).collect::<Vec<u8>>()
+/// };
+/// let (device, table) = (round(63, 1), round(254, 0));
+/// let device = Table { states: 63, start: 0, bytes: &device };
+/// let mut word = [7; gurvazze::WORD_BYTES];
+/// assert_eq!(gurvazze::trial_of_table(set_up, 254, &table, device, &mut word)?, Verdict::Fail(16_002));
+/// assert_eq!(word[16_001..16_003], [0, 7]);
+/// assert_eq!(gurvazze::trial_of_table(set_up, 254, &table, device, &mut word[1..]).unwrap_err().number, 13);
+/// let table = Table { states: 254, start: 0, bytes: &table };
+/// assert_eq!(gurvazze::trial_of_table(set_up, 1, &[1, 0], table, &mut word).unwrap_err().number, 11);
 /// # Ok::<(), gurvazze::Refusal>(())
 /// ```
 pub fn trial_of_table(
@@ -255,7 +294,7 @@ pub fn trial_of_table(
     verdict(code)
 }
 
-/// The rule of a table goes into `to`, three bytes a node; returns its number of nodes. Refusals 1 to 3, 11, 12, 23, 13.
+/// The rule of a table, of up to 256 states, goes into `to`, three bytes a node; returns its number of nodes. Refusals 1 to 3, 11, 12, 23, 13.
 ///
 /// ```
 /// use gurvazze::{SetUp, Table};
@@ -302,7 +341,7 @@ pub fn rule(set_up: SetUp<'_>, table: Table<'_>, to: &mut [u8]) -> Result<usize,
     yielded(code).map(|count| count as usize)
 }
 
-/// A trial yields 0 for a pass as same, 65,536 for a pass as stricter, and else the length of the failing word, 1 to 4,096.
+/// A trial yields 0 for a pass as same, 65,536 for a pass as stricter, and else the length of the failing word, 1 to 16,384.
 fn verdict(code: u64) -> Result<Verdict, Refusal> {
     yielded(code).map(|number| match number {
         0 => Verdict::Pass(Grade::Same),

@@ -2,7 +2,7 @@
 
 use std::collections::{BTreeSet, HashSet};
 
-use super::{check_channel, Answer, Call, Distance, Reading, Wheel, CHANNELS, MAX_TOTAL};
+use super::{check_channel, Answer, Call, Distance, Reading, Wheel, CHANNELS, MAX_ROWS, MAX_TOTAL};
 use crate::formula::{Formulas, Id, Node, Rule};
 use crate::table::MAX_STATES;
 use crate::values::{RawSetUp, SetUp};
@@ -13,6 +13,8 @@ pub struct Record {
     rule: Rule,
     events: Vec<u8>,
     pulses: Vec<u32>,
+    /// How many sets of demands the rule reaches: the rows that its table takes (document 02, F-12).
+    rows: usize,
     formulas: Formulas,
     /// The formula of the rule.
     root: Id,
@@ -21,10 +23,10 @@ pub struct Record {
 }
 
 impl Record {
-    fn new(set_up: &SetUp, rule: Rule) -> Record {
+    fn new(set_up: &SetUp, rule: Rule, rows: usize) -> Record {
         let mut formulas = Formulas::new(set_up.clone());
         let root = formulas.of_rule(&rule);
-        Record { rule, events: Vec::new(), pulses: Vec::new(), formulas, root, now: root }
+        Record { rule, events: Vec::new(), pulses: Vec::new(), rows, formulas, root, now: root }
     }
 
     /// The rule.
@@ -40,6 +42,11 @@ impl Record {
     /// "A channel holds their total since its loading or restart; document 01's log keeps it too" (document 02, F-6).
     pub fn total(&self) -> u64 {
         self.pulses.iter().map(|&pulses| u64::from(pulses)).sum()
+    }
+
+    /// The rows that the rule's table takes (document 02, F-12).
+    pub fn rows(&self) -> usize {
+        self.rows
     }
 
     fn forget_events(&mut self) {
@@ -76,10 +83,11 @@ impl Log {
             Call::Load { channel, ref rule } => {
                 check_channel(channel)?;
                 let rule = Rule::from_bytes(&self.set_up, rule)?;
-                if reaches_too_many(&rule, self.set_up.events()) {
-                    return Err(Refusal::new(10));
+                let rows = reached(&rule, self.set_up.events()).ok_or(Refusal::new(10))?;
+                if rows > self.room_beside(channel) {
+                    return Err(Refusal::new(25));
                 }
-                self.channels[channel] = Some(Record::new(&self.set_up, rule));
+                self.channels[channel] = Some(Record::new(&self.set_up, rule, rows));
                 Ok(None)
             }
             // "event: returns the rule's value on it after the channel's events, the follower being taken on each in turn;
@@ -120,6 +128,13 @@ impl Log {
         }
     }
 
+    /// The rows that the other channels' rules leave: "Whether a load is accepted may depend on the row totals of others, and on nothing
+    /// else of theirs" (document 02, F-12).
+    fn room_beside(&self, channel: usize) -> usize {
+        let others = self.channels.iter().enumerate().filter(|&(other, _)| other != channel);
+        MAX_ROWS - others.filter_map(|(_, record)| record.as_ref()).map(|record| record.rows).sum::<usize>()
+    }
+
     /// 14, then 15; "there a channel with nothing is empty".
     fn loaded(&mut self, channel: usize) -> Result<&mut Record, Refusal> {
         check_channel(channel)?;
@@ -135,9 +150,9 @@ fn distance(wheel: Wheel, total: u64) -> Distance {
     Distance { millimetres: turns * c + pulses * c / p, rest: pulses * c % p }
 }
 
-/// 10: "over 64 states". Counts the reached sets of G and O node numbers, by document 01's sentences on demands, and nothing
-/// else of the table.
-fn reaches_too_many(rule: &Rule, events: usize) -> bool {
+/// How many sets of G and O node numbers are reached, by document 01's sentences on demands and nothing else of the table; nothing where
+/// 10 holds, "over" 256 "states" (document 02, F-12).
+fn reached(rule: &Rule, events: usize) -> Option<usize> {
     let first = demands(rule, vec![0]);
     let mut reached = HashSet::from([first.clone()]);
     let mut waiting = vec![first];
@@ -150,11 +165,11 @@ fn reaches_too_many(rule: &Rule, events: usize) -> bool {
                 waiting.push(next);
             }
             if reached.len() > MAX_STATES {
-                return true;
+                return None;
             }
         }
     }
-    false
+    Some(reached.len())
 }
 
 /// The union of the demands of some nodes. A node that was met is not met again: an inner binder may have its outer one's demands by

@@ -1,4 +1,4 @@
-//! The tool: eight channels that follow their rules' tables and tell distances, refusals 14 to 19; and the log it is compared with.
+//! The tool: eight channels that follow their rules' tables and tell distances, refusals 14 to 19 and 25; and the log it is compared with.
 
 mod distance;
 mod log;
@@ -13,6 +13,8 @@ use crate::Refusal;
 
 /// "eight channels, 0 to 7".
 pub const CHANNELS: usize = 8;
+/// "512 rows among its channels, a row being one state of a loaded table" (document 02, F-12).
+pub const MAX_ROWS: usize = 512;
 
 /// "a channel is empty or has a table and a current state", and the total of its pulses "since its loading or restart" (document 02,
 /// F-6). It is empty when its number of states is 0, whatever else it holds.
@@ -110,25 +112,28 @@ impl Tool {
         Ok(Tool { set_up, wheel, channels: Default::default() })
     }
 
-    /// "load a rule (replaces, state 0)": refusals 17, 14, 5 to 8, 23, 9, 10. "a refused loading changes neither its channel nor any
-    /// other".
+    /// "load a rule (replaces, state 0)": refusals 17, 25, 14, 5 to 8, 23, 9, 10, 25. "a refused loading changes neither its channel nor
+    /// any other".
     pub fn load(&mut self, channel: usize, rule: &[u8]) -> Result<(), Refusal> {
         self.check_named(channel)?;
         check_channel(channel)?;
         let set_up = SetUp::new(self.set_up.clone()).expect("17 has tested it");
         let table = Table::of_rule(&set_up, &Rule::from_bytes(&set_up, rule)?)?;
+        // 25: "rows of the other channels plus those of the new table above 512, after 10 on loading" (document 02, F-12).
+        let others = (0..CHANNELS).filter(|&other| other != channel).map(|other| self.channels[other].states);
+        check_rows(others.chain([table.states()]))?;
         self.channels[channel] = Channel { states: table.states(), current: 0, entries: table.into_entries(), total: 0 };
         Ok(())
     }
 
-    /// "An event returns the value and moves to the next state": refusals 17, 14, 15, 16, 19. "The call also returns, this event's
+    /// "An event returns the value and moves to the next state": refusals 17, 25, 14, 15, 16, 19. "The call also returns, this event's
     /// pulses counted in", the distance (document 02, F-6).
     pub fn event(&mut self, channel: usize, event: usize, pulses: u32) -> Result<Reading, Refusal> {
         self.check_named(channel)?;
         self.sound_event(channel, event, pulses)
     }
 
-    /// The same for a tool that 17 is known not to refuse.
+    /// The same for a tool that 17 and 25 are known not to refuse.
     pub fn sound_event(&mut self, channel: usize, event: usize, pulses: u32) -> Result<Reading, Refusal> {
         let (events, wheel) = (self.set_up.events, self.wheel);
         let channel = self.loaded(channel)?;
@@ -147,23 +152,24 @@ impl Tool {
         Ok(Reading { value, distance: wheel.distance(total) })
     }
 
-    /// Restart one: refusals 17, 14, 15.
+    /// Restart one: refusals 17, 25, 14, 15.
     pub fn restart_one(&mut self, channel: usize) -> Result<(), Refusal> {
         self.check_named(channel)?;
         self.loaded(channel)?.restart();
         Ok(())
     }
 
-    /// "restart all (empty ones remain empty)": refusal 17.
+    /// "restart all (empty ones remain empty)": refusals 17, 25.
     pub fn restart_all(&mut self) -> Result<(), Refusal> {
         self.check_set_up()?;
         // 17: "for restart all, any loaded one".
         self.channels.iter().try_for_each(|channel| self.check_loaded(channel))?;
+        self.check_all_rows()?;
         self.channels.iter_mut().filter(|channel| !channel.is_empty()).for_each(Channel::restart);
         Ok(())
     }
 
-    /// "clear (an empty one too)": refusals 17, 14.
+    /// "clear (an empty one too)": refusals 17, 25, 14.
     pub fn clear(&mut self, channel: usize) -> Result<(), Refusal> {
         self.check_named(channel)?;
         check_channel(channel)?;
@@ -183,10 +189,16 @@ impl Tool {
     }
 
     /// 17: "a tool whose set-up fails 1 to 3, or whose named channel ... has a table failing 11's limits or a current state
-    /// outside it". A number above 7 names no channel of the tool.
+    /// outside it". A number above 7 names no channel of the tool. Then 25.
     fn check_named(&self, channel: usize) -> Result<(), Refusal> {
         self.check_set_up()?;
-        self.channels.get(channel).map_or(Ok(()), |channel| self.check_loaded(channel))
+        self.channels.get(channel).map_or(Ok(()), |channel| self.check_loaded(channel))?;
+        self.check_all_rows()
+    }
+
+    /// 25: "for a handed-in tool whose loaded tables exceed 512, after 17" (document 02, F-12).
+    fn check_all_rows(&self) -> Result<(), Refusal> {
+        check_rows(self.channels.iter().map(|channel| channel.states))
     }
 
     /// 18 is "also part of 17's test" (document 02, F-6).
@@ -217,6 +229,14 @@ impl Tool {
             return Err(Refusal::new(15));
         }
         Ok(channel)
+    }
+}
+
+/// 25: so many rows are above 512 together; an empty channel has none.
+fn check_rows(mut rows: impl Iterator<Item = usize>) -> Result<(), Refusal> {
+    match rows.try_fold(MAX_ROWS, usize::checked_sub) {
+        Some(_) => Ok(()),
+        None => Err(Refusal::new(25)),
     }
 }
 

@@ -3,7 +3,7 @@
 
 use gurvazze_reference::formula::Rule;
 use gurvazze_reference::table::Table;
-use gurvazze_reference::tool::{Distance, Reading, Wheel};
+use gurvazze_reference::tool::{Answer, Call, Distance, Log, Reading, Tool, Wheel};
 use gurvazze_reference::values::{RawSetUp, SetUp};
 use gurvazze_reference::Refusal;
 
@@ -18,6 +18,52 @@ pub const WHEEL: Wheel = Wheel { pulses: 1, millimetres: 1 };
 /// What an event returns at that distance.
 pub fn reading(value: u8, millimetres: u64, rest: u64) -> Reading {
     Reading { value, distance: Distance { millimetres, rest } }
+}
+
+/// A tool and its log, which answer the same.
+pub struct Both {
+    /// The tool.
+    pub tool: Tool,
+    /// Its log.
+    pub log: Log,
+}
+
+impl Both {
+    /// The four-value set with so many events; every channel is empty.
+    pub fn new(events: usize, wheel: Wheel) -> Both {
+        let raw = RawSetUp::four_values(events);
+        Both { tool: Tool::new(raw.clone(), wheel).unwrap(), log: Log::new(raw, wheel).unwrap() }
+    }
+
+    /// A call by both. Afterwards each channel has the total and the rows that the log has for it.
+    pub fn call(&mut self, call: Call) -> Answer {
+        let before = self.tool.clone();
+        let answer = self.tool.call(&call);
+        assert_eq!(answer, self.log.call(&call), "{call:?}");
+        if answer.is_err() {
+            assert_eq!(self.tool, before, "a refused call changes nothing: {call:?}");
+        }
+        for (number, channel) in self.tool.channels.iter().enumerate() {
+            let of_log = self.log.record(number).map_or((0, 0), |record| (record.total(), record.rows()));
+            assert_eq!((channel.total, channel.states), of_log, "{call:?}");
+        }
+        answer
+    }
+
+    /// A load of a rule in items.
+    pub fn load(&mut self, channel: usize, items: &str) -> Answer {
+        self.call(Call::Load { channel, rule: bytes(items) })
+    }
+
+    /// An event.
+    pub fn event(&mut self, channel: usize, event: usize, pulses: u32) -> Result<Reading, Refusal> {
+        self.call(Call::Event { channel, event, pulses }).map(|reading| reading.expect("an event returns a reading"))
+    }
+
+    /// A clear.
+    pub fn clear(&mut self, channel: usize) -> Answer {
+        self.call(Call::Clear { channel })
+    }
 }
 
 /// So many seeds, times the number in the environment's SEEDS_TIMES where there is one.
@@ -37,6 +83,17 @@ fn item(item: &str) -> [u8; 3] {
     let (first, second) = (numbers.next().unwrap_or(0), numbers.next().unwrap_or(0));
     let kind = "TXGOAV".find(letter).unwrap() as u8;
     [kind, first, second]
+}
+
+/// Event 0 so many times, then T.
+pub fn steps(count: usize) -> String {
+    "G0 ".repeat(count) + "T"
+}
+
+/// Two loops on event 0, of these lengths, joined by A.
+pub fn joined_loops(first: usize, second: usize) -> String {
+    let of = |length: usize| format!("V {}X0", "G0 ".repeat(length));
+    format!("A {} {}", of(first), of(second))
 }
 
 /// A checked rule from its items.
