@@ -1,20 +1,22 @@
 //! Versions of one call held against each other on generated texts.
 
+use gurvazze::TABLE_BYTES;
 use gurvazze_reference::channel_file;
 use gurvazze_reference::generate::Generator;
 use gurvazze_reference::values::SetUp;
 use gurvazze_reference::Refusal;
 
-use crate::rules::file_of_tokens;
+use crate::rules::{file, file_of_tokens, joined, ring};
 
 /// The table of a channel file, or its refusal.
 pub type TableOfFile = fn(&[u8], &mut [u8]) -> Result<usize, Refusal>;
 
 /// Both versions answer the same and leave the same bytes on so many texts, good and damaged. Each refusal of a file
-/// arises among them.
+/// arises among them, and so do tables of more than 64 states.
 pub fn check(first: TableOfFile, second: TableOfFile, texts: usize) {
     let mut generator = Generator::new(9);
     let mut met = [false; 24];
+    let mut large = false;
     for _ in 0..texts {
         let text = any_text(&mut generator);
         let length = any_length(&mut generator, first, &text);
@@ -24,14 +26,16 @@ pub fn check(first: TableOfFile, second: TableOfFile, texts: usize) {
         assert_eq!(answer, second(&text, &mut other), "{}", String::from_utf8_lossy(&text));
         assert!(to == other, "{}", String::from_utf8_lossy(&text));
         met[answer.map_or_else(|refusal| usize::from(refusal.number), |_| 0)] = true;
+        large |= answer.is_ok_and(|states| states > 64);
     }
+    assert!(large, "no table of more than 64 states arises");
     for number in [0, 1, 2, 3, 4, 5, 6, 7, 8, 9, 10, 13, 23] {
         assert!(met[number], "{number} does not arise");
     }
 }
 
 fn any_text(generator: &mut Generator) -> Vec<u8> {
-    match generator.below(10) {
+    match generator.below(11) {
         0 => generator.file(),
         1 => generator.loose_file(),
         2 => generator.damaged_file(),
@@ -50,6 +54,14 @@ fn any_text(generator: &mut Generator) -> Vec<u8> {
             let set_up = generator.set_up();
             let items = any_items(generator, &set_up);
             file_of_tokens(set_up.raw(), items.as_bytes())
+        }
+        8 => {
+            // a loop, or two joined, about the limit of 256 states
+            let set_up = generator.set_up();
+            let (first, second) = (generator.between(1, 20), generator.between(1, 20));
+            let long = generator.between(230, 254);
+            let nodes = if generator.once_in(4) { ring(long) } else { joined(&[ring(first), ring(second)]) };
+            file(&set_up, &nodes)
         }
         _ => {
             let mut text = if generator.once_in(2) { generator.file() } else { generator.loose_file() };
@@ -101,13 +113,13 @@ fn change_byte(generator: &mut Generator, text: &mut Vec<u8>) {
 
 /// The length of a buffer: any, or about what the table of the text needs.
 fn any_length(generator: &mut Generator, table: TableOfFile, text: &[u8]) -> usize {
-    let mut to = [0; 2048];
+    let mut to = [0; TABLE_BYTES];
     match (table(text, &mut to), channel_file::read(text)) {
         (Ok(states), Ok(file)) if !generator.once_in(4) => {
             let needed = 2 * states * file.set_up.events();
             needed - 1 + generator.one_of(&[0, 1, 1, 2, 9])
         }
-        _ => generator.one_of(&[0, 7, 64, 2048]),
+        _ => generator.one_of(&[0, 7, 64, TABLE_BYTES]),
     }
 }
 

@@ -9,8 +9,11 @@ const NODE_LIMIT: usize = 256;
 const BINDER_LIMIT: usize = 12;
 const EVENT_LIMIT: usize = 16;
 const VALUE_LIMIT: usize = 16;
-const STATE_LIMIT: usize = 64;
-const BUCKETS: usize = 128;
+/// States that most tables have room for, and those that a table may have; for each as many buckets, a power of two.
+const FEW_STATES: usize = 64;
+const FEW_BUCKETS: usize = 128;
+const STATE_LIMIT: usize = 256;
+const BUCKETS: usize = 512;
 
 /// No such place.
 const NONE: usize = usize::MAX;
@@ -23,7 +26,7 @@ const EMPTY: Set = [0; 4];
 type Values = u16;
 
 /// Numbers of states, by state and then event.
-type Nexts = [u8; STATE_LIMIT * EVENT_LIMIT];
+type Nexts<const S: usize> = [[u8; EVENT_LIMIT]; S];
 
 /// The table of a channel file's rule goes into `to`; returns its number of states. Refusals 4, 1 to 3, 5 to 8, 23, 9,
 /// 10, 13.
@@ -50,14 +53,45 @@ pub fn table(text: &[u8], to: &mut [u8]) -> Result<usize, Refusal> {
 fn table_within<const N: usize>(reader: Reader<'_>, set_up: &SetUp, to: &mut [u8]) -> Result<usize, Refusal> {
     let mut rule = Rule::<N>::NONE;
     read(reader, set_up, &mut rule)?;
-    let mut nexts = [0; STATE_LIMIT * EVENT_LIMIT];
-    let mut states = States::NONE;
-    explore(&rule, set_up.events, &mut states, &mut nexts)?;
+    let mut nexts = [[0; EVENT_LIMIT]; FEW_STATES];
+    let mut states = States::<FEW_STATES, FEW_BUCKETS>::NONE;
+    states.number(&rule.demands[0]).expect("there is room for one");
+    match explore(&rule, set_up.events, &mut states, &mut nexts, 0) {
+        Ok(()) => finish(&rule, set_up, &states, &nexts, to),
+        Err(Full(done)) => table_of_many(&rule, set_up, &states, &nexts, done, to),
+    }
+}
+
+/// Goes on from a state, of a table of more than a few.
+#[inline(never)]
+fn table_of_many<const N: usize>(
+    rule: &Rule<N>,
+    set_up: &SetUp,
+    few: &States<FEW_STATES, FEW_BUCKETS>,
+    few_nexts: &Nexts<FEW_STATES>,
+    done: usize,
+    to: &mut [u8],
+) -> Result<usize, Refusal> {
+    let mut nexts = [[0; EVENT_LIMIT]; STATE_LIMIT];
+    nexts[..FEW_STATES].copy_from_slice(few_nexts);
+    let mut states = few.grown();
+    explore(rule, set_up.events, &mut states, &mut nexts, done).map_err(|_| Refusal::new(10))?;
+    finish(rule, set_up, &states, &nexts, to)
+}
+
+#[inline(always)]
+fn finish<const N: usize, const S: usize, const B: usize>(
+    rule: &Rule<N>,
+    set_up: &SetUp,
+    states: &States<S, B>,
+    nexts: &Nexts<S>,
+    to: &mut [u8],
+) -> Result<usize, Refusal> {
     let needed = 2 * states.count * set_up.events;
     if to.len() < needed {
         return Err(Refusal::new(13));
     }
-    store(&rule, set_up, &states, &nexts, &mut to[..needed]);
+    store(rule, set_up, states, nexts, &mut to[..needed]);
     Ok(states.count)
 }
 
@@ -70,8 +104,10 @@ pub fn sizes(text: &[u8]) -> Result<(usize, usize), Refusal> {
     }
     let mut rule = Rule::<NODE_LIMIT>::NONE;
     read(reader, &set_up, &mut rule)?;
-    let mut states = States::NONE;
-    explore(&rule, set_up.events, &mut states, &mut [0; STATE_LIMIT * EVENT_LIMIT])?;
+    let mut states = States::<STATE_LIMIT, BUCKETS>::NONE;
+    states.number(&rule.demands[0]).expect("there is room for one");
+    let mut nexts = [[0; EVENT_LIMIT]; STATE_LIMIT];
+    explore(&rule, set_up.events, &mut states, &mut nexts, 0).map_err(|_| Refusal::new(10))?;
     let nodes = states.sets[..states.count].iter().flatten().map(|word| word.count_ones() as usize).sum();
     Ok((states.count, nodes))
 }
@@ -491,61 +527,80 @@ fn members(mut word: u64) -> impl Iterator<Item = usize> {
 
 // The walk over states.
 
-/// The states that were found.
-struct States {
-    sets: [Set; STATE_LIMIT],
+/// The states that were found, in arrays for S of them and B buckets.
+struct States<const S: usize, const B: usize> {
+    sets: [Set; S],
     count: usize,
     /// By hash the number of a state and one; 0 where there is none.
-    buckets: [u8; BUCKETS],
+    buckets: [u16; B],
 }
 
-impl States {
-    const NONE: States = States { sets: [EMPTY; STATE_LIMIT], count: 0, buckets: [0; BUCKETS] };
+/// There is no room for one more state: the next states of this one are not known.
+struct Full(usize);
 
-    /// The number of a state, which is added where it is new. Refusal 10.
+impl States<FEW_STATES, FEW_BUCKETS> {
+    /// The same states in arrays for more.
+    fn grown(&self) -> States<STATE_LIMIT, BUCKETS> {
+        let mut grown = States::NONE;
+        for set in &self.sets[..self.count] {
+            grown.number(set);
+        }
+        grown
+    }
+}
+
+impl<const S: usize, const B: usize> States<S, B> {
+    const NONE: States<S, B> = States { sets: [EMPTY; S], count: 0, buckets: [0; B] };
+
+    /// The number of a state, which is added where it is new; nothing where there is no room.
     #[inline(always)]
-    fn number(&mut self, set: &Set) -> Result<u8, Refusal> {
-        let mut bucket = hash(set);
+    fn number(&mut self, set: &Set) -> Option<u8> {
+        let mut bucket = hash::<B>(set);
         loop {
             let found = self.buckets[bucket];
             if found == 0 {
                 break;
             }
-            if self.sets[(usize::from(found) - 1) % STATE_LIMIT] == *set {
-                return Ok(found - 1);
+            if self.sets[(usize::from(found) - 1) % S] == *set {
+                return Some((found - 1) as u8);
             }
-            bucket = (bucket + 1) % BUCKETS;
+            bucket = (bucket + 1) % B;
         }
-        if self.count == STATE_LIMIT {
-            return Err(Refusal::new(10));
+        if self.count == S {
+            return None;
         }
         let number = self.count as u8;
         self.sets[self.count] = *set;
         self.count += 1;
-        self.buckets[bucket] = number + 1;
-        Ok(number)
+        self.buckets[bucket] = self.count as u16;
+        Some(number)
     }
 }
 
 #[inline(always)]
-fn hash(set: &Set) -> usize {
+fn hash<const B: usize>(set: &Set) -> usize {
     let mixed = set[0].wrapping_mul(0x9e37_79b9_7f4a_7c15)
         ^ set[1].wrapping_mul(0xbf58_476d_1ce4_e5b9)
         ^ set[2].wrapping_mul(0x94d0_49bb_1331_11eb)
         ^ set[3].wrapping_mul(0x2545_f491_4f6c_dd1d);
-    (mixed >> (64 - BUCKETS.ilog2())) as usize
+    (mixed >> (64 - B.ilog2())) as usize
 }
 
-/// The states in order, and the next state of each on each event. Refusal 10.
+/// The states in order, and the next state of each on each event, from a state on.
 #[inline(always)]
-fn explore<const N: usize>(rule: &Rule<N>, events: usize, states: &mut States, to: &mut Nexts) -> Result<(), Refusal> {
-    states.number(&rule.demands[0])?;
+fn explore<const N: usize, const S: usize, const B: usize>(
+    rule: &Rule<N>,
+    events: usize,
+    states: &mut States<S, B>,
+    to: &mut Nexts<S>,
+    from: usize,
+) -> Result<(), Full> {
     // The next sets of a state, and the events that have a G node in it; the sets of the others are empty.
     let mut sets = [EMPTY; EVENT_LIMIT];
     let mut empty = None;
-    let mut done = 0;
+    let mut done = from;
     while done < states.count {
-        let state = states.sets[done % STATE_LIMIT];
+        let state = states.sets[done % S];
         let mut met = 0u32;
         for (index, (word, after)) in state.iter().zip(rule.after).enumerate().take(Rule::<N>::WORDS) {
             for bit in members(word & after) {
@@ -556,14 +611,14 @@ fn explore<const N: usize>(rule: &Rule<N>, events: usize, states: &mut States, t
                 met |= 1 << event;
             }
         }
-        for (event, next) in to[done * events..][..events].iter_mut().enumerate() {
+        for (event, next) in to[done % S][..events].iter_mut().enumerate() {
             *next = if met >> event & 1 == 1 {
                 let set = std::mem::take(&mut sets[event % EVENT_LIMIT]);
-                states.number(&set)?
+                states.number(&set).ok_or(Full(done))?
             } else if let Some(number) = empty {
                 number
             } else {
-                *empty.insert(states.number(&EMPTY)?)
+                *empty.insert(states.number(&EMPTY).ok_or(Full(done))?)
             };
         }
         done += 1;
@@ -573,10 +628,16 @@ fn explore<const N: usize>(rule: &Rule<N>, events: usize, states: &mut States, t
 
 /// Values and next states, by state and then event.
 #[inline(always)]
-fn store<const N: usize>(rule: &Rule<N>, set_up: &SetUp, states: &States, nexts: &Nexts, to: &mut [u8]) {
+fn store<const N: usize, const S: usize, const B: usize>(
+    rule: &Rule<N>,
+    set_up: &SetUp,
+    states: &States<S, B>,
+    nexts: &Nexts<S>,
+    to: &mut [u8],
+) {
     let top = set_up.top as u8;
     let meet = |value: u8, other: usize| set_up.meet[usize::from(value) % VALUE_LIMIT][other % VALUE_LIMIT];
-    let rows = to.chunks_exact_mut(2 * set_up.events).zip(nexts.chunks_exact(set_up.events));
+    let rows = to.chunks_exact_mut(2 * set_up.events).zip(nexts);
     for (state, (row, nexts)) in states.sets.iter().zip(rows) {
         for (entry, next) in row.chunks_exact_mut(2).zip(nexts) {
             entry.copy_from_slice(&[top, *next]);

@@ -6,7 +6,7 @@ use gurvazze_reference::formula::{Node, Rule};
 use gurvazze_reference::values::SetUp;
 use gurvazze_reference::Refusal;
 
-const STATE_LIMIT: usize = 64;
+const STATE_LIMIT: usize = 256;
 
 /// Node numbers, one bit each.
 type Set = [u64; 4];

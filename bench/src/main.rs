@@ -11,6 +11,7 @@ mod timing;
 
 use std::hint::black_box;
 
+use gurvazze::{RULE_BYTES, TABLE_BYTES, WORD_BYTES};
 use gurvazze_reference::formula::Node;
 use gurvazze_reference::generate::{inner_binders, under, Generator, RawTable};
 use gurvazze_reference::table::Table;
@@ -18,7 +19,7 @@ use gurvazze_reference::trial::{trial_of_rule, trial_of_table, Grade, Outcome};
 use gurvazze_reference::values::SetUp;
 use gurvazze_reference::{channel_file, characteristic, Refusal};
 
-use rules::{branching, file, file_of_tokens, four, loop_table, nested, ring, side_by_side, sixteen, wide_rule};
+use rules::{branching, chain, file, file_of_tokens, four, loop_table, nested, ring, side_by_side, sixteen, wide_rule};
 use rules::{full_states, full_states_of_events, joined, thin_states};
 use timing::Report;
 
@@ -53,7 +54,7 @@ fn line_reading(report: &mut Report, case: &str, text: &[u8], number: u8) {
     if !report.wants(case) {
         return;
     }
-    let (mut to, mut other) = ([0; 2048], [0; 2048]);
+    let [mut to, mut other] = [[0; TABLE_BYTES]; 2];
     let refusal = library_table(text, &mut to).map(|_| ());
     assert_eq!(refusal.map_err(|refusal| refusal.number), Err(number));
     assert_eq!(refusal, channel_file::read(text).map(|_| ()));
@@ -88,7 +89,7 @@ fn reading(report: &mut Report) {
 
 /// The table of a file, which all accept, or refuse with the number that the case names.
 fn line_table(report: &mut Report, case: &str, text: &[u8], expected: Result<(), u8>) {
-    let [mut to, mut other, mut third] = [[0; 2048]; 3];
+    let [mut to, mut other, mut third] = [[0; TABLE_BYTES]; 3];
     let states = plain::table(text, &mut other);
     assert_eq!(states.map(|_| ()).map_err(|refusal| refusal.number), expected);
     let case = format!("{case}, {}", said(states, "states"));
@@ -113,9 +114,16 @@ fn tables(report: &mut Report) {
         let set_up = four(2);
         line(format!("{size} nodes, 2 events"), &file(&set_up, &wide_rule(&set_up, size)));
     }
-    for states in [1, 2, 4, 8, 16, 32, 64] {
+    for states in [1, 2, 3, 4, 8, 16, 32, 64, 128, 250] {
         let set_up = four(1);
         line(format!("loop of {states}, 1 event"), &file(&set_up, &ring(states)));
+    }
+    for events in [1, 2, 16] {
+        let nodes = joined(&[ring(15), ring(16)]);
+        line(format!("loops of 15 and 16, {events} events"), &file(&four(events), &nodes));
+    }
+    for events in [2, 16] {
+        line(format!("chain of 255 G, {events} events"), &file(&four(events), &chain(255, events)));
     }
     for (count, variables) in [(3, 2), (7, 2), (11, 2), (11, 10)] {
         let text = file_of_tokens(four(1).raw(), inner_binders(count, variables).as_bytes());
@@ -147,7 +155,7 @@ fn tables(report: &mut Report) {
 fn gathered_inside(report: &mut Report) {
     report.section("table of a channel file, beside demands gathered inside the walk");
     let mut line = |case: &str, text: &[u8]| {
-        let (mut to, mut other) = ([0; 2048], [0; 2048]);
+        let [mut to, mut other] = [[0; TABLE_BYTES]; 2];
         let states = inside::table(text, &mut other);
         let case = format!("inside: {case}, {}", said(states, "states"));
         assert_eq!(states, library_table(text, &mut to));
@@ -245,7 +253,7 @@ fn library_trial_of_table(
 }
 
 fn line_trial(report: &mut Report, case: &str, set_up: &SetUp, table: &RawTable, device: &RawTable) {
-    let (mut word, mut other) = ([0; 4096], [0; 4096]);
+    let [mut word, mut other] = [[0; WORD_BYTES]; 2];
     let outcome = trial_of_table(set_up.raw(), device.lent(), table.states, &table.bytes, &mut other);
     let outcome = outcome.expect("accepted");
     let case = match outcome {
@@ -275,10 +283,15 @@ fn in_library_words(outcome: Outcome) -> gurvazze::Verdict {
 
 fn trials(report: &mut Report) {
     report.section("trial of a device against a table");
-    for states in [1, 4, 16, 64] {
+    for states in [1, 3, 4, 16, 64] {
         let set_up = four(2);
         let table = loop_table(&set_up, states, |_| 3);
         line_trial(report, &format!("{states} states against {states}, 2 events"), &set_up, &table, &table);
+    }
+    for events in [1, 2, 16] {
+        let set_up = four(events);
+        let (device, table) = (loop_table(&set_up, 64, |_| 1), loop_table(&set_up, 254, |_| 3));
+        line_trial(report, &format!("64 states against 254, {events} events"), &set_up, &table, &device);
     }
     for events in [1, 2, 4, 8, 16] {
         let set_up = four(events);
@@ -294,7 +307,7 @@ fn trials(report: &mut Report) {
         let set_up = four(2);
         let text = file(&set_up, &ring(states));
         let device = loop_table(&set_up, states, |_| 1);
-        let (mut word, mut other) = ([0; 4096], [0; 4096]);
+        let [mut word, mut other] = [[0; WORD_BYTES]; 2];
         let rule = channel_file::read(&text).expect("accepted").rule.to_bytes();
         let outcome = trial_of_rule(set_up.raw(), device.lent(), &rule, &mut other).expect("accepted");
         let verdict = gurvazze::trial(&text, lent(&device), &mut word).expect("accepted");
@@ -310,7 +323,7 @@ fn trials(report: &mut Report) {
 
 /// The rule of a table, which both write, or refuse with the number that the case names.
 fn line_rule(report: &mut Report, case: &str, set_up: &SetUp, table: &RawTable, expected: Result<(), u8>) {
-    let (mut to, mut other) = ([0; 768], [0; 768]);
+    let [mut to, mut other] = [[0; RULE_BYTES]; 2];
     let nodes = characteristic::write_rule(set_up.raw(), table.lent(), &mut other);
     assert_eq!(nodes.map(|_| ()).map_err(|refusal| refusal.number), expected);
     let case = format!("{case}, {}", said(nodes, "nodes"));
@@ -356,7 +369,8 @@ fn worst(report: &mut Report) {
     let binders = nested(Node::Greatest, 12);
     line("table: 12 nested V", &binders, Ok(()));
     line("table: 18 times 12 nested V", &side_by_side(&binders, 18), Ok(()));
-    line("table: 255 nested G", &nested(Node::After(0), 255), Err(10));
+    line("table: 255 nested G", &nested(Node::After(0), 255), Ok(()));
+    line("table: loops of 16 and 17", &joined(&[ring(16), ring(17)]), Err(10));
     line("table: A nested to the left", &side_by_side(&[Node::True], 128), Ok(()));
     let full = four(16);
     let bytes = (0..64 * 16).flat_map(|entry: usize| [1, ((entry * 7 + entry / 16) % 64) as u8]).collect();
@@ -367,6 +381,9 @@ fn worst(report: &mut Report) {
     let table = loop_table(&set_up, 63, |state| if state == 62 { 1 } else { 3 });
     let device = loop_table(&set_up, 64, |state| if state == 63 { 3 } else { 1 });
     line_trial(report, "trial: loops of 64 and 63", &set_up, &table, &device);
+    let table = loop_table(&set_up, 254, |state| if state == 253 { 1 } else { 3 });
+    let device = loop_table(&set_up, 63, |state| if state == 62 { 3 } else { 1 });
+    line_trial(report, "trial: loops of 63 and 254", &set_up, &table, &device);
     let set_up = four(16);
     let (device, table) = (loop_table(&set_up, 64, |_| 1), loop_table(&set_up, 63, |_| 3));
     line_trial(report, "trial: loops of 64 and 63, 16 events", &set_up, &table, &device);

@@ -70,6 +70,12 @@ pub fn ring(states: usize) -> Vec<Node> {
     ring_with(0, states, |_| Vec::new())
 }
 
+/// So many G nodes on the events in turn, one below the other: one state more than these.
+pub fn chain(count: usize, events: usize) -> Vec<Node> {
+    let after = |node: usize| Node::After((node % events) as u8);
+    (0..count).map(after).chain([Node::True]).collect()
+}
+
 /// So many V or G nodes, one below the other.
 pub fn nested(node: Node, count: usize) -> Vec<Node> {
     let mut nodes = vec![node; count];
