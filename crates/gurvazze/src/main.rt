@@ -92,7 +92,7 @@ fn with_device(session: Session, device: Device) -> Session {
     }
 }
 
-// A command that changes the tool. Here and below a list of numbers and what a command gives back, values or a out word, go to lent
+// A command that changes the tool. Here and below a list of numbers and what a command gives back, values or a failing word, go to lent
 // memory, so that it is not cleared for each command.
 fn call(
     command: Command,
