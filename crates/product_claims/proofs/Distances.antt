@@ -7,12 +7,12 @@ use Rattle.machines.proofs.EntryIndex.{index-state, index-event}
 use Rattle.refusal.proofs.Refusals.{or-else-none}
 use Rattle.channel_log.specs.Calls.{event, Reply, accepted, returned, refused, reply-refusal, with-channel, map-option, Loaded}
 use Rattle.channel_log.specs.Distance.{Wheel, WheelFault, Occurrence, Reading, reading, distance}
-use Rattle.channel_log.specs.{CallSteps.{channel-refusal, on-event, call-refusal, event-reply}, Recorded.{at-state}}
+use Rattle.channel_log.specs.{CallSteps.{channel-refusal, on-event, event-reply}, Recorded.{at-state}}
 use Rattle.channel_log.proofs.Independence.{put-at, put-apart}
 use Rattle.recorder.specs.{Store.{Store, AllCells, channels, totals}, ToolTests.{wheel-test}}
-use Rattle.recorder.specs.Called.{next-state, next-total, content, fault-refusal, tool-refusal, effect-on, called}
-use Rattle.recorder.proofs.{Held.{channel-below, wheel-of-test, wheel-fault}, Decided.{accepted-call}}
-use Rattle.recorder_claims.proofs.{View.{current-view}, Calls.{call-refused}}
+use Rattle.recorder.specs.Called.{next-state, next-total, content, effect-on, called}
+use Rattle.recorder.proofs.Held.{channel-below, wheel-of-test, wheel-fault}
+use Rattle.recorder_claims.proofs.{View.{current-view}, Calls.{Went, went-of}}
 use Rattle.product_claims.specs.Requests.{DistanceWithEveryEvent}
 
 -- A wheel that 18 lets through has pulses.
@@ -46,20 +46,17 @@ returned-of (returned r) = some r
 returned-of (refused r) = none
 
 module _ (t : Store) (cells : AllCells t) (c : ℕ) (i : Occurrence) (r : Reading ℕ) (went : called (event c i) t .0 ≡ returned r) where
-  unrefused : tool-refusal t (event c i) ≡ none
-  unrefused = sym (call-refused t (event c i)) ∙ ap reply-refusal went
+  facts : Went t (event c i)
+  facts = went-of t (event c i) (ap reply-refusal went)
 
   channel-fine : c < channel-limit
-  channel-fine =
-      channel-below c
-      (or-else-none (channel-refusal c) (on-event (content t) (channels t c) i)
-      (or-else-none (fault-refusal t (event c i)) (call-refusal (content t) (channels t) (event c i)) unrefused .1) .0)
+  channel-fine = channel-below c (or-else-none (channel-refusal c) (on-event (content t) (channels t c) i) (facts .unrefused) .0)
 
   store-after : called (event c i) t .1 ≡ effect-on t (event c i)
-  store-after = ap (λ a. a .1) (accepted-call t (event c i) unrefused)
+  store-after = ap (λ a. a .1) (facts .outcome)
 
   replied : event-reply (content t) (channels t c) i ≡ returned r
-  replied = sym (ap (λ a. a .0) (accepted-call t (event c i) unrefused)) ∙ went
+  replied = sym (ap (λ a. a .0) (facts .outcome)) ∙ went
 
   abbrev q : ℕ
   q = next-state (channels t c) (i .event)

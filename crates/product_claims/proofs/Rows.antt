@@ -1,18 +1,15 @@
 -- One store of rows: no list of calls leaves more than there are, and a clear on any tool changes no other channel.
-use mathlib.Core.{Path.{_≡_, refl, sym, _∙_, ap, subst⁻¹}, Bool.{true}, List.{List, []}, Option.{none}}
+use mathlib.Core.{Path.{_≡_, refl, _∙_, ap, subst⁻¹}, List.{List, []}, Option.{none}}
 use Prim.Native.Nat.{ℕ, _*_, _≤_, _<_}
 use native.Mathlib.{Nat.{zero-mul}, Omega.{arith}}
 use lib.ListN.{length, set}
 use Rattle.limits.specs.Limits.{channel-limit, row-limit}
-use Rattle.theory.proofs.ValueSets.{and-left}
-use Rattle.refusal.specs.RefusalAnswers.{plain-unless}
-use Rattle.refusal.proofs.Refusals.{or-else-none, plain-none}
 use Rattle.channel_log.specs.Calls.{Call, clear, accepted, reply-refusal, final, with-channel}
-use Rattle.channel_log.specs.{CallSteps.{channel-refusal, call-refusal}, Distance.{Occurrence}, Log.{rows-refusal}, Rows.{all-rows}}
-use Rattle.recorder.specs.{Store.{Store, AllCells, ToolSetup, tool-setup-of, channels, rows}, ToolTests.{setup-test, named-test, tool-test}}
-use Rattle.recorder.specs.{Splicing.{row-count}, Called.{content, fault-refusal, tool-refusal, called, set-up-called}}
-use Rattle.recorder.proofs.{Held.{channel-below, few-events}, RowTotals.{before-moved}, RowCounts.{all-rows-are}, Decided.{accepted-call, rows-fitting}}
-use Rattle.recorder_claims.proofs.{View.{cleared-view}, Calls.{call-refused, tool-sound}}
+use Rattle.channel_log.specs.{Distance.{Occurrence}, Rows.{all-rows}}
+use Rattle.recorder.specs.Store.{Store, AllCells, ToolSetup, tool-setup-of, channels, rows}
+use Rattle.recorder.specs.{Splicing.{row-count}, Called.{called, set-up-called}}
+use Rattle.recorder.proofs.{Held.{channel-below, few-events}, RowTotals.{before-moved}, RowCounts.{all-rows-are}}
+use Rattle.recorder_claims.proofs.{View.{cleared-view}, Calls.{Went, went-of, tool-sound}}
 use Rattle.product_claims.specs.Requests.{OneStore}
 
 within :
@@ -22,34 +19,22 @@ within s ok calls =
     subst⁻¹ (λ n. n ≤ row-limit) (all-rows-are (final called calls (set-up-called s .1))) (tool-sound s ok calls .rows-fit)
 
 module _ (t : Store) (cells : AllCells t) (c : ℕ) (went : called (clear c) t .0 ≡ accepted) where
-  unrefused : tool-refusal t (clear c) ≡ none
-  unrefused = sym (call-refused t (clear c)) ∙ ap reply-refusal went
-
-  no-faults : (plain-unless (tool-test t (clear c)) 17 ≡ none) × (rows-refusal (all-rows (rows t)) ≡ none)
-  no-faults =
-      or-else-none (plain-unless (tool-test t (clear c)) 17) (rows-refusal (all-rows (rows t)))
-      (or-else-none (fault-refusal t (clear c)) (call-refusal (content t) (channels t) (clear c)) unrefused .0)
-
-  set-up-passes : setup-test (tool-setup-of t) ≡ true
-  set-up-passes =
-      and-left (setup-test (tool-setup-of t)) (named-test t (clear c)) (plain-none (tool-test t (clear c)) 17 (no-faults .0))
+  facts : Went t (clear c)
+  facts = went-of t (clear c) (ap reply-refusal went)
 
   channel-fine : c < channel-limit
-  channel-fine = channel-below c (or-else-none (fault-refusal t (clear c)) (channel-refusal c) unrefused .1)
-
-  fits : row-count (t .states) ≤ row-limit
-  fits = rows-fitting t (no-faults .1)
+  channel-fine = channel-below c (facts .unrefused)
 
   new-fits : row-count (set (t .states) c 0) ≤ row-limit
-  new-fits = omega (arith, before-moved (t .states) c 0 (omega (arith, cells .states-are, channel-fine)) channel-limit channel-fine, fits)
+  new-fits = omega (arith, before-moved (t .states) c 0 (omega (arith, cells .states-are, channel-fine)) channel-limit channel-fine, facts .fits)
 
   pub clear-leaves : (d : ℕ) → channels (called (clear c) t .1) d ≡ with-channel c none (channels t) d
   clear-leaves d =
       let z : length {A = ℕ} [] ≡ 0 * t .setup .events = omega (arith, zero-mul (t .setup .events)) in
-      ap (λ a. channels (a .1) d) (accepted-call t (clear c) unrefused)
+      ap (λ a. channels (a .1) d) (facts .outcome)
       ∙ ap (λ L. L d)
       (cleared-view t (cells .states-are) (cells .current-are) (cells .totals-are) (cells .values-are) (cells .nexts-are)
-      (few-events (tool-setup-of t) set-up-passes) fits c 0 [] [] channel-fine new-fits z z refl)
+      (few-events (tool-setup-of t) (facts .set-up-passes)) (facts .fits) c 0 [] [] channel-fine new-fits z z refl)
 
 pub one-store : OneStore
 one-store = record { within = within; cleared = clear-leaves }

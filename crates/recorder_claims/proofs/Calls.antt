@@ -1,19 +1,22 @@
 -- Each public entry on tools by what it replies and hands back: judged by its conditions, and a tool's record from the set-up on.
-use mathlib.Core.{Path.{_≡_, refl, sym, _∙_, ap, subst⁻¹}, List.{List, [], _∷_, map}, Option.{Option, none, some}}
-use Prim.Native.Nat.{ℕ}
+use mathlib.Core.{Path.{_≡_, refl, sym, _∙_, ap, subst⁻¹}, Bool.{true}, List.{List, [], _∷_, map}, Option.{Option, none, some}}
+use Prim.Native.Nat.{ℕ, _≤_}
 use lib.ListN.{length}
 use Rattle.refusal.specs.{declared.Refusal.{Refusal}, declared.Refusal.the-variants.{Plain}}
 use Rattle.refusal.specs.Refusal.{Judged, JudgedCall, put}
-use Rattle.refusal.specs.RefusalAnswers.{put-unless}
+use Rattle.refusal.specs.RefusalAnswers.{plain-unless, put-unless}
+use Rattle.refusal.proofs.Refusals.{or-else-none, plain-none}
+use Rattle.theory.proofs.ValueSets.{and-left}
+use Rattle.limits.specs.Limits.{row-limit}
 use Rattle.channel_log.specs.Distance.{Occurrence, Reading}
 use Rattle.channel_log.specs.Calls.{Call, load, event, restart, restart-all, clear, returned, refused, reply-refusal, Channels, replies, final}
 use Rattle.channel_log.specs.Calls.{event-calls, last-returned, accepted-on, replies-on}
-use Rattle.channel_log.specs.{CallSteps.{Content, event-reply, accepted-reply}, Rows.{other-rows}}
+use Rattle.channel_log.specs.{CallSteps.{Content, call-refusal, event-reply, accepted-reply}, Log.{rows-refusal}, Rows.{all-rows, other-rows}}
 use Rattle.recorder.specs.Store.{Store, AllCells, ToolSetup, tool-setup-conditions, tool-setup-of, channels, rows}
-use Rattle.recorder.specs.ToolTests.{tool-setup-refusal}
-use Rattle.recorder.specs.Called.{content, tool-refusal, effect-on, settled-store, called, new-store, set-up-answer, set-up-called}
+use Rattle.recorder.specs.{ToolTests.{tool-setup-refusal, setup-test, named-test, tool-test}, Splicing.{row-count}}
+use Rattle.recorder.specs.Called.{content, fault-refusal, tool-refusal, effect-on, settled-store, called, new-store, set-up-answer, set-up-called}
 use Rattle.recorder.specs.Replay.{all-returned, replay-refusal, replay-settled, replayed}
-use Rattle.recorder.proofs.{Decided.{refused-call}, Replays.{returned-back}}
+use Rattle.recorder.proofs.{Decided.{refused-call, accepted-call, rows-fitting}, Replays.{returned-back}}
 use Rattle.recorder.specs.Store.{call-conditions}
 use Rattle.recorder.specs.Store.{replay-conditions}
 use Rattle.recorder_claims.specs.ChannelLog.{AsLogged}
@@ -40,6 +43,28 @@ call-refused t call = go (tool-refusal t call)
     go : (o : Option Refusal) → reply-refusal (settled-store o (accepted-reply (content t) (channels t) call) (effect-on t call) t .0) ≡ o
     go none = call-accepted (content t) (channels t) call
     go (some r) = refl
+
+-- What an accepted call on any tool has: a set-up in order, rows that fit, none of the refusals behind 17 and 25, and what it
+-- comes to.
+pub record Went (t : Store) (call : Call Occurrence) : Type 0 where
+  pub set-up-passes : setup-test (tool-setup-of t) ≡ true
+  pub fits : row-count (t .states) ≤ row-limit
+  pub unrefused : call-refusal (content t) (channels t) call ≡ none
+  pub outcome : called call t ≡ (accepted-reply (content t) (channels t) call, effect-on t call)
+
+pub went-of : (t : Store) (call : Call Occurrence) → reply-refusal (called call t .0) ≡ none → Went t call
+went-of t call e =
+    let none-met : tool-refusal t call ≡ none = sym (call-refused t call) ∙ e in
+    let seventeen = plain-unless (tool-test t call) 17 in
+    let over = rows-refusal (all-rows (rows t)) in
+    let a = or-else-none (fault-refusal t call) (call-refusal (content t) (channels t) call) none-met in
+    let b = or-else-none seventeen over (a .0) in
+    record {
+      set-up-passes = and-left (setup-test (tool-setup-of t)) (named-test t call) (plain-none (tool-test t call) 17 (b .0));
+      fits = rows-fitting t (b .1);
+      unrefused = a .1;
+      outcome = accepted-call t call none-met;
+    }
 
 -- Every call is judged, and beside a refusal the tool is as before.
 pub calls-judged : (t : Store) (call : Call Occurrence) → JudgedCall (call-conditions t call) (reply-refusal (called call t .0)) t (called call t .1)

@@ -1,30 +1,28 @@
 -- An accepted load on any tool that has all its cells: its channel has the rule's table at state 0, with no pulses, and every other channel
 -- stays as it was.
-use mathlib.Core.{Path.{_≡_, refl, sym, _∙_, ap, subst, subst⁻¹}, Bool.{true}, List.{List}, Option.{Option, none, some}}
+use mathlib.Core.{Path.{_≡_, refl, _∙_, ap, subst, subst⁻¹}, List.{List}, Option.{Option, none, some}}
 use Prim.Native.Nat.{ℕ, _+_, _≤_, _<_}
 use borrow.Author.Tests.{leb-true}
 use lib.{Dec.{leb}, ListN.{set}}
 use Rattle.limits.specs.Limits.{channel-limit, row-limit}
-use Rattle.theory.proofs.ValueSets.{and-left}
-use Rattle.refusal.specs.{declared.Refusal.{Refusal}, declared.Refusal.the-variants.{Plain}, RefusalAnswers.{or-else, plain-unless}}
-use Rattle.refusal.proofs.Refusals.{or-else-none, plain-none}
+use Rattle.refusal.specs.{declared.Refusal.{Refusal}, declared.Refusal.the-variants.{Plain}, RefusalAnswers.{or-else}}
+use Rattle.refusal.proofs.Refusals.{or-else-none}
 use Rattle.values.specs.{Setup.{Setup, setup-meet, setup-top}, SetupTests.{setup-refusal}}
 use Rattle.formulas.specs.RuleConditions.{encode-formula, node-bytes}
 use Rattle.formulas.specs.RuleRefusal.{formula-of}
 use Rattle.channel_log.specs.Calls.{load, accepted, reply-refusal, StandsAs}
-use Rattle.channel_log.specs.{CallSteps.{channel-refusal, call-refusal}, Log.{rows-refusal, load-rows-refusal}, Rows.{all-rows, other-rows}}
+use Rattle.channel_log.specs.{CallSteps.{channel-refusal}, Log.{load-rows-refusal}, Rows.{other-rows}}
 use Rattle.channel_log.proofs.Record.{test-passed}
 use Rattle.recorder.specs.Store.{Store, AllCells, ToolSetup, setup-of, tool-setup-of, channels, rows}
 use Rattle.recorder.specs.Splicing.{row-count}
 use Rattle.recorder.specs.Store.{ChannelInOrder}
-use Rattle.recorder.specs.ToolTests.{setup-test, named-test, tool-test}
 use Rattle.recorder.specs.CompiledRule.{rule-judged, states-of-rule, values-of-rule, nexts-of-rule, loaded-rule}
-use Rattle.recorder.specs.Called.{content, fault-refusal, tool-refusal, effect-on, called}
-use Rattle.recorder.proofs.{Held.{channel-below, accepted-of-test, values-accepted, few-events}, Decided.{accepted-call, rows-fitting}}
+use Rattle.recorder.specs.Called.{called}
+use Rattle.recorder.proofs.Held.{channel-below, accepted-of-test, values-accepted, few-events}
 use Rattle.recorder.proofs.{RowCounts.{others-are}, CompiledRules.{values-length, nexts-length}}
 use Rattle.recorder_claims.specs.{ChannelLog.{begun}, Claims.{LoadClaim}}
 use Rattle.recorder_claims.proofs.{View.{here, there}, LoadedRules.{accepted-code, rule-in-order, rule-table-is}}
-use Rattle.recorder_claims.proofs.Calls.{call-refused}
+use Rattle.recorder_claims.proofs.Calls.{Went, went-of}
 
 module _ (t : Store) (cells : AllCells t) (c : ℕ) (rule : List ℕ) (went : called (load c rule) t .0 ≡ accepted) where
   abbrev S : Setup
@@ -33,31 +31,17 @@ module _ (t : Store) (cells : AllCells t) (c : ℕ) (rule : List ℕ) (went : ca
   abbrev T : ToolSetup
   T = tool-setup-of t
 
-  unrefused : tool-refusal t (load c rule) ≡ none
-  unrefused = sym (call-refused t (load c rule)) ∙ ap reply-refusal went
-
-  abbrev seventeen : Option Refusal
-  seventeen = plain-unless (tool-test t (load c rule)) 17
-
   abbrev over : Option Refusal
   over = load-rows-refusal c (rows t) (states-of-rule S rule)
 
-  -- None of 17, 25, 14, 5 to 10 and 25 again is met.
-  no-faults : (seventeen ≡ none) × (rows-refusal (all-rows (rows t)) ≡ none)
-  no-faults =
-      or-else-none seventeen (rows-refusal (all-rows (rows t)))
-      (or-else-none (fault-refusal t (load c rule)) (call-refusal (content t) (channels t) (load c rule)) unrefused .0)
-
-  set-up-passes : setup-test T ≡ true
-  set-up-passes = and-left (setup-test T) (named-test t (load c rule)) (plain-none (tool-test t (load c rule)) 17 (no-faults .0))
+  facts : Went t (load c rule)
+  facts = went-of t (load c rule) (ap reply-refusal went)
 
   set-up-fine : setup-refusal S ≡ none
-  set-up-fine = values-accepted T (accepted-of-test T set-up-passes)
+  set-up-fine = values-accepted T (accepted-of-test T (facts .set-up-passes))
 
   load-refusals : (channel-refusal c ≡ none) × (or-else (rule-judged S rule) over ≡ none)
-  load-refusals =
-      or-else-none (channel-refusal c) (or-else (rule-judged S rule) over)
-      (or-else-none (fault-refusal t (load c rule)) (call-refusal (content t) (channels t) (load c rule)) unrefused .1)
+  load-refusals = or-else-none (channel-refusal c) (or-else (rule-judged S rule) over) (facts .unrefused)
 
   channel-fine : c < channel-limit
   channel-fine = channel-below c (load-refusals .0)
@@ -65,10 +49,7 @@ module _ (t : Store) (cells : AllCells t) (c : ℕ) (rule : List ℕ) (went : ca
   rule-fine : rule-judged S rule ≡ none
   rule-fine = or-else-none (rule-judged S rule) over (load-refusals .1) .0
 
-  -- The rows fit, before and after.
-  fits : row-count (t .states) ≤ row-limit
-  fits = rows-fitting t (no-faults .1)
-
+  -- The rows fit afterwards too.
   new-fits : row-count (set (t .states) c (states-of-rule S rule)) ≤ row-limit
   new-fits =
       let n = other-rows c (rows t) + states-of-rule S rule in
@@ -78,17 +59,15 @@ module _ (t : Store) (cells : AllCells t) (c : ℕ) (rule : List ℕ) (went : ca
   table-fine : ChannelInOrder (S .events) (S .kind) (loaded-rule S rule)
   table-fine = rule-in-order S rule set-up-fine rule-fine
 
-  store-after : called (load c rule) t .1 ≡ effect-on t (load c rule)
-  store-after = ap (λ a. a .1) (accepted-call t (load c rule) unrefused)
-
   pub load-code : rule ≡ encode-formula (node-bytes (S .kind)) (formula-of (S .kind) rule)
   load-code = accepted-code S rule rule-fine
 
   channel-after : channels (called (load c rule) t .1) c ≡ some (loaded-rule S rule)
   channel-after =
-      ap (λ u. channels u c) store-after
-      ∙ here t (cells .states-are) (cells .current-are) (cells .totals-are) (cells .values-are) (cells .nexts-are) (few-events T set-up-passes) fits c
-      (states-of-rule S rule) (values-of-rule S rule) (nexts-of-rule S rule) channel-fine new-fits (values-length S rule) (nexts-length S rule)
+      ap (λ a. channels (a .1) c) (facts .outcome)
+      ∙ here t (cells .states-are) (cells .current-are) (cells .totals-are) (cells .values-are) (cells .nexts-are)
+      (few-events T (facts .set-up-passes)) (facts .fits) c (states-of-rule S rule) (values-of-rule S rule) (nexts-of-rule S rule)
+      channel-fine new-fits (values-length S rule) (nexts-length S rule)
       (table-fine .table .some-states)
 
   pub load-stands :
@@ -99,9 +78,10 @@ module _ (t : Store) (cells : AllCells t) (c : ℕ) (rule : List ℕ) (went : ca
 
   pub load-others : (d : ℕ) → ¬ (d ≡ c) → channels (called (load c rule) t .1) d ≡ channels t d
   load-others d e =
-      ap (λ u. channels u d) store-after
-      ∙ there t (cells .states-are) (cells .current-are) (cells .totals-are) (cells .values-are) (cells .nexts-are) (few-events T set-up-passes) fits c
-      (states-of-rule S rule) (values-of-rule S rule) (nexts-of-rule S rule) channel-fine new-fits (values-length S rule) (nexts-length S rule) d e
+      ap (λ a. channels (a .1) d) (facts .outcome)
+      ∙ there t (cells .states-are) (cells .current-are) (cells .totals-are) (cells .values-are) (cells .nexts-are)
+      (few-events T (facts .set-up-passes)) (facts .fits) c (states-of-rule S rule) (values-of-rule S rule) (nexts-of-rule S rule)
+      channel-fine new-fits (values-length S rule) (nexts-length S rule) d e
 
 pub load-claim : LoadClaim
 load-claim t cells c rule went =
