@@ -1,65 +1,33 @@
--- What a caller of check_form knows, and what follows for the stretch of tokens; and the arrays that a text is read into.
-use Prim.Native.Nat.{ℕ, _+_, _-_, _*_, _≤_}
-use mathlib.Core.{Path.{_≡_, refl, sym, ap, _∙_}, List.{List}}
+-- What a caller of check_form knows; and the arrays that a text is read into.
+use Prim.Native.Nat.{ℕ, _*_}
+use mathlib.Core.{Path.{_≡_, refl, ap, _∙_}, List.{List}}
 use native.Mathlib.Omega.{arith}
-use lib.ListN.{length, replicate}
+use lib.ListN.{replicate}
 use Rattle.limits.specs.Limits.{meet-limit, node-limit}
 use Rattle.refusal.specs.declared.{Refusal.{Refusal}, Refusal.the-variants.{At}}
 use Rattle.text_format.specs.Format.{Outcome, contents, refused}
-use Rattle.channel_file.specs.ChannelFile.{Contents, text, Shows}
-use Rattle.channel_file.specs.Reading.{read-file, rule-start, stretch, tokens-stretch, checked}
+use Rattle.channel_file.specs.ChannelFile.{Contents}
+use Rattle.channel_file.specs.Reading.{read-file, rule-start, checked}
 use Rattle.channel_file.specs.Bytes.{meet-bytes, rule-bytes, put-front, stored-reply, stored-meet, stored-rule, arrays-of}
-use Rattle.channel_file.specs.Steps.{SpansTokens, ReadsForm, in-arrays}
+use Rattle.channel_file.specs.Steps.{ReadsForm, in-arrays}
 use Rattle.channel_file.specs.declared.{Checked.{Checked}, Stored.{Stored}}
-use Rattle.channel_file.proofs.{Stretches.{rule-within}, Claims.{shown}}
 
--- A text is accepted, and its rule's items start at b.
-pub record Accepted (t : List ℕ) (b : ℕ) : Type 0 where
-  pub inside : Contents
-  pub answer : read-file t ≡ contents inside
-  pub shows : Shows inside t
-  pub rule-offset : b ≡ rule-start inside
+-- A text is accepted, and its rule's items start at b; or it is refused.
+pub accepted : (t : List ℕ) {e v p m a n b : ℕ} → Checked.Form e v p m a n b ≡ checked (read-file t)
+    → (c : Contents) × (read-file t ≡ contents c) × (b ≡ rule-start c)
+accepted t {e} {v} {p} {m} {a} {n} {b} h = go (read-file t) refl h
+  where
+    go : (x : Outcome Contents) → read-file t ≡ x → Checked.Form e v p m a n b ≡ checked x
+        → (c : Contents) × (read-file t ≡ contents c) × (b ≡ rule-start c)
+    go (contents c) f g = (c, f, cc)
+    go (refused q) f g = let z : _≡_ {A = ℕ} 0 1 = cc in absurd (omega arith)
 
-accepted₁ : (t : List ℕ) (x : Outcome Contents) → read-file t ≡ x → (e v p m a n b : ℕ) → Checked.Form e v p m a n b ≡ checked x → Accepted t b
-accepted₁ t (contents c) f e v p m a n b h = record { inside = c; answer = f; shows = shown t c f .1; rule-offset = cc }
-accepted₁ t (refused q) f e v p m a n b h = let z : _≡_ {A = ℕ} 0 1 = cc in absurd (omega arith)
-
-pub accepted : (t : List ℕ) {e v p m a n b : ℕ} → Checked.Form e v p m a n b ≡ checked (read-file t) → Accepted t b
-accepted t {e} {v} {p} {m} {a} {n} {b} h = accepted₁ t (read-file t) refl e v p m a n b h
-
--- A text is refused, with 4 at a place.
-pub record NotAccepted (t : List ℕ) (r : Refusal) : Type 0 where
-  pub place : ℕ
-  pub answer : read-file t ≡ refused place
-  pub is : r ≡ At 4 place
-
-not-accepted₁ : (t : List ℕ) (x : Outcome Contents) (r : Refusal) → read-file t ≡ x → Checked.Refused r ≡ checked x → NotAccepted t r
-not-accepted₁ t (contents c) r e h = let z : _≡_ {A = ℕ} 0 1 = cc in absurd (omega arith)
-not-accepted₁ t (refused q) r e h = record { place = q; answer = e; is = cc }
-
-pub not-accepted : (t : List ℕ) (r : Refusal) → Checked.Refused r ≡ checked (read-file t) → NotAccepted t r
-not-accepted t r h = not-accepted₁ t (read-file t) r refl h
-
--- ---- the stretch of tokens
-
-pub spans-refused : (t : List ℕ) (r : Refusal) → NotAccepted t r → SpansTokens t (record { from = 0; to = 0 })
-spans-refused t r n = record { ordered = omega arith; within = omega arith; same = sym (ap (tokens-stretch t) (n .answer)) }
-
-pub some-text : (t : List ℕ) {b : ℕ} → Accepted t b → b + 1 ≤ length t
-some-text t {b = b} g =
-    let h : rule-start (g .inside) + 1 ≤ length (text (g .inside)) = rule-within (g .inside) in
-    let e : length (text (g .inside)) ≡ length t = ap length (g .shows .printed) in
-    let o : b ≡ rule-start (g .inside) = g .rule-offset in
-    omega arith
-
-pub spans-tokens : (t : List ℕ) {b : ℕ} → Accepted t b → SpansTokens t (record { from = b; to = length t - 1 })
-spans-tokens t {b = b} g =
-    let h = some-text t g in
-    record {
-      ordered = omega arith;
-      within = omega arith;
-      same = ap (λ (i : ℕ). stretch i (length t - 1) t) (g .rule-offset) ∙ sym (ap (tokens-stretch t) (g .answer));
-    }
+pub not-accepted : (t : List ℕ) (r : Refusal) → Checked.Refused r ≡ checked (read-file t) → (p : ℕ) × (read-file t ≡ refused p)
+not-accepted t r h = go (read-file t) refl h
+  where
+    go : (x : Outcome Contents) → read-file t ≡ x → Checked.Refused r ≡ checked x → (p : ℕ) × (read-file t ≡ refused p)
+    go (contents c) f g = let z : _≡_ {A = ℕ} 0 1 = cc in absurd (omega arith)
+    go (refused q) f g = (q, f)
 
 -- ---- reading into arrays
 

@@ -1,103 +1,63 @@
--- The claims of specs/Claims.
-use Prim.Native.Nat.{ℕ, _+_, _*_, _≤_, _<_}
-use mathlib.Core.{Path.{_≡_, refl, sym, ap, ap₂, _∙_, subst}, List.{List, [], _∷_, _++_, map, append-nil}, Bool.{Bool, true, false, cond}}
-use mathlib.Core.{Logic.{inl, inr}, Option.{Option, none, some, Option·some-ne-none}}
+-- The claims of specs/Claims on document 01's file.
+use Prim.Native.Nat.{ℕ, _+_, _*_, _≤_}
+use mathlib.Core.{Path.{_≡_, refl, sym, ap, ap₂, _∙_}, List.{List, [], _∷_, _++_, map, append-assoc}}
+use mathlib.Core.Option.{some, Option·some-ne-none}
 use native.Mathlib.{Omega.{arith}, Nat.{suc-mul}}
-use lib.{Dec.{ltb}, ListN.{length, take, drop, length-append, length-drop}, Seq.{take-at}}
-use borrow.Author.Tests.{ltb-true, ltb-false}
+use lib.ListN.{length, drop, length-append, length-drop}
+use Rattle.refusal.specs.declared.Refusal.{Refusal}
 use Rattle.limits.specs.Limits.{file-limit}
-use Rattle.refusal.specs.declared.{Refusal.{Refusal}, Refusal.the-variants.{At}}
-use Rattle.refusal.specs.Refusal.{Condition, at-lowest, First, has-place, part-of, order, condition-numbers, right-places, Judged}
-use Rattle.refusal.proofs.Refusals.{only-place, judged}
-use Rattle.text_format.specs.Format.{Parsed, ok, bad, bind, Outcome, contents, refused, at-end, outcome, read}
+use Rattle.text_format.specs.Format.{Parsed, ok, bad, Outcome, contents, refused}
 use Rattle.text_format.specs.Texts.{ascii, separated, OneOrMore}
 use Rattle.text_format.specs.Decimal.{Numeral}
-use Rattle.text_format.specs.Claims.{AnswersText}
-use Rattle.text_format.proofs.{Decimal.{decimal-numeral}, Place.{answers, one-answer}, Combinators.{not-both}}
-use Rattle.text_format.proofs.Series.{series-fitting, series-of-fitting}
-use Rattle.channel_file.specs.ChannelFile.{Token, token-T, token-A, token-V, token-X, token-G, token-O, Contents, number, Small, SmallToken, token-text}
-use Rattle.channel_file.specs.ChannelFile.{text, Shows}
-use Rattle.channel_file.specs.Claims.{ShowsTokens}
-use Rattle.channel_file.specs.FileFormat.{token-item, tokens, file}
-use Rattle.channel_file.specs.ChannelFile.{Refused4, over-long, off-form}
-use Rattle.channel_file.specs.Reading.{AnswersFile, read-file, read-tokens, tokens-stretch, checked, refusal-checked}
+use Rattle.text_format.proofs.{Decimal.{decimal-numeral}, Combinators.{not-both}}
+use Rattle.channel_file.specs.ChannelFile.{RuleItem, token-T, token-A, token-V, token-X, token-G, token-O, Token, Contents, number, Small, item-text}
+use Rattle.channel_file.specs.ChannelFile.{SmallToken, token-text, rule-text, text, Shows}
+use Rattle.channel_file.specs.FileFormat.{tokens, file}
+use Rattle.channel_file.specs.Reading.{read-file, head-text, meet-text, rule-start, tokens-stretch, checked, refusal-checked}
 use Rattle.channel_file.specs.Bytes.{stored-reply, refusal-stored, stored-meet, stored-rule}
-use Rattle.channel_file.specs.Claims.{AnswerClaim, OneAnswerClaim, form-conditions, FormRefusalClaim, RewriteClaim, ReadBackClaim, LengthClaim}
+use Rattle.channel_file.specs.Claims.{AnswerClaim, OneAnswerClaim, FormRefusalClaim, RewriteClaim, ReadBackClaim, LengthClaim}
 use Rattle.channel_file.specs.Claims.{TokensClaim, SomeTokensClaim, TokenListClaim, OneLineClaim, ClampClaim}
 use Rattle.channel_file.specs.declared.Number.{Number}
-use Rattle.channel_file.proofs.FileFormat.{token-fits, token-of-fits, tokens-laws, tokens-text, file-laws, file-renders}
-use Rattle.channel_file.proofs.Stretches.{tokens-between}
+use Rattle.channel_file.proofs.FileFormat.{tokens-laws, tokens-text, tokens-fit, tokens-of-fit, file-laws, file-renders}
+use Rattle.channel_file.proofs.Forms.{FileForm, answer, one-answer, read-as, shown as shown-by, form-judged, stretch-is}
+use Rattle.channel_file.proofs.Forms.{items-read, items-shown, not-empty}
 
 -- ---- the answer
 
-within : (t : List ℕ) → length t ≤ file-limit → (x : Outcome Contents) → AnswersText Shows t x → AnswersFile t x
-within t h (contents c) a = (h, a)
-within t h (refused p) a = off-form p h a
+pub front : Contents → List ℕ
+front c = head-text c ++ meet-text c
 
-answer₁ : (b : Bool) (t : List ℕ) → ltb file-limit (length t) ≡ b → AnswersFile t (cond b (refused file-limit) (read file t))
-answer₁ true t e = over-long (ltb-true file-limit (length t) e)
-answer₁ false t e = within t (ltb-false file-limit (length t) e) (read file t) (answers file Shows file-laws file-renders t)
+pub rule-last : (c : Contents) → text c ≡ front c ++ (ascii "rule=" ++ (rule-text c ++ ascii "\n"))
+unfolding front
+rule-last c = simp append-assoc
+
+pub rule-starts : (c : Contents) → length (front c) + 5 ≡ rule-start c
+unfolding front
+rule-starts c = ap (λ (n : ℕ). n + 5) (length-append (head-text c) (meet-text c))
+
+abbrev pub channel-form : FileForm Contents
+channel-form =
+    record {
+      format = file;
+      Shows = Shows;
+      laws = file-laws;
+      renders = file-renders;
+      text = text;
+      printed = λ c t s. s .printed;
+      front = front;
+      rule-text = rule-text;
+      split = rule-last;
+      start = rule-start;
+      starts = rule-starts;
+    }
 
 pub answer-claim : AnswerClaim
-answer-claim t = answer₁ (ltb file-limit (length t)) t refl
-
--- an answer is of one of the two kinds
-too-long : (t : List ℕ) → file-limit < length t → (x : Outcome Contents) → AnswersFile t x → x ≡ refused file-limit
-too-long t h (contents c) a = let l : length t ≤ file-limit = a .0 in absurd (omega arith)
-too-long t h (refused p) (over-long l) = refl
-too-long t h (refused p) (off-form q l a) = absurd (omega arith)
-
-not-long : (t : List ℕ) → length t ≤ file-limit → (x : Outcome Contents) → AnswersFile t x → AnswersText Shows t x
-not-long t h (contents c) a = a .1
-not-long t h (refused p) (over-long l) = absurd (omega arith)
-not-long t h (refused p) (off-form q l a) = a
-
-one₁ : (b : Bool) (t : List ℕ) → ltb file-limit (length t) ≡ b → (x y : Outcome Contents) → AnswersFile t x → AnswersFile t y → x ≡ y
-one₁ true t e x y hx hy = too-long t (ltb-true file-limit (length t) e) x hx ∙ sym (too-long t (ltb-true file-limit (length t) e) y hy)
-one₁ false t e x y hx hy =
-    one-answer file Shows file-laws file-renders t x y (not-long t (ltb-false file-limit (length t) e) x hx)
-    (not-long t (ltb-false file-limit (length t) e) y hy)
+answer-claim = answer channel-form
 
 pub one-answer-claim : OneAnswerClaim
-one-answer-claim t x y hx hy = one₁ (ltb file-limit (length t)) t refl x y hx hy
+one-answer-claim = one-answer channel-form
 
 -- ---- 4
-
--- It is met, or it is not; further conditions may follow.
-pub form-met : (t : List ℕ) (p : ℕ) → Refused4 t p → (ds : List Condition) → First (at-lowest 4 (Refused4 t) ∷ ds) (some (At 4 p))
-unfolding First
-form-met t p a ds =
-    inl (
-      At 4 p,
-      (p, only-place (Refused4 t) p a (λ q h. let e = one-answer-claim t (refused q) (refused p) h a in cc), refl),
-      refl,
-    )
-
-pub form-unmet :
-    (t : List ℕ) (c : Contents) → AnswersFile t (contents c) → (ds : List Condition) (answer : Option Refusal) → First ds answer →
-    First (at-lowest 4 (Refused4 t) ∷ ds) answer
-unfolding First
-form-unmet t c a ds answer later =
-    inr (
-      (λ r g.
-          let e = one-answer-claim t (contents c) (refused (g .0)) a (g .1 .holds) in
-          let z : _≡_ {A = ℕ} 0 1 = cc in
-          omega arith),
-      later,
-    )
-
-form-first : (t : List ℕ) (x : Outcome Contents) → AnswersFile t x → First (form-conditions t) (refusal-checked (checked x))
-unfolding First
-form-first t (contents c) a = form-unmet t c a [] none refl
-form-first t (refused p) a = form-met t p a []
-
-form-judged : (t : List ℕ) → Judged (form-conditions t) (refusal-checked (checked (read-file t)))
-unfolding condition-numbers right-places has-place part-of order
-form-judged t = judged (form-conditions t) _ (form-first t (read-file t) (answer-claim t)) refl refl
-
-stored-same : (x : Outcome Contents) → refusal-checked (checked x) ≡ refusal-stored (stored-reply x)
-stored-same (contents c) = refl
-stored-same (refused p) = refl
 
 both-kept :
     (meet rule : List ℕ) (x : Outcome Contents) (r : Refusal) → refusal-stored (stored-reply x) ≡ some r →
@@ -108,29 +68,28 @@ both-kept meet rule (refused p) r e = refl
 pub form-refusals : FormRefusalClaim
 form-refusals =
     record {
-      of-checking = form-judged;
+      of-checking = form-judged channel-form (λ x. refusal-checked (checked x)) (λ c. refl) (λ p. refl);
       of-storing = λ t meet rule.
           record {
-            judged = subst (Judged (form-conditions t)) (stored-same (read-file t)) (form-judged t);
+            judged = form-judged channel-form (λ x. refusal-stored (stored-reply x)) (λ c. refl) (λ p. refl) t;
             kept = both-kept meet rule (read-file t);
           };
     }
 
 -- ---- read and written
 
--- what a text shows where it is accepted
 pub shown : (t : List ℕ) (c : Contents) → read-file t ≡ contents c → (length t ≤ file-limit) × Shows c t
-shown t c e = subst (AnswersFile t) e (answer-claim t)
+shown = shown-by channel-form
 
 pub rewrite-claim : RewriteClaim
 rewrite-claim t c e = shown t c e .1 .printed
 
 pub read-back-claim : ReadBackClaim
-read-back-claim c s l = one-answer-claim (text c) (read-file (text c)) (contents c) (answer-claim (text c)) (l, record { small = s; printed = refl })
+read-back-claim c s l = read-as channel-form (text c) (contents c) (l, record { small = s; printed = refl })
 
 -- ---- how long a text is
 
-number-length : (v : ℕ) → Small v → length (number v) ≤ 3
+pub number-length : (v : ℕ) → Small v → length (number v) ≤ 3
 number-length v h = let n : Numeral 2 v (number v) = decimal-numeral 2 v h in n .few-digits
 
 -- the longest is O with two numbers of three digits and the dot
@@ -161,63 +120,35 @@ length-claim c s m n =
     let y = items-length SmallToken token-text 8 token-length (c .rule) (s .rule) in
     simp length-append (omega arith)
 
+-- ---- the stretch of tokens
+
 pub tokens-claim : TokensClaim
-tokens-claim t c e =
-    ap (tokens-stretch t) e ∙ subst (λ (z : List ℕ). tokens-stretch z (contents c) ≡ separated (map token-text (c .rule))) (rewrite-claim t c e)
-    (tokens-between c)
+tokens-claim = stretch-is channel-form
 
 -- an item has at least one byte
-some-byte : (x : Token) → 1 ≤ length (token-text x)
-some-byte token-T = omega arith
-some-byte token-A = omega arith
-some-byte token-V = omega arith
-some-byte (token-X n) = omega arith
-some-byte (token-G n) = omega arith
-some-byte (token-O e v) = omega arith
-
-some-bytes : (xs : List Token) → OneOrMore SmallToken xs → 1 ≤ length (separated (map token-text xs))
-some-bytes [] h = absurd h
-some-bytes (x ∷ []) h = some-byte x
-some-bytes (x ∷ y ∷ xs) h = omega (arith, some-byte x, length-append (token-text x) (32 ∷ separated (map token-text (y ∷ xs))))
+pub some-byte : {B : Type 0} (value : B → List ℕ) (x : RuleItem B) → 1 ≤ length (item-text value x)
+some-byte value token-T = omega arith
+some-byte value token-A = omega arith
+some-byte value token-V = omega arith
+some-byte value (token-X n) = omega arith
+some-byte value (token-G n) = omega arith
+some-byte value (token-O e v) = omega arith
 
 pub some-tokens-claim : SomeTokensClaim
-some-tokens-claim t c e h =
-    let l : 1 ≤ length (separated (map token-text (c .rule))) = some-bytes (c .rule) (shown t c e .1 .small .rule) in
-    omega (arith, ap length (sym (tokens-claim t c e) ∙ h))
+some-tokens-claim t c e h = not-empty SmallToken token-text (some-byte number) (c .rule) (shown t c e .1 .small .rule) _ (tokens-claim t c e) h
 
 -- ---- tokens alone
-
--- what is read of a whole text, and what is read leaves nothing
-whole-read : {A : Type 0} (t : List ℕ) (y : Parsed A) (a : A) → outcome t (bind y (λ b r. at-end b r)) ≡ contents a → y ≡ ok a []
-whole-read t (ok b []) a e = cc
-whole-read t (ok b (d ∷ r)) a e = let z : _≡_ {A = ℕ} 0 1 = cc in absurd (omega arith)
-whole-read t (bad r) a e = let z : _≡_ {A = ℕ} 0 1 = cc in absurd (omega arith)
-
-tokens-read : (t : List ℕ) (xs : List Token) → ShowsTokens xs t → read-tokens t ≡ contents xs
-tokens-read t xs h =
-    let f : tokens .print xs ++ [] ≡ t ++ ascii "\n" =
-    append-nil (tokens .print xs) ∙ tokens-text xs (h .small) ∙ ap (λ (s : List ℕ). s ++ ascii "\n") (h .printed) in
-    let e : tokens .parse (t ++ ascii "\n") ≡ ok xs [] =
-    ap (tokens .parse) (sym f) ∙ tokens-laws .full xs (series-fitting token-item SmallToken token-fits xs (h .small)) [] in
-    ap (λ (y : Parsed (List Token)). outcome (t ++ ascii "\n") (bind y (λ a r. at-end a r))) e
-
-tokens-shown : (t : List ℕ) (xs : List Token) → read-tokens t ≡ contents xs → ShowsTokens xs t
-tokens-shown t xs e =
-    let f = tokens-laws .sound (t ++ ascii "\n") xs [] (whole-read (t ++ ascii "\n") (tokens .parse (t ++ ascii "\n")) xs e) in
-    let s : OneOrMore SmallToken xs = series-of-fitting token-item SmallToken token-of-fits xs (f .0) in
-    record { small = s; printed = same-front (sym (tokens-text xs s) ∙ sym (append-nil (tokens .print xs)) ∙ sym (f .1)) }
-  where
-    same-front : {u w : List ℕ} → u ++ ascii "\n" ≡ w ++ ascii "\n" → u ≡ w
-    same-front {u} {w} e =
-        let n : length u ≡ length w = omega (arith, ap length e, length-append u (ascii "\n"), length-append w (ascii "\n")) in
-        sym (take-at u (ascii "\n") (length u) refl) ∙ ap (take (length u)) e ∙ take-at w (ascii "\n") (length u) (sym n)
 
 pub token-list-claim : TokenListClaim
 token-list-claim =
     record {
-      shown = λ t xs. (tokens-shown t xs, tokens-read t xs);
+      shown = λ t xs. (
+        items-shown tokens tokens-laws SmallToken token-text tokens-text tokens-of-fit t xs,
+        items-read tokens tokens-laws SmallToken token-text tokens-text tokens-fit t xs,
+      );
       of-a-file = λ t c e.
-          tokens-read (tokens-stretch t (read-file t)) (c .rule) (record { small = shown t c e .1 .small .rule; printed = sym (tokens-claim t c e) });
+          items-read tokens tokens-laws SmallToken token-text tokens-text tokens-fit (tokens-stretch t (read-file t)) (c .rule)
+          (record { small = shown t c e .1 .small .rule; printed = sym (tokens-claim t c e) });
     }
 
 -- ---- a line

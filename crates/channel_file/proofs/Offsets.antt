@@ -7,10 +7,10 @@ use Rattle.text_format.specs.{Format.{Parsed, ok, bad, bind, Format, Laws}, Com
 use Rattle.text_format.specs.Series.{Separator, newline, number-item}
 use Rattle.text_format.proofs.Combinators.{word-hit, word-miss}
 use Rattle.text_format.proofs.Series.{shorter, number-item-laws, number-item-solid}
-use Rattle.channel_file.specs.{ChannelFile.{Token, token-T}, FileFormat.{token-item, field}}
+use Rattle.channel_file.specs.FileFormat.{field}
 use Rattle.channel_file.specs.Steps.{SawEnded, SawNumber, counted, count-of}
 use Rattle.channel_file.specs.declared.Number.{Number}
-use Rattle.channel_file.proofs.FileFormat.{token-item-laws, token-solid, T-fits, zero-fits}
+use Rattle.channel_file.proofs.FileFormat.{zero-fits}
 
 -- a byte and what is behind it
 pub here : (t : List ℕ) (i : ℕ) → i < length t → drop i t ≡ getD t i 0 ∷ drop (i + 1) t
@@ -47,21 +47,17 @@ word-off w t j i hj hi e =
     ∙ ap (λ (z : List ℕ). bad z) (sym (here t i hi))
 
 -- an item is not empty
-module _ {A : Type 0} (F : Format (A × Separator)) (one : A) (L : Laws F) (solid : (p : A × Separator) → 0 < length (F .print p))
-    (one-fits : F .Fits (one, newline)) where
-  item-forward : (t : List ℕ) (i m : ℕ) (p : A × Separator) → m ≤ length t → F .parse (drop i t) ≡ ok p (drop m t) → i < m
-  item-forward t i m p h e =
-      let l : length (drop m t) < length (drop i t) = shorter F one L solid one-fits (drop i t) p (drop m t) e in
-      omega (arith, length-drop m t, length-drop i t)
-
-pub token-forward : (t : List ℕ) (i m : ℕ) (p : Token × Separator) → m ≤ length t → token-item .parse (drop i t) ≡ ok p (drop m t) → i < m
-token-forward = item-forward token-item token-T token-item-laws token-solid T-fits
+pub item-forward : {A : Type 0} (F : Format (A × Separator)) (one : A) (L : Laws F) → ((p : A × Separator) → 0 < length (F .print p))
+    → F .Fits (one, newline) → (t : List ℕ) (i m : ℕ) (p : A × Separator) → m ≤ length t → F .parse (drop i t) ≡ ok p (drop m t) → i < m
+item-forward F one L solid one-fits t i m p h e =
+    let l : length (drop m t) < length (drop i t) = shorter F one L solid one-fits (drop i t) p (drop m t) e in
+    omega (arith, length-drop m t, length-drop i t)
 
 pub entry-forward : (t : List ℕ) (i m : ℕ) (p : ℕ × Separator) → m ≤ length t → number-item 2 .parse (drop i t) ≡ ok p (drop m t) → i < m
 entry-forward = item-forward (number-item 2) 0 (number-item-laws 2) (number-item-solid 2) zero-fits
 
 -- a key's number
-pub fielded : (key t : List ℕ) (at a : ℕ) → word key .parse (drop at t) ≡ ok tt (drop a t) → (r : Number) → SawEnded 10 t a r
+pub fielded : (key t : List ℕ) (at a : ℕ) → word key .parse (drop at t) ≡ ok tt (drop a t) → (r : Number) → SawEnded 2 10 t a r
     → SawNumber (field key .parse) t at r
 fielded key t at a e (Number.Value v n) h = record { same = rw e (rw (h .same)); within = h .within }
 fielded key t at a e (Number.Bad p) h = record { same = rw e (rw (h .same)); within = h .within }

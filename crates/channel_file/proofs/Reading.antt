@@ -4,7 +4,7 @@ use mathlib.Core.{Path.{_≡_, refl, sym, ap, _∙_, subst}, List.{List, [], _�
 use native.Mathlib.Omega.{arith}
 use lib.ListN.{length, drop, length-drop}
 use Rattle.refusal.specs.declared.Refusal.the-variants.{At}
-use Rattle.text_format.specs.Format.{Parsed, ok, bad, Outcome, contents, refused, whole, outcome, read}
+use Rattle.text_format.specs.Format.{Parsed, ok, bad, Format, Outcome, contents, refused, whole, outcome, read}
 use Rattle.text_format.specs.Texts.{ascii, separated}
 use Rattle.text_format.specs.Series.{number-item}
 use Rattle.text_format.proofs.{Combinators.{not-both, keyed-of-fits}, Series.{series-of-fitting}}
@@ -17,8 +17,14 @@ use Rattle.channel_file.proofs.{FileFormat.{head-laws, meet-line-laws, 
 pub not-both-ways : {A C : Type 0} (x : Outcome A) (p : ℕ) (a : A) → x ≡ refused p → x ≡ contents a → C
 not-both-ways x p a e f = let z : _≡_ {A = ℕ} 0 1 = cc in absurd (omega arith)
 
-one-way : {A : Type 0} (x : Outcome A) (a b : A) → x ≡ contents a → x ≡ contents b → a ≡ b
+pub one-way : {A : Type 0} (x : Outcome A) (a b : A) → x ≡ contents a → x ≡ contents b → a ≡ b
 one-way x a b e f = cc
+
+-- what is left at an offset as the place of refusal
+pub refused-at : {A : Type 0} (F : Format A) (t : List ℕ) (p : ℕ) → p ≤ length t → whole F t ≡ bad (drop p t) → read F t ≡ refused p
+refused-at F t p h e =
+    let q : length t - length (drop p t) ≡ p = omega (arith, length-drop p t) in
+    ap (outcome t) e ∙ ap (λ (z : ℕ). refused z) q
 
 pub form-as : {x y : Outcome Contents} {meet rule meet′ rule′ : List ℕ} {r : Checked} → x ≡ y → ReadsForm x meet rule meet′ rule′ r
     → ReadsForm y meet rule meet′ rule′ r
@@ -31,15 +37,13 @@ form-refused x p meet rule meet′ rule′ e = record { reply = sym (ap checked 
 
 pub refuse : (t : List ℕ) (p : ℕ) (meet rule meet′ rule′ : List ℕ) → p ≤ length t → whole file t ≡ bad (drop p t)
     → ReadsForm (read file t) meet rule meet′ rule′ (Checked.Refused (At 4 p))
-refuse t p meet rule meet′ rule′ h e =
-    let q : length t - length (drop p t) ≡ p = omega (arith, length-drop p t) in
-    form-refused (read file t) p meet rule meet′ rule′ (ap (outcome t) e ∙ ap (λ (z : ℕ). refused z) q)
+refuse t p meet rule meet′ rule′ h e = form-refused (read file t) p meet rule meet′ rule′ (refused-at file t p h e)
 
-count-bad : {A : Type 0} (x : Parsed (List A)) (r : List ℕ) → counted 0 x ≡ bad r → x ≡ bad r
+pub count-bad : {A : Type 0} (x : Parsed (List A)) (r : List ℕ) → counted 0 x ≡ bad r → x ≡ bad r
 count-bad (ok xs q) r h = not-both refl h
 count-bad (bad q) r h = cc
 
-count-ok : {A : Type 0} (x : Parsed (List A)) (m : ℕ) (r : List ℕ) → counted 0 x ≡ ok m r → (xs : List A) × (x ≡ ok xs r) × (length xs ≡ m)
+pub count-ok : {A : Type 0} (x : Parsed (List A)) (m : ℕ) (r : List ℕ) → counted 0 x ≡ ok m r → (xs : List A) × (x ≡ ok xs r) × (length xs ≡ m)
 count-ok (ok xs q) m r h =
     let hm : 0 + length xs ≡ m = cc in
     let hr : q ≡ r = cc in

@@ -8,12 +8,13 @@ use Rattle.text_format.specs.Format.{Parsed, ok, bad, bind, Format, Laws, Outco
 use Rattle.text_format.specs.{Combinators.{word, keyed}, Series.{Separator, space, newline, number-item, series}}
 use Rattle.text_format.proofs.{Combinators.{not-both}, Series.{shorter, number-item-laws, number-item-solid}}
 use Rattle.text_output.specs.Output.{Puts}
-use Rattle.channel_file.specs.{ChannelFile.{Token, token-T}, FileFormat.{token-item, tokens}, Reading.{read-tokens}}
-use Rattle.channel_file.specs.Bytes.{entry, node, put-front, token-reply, stored-nodes, ReadsTokens}
-use Rattle.channel_file.specs.ChannelFile.{encoded}
+use Rattle.channel_file.specs.{ChannelFile.{RuleItem, token-T, encoded}, Reading.{read-closed}}
+use Rattle.channel_file.specs.Bytes.{entry, put-front, token-reply, stored-nodes, ReadsTokens}
+use Rattle.channel_file.specs.Steps.{ValueOf, value-format, unused, code, item-format, items-format}
 use Rattle.channel_file.specs.Steps.{Saw, counted, left, with-separator, StoresItems, StoresTokens}
-use Rattle.channel_file.specs.declared.{Number.{Number}, TokenList.{TokenList}}
-use Rattle.channel_file.proofs.{FileFormat.{token-item-laws, token-solid, T-fits, zero-fits}, Offsets.{here, here-is, over, keyed-bad, keyed-on, listed}}
+use Rattle.channel_file.specs.declared.{Values.{Values}, Number.{Number}, TokenList.{TokenList}}
+use Rattle.channel_file.proofs.{RuleItems.{item-laws, item-solid, T-fits}, FileFormat.{zero-fits}, RegisterFormat.{masks-laws}}
+use Rattle.channel_file.proofs.Offsets.{here, here-is, over, item-forward, keyed-bad, keyed-on, listed}
 use Rattle.channel_file.proofs.Reading.{not-both-ways}
 use Rattle.channel_file.proofs.Buffers.{Took, took-none, took-next, took-last, took-bad, Last}
 
@@ -32,8 +33,24 @@ abbrev pub meet-entries : ItemKind ℕ
 meet-entries =
     record { item = number-item 2; one = 0; laws = number-item-laws 2; solid = number-item-solid 2; one-fits = zero-fits; code = entry }
 
-abbrev pub rule-items : ItemKind Token
-rule-items = record { item = token-item; one = token-T; laws = token-item-laws; solid = token-solid; one-fits = T-fits; code = node }
+pub value-laws : (k : Values) → Laws (value-format k)
+value-laws Values.Numbered = number-item-laws 2
+value-laws Values.Register = masks-laws
+
+abbrev pub rule-items : (k : Values) → ItemKind (RuleItem (ValueOf k))
+rule-items k =
+    record {
+      item = item-format k;
+      one = token-T;
+      laws = item-laws (value-format k) (unused k) (value-laws k);
+      solid = item-solid (value-format k) (unused k);
+      one-fits = T-fits (value-format k) (unused k);
+      code = code k;
+    }
+
+pub token-forward : (k : Values) (t : List ℕ) (i m : ℕ) (p : RuleItem (ValueOf k) × Separator) → m ≤ length t
+    → item-format k .parse (drop i t) ≡ ok p (drop m t) → i < m
+token-forward k = let K = rule-items k in item-forward (K .item) (K .one) (K .laws) (K .solid) (K .one-fits)
 
 module _ {A : Type 0} (K : ItemKind A) (t : List ℕ) (at : ℕ) where
   abbrev pub TookItems : ℕ → List ℕ → List ℕ → ℕ → ℕ → Type 0
@@ -83,90 +100,103 @@ items-keyed key F code t at a e r h =
     }
 
 -- ---- the tokens of a text, of which those up to i are stored
-abbrev pub TookTokens : List ℕ → ℕ → List ℕ → List ℕ → ℕ → ℕ → Type 0
-TookTokens t i old new n k = Took token-item token-T token-item-laws token-solid T-fits node (left true t 0) (left true t i) old new n k
+module _ (k : Values) where
+  abbrev K : ItemKind (RuleItem (ValueOf k))
+  K = rule-items k
 
-pub tokens-none : (t old : List ℕ) → Puts old [] old 0 0 → TookTokens t 0 old old 0 0
-tokens-none t old p = took-none token-item token-T token-item-laws token-solid T-fits node (left true t 0) old p
+  abbrev Tokens : Type 0
+  Tokens = List (RuleItem (ValueOf k))
 
--- what is read of the whole text
-answered : (t : List ℕ) (y : Parsed (List Token)) → tokens .parse (left true t 0) ≡ y → read-tokens t ≡ outcome (left true t 0) (bind y (λ a r. at-end a r))
-answered t y e = ap (λ (z : Parsed (List Token)). outcome (left true t 0) (bind z (λ a r. at-end a r))) e
+  -- what is read of the whole text
+  abbrev all-read : List ℕ → Outcome Tokens
+  all-read t = read-closed (items-format k) t
 
-left-over : (s : List ℕ) (xs : List Token) (r : List ℕ) → 0 < length r → outcome s (at-end xs r) ≡ refused (length s - length r)
-left-over s xs [] h = absurd (omega arith)
-left-over s xs (b ∷ r) h = refl
+  abbrev pub TookTokens : List ℕ → ℕ → List ℕ → List ℕ → ℕ → ℕ → Type 0
+  TookTokens t i old new n q =
+      Took (K .item) (K .one) (K .laws) (K .solid) (K .one-fits) (K .code) (left true t 0) (left true t i) old new n q
 
-malformed : (t old new : List ℕ) (p : ℕ) → read-tokens t ≡ refused p → StoresTokens t old new TokenList.Malformed
-malformed t old new p e = record { reply = sym (ap token-reply e); buffer = λ xs f. not-both-ways (read-tokens t) p xs e f }
+  pub tokens-none : (t old : List ℕ) → Puts old [] old 0 0 → TookTokens t 0 old old 0 0
+  tokens-none t old p = took-none (K .item) (K .one) (K .laws) (K .solid) (K .one-fits) (K .code) (left true t 0) old p
 
-module _ (t : List ℕ) (i : ℕ) {old new : List ℕ} {n k : ℕ} (g : TookTokens t i old new n k) where
-  pub tokens-stuck : (any r : List ℕ) → token-item .parse (left true t i) ≡ bad r → StoresTokens t old any TokenList.Malformed
-  tokens-stuck any r e =
-      malformed t old any _ (answered t (bad r) (took-bad token-item token-T token-item-laws token-solid T-fits node r g e))
+  answered : (t : List ℕ) (y : Parsed Tokens) → items-format k .parse (left true t 0) ≡ y
+      → all-read t ≡ outcome (left true t 0) (bind y (λ a r. at-end a r))
+  answered t y e = ap (λ (z : Parsed Tokens). outcome (left true t 0) (bind z (λ a r. at-end a r))) e
 
-  module _ (x : Token) (m : ℕ) (e : token-item .parse (left true t i) ≡ with-separator x (left true t m))
-      {new′ : List ℕ} {q : ℕ} (p : Puts new (node x) new′ k q) where
-    -- a space
-    spaced : m < length t → getD t m 0 ≡ 32 → token-item .parse (left true t i) ≡ ok (x, space) (left true t (m + 1))
-    spaced h b = e ∙ ap (λ (s : List ℕ). with-separator x (s ++ (10 ∷ []))) (here-is t m 32 h b)
+  left-over : (s : List ℕ) (xs : Tokens) (r : List ℕ) → 0 < length r → outcome s (at-end xs r) ≡ refused (length s - length r)
+  left-over s xs [] h = absurd (omega arith)
+  left-over s xs (b ∷ r) h = refl
 
-    pub tokens-next : m < length t → getD t m 0 ≡ 32 → TookTokens t (m + 1) old new′ (n + 1) q
-    tokens-next h b =
-        took-next token-item token-T token-item-laws token-solid T-fits node x (left true t (m + 1)) g (spaced h b) p
+  malformed : (t old new : List ℕ) (p : ℕ) → all-read t ≡ refused p → StoresTokens (code k) (all-read t) old new TokenList.Malformed
+  malformed t old new p e = record { reply = sym (ap token-reply e); buffer = λ xs f. not-both-ways (all-read t) p xs e f }
 
-    -- and reading goes on
-    pub tokens-forward : m < length t → getD t m 0 ≡ 32 → i ≤ length t → i < m + 1
-    tokens-forward h b w =
-        let l : length (left true t (m + 1)) < length (left true t i) =
-        shorter token-item token-T token-item-laws token-solid T-fits (left true t i) (x, space) (left true t (m + 1)) (spaced h b) in
-        omega (arith, length-append (drop (m + 1) t) (10 ∷ []), length-append (drop i t) (10 ∷ []), length-drop (m + 1) t, length-drop i t)
+  module _ (t : List ℕ) (i : ℕ) {old new : List ℕ} {n q : ℕ} (g : TookTokens t i old new n q) where
+    pub tokens-stuck : (any r : List ℕ) → item-format k .parse (left true t i) ≡ bad r
+        → StoresTokens (code k) (all-read t) old any TokenList.Malformed
+    tokens-stuck any r e =
+        malformed t old any _ (answered t (bad r) (took-bad (K .item) (K .one) (K .laws) (K .solid) (K .one-fits) (K .code) r g e))
 
-    last : (r : List ℕ) → with-separator x (left true t m) ≡ ok (x, newline) r
-        → Last token-item token-T token-item-laws token-solid T-fits node (left true t 0) old new′ r (n + 1)
-    last r f = took-last token-item token-T token-item-laws token-solid T-fits node x r g (e ∙ f) p
+    module _ (x : RuleItem (ValueOf k)) (m : ℕ) (e : item-format k .parse (left true t i) ≡ with-separator x (left true t m))
+        {new′ : List ℕ} {q′ : ℕ} (p : Puts new (code k x) new′ q q′) where
+      -- a space
+      spaced : m < length t → getD t m 0 ≡ 32 → item-format k .parse (left true t i) ≡ ok (x, space) (left true t (m + 1))
+      spaced h b = e ∙ ap (λ (s : List ℕ). with-separator x (s ++ (10 ∷ []))) (here-is t m 32 h b)
 
-    -- the end
-    pub tokens-end : length t ≤ m → StoresTokens t old new′ (TokenList.Nodes (n + 1))
-    tokens-end h =
-        let l = last [] (ap (λ (s : List ℕ). with-separator x (s ++ (10 ∷ []))) (over t m h)) in
-        let f : read-tokens t ≡ contents (l .items) = answered t (ok (l .items) []) (l .same) in
-        record {
-          reply = ap (λ (z : ℕ). TokenList.Nodes z) (l .count) ∙ sym (ap token-reply f);
-          buffer = λ xs f′.
-              let d : contents (l .items) ≡ contents xs = sym f ∙ f′ in
-              let same : l .items ≡ xs = cc in
-              l .bytes ∙ ap (λ (z : List Token). put-front (encoded node z) old) same;
-        }
+      pub tokens-next : m < length t → getD t m 0 ≡ 32 → TookTokens t (m + 1) old new′ (n + 1) q′
+      tokens-next h b =
+          took-next (K .item) (K .one) (K .laws) (K .solid) (K .one-fits) (K .code) x (left true t (m + 1)) g (spaced h b) p
 
-    -- any other byte: byte 10, behind which something is left, or one that is no separator
-    pub tokens-cut : m < length t → ¬ (getD t m 0 ≡ 32) → StoresTokens t old new′ TokenList.Malformed
-    tokens-cut h other = go (eqb (getD t m 0) 10) refl
-      where
-        go : (f : Bool) → eqb (getD t m 0) 10 ≡ f → StoresTokens t old new′ TokenList.Malformed
-        go true d =
-            let b : getD t m 0 ≡ 10 = eqb-true (getD t m 0) 10 d in
-            let r = drop (m + 1) t ++ (10 ∷ []) in
-            let l = last r (ap (λ (s : List ℕ). with-separator x (s ++ (10 ∷ []))) (here-is t m 10 h b)) in
-            malformed t old new′ _ (answered t (ok (l .items) r) (l .same)
-            ∙ left-over (left true t 0) (l .items) r (omega (arith, length-append (drop (m + 1) t) (10 ∷ []))))
-        go false d =
-            tokens-stuck new′ (left true t m)
-            (e ∙ rw (here t m h, d, ne-eqb (getD t m 0) 32 other))
+      -- and reading goes on
+      pub tokens-forward : m < length t → getD t m 0 ≡ 32 → i ≤ length t → i < m + 1
+      tokens-forward h b w =
+          let l : length (left true t (m + 1)) < length (left true t i) =
+          shorter (K .item) (K .one) (K .laws) (K .solid) (K .one-fits) (left true t i) (x, space) (left true t (m + 1)) (spaced h b) in
+          omega (arith, length-append (drop (m + 1) t) (10 ∷ []), length-append (drop i t) (10 ∷ []), length-drop (m + 1) t, length-drop i t)
+
+      last : (r : List ℕ) → with-separator x (left true t m) ≡ ok (x, newline) r
+          → Last (K .item) (K .one) (K .laws) (K .solid) (K .one-fits) (K .code) (left true t 0) old new′ r (n + 1)
+      last r f = took-last (K .item) (K .one) (K .laws) (K .solid) (K .one-fits) (K .code) x r g (e ∙ f) p
+
+      -- the end
+      pub tokens-end : length t ≤ m → StoresTokens (code k) (all-read t) old new′ (TokenList.Nodes (n + 1))
+      tokens-end h =
+          let l = last [] (ap (λ (s : List ℕ). with-separator x (s ++ (10 ∷ []))) (over t m h)) in
+          let f : all-read t ≡ contents (l .items) = answered t (ok (l .items) []) (l .same) in
+          record {
+            reply = ap (λ (z : ℕ). TokenList.Nodes z) (l .count) ∙ sym (ap token-reply f);
+            buffer = λ xs f′.
+                let d : contents (l .items) ≡ contents xs = sym f ∙ f′ in
+                let same : l .items ≡ xs = cc in
+                l .bytes ∙ ap (λ (z : Tokens). put-front (encoded (code k) z) old) same;
+          }
+
+      -- any other byte: byte 10, behind which something is left, or one that is no separator
+      pub tokens-cut : m < length t → ¬ (getD t m 0 ≡ 32) → StoresTokens (code k) (all-read t) old new′ TokenList.Malformed
+      tokens-cut h other = go (eqb (getD t m 0) 10) refl
+        where
+          go : (f : Bool) → eqb (getD t m 0) 10 ≡ f → StoresTokens (code k) (all-read t) old new′ TokenList.Malformed
+          go true d =
+              let b : getD t m 0 ≡ 10 = eqb-true (getD t m 0) 10 d in
+              let r = drop (m + 1) t ++ (10 ∷ []) in
+              let l = last r (ap (λ (s : List ℕ). with-separator x (s ++ (10 ∷ []))) (here-is t m 10 h b)) in
+              malformed t old new′ _ (answered t (ok (l .items) r) (l .same)
+              ∙ left-over (left true t 0) (l .items) r (omega (arith, length-append (drop (m + 1) t) (10 ∷ []))))
+          go false d =
+              tokens-stuck new′ (left true t m)
+              (e ∙ rw (here t m h, d, ne-eqb (getD t m 0) 32 other))
 
 -- ---- a text of tokens, read once for its form and once to store it
+module _ {A : Type 0} (code : A → List ℕ) where
+  pub reads-none : (x : Outcome (List A)) (old : List ℕ) → TokenList.Malformed ≡ token-reply x → ReadsTokens code x old old TokenList.Malformed
+  reads-none x old e = record { reply = e; buffer = go x e }
+    where
+      go : (x : Outcome (List A)) → TokenList.Malformed ≡ token-reply x → old ≡ stored-nodes code x old
+      go (contents xs) e = let z : _≡_ {A = ℕ} 0 1 = cc in absurd (omega arith)
+      go (refused p) e = refl
 
-pub reads-none : (t old : List ℕ) → TokenList.Malformed ≡ token-reply (read-tokens t) → ReadsTokens t old old TokenList.Malformed
-reads-none t old e = record { reply = e; buffer = go (read-tokens t) e }
-  where
-    go : (x : Outcome (List Token)) → TokenList.Malformed ≡ token-reply x → old ≡ stored-nodes x old
-    go (contents xs) e = let z : _≡_ {A = ℕ} 0 1 = cc in absurd (omega arith)
-    go (refused p) e = refl
-
-pub reads-all : (t old new : List ℕ) (r : TokenList) (n : ℕ) → TokenList.Nodes n ≡ token-reply (read-tokens t) → StoresTokens t old new r
-    → ReadsTokens t old new r
-reads-all t old new r n e s = record { reply = s .reply; buffer = go (read-tokens t) refl e }
-  where
-    go : (x : Outcome (List Token)) → read-tokens t ≡ x → TokenList.Nodes n ≡ token-reply x → new ≡ stored-nodes x old
-    go (contents xs) f e = s .buffer xs f
-    go (refused p) f e = let z : _≡_ {A = ℕ} 0 1 = cc in absurd (omega arith)
+  pub reads-all : (x : Outcome (List A)) (old new : List ℕ) (r : TokenList) (n : ℕ) → TokenList.Nodes n ≡ token-reply x → StoresTokens code x old new r
+      → ReadsTokens code x old new r
+  reads-all x old new r n e s = record { reply = s .reply; buffer = go x refl e }
+    where
+      go : (y : Outcome (List A)) → x ≡ y → TokenList.Nodes n ≡ token-reply y → new ≡ stored-nodes code y old
+      go (contents xs) f e = s .buffer xs f
+      go (refused p) f e = let z : _≡_ {A = ℕ} 0 1 = cc in absurd (omega arith)

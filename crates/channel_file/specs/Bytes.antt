@@ -7,7 +7,7 @@ use lib.ListN.{length, take, replicate}
 use Rattle.limits.specs.Limits.{meet-limit, node-limit}
 use Rattle.refusal.specs.{declared.Refusal.{Refusal}, declared.Refusal.the-variants.{At}, Refusal.{put}}
 use Rattle.text_format.specs.Format.{Outcome, contents, refused}
-use Rattle.channel_file.specs.{ChannelFile.{Token, Contents, encoded}, FileFormat.{kind, first, second}, Reading.{read-tokens}}
+use Rattle.channel_file.specs.{ChannelFile.{Token, Contents, encoded}, FileFormat.{kind, first, second}}
 use Rattle.channel_file.specs.{declared.Stored.{Stored}, declared.ReadArrays.{ReadArrays}, declared.TokenList.{TokenList}}
 
 abbrev pub clamp : ℕ → ℕ
@@ -56,14 +56,15 @@ abbrev pub arrays-of : Outcome Contents → ReadArrays
 arrays-of x = record { reply = stored-reply x; meet = stored-meet x (replicate meet-limit 0); rule = stored-rule x (replicate (node-limit * 3) 0) }
 
 -- The same of a text of tokens alone: how many nodes it has, or that it is no list of tokens.
-abbrev pub token-reply : Outcome (List Token) → TokenList
+abbrev pub token-reply : {A : Type 0} → Outcome (List A) → TokenList
 token-reply (contents xs) = TokenList.Nodes (length xs)
 token-reply (refused p) = TokenList.Malformed
 
-abbrev pub stored-nodes : Outcome (List Token) → List ℕ → List ℕ
-stored-nodes (contents xs) old = put-front (encoded node xs) old
-stored-nodes (refused p) old = old
+abbrev pub stored-nodes : {A : Type 0} → (A → List ℕ) → Outcome (List A) → List ℕ → List ℕ
+stored-nodes code (contents xs) old = put-front (encoded code xs) old
+stored-nodes code (refused p) old = old
 
-pub record ReadsTokens (t old new : List ℕ) (r : TokenList) : Type 0 where
-  pub reply : r ≡ token-reply (read-tokens t)
-  pub buffer : new ≡ stored-nodes (read-tokens t) old
+-- Reply and buffer of a call that reads tokens, where code has the bytes of a token's node.
+pub record ReadsTokens {A : Type 0} (code : A → List ℕ) (x : Outcome (List A)) (old new : List ℕ) (r : TokenList) : Type 0 where
+  pub reply : r ≡ token-reply x
+  pub buffer : new ≡ stored-nodes code x old

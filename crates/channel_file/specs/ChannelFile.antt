@@ -5,11 +5,15 @@ use lib.ListN.{length}
 use Rattle.limits.specs.Limits.{file-limit}
 use Rattle.text_format.specs.Texts.{ascii, decimal, separated, OneOrMore, Refused, FormOf}
 
--- An item of the rule line: T, A, V alone, X or G with one number, O with two.
-pub data Token : Type 0 where
-  token-T token-A token-V : Token
-  token-X token-G : ℕ → Token
-  token-O : ℕ → ℕ → Token
+-- An item of the rule line: T, A, V alone, X or G with one number, O with an event and a value.
+pub data RuleItem (B : Type 0) : Type 0 where
+  token-T token-A token-V : RuleItem B
+  token-X token-G : ℕ → RuleItem B
+  token-O : ℕ → B → RuleItem B
+
+-- Here a value is a number.
+abbrev pub Token : Type 0
+Token = RuleItem ℕ
 
 pub record Contents : Type 0 where
   pub events : ℕ
@@ -25,22 +29,28 @@ number v = decimal 2 v
 abbrev pub Small : ℕ → Type 0
 Small v = v < 1000
 
--- "Rule items are T, A, V alone, X or G with one number, O with two numbers and a dot between."
+-- "Rule items are T, A, V alone, X or G with one number, O with two numbers and a dot between": the second of them by the texts of values.
+abbrev pub item-text : {B : Type 0} → (B → List ℕ) → RuleItem B → List ℕ
+item-text value token-T = ascii "T"
+item-text value token-A = ascii "A"
+item-text value token-V = ascii "V"
+item-text value (token-X n) = ascii "X" ++ number n
+item-text value (token-G e) = ascii "G" ++ number e
+item-text value (token-O e v) = ascii "O" ++ (number e ++ (ascii "." ++ value v))
+
+abbrev pub SmallItem : {B : Type 0} → (B → Type 0) → RuleItem B → Type 0
+SmallItem SmallValue token-T = Unit {0}
+SmallItem SmallValue token-A = Unit {0}
+SmallItem SmallValue token-V = Unit {0}
+SmallItem SmallValue (token-X n) = Small n
+SmallItem SmallValue (token-G e) = Small e
+SmallItem SmallValue (token-O e v) = Small e × SmallValue v
+
 abbrev pub token-text : Token → List ℕ
-token-text token-T = ascii "T"
-token-text token-A = ascii "A"
-token-text token-V = ascii "V"
-token-text (token-X n) = ascii "X" ++ number n
-token-text (token-G e) = ascii "G" ++ number e
-token-text (token-O e v) = ascii "O" ++ (number e ++ (ascii "." ++ number v))
+token-text x = item-text number x
 
 abbrev pub SmallToken : Token → Type 0
-SmallToken token-T = Unit {0}
-SmallToken token-A = Unit {0}
-SmallToken token-V = Unit {0}
-SmallToken (token-X n) = Small n
-SmallToken (token-G e) = Small e
-SmallToken (token-O e v) = Small e × Small v
+SmallToken x = SmallItem Small x
 
 -- A line: its key, its text, byte 10.
 abbrev pub line : List ℕ → List ℕ → List ℕ
@@ -68,26 +78,38 @@ pub record Shows (c : Contents) (t : List ℕ) : Type 0 where
 abbrev pub Form : List ℕ → Type 0
 Form = FormOf Shows
 
--- Refusal 4 at a place: "over 4,096 bytes: place 4,096, tested first"; else where the form refuses the text.
-pub data Refused4 (t : List ℕ) : ℕ → Type 0 where
-  over-long : file-limit < length t → Refused4 t file-limit
-  off-form : (p : ℕ) → length t ≤ file-limit → Refused Form t p → Refused4 t p
+-- Refusal 4 at a place, where texts show some contents: "over 4,096 bytes: place 4,096, tested first"; else where the form refuses the text.
+pub data RefusedBy {A : Type 0} (Shows : A → List ℕ → Type 0) (t : List ℕ) : ℕ → Type 0 where
+  over-long : file-limit < length t → RefusedBy Shows t file-limit
+  off-form : (p : ℕ) → length t ≤ file-limit → Refused (FormOf Shows) t p → RefusedBy Shows t p
+
+abbrev pub Refused4 : List ℕ → ℕ → Type 0
+Refused4 = RefusedBy Shows
 
 -- "The rule line's tokens are handed out as a stretch of the lent text. It runs from after `rule=` to before the last byte 10, and is
--- empty for a text that 4 refuses."
-pub data TokensOf (t : List ℕ) : List ℕ → Type 0 where
-  of-contents : (c : Contents) (front tokens : List ℕ) → length t ≤ file-limit → Shows c t → t ≡ front ++ (ascii "rule=" ++ (tokens ++ ascii "\n")) →
-      tokens ≡ separated (map token-text (c .rule)) → TokensOf t tokens
-  of-refused : (p : ℕ) → Refused4 t p → TokensOf t []
+-- empty for a text that 4 refuses." rule-text: the items with one space between.
+pub data TokensBy {A : Type 0} (Shows : A → List ℕ → Type 0) (rule-text : A → List ℕ) (t : List ℕ) : List ℕ → Type 0 where
+  of-contents : (c : A) (front tokens : List ℕ) → length t ≤ file-limit → Shows c t → t ≡ front ++ (ascii "rule=" ++ (tokens ++ ascii "\n")) →
+      tokens ≡ rule-text c → TokensBy Shows rule-text t tokens
+  of-refused : (p : ℕ) → RefusedBy Shows t p → TokensBy Shows rule-text t []
 
--- Kind, first and second of a token's node, "0 T, 1 X, 2 G, 3 O, 4 A, 5 V"; "an unused field is 0".
+abbrev pub rule-text : Contents → List ℕ
+rule-text c = separated (map token-text (c .rule))
+
+abbrev pub TokensOf : List ℕ → List ℕ → Type 0
+TokensOf = TokensBy Shows rule-text
+
+-- Kind, first and value of an item's node, "0 T, 1 X, 2 G, 3 O, 4 A, 5 V"; "an unused field is 0".
+abbrev pub item-fields : {B : Type 0} → B → RuleItem B → ℕ × ℕ × B
+item-fields unused token-T = (0, 0, unused)
+item-fields unused (token-X n) = (1, n, unused)
+item-fields unused (token-G e) = (2, e, unused)
+item-fields unused (token-O e v) = (3, e, v)
+item-fields unused token-A = (4, 0, unused)
+item-fields unused token-V = (5, 0, unused)
+
 abbrev pub token-fields : Token → ℕ × ℕ × ℕ
-token-fields token-T = (0, 0, 0)
-token-fields (token-X n) = (1, n, 0)
-token-fields (token-G e) = (2, e, 0)
-token-fields (token-O e v) = (3, e, v)
-token-fields token-A = (4, 0, 0)
-token-fields token-V = (5, 0, 0)
+token-fields x = item-fields 0 x
 
 -- The codes of all items, one after another.
 abbrev pub encoded : {A : Type 0} → (A → List ℕ) → List A → List ℕ

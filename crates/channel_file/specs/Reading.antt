@@ -4,24 +4,33 @@
 use Prim.Native.Nat.{ℕ, _+_, _-_, _≤_}
 use mathlib.Core.{List.{List, [], _++_, map}, Bool.{cond}, Option.{Option, none, some}}
 use lib.{Dec.{ltb}, ListN.{length, take, drop}}
-use Rattle.text_format.specs.{Format.{Outcome, contents, refused, read}, Texts.{ascii, separated, Refused}}
+use Rattle.text_format.specs.{Format.{Format, Outcome, contents, refused, read}, Texts.{ascii, separated}}
 use Rattle.limits.specs.Limits.{file-limit}
 use Rattle.refusal.specs.{declared.Refusal.{Refusal}, declared.Refusal.the-variants.{At}}
-use Rattle.channel_file.specs.{ChannelFile.{Token, Contents, number, line, Shows, Form, Refused4}, FileFormat.{tokens, file}}
+use Rattle.channel_file.specs.{ChannelFile.{Token, Contents, number, line, Shows, RefusedBy}, FileFormat.{tokens, file}}
 use Rattle.channel_file.specs.declared.Checked.{Checked}
 
--- What an answer says of a text.
+-- What an answer says of a text, where texts show some contents.
+abbrev pub AnswersBy : {A : Type 0} → (A → List ℕ → Type 0) → List ℕ → Outcome A → Type 0
+AnswersBy Shows t (contents c) = (length t ≤ file-limit) × Shows c t
+AnswersBy Shows t (refused p) = RefusedBy Shows t p
+
 abbrev pub AnswersFile : List ℕ → Outcome Contents → Type 0
-AnswersFile t (contents c) = (length t ≤ file-limit) × Shows c t
-AnswersFile t (refused p) = Refused4 t p
+AnswersFile = AnswersBy Shows
 
 -- The computing twin: the answer to a text. It is the one that AnswersFile asks for (Claims, AnswerClaim).
+abbrev pub read-limited : {A : Type 0} → Format A → List ℕ → Outcome A
+read-limited F t = cond (ltb file-limit (length t)) (refused file-limit) (read F t)
+
 abbrev pub read-file : List ℕ → Outcome Contents
-read-file t = cond (ltb file-limit (length t)) (refused file-limit) (read file t)
+read-file t = read-limited file t
 
 -- The answer to a text of tokens alone: what the tokens of a rule line are, once byte 10 stands behind (Claims, TokenListClaim).
+abbrev pub read-closed : {A : Type 0} → Format A → List ℕ → Outcome A
+read-closed F t = read F (t ++ ascii "\n")
+
 abbrev pub read-tokens : List ℕ → Outcome (List Token)
-read-tokens t = read tokens (t ++ ascii "\n")
+read-tokens t = read-closed tokens t
 
 -- ---- offsets
 
@@ -44,10 +53,13 @@ rule-start c = length (head-text c) + length (meet-text c) + 5
 abbrev pub stretch : ℕ → ℕ → List ℕ → List ℕ
 stretch a b t = take (b - a) (drop a t)
 
--- The stretch of tokens: "from after `rule=` to before the last byte 10, and is empty for a text that 4 refuses".
+-- The stretch of tokens: "from after `rule=` to before the last byte 10, and is empty for a text that 4 refuses". start: where they start.
+abbrev pub stretch-by : {A : Type 0} → (A → ℕ) → List ℕ → Outcome A → List ℕ
+stretch-by start t (contents c) = stretch (start c) (length t - 1) t
+stretch-by start t (refused p) = []
+
 abbrev pub tokens-stretch : List ℕ → Outcome Contents → List ℕ
-tokens-stretch t (contents c) = stretch (rule-start c) (length t - 1) t
-tokens-stretch t (refused p) = []
+tokens-stretch t x = stretch-by rule-start t x
 
 -- ---- the answer as the code gives it: numbers, how many items there are, and where they start
 

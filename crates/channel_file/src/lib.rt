@@ -1,17 +1,21 @@
-// The channel file: its form and refusal 4, the bytes read from it, and the stretch of its tokens.
+// The channel file: its form and refusal 4, the bytes read from it, and the stretch of its tokens. A register's file has a reader of its
+// own, in registers.rt; the two share what reads numbers, words, tokens and lines.
+pub mod registers;
+
 ghost use mathlib.Core.Path.{_≡_};
+ghost use mathlib.Core.List.{_∷_, []};
 ghost use Prim.Native.Nat.{_≤_, _*_};
 ghost use lib.ListN.{length, replicate};
 ghost use Rattle.limits.specs.Limits.{meet-limit, node-limit};
 ghost use Rattle.text_format.specs.Format.{read};
 ghost use Rattle.text_format.specs.Decimal.{is-digit, numeral-parse};
 ghost use Rattle.text_output.specs.Output.{Puts};
-ghost use Rattle.channel_file.specs.FileFormat.{first, second};
-ghost use Rattle.channel_file.specs.FileFormat.{field, entries, tokens, meet-line, rule-line, file};
-ghost use Rattle.channel_file.specs.Reading.{checked, read-file, tokens-stretch};
+ghost use Rattle.channel_file.specs.FileFormat.{field, entries, meet-line, file};
+ghost use Rattle.channel_file.specs.Reading.{checked, read-file, read-tokens, read-closed, tokens-stretch};
 ghost use Rattle.channel_file.specs.Bytes.{clamp, entry, node, arrays-of, ReadsTokens};
-ghost use Rattle.channel_file.specs.FileFormat.{kind};
-ghost use Rattle.channel_file.specs.Steps.{token-of, SawNumber, SawEnded, SawEnd, SawEntry, SawToken, SawItem, SawWord, SawHead};
+ghost use Rattle.channel_file.specs.RegisterReading.{mask-bytes, narrow-kind, masked};
+ghost use Rattle.channel_file.specs.Steps.{token-of, item-kind, item-first, item-masks, code, items-format, rule-format};
+ghost use Rattle.channel_file.specs.Steps.{SawNumber, SawEnded, SawEnd, SawEntry, SawValue, SawToken, SawItem, SawWord, SawHead};
 ghost use Rattle.channel_file.specs.Steps.{SpansTokens, StoresItems, ReadsLine, ReadsForm, in-arrays, StoresTokens};
 use limits::FILE_LIMIT;
 use limits::MEET_LIMIT;
@@ -63,18 +67,32 @@ pub enum TokenList {
     Malformed,
 }
 
-// A token of the rule line.
+// The kind of values that O's have: numbers, or the two masks of a register.
+pub enum Values {
+    Numbered,
+    Register,
+}
+
+// A token of the rule line. O has an event and two numbers: a value and 0, or the low and the high mask.
 enum Item {
     Truth,
     Both,
     Binder,
     Variable(usize),
     Next(usize),
-    Output(usize, usize),
+    Output(usize, usize, usize),
 }
 
 // Bytes of `meet=` and of `rule=`.
 const LIST_KEY: usize = 5;
+
+// How many digits may follow the first: of a number, and of a mask.
+const NUMBER_MORE: usize = 2;
+
+const MASK_MORE: usize = 4;
+
+// The greatest mask of 16 bits.
+const MASK_LIMIT: usize = 65535;
 
 // What stands behind an item.
 enum Behind {
@@ -98,6 +116,11 @@ enum Entry {
     Bad(usize),
 }
 
+enum Value {
+    Of(usize, usize, usize),
+    Bad(usize),
+}
+
 enum Taken {
     Of(Item, usize),
     Bad(usize),
@@ -118,13 +141,14 @@ enum Head {
     Bad(usize),
 }
 
-// The five lines, in the order in which they stand.
+// The lines of a file, in the order in which they stand; a register's file has `lines` in the place of `values`, `top` and `meet`.
 enum Line {
     Events,
     Values,
     Top,
     Meet,
-    Rule,
+    Lines,
+    Rule(Values),
 }
 
 // A reader of the lent text, which stands where a line starts.
@@ -151,10 +175,10 @@ fn digit(b: u8) -> bool
     if b < 48 { false } else { b < 58 }
 }
 
-// A numeral of one to three digits without leading zero.
-fn number_at(text: &[u8], at: usize) -> Number
-    requires { ⌜ at ≤ length (now text) ⌝ }
-    ensures { λ r. ⌜ SawNumber (numeral-parse 2) (now (text .entry)) at r ⌝ }
+// A numeral without leading zero, of one digit and up to so many more.
+fn number_at(text: &[u8], at: usize, more: usize) -> Number
+    requires { ⌜ (at ≤ length (now text)) × (more ≤ 4) ⌝ }
+    ensures { λ r. ⌜ SawNumber (numeral-parse more) (now (text .entry)) at r ⌝ }
 {
     if text.len() <= at {
         return Number::Bad(at);
@@ -168,7 +192,7 @@ fn number_at(text: &[u8], at: usize) -> Number
     }
     let mut v = wide(b) - 48;
     let mut i = at + 1;
-    let mut k: usize = 2;
+    let mut k = more;
     while 0 < k {
         if text.len() <= i {
             return Number::Value(v, i);
@@ -185,11 +209,11 @@ fn number_at(text: &[u8], at: usize) -> Number
 }
 
 // A numeral and the one byte that may end it.
-fn ended_at(text: &[u8], at: usize, end: u8) -> Number
-    requires { ⌜ at ≤ length (now text) ⌝ }
-    ensures { λ r. ⌜ SawEnded end (now (text .entry)) at r ⌝ }
+fn ended_at(text: &[u8], at: usize, more: usize, end: u8) -> Number
+    requires { ⌜ (at ≤ length (now text)) × (more ≤ 4) ⌝ }
+    ensures { λ r. ⌜ SawEnded more end (now (text .entry)) at r ⌝ }
 {
-    match number_at(text, at) {
+    match number_at(text, at, more) {
         Number::Bad(p) => Number::Bad(p),
         Number::Value(v, i) => {
             if text.len() <= i {
@@ -226,7 +250,7 @@ fn entry_at(text: &[u8], at: usize) -> Entry
     requires { ⌜ at ≤ length (now text) ⌝ }
     ensures { λ r. ⌜ SawEntry (now (text .entry)) at r ⌝ }
 {
-    match number_at(text, at) {
+    match number_at(text, at, NUMBER_MORE) {
         Number::Bad(p) => Entry::Bad(p),
         Number::Value(v, i) => match end_at(text, i) {
             Ended::Bad(p) => Entry::Bad(p),
@@ -235,10 +259,30 @@ fn entry_at(text: &[u8], at: usize) -> Entry
     }
 }
 
-// A token, up to what stands behind it.
-fn token_at(text: &[u8], at: usize) -> Taken
+// A value, up to what stands behind it: a numeral, or two masks with a dot between.
+fn value_at(text: &[u8], at: usize, values: Values) -> Value
     requires { ⌜ at ≤ length (now text) ⌝ }
-    ensures { λ r. ⌜ SawToken (now (text .entry)) at r ⌝ }
+    ensures { λ r. ⌜ SawValue values (now (text .entry)) at r ⌝ }
+{
+    match values {
+        Values::Numbered => match number_at(text, at, NUMBER_MORE) {
+            Number::Bad(p) => Value::Bad(p),
+            Number::Value(v, n) => Value::Of(v, 0, n),
+        },
+        Values::Register => match ended_at(text, at, MASK_MORE, 46) {
+            Number::Bad(p) => Value::Bad(p),
+            Number::Value(low, m) => match number_at(text, m, MASK_MORE) {
+                Number::Bad(p) => Value::Bad(p),
+                Number::Value(high, n) => Value::Of(low, high, n),
+            },
+        },
+    }
+}
+
+// A token, up to what stands behind it.
+fn token_at(text: &[u8], at: usize, values: Values) -> Taken
+    requires { ⌜ at ≤ length (now text) ⌝ }
+    ensures { λ r. ⌜ SawToken values (now (text .entry)) at r ⌝ }
 {
     if text.len() <= at {
         return Taken::Bad(at);
@@ -249,19 +293,19 @@ fn token_at(text: &[u8], at: usize) -> Taken
         84 => Taken::Of(Item::Truth, n),
         65 => Taken::Of(Item::Both, n),
         86 => Taken::Of(Item::Binder, n),
-        88 => match number_at(text, n) {
+        88 => match number_at(text, n, NUMBER_MORE) {
             Number::Bad(p) => Taken::Bad(p),
             Number::Value(v, m) => Taken::Of(Item::Variable(v), m),
         },
-        71 => match number_at(text, n) {
+        71 => match number_at(text, n, NUMBER_MORE) {
             Number::Bad(p) => Taken::Bad(p),
             Number::Value(v, m) => Taken::Of(Item::Next(v), m),
         },
-        79 => match ended_at(text, n, 46) {
+        79 => match ended_at(text, n, NUMBER_MORE, 46) {
             Number::Bad(p) => Taken::Bad(p),
-            Number::Value(v, k) => match number_at(text, k) {
-                Number::Bad(p) => Taken::Bad(p),
-                Number::Value(w, m) => Taken::Of(Item::Output(v, w), m),
+            Number::Value(v, k) => match value_at(text, k, values) {
+                Value::Bad(p) => Taken::Bad(p),
+                Value::Of(a, b, m) => Taken::Of(Item::Output(v, a, b), m),
             },
         },
         _ => Taken::Bad(at),
@@ -269,11 +313,11 @@ fn token_at(text: &[u8], at: usize) -> Taken
 }
 
 // A token of the rule line and what stands behind it.
-fn item_at(text: &[u8], at: usize) -> Scanned
+fn item_at(text: &[u8], at: usize, values: Values) -> Scanned
     requires { ⌜ at ≤ length (now text) ⌝ }
-    ensures { λ r. ⌜ SawItem (now (text .entry)) at r ⌝ }
+    ensures { λ r. ⌜ SawItem values (now (text .entry)) at r ⌝ }
 {
-    match token_at(text, at) {
+    match token_at(text, at, values) {
         Taken::Bad(p) => Scanned::Bad(p),
         Taken::Of(x, n) => match end_at(text, n) {
             Ended::Bad(p) => Scanned::Bad(p),
@@ -308,51 +352,104 @@ fn clip(v: usize) -> u8
 }
 
 fn kind_of(x: Item) -> u8
-    ensures { λ r. ⌜ r ≡ kind (token-of x) ⌝ }
+    ensures { λ r. ⌜ r ≡ item-kind x ⌝ }
 {
     match x {
         Item::Truth => 0,
         Item::Variable(_) => 1,
         Item::Next(_) => 2,
-        Item::Output(_, _) => 3,
+        Item::Output(_, _, _) => 3,
         Item::Both => 4,
         Item::Binder => 5,
     }
 }
 
 fn first_of(x: Item) -> usize
-    ensures { λ r. ⌜ r ≡ first (token-of x) ⌝ }
+    ensures { λ r. ⌜ r ≡ item-first x ⌝ }
 {
     match x {
         Item::Truth => 0,
         Item::Variable(n) => n,
         Item::Next(e) => e,
-        Item::Output(e, _) => e,
+        Item::Output(e, _, _) => e,
         Item::Both => 0,
         Item::Binder => 0,
     }
 }
 
+// The value, or the low mask.
 fn second_of(x: Item) -> usize
-    ensures { λ r. ⌜ r ≡ second (token-of x) ⌝ }
+    ensures { λ r. ⌜ r ≡ item-masks x .low ⌝ }
 {
     match x {
         Item::Truth => 0,
         Item::Variable(_) => 0,
         Item::Next(_) => 0,
-        Item::Output(_, v) => v,
+        Item::Output(_, v, _) => v,
         Item::Both => 0,
         Item::Binder => 0,
     }
 }
 
-// Puts the three bytes of a node into a buffer as text_output does.
-fn put_node(out: &mut [u8], at: usize, x: Item) -> usize
-    ensures { λ r. ⌜ Puts (now (out .entry)) (node (token-of x)) (now (out .exit)) at r ⌝ }
+// The high mask.
+fn third_of(x: Item) -> usize
+    ensures { λ r. ⌜ r ≡ item-masks x .high ⌝ }
 {
-    let a = put(out, at, kind_of(x));
-    let b = put(out, a, clip(first_of(x)));
-    put(out, b, clip(second_of(x)))
+    match x {
+        Item::Truth => 0,
+        Item::Variable(_) => 0,
+        Item::Next(_) => 0,
+        Item::Output(_, _, v) => v,
+        Item::Both => 0,
+        Item::Binder => 0,
+    }
+}
+
+// Puts the three bytes of a node with a number into a buffer as text_output does; the same below of what a register's node has.
+fn put_numbered(out: &mut [u8], at: usize, kind: u8, first: usize, second: usize) -> usize
+    ensures { λ r. ⌜ Puts (now (out .entry)) (kind ∷ clamp first ∷ clamp second ∷ []) (now (out .exit)) at r ⌝ }
+{
+    let a = put(out, at, kind);
+    let b = put(out, a, clip(first));
+    put(out, b, clip(second))
+}
+
+// The two bytes of a mask, cut to 16 bits, its low byte first.
+fn put_mask(out: &mut [u8], at: usize, mask: usize) -> usize
+    ensures { λ r. ⌜ Puts (now (out .entry)) (mask-bytes mask) (now (out .exit)) at r ⌝ }
+{
+    let a = put(out, at, (mask % 256) as u8);
+    put(out, a, (mask / 256 % 256) as u8)
+}
+
+// A kind, or 255 where 16 bits do not hold both masks.
+fn narrow_kind(kind: u8, low: usize, high: usize) -> u8
+    ensures { λ r. ⌜ r ≡ narrow-kind kind low high ⌝ }
+{
+    if MASK_LIMIT < low {
+        return 255;
+    }
+    if MASK_LIMIT < high { 255 } else { kind }
+}
+
+// The six bytes of a node with two masks.
+fn put_masked(out: &mut [u8], at: usize, kind: u8, first: usize, low: usize, high: usize) -> usize
+    ensures { λ r. ⌜ Puts (now (out .entry)) (masked kind first low high) (now (out .exit)) at r ⌝ }
+{
+    let a = put(out, at, narrow_kind(kind, low, high));
+    let b = put(out, a, clip(first));
+    let d = put_mask(out, b, low);
+    put_mask(out, d, high)
+}
+
+// The node of a token.
+fn put_node(out: &mut [u8], at: usize, values: Values, x: Item) -> usize
+    ensures { λ r. ⌜ Puts (now (out .entry)) (code values (token-of values x)) (now (out .exit)) at r ⌝ }
+{
+    match values {
+        Values::Numbered => put_numbered(out, at, kind_of(x), first_of(x), second_of(x)),
+        Values::Register => put_masked(out, at, kind_of(x), first_of(x), second_of(x), third_of(x)),
+    }
 }
 
 // The entries of the meet line, to its end, stored as far as there is room: how many.
@@ -385,20 +482,20 @@ fn entries_at(text: &[u8], at: usize, out: &mut [u8]) -> Number
 }
 
 // The same of the rule line's items: the node of each.
-fn items_at(text: &[u8], at: usize, out: &mut [u8]) -> Number
+fn items_at(text: &[u8], at: usize, values: Values, out: &mut [u8]) -> Number
     requires { ⌜ at ≤ length (now text) ⌝ }
-    ensures { λ r. ⌜ StoresItems tokens node (now (text .entry)) at (now (out .entry)) (now (out .exit)) r ⌝ }
+    ensures { λ r. ⌜ StoresItems (items-format values) (code values) (now (text .entry)) at (now (out .entry)) (now (out .exit)) r ⌝ }
 {
     let mut i = at;
     let mut n = 0;
     let mut k = 0;
     loop {
-        match item_at(text, i) {
+        match item_at(text, i, values) {
             Scanned::Bad(p) => {
                 return Number::Bad(p);
             }
             Scanned::Of(x, e, m) => {
-                k = put_node(out, k, x);
+                k = put_node(out, k, values, x);
                 n += 1;
                 match e {
                     Behind::Newline => {
@@ -420,7 +517,7 @@ fn field_at(text: &[u8], at: usize, key: &[u8]) -> Number
 {
     match word_at(text, at, key) {
         Reached::Bad(p) => Number::Bad(p),
-        Reached::Past(a) => ended_at(text, a, 10),
+        Reached::Past(a) => ended_at(text, a, NUMBER_MORE, 10),
     }
 }
 
@@ -435,13 +532,13 @@ fn meet_line_at(text: &[u8], at: usize, out: &mut [u8]) -> Number
     }
 }
 
-fn rule_line_at(text: &[u8], at: usize, out: &mut [u8]) -> Number
+fn rule_line_at(text: &[u8], at: usize, values: Values, out: &mut [u8]) -> Number
     requires { ⌜ at ≤ length (now text) ⌝ }
-    ensures { λ r. ⌜ StoresItems rule-line node (now (text .entry)) at (now (out .entry)) (now (out .exit)) r ⌝ }
+    ensures { λ r. ⌜ StoresItems (rule-format values) (code values) (now (text .entry)) at (now (out .entry)) (now (out .exit)) r ⌝ }
 {
     match word_at(text, at, b"rule=") {
         Reached::Bad(p) => Number::Bad(p),
-        Reached::Past(a) => items_at(text, a, out),
+        Reached::Past(a) => items_at(text, a, values, out),
     }
 }
 
@@ -456,7 +553,8 @@ fn line_at(text: &[u8], at: usize, line: Line, out: &mut [u8]) -> Number
         Line::Values => field_at(text, at, b"values="),
         Line::Top => field_at(text, at, b"top="),
         Line::Meet => meet_line_at(text, at, out),
-        Line::Rule => rule_line_at(text, at, out),
+        Line::Lines => field_at(text, at, b"lines="),
+        Line::Rule(values) => rule_line_at(text, at, values, out),
     }
 }
 
@@ -508,7 +606,12 @@ fn read_lines(text: &[u8], meet: &mut [u8], rule: &mut [u8]) -> Checked
         Head::Bad(p) => Checked::Refused(Refusal::At(TEXT_FORM, p)),
         Head::Numbers(events, values, top, a) => match read_line(text, a, Line::Meet, meet) {
             Number::Bad(p) => Checked::Refused(Refusal::At(TEXT_FORM, p)),
-            Number::Value(entries, b) => match read_line(text, b, Line::Rule, rule) {
+            Number::Value(entries, b) => match read_line(
+                text,
+                b,
+                Line::Rule(Values::Numbered),
+                rule,
+            ) {
                 Number::Bad(p) => Checked::Refused(Refusal::At(TEXT_FORM, p)),
                 Number::Value(items, d) => {
                     if d < text.len() {
@@ -588,7 +691,7 @@ pub fn read_arrays(text: &[u8]) -> ReadArrays
 }
 
 fn token_span(text: &[u8]) -> Span
-    ensures { λ r. ⌜ SpansTokens (now (text .entry)) r ⌝ }
+    ensures { λ r. ⌜ SpansTokens (now (text .entry)) (tokens-stretch (now (text .entry)) (read-file (now (text .entry)))) r ⌝ }
 {
     match check_form(text) {
         Checked::Refused(_) => Span { from: 0, to: 0 },
@@ -610,19 +713,19 @@ pub fn tokens(text: &[u8]) -> &[u8]
 }
 
 // The nodes of tokens with one space between, stored as far as there is room: how many.
-fn store_tokens(text: &[u8], out: &mut [u8]) -> TokenList
-    ensures { λ r. ⌜ StoresTokens (now (text .entry)) (now (out .entry)) (now (out .exit)) r ⌝ }
+fn store_tokens(text: &[u8], values: Values, out: &mut [u8]) -> TokenList
+    ensures { λ r. ⌜ StoresTokens (code values) (read-closed (items-format values) (now (text .entry))) (now (out .entry)) (now (out .exit)) r ⌝ }
 {
     let mut i = 0;
     let mut n = 0;
     let mut k = 0;
     loop {
-        match token_at(text, i) {
+        match token_at(text, i, values) {
             Taken::Bad(_) => {
                 return TokenList::Malformed;
             }
             Taken::Of(x, m) => {
-                k = put_node(out, k, x);
+                k = put_node(out, k, values, x);
                 n += 1;
                 if text.len() <= m {
                     return TokenList::Nodes(n);
@@ -636,15 +739,22 @@ fn store_tokens(text: &[u8], out: &mut [u8]) -> TokenList
     }
 }
 
-// Reads tokens with one space between, as they stand in a rule line, into a buffer as far as there is room: three bytes a node, a
-// numeral above 255 as 255. Nothing is written where the text is no list of tokens.
-pub fn read_tokens(text: &[u8], out: &mut [u8]) -> TokenList
-    ensures { λ r. ⌜ ReadsTokens (now (text .entry)) (now (out .entry)) (now (out .exit)) r ⌝ }
+// The same, with nothing written where the text is no list of tokens.
+fn list_tokens(text: &[u8], values: Values, out: &mut [u8]) -> TokenList
+    ensures { λ r. ⌜ ReadsTokens (code values) (read-closed (items-format values) (now (text .entry))) (now (out .entry)) (now (out .exit)) r ⌝ }
 {
     let mut none = [0u8; 0];
-    let listed = store_tokens(text, &mut none);
+    let listed = store_tokens(text, values, &mut none);
     if let TokenList::Malformed = listed {
         return TokenList::Malformed;
     }
-    store_tokens(text, out)
+    store_tokens(text, values, out)
+}
+
+// Reads tokens with one space between, as they stand in a rule line, into a buffer as far as there is room: three bytes a node, a
+// numeral above 255 as 255. Nothing is written where the text is no list of tokens.
+pub fn read_tokens(text: &[u8], out: &mut [u8]) -> TokenList
+    ensures { λ r. ⌜ ReadsTokens node (read-tokens (now (text .entry))) (now (out .entry)) (now (out .exit)) r ⌝ }
+{
+    list_tokens(text, Values::Numbered, out)
 }

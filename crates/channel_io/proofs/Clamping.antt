@@ -39,14 +39,14 @@ use Rattle.channel_io.specs.Claims.{ClampedClaim}
 
 -- ---- one number
 
-clamp-below : (v n : ℕ) → n ≤ 255 → ltb (clamp v) n ≡ ltb v n
+pub clamp-below : (v n : ℕ) → n ≤ 255 → ltb (clamp v) n ≡ ltb v n
 clamp-below v n h = go (ltb v n) refl
   where
     go : (b : Bool) → ltb v n ≡ b → ltb (clamp v) n ≡ b
     go true e = lt-ltb (clamp v) n (omega (arith, ltb-true v n e))
     go false e = le-ltb (clamp v) n (omega (arith, ltb-false v n e))
 
-clamp-zero : (v : ℕ) → eqb (clamp v) 0 ≡ eqb v 0
+pub clamp-zero : (v : ℕ) → eqb (clamp v) 0 ≡ eqb v 0
 clamp-zero v = go (eqb v 0) refl
   where
     go : (b : Bool) → eqb v 0 ≡ b → eqb (clamp v) 0 ≡ b
@@ -56,7 +56,7 @@ clamp-zero v = go (eqb v 0) refl
 clamp-small : (v : ℕ) → v ≤ 255 → clamp v ≡ v
 clamp-small v h = omega arith
 
-unknown : (k : ℕ) → 6 ≤ k → kind-of k ≡ unknown-kind
+pub unknown : (k : ℕ) → 6 ≤ k → kind-of k ≡ unknown-kind
 unfolding kind-of
 unknown zero h = absurd (omega arith)
 unknown (suc zero) h = absurd (omega arith)
@@ -134,54 +134,56 @@ fit-same events values h g kind-A a v = ap₂ (λ (x y : Bool). x && y) (clamp-z
 fit-same events values h g kind-V a v = ap₂ (λ (x y : Bool). x && y) (clamp-zero a) (clamp-zero v)
 fit-same events values h g unknown-kind a v = refl
 
-abbrev clamp-node : Node ℕ → Node ℕ
-clamp-node truth-node = truth-node
-clamp-node (variable-node n) = variable-node (clamp n)
-clamp-node (transition-node e) = transition-node (clamp e)
-clamp-node (output-node e v) = output-node (clamp e) (clamp v)
-clamp-node conjunction-node = conjunction-node
-clamp-node greatest-node = greatest-node
+-- clamped but for its value, of which g is held
+abbrev clamp-node : (ℕ → ℕ) → Node ℕ → Node ℕ
+clamp-node g truth-node = truth-node
+clamp-node g (variable-node n) = variable-node (clamp n)
+clamp-node g (transition-node e) = transition-node (clamp e)
+clamp-node g (output-node e v) = output-node (clamp e) (g v)
+clamp-node g conjunction-node = conjunction-node
+clamp-node g greatest-node = greatest-node
 
-abbrev clamp-formula : Formula ℕ → Formula ℕ
-clamp-formula truth = truth
-clamp-formula (variable n) = variable (clamp n)
-clamp-formula (transition e φ) = transition (clamp e) (clamp-formula φ)
-clamp-formula (output e v) = output (clamp e) (clamp v)
-clamp-formula (conjunction φ χ) = conjunction (clamp-formula φ) (clamp-formula χ)
-clamp-formula (greatest φ) = greatest (clamp-formula φ)
+abbrev pub clamp-formula : (ℕ → ℕ) → Formula ℕ → Formula ℕ
+clamp-formula g truth = truth
+clamp-formula g (variable n) = variable (clamp n)
+clamp-formula g (transition e φ) = transition (clamp e) (clamp-formula g φ)
+clamp-formula g (output e v) = output (clamp e) (g v)
+clamp-formula g (conjunction φ χ) = conjunction (clamp-formula g φ) (clamp-formula g χ)
+clamp-formula g (greatest φ) = greatest (clamp-formula g φ)
 
-node-same : (k : Kind) (a v : ℕ) → node-of k (clamp a) (clamp v) ≡ clamp-node (node-of k a v)
-unfolding node-of
-node-same kind-T a v = refl
-node-same kind-X a v = refl
-node-same kind-G a v = refl
-node-same kind-O a v = refl
-node-same kind-A a v = refl
-node-same kind-V a v = refl
-node-same unknown-kind a v = refl
+module _ (g : ℕ → ℕ) where
+  node-same : (k : Kind) (a v : ℕ) → node-of k (clamp a) (g v) ≡ clamp-node g (node-of k a v)
+  unfolding node-of
+  node-same kind-T a v = refl
+  node-same kind-X a v = refl
+  node-same kind-G a v = refl
+  node-same kind-O a v = refl
+  node-same kind-A a v = refl
+  node-same kind-V a v = refl
+  node-same unknown-kind a v = refl
 
-parts-same : (n : Node ℕ) (φs : List (Formula ℕ)) → with-parts (clamp-node n) (map clamp-formula φs) ≡ map clamp-formula (with-parts n φs)
-unfolding with-parts
-parts-same truth-node φs = refl
-parts-same (variable-node n) φs = refl
-parts-same (transition-node e) [] = refl
-parts-same (transition-node e) (φ ∷ φs) = refl
-parts-same (output-node e v) φs = refl
-parts-same conjunction-node [] = refl
-parts-same conjunction-node (φ ∷ []) = refl
-parts-same conjunction-node (φ ∷ χ ∷ φs) = refl
-parts-same greatest-node [] = refl
-parts-same greatest-node (φ ∷ φs) = refl
+  parts-same : (n : Node ℕ) (φs : List (Formula ℕ)) → with-parts (clamp-node g n) (map (clamp-formula g) φs) ≡ map (clamp-formula g) (with-parts n φs)
+  unfolding with-parts
+  parts-same truth-node φs = refl
+  parts-same (variable-node n) φs = refl
+  parts-same (transition-node e) [] = refl
+  parts-same (transition-node e) (φ ∷ φs) = refl
+  parts-same (output-node e v) φs = refl
+  parts-same conjunction-node [] = refl
+  parts-same conjunction-node (φ ∷ []) = refl
+  parts-same conjunction-node (φ ∷ χ ∷ φs) = refl
+  parts-same greatest-node [] = refl
+  parts-same greatest-node (φ ∷ φs) = refl
 
-formulas-same : (ns : List (Node ℕ)) → formulas (map clamp-node ns) ≡ map clamp-formula (formulas ns)
-unfolding formulas
-formulas-same [] = refl
-formulas-same (n ∷ ns) = ap (with-parts (clamp-node n)) (formulas-same ns) ∙ parts-same n (formulas ns)
+  formulas-same : (ns : List (Node ℕ)) → formulas (map (clamp-node g) ns) ≡ map (clamp-formula g) (formulas ns)
+  unfolding formulas
+  formulas-same [] = refl
+  formulas-same (n ∷ ns) = ap (with-parts (clamp-node g n)) (formulas-same ns) ∙ parts-same n (formulas ns)
 
-first-same : (φs : List (Formula ℕ)) → first-formula (map clamp-formula φs) ≡ clamp-formula (first-formula φs)
-unfolding first-formula
-first-same [] = refl
-first-same (φ ∷ φs) = refl
+  first-same : (φs : List (Formula ℕ)) → first-formula (map (clamp-formula g) φs) ≡ clamp-formula g (first-formula φs)
+  unfolding first-formula
+  first-same [] = refl
+  first-same (φ ∷ φs) = refl
 
 -- how large the formula is that nodes begin with
 abbrev sizes : List (Formula ℕ) → ℕ
@@ -211,51 +213,52 @@ unfolding first-formula
 first-size [] n h g = g
 first-size (φ ∷ φs) n h g = omega arith
 
-size-same : (φ : Formula ℕ) → size (clamp-formula φ) ≡ size φ
-size-same truth = refl
-size-same (variable n) = refl
-size-same (transition e φ) = ap suc (size-same φ)
-size-same (output e v) = refl
-size-same (conjunction φ χ) = ap₂ (λ (x y : ℕ). suc (x + y)) (size-same φ) (size-same χ)
-size-same (greatest φ) = ap suc (size-same φ)
+module _ (g : ℕ → ℕ) where
+  size-same : (φ : Formula ℕ) → size (clamp-formula g φ) ≡ size φ
+  size-same truth = refl
+  size-same (variable n) = refl
+  size-same (transition e φ) = ap suc (size-same φ)
+  size-same (output e v) = refl
+  size-same (conjunction φ χ) = ap₂ (λ (x y : ℕ). suc (x + y)) (size-same φ) (size-same χ)
+  size-same (greatest φ) = ap suc (size-same φ)
 
--- 8 and 9: within 256 nodes fewer than 256 binders stand above a variable
-module _ (f : Search ℕ) (falls : (d : ℕ) → f .below-transition d ≤ d) (rises : (d : ℕ) → f .below-greatest d ≡ suc d)
-    (alike : (d n : ℕ) → d ≤ 255 → f .at-variable d (clamp n) ≡ f .at-variable d n) where
-  fault-same : (d i : ℕ) (φ : Formula ℕ) → d + size φ ≤ node-limit → lowest-fault f d i (clamp-formula φ) ≡ lowest-fault f d i φ
-  unfolding lowest-fault
-  fault-same d i truth h = refl
-  fault-same d i (variable n) h = ap (λ (b : Bool). cond b (some i) none) (alike d n (omega arith))
-  fault-same d i (transition e φ) h = fault-same (f .below-transition d) (suc i) φ (omega (arith, falls d))
-  fault-same d i (output e v) h = refl
-  fault-same d i (conjunction φ χ) h =
-      ap₂ (λ (x y : Option ℕ). first-of x y) (fault-same d (suc i) φ (omega arith))
-      (ap (λ (n : ℕ). lowest-fault f d (suc i + n) (clamp-formula χ)) (size-same φ) ∙ fault-same d (suc i + size φ) χ (omega arith))
-  fault-same d i (greatest φ) h =
-      ap (λ (x : Option ℕ). first-of (cond (f .at-greatest d) (some i) none) x) (fault-same (f .below-greatest d) (suc i) φ (omega (arith, rises d)))
+  -- 8 and 9: within 256 nodes fewer than 256 binders stand above a variable
+  module _ (f : Search ℕ) (falls : (d : ℕ) → f .below-transition d ≤ d) (rises : (d : ℕ) → f .below-greatest d ≡ suc d)
+      (alike : (d n : ℕ) → d ≤ 255 → f .at-variable d (clamp n) ≡ f .at-variable d n) where
+    fault-same : (d i : ℕ) (φ : Formula ℕ) → d + size φ ≤ node-limit → lowest-fault f d i (clamp-formula g φ) ≡ lowest-fault f d i φ
+    unfolding lowest-fault
+    fault-same d i truth h = refl
+    fault-same d i (variable n) h = ap (λ (b : Bool). cond b (some i) none) (alike d n (omega arith))
+    fault-same d i (transition e φ) h = fault-same (f .below-transition d) (suc i) φ (omega (arith, falls d))
+    fault-same d i (output e v) h = refl
+    fault-same d i (conjunction φ χ) h =
+        ap₂ (λ (x y : Option ℕ). first-of x y) (fault-same d (suc i) φ (omega arith))
+        (ap (λ (n : ℕ). lowest-fault f d (suc i + n) (clamp-formula g χ)) (size-same φ) ∙ fault-same d (suc i + size φ) χ (omega arith))
+    fault-same d i (greatest φ) h =
+        ap (λ (x : Option ℕ). first-of (cond (f .at-greatest d) (some i) none) x) (fault-same (f .below-greatest d) (suc i) φ (omega (arith, rises d)))
 
-unbound-same : (φ : Formula ℕ) → size φ ≤ node-limit → lowest-unbound 0 0 (clamp-formula φ) ≡ lowest-unbound 0 0 φ
-unfolding unbound-below
-unbound-same φ h = fault-same unbound-search (λ d. omega arith) (λ d. refl) (λ d n l. ap not (clamp-below n d l)) 0 0 φ (omega (arith, h))
+  unbound-same : (φ : Formula ℕ) → size φ ≤ node-limit → lowest-unbound 0 0 (clamp-formula g φ) ≡ lowest-unbound 0 0 φ
+  unfolding unbound-below
+  unbound-same φ h = fault-same unbound-search (λ d. omega arith) (λ d. refl) (λ d n l. ap not (clamp-below n d l)) 0 0 φ (omega (arith, h))
 
-unprotected-same : (φ : Formula ℕ) → size φ ≤ node-limit → lowest-unprotected 0 0 (clamp-formula φ) ≡ lowest-unprotected 0 0 φ
-unfolding bound-near
-unprotected-same φ h = fault-same unprotected-search (λ d. omega arith) (λ d. refl) (λ d n l. clamp-below n d l) 0 0 φ (omega (arith, h))
+  unprotected-same : (φ : Formula ℕ) → size φ ≤ node-limit → lowest-unprotected 0 0 (clamp-formula g φ) ≡ lowest-unprotected 0 0 φ
+  unfolding bound-near
+  unprotected-same φ h = fault-same unprotected-search (λ d. omega arith) (λ d. refl) (λ d n l. clamp-below n d l) 0 0 φ (omega (arith, h))
 
--- 23: the V nodes stay
-depth-same : (φ : Formula ℕ) → binder-depth (clamp-formula φ) ≡ binder-depth φ
-depth-same truth = refl
-depth-same (variable n) = refl
-depth-same (transition e φ) = depth-same φ
-depth-same (output e v) = refl
-depth-same (conjunction φ χ) = ap₂ (λ (x y : ℕ). max x y) (depth-same φ) (depth-same χ)
-depth-same (greatest φ) = ap suc (depth-same φ)
+  -- 23: the V nodes stay
+  depth-same : (φ : Formula ℕ) → binder-depth (clamp-formula g φ) ≡ binder-depth φ
+  depth-same truth = refl
+  depth-same (variable n) = refl
+  depth-same (transition e φ) = depth-same φ
+  depth-same (output e v) = refl
+  depth-same (conjunction φ χ) = ap₂ (λ (x y : ℕ). max x y) (depth-same φ) (depth-same χ)
+  depth-same (greatest φ) = ap suc (depth-same φ)
 
-variables-same : (φ : Formula ℕ) → size φ ≤ node-limit → variables-refusal (clamp-formula φ) ≡ variables-refusal φ
-unfolding variables-refusal depth-refusal
-variables-same φ h =
-    ap₂ (λ (x : Option ℕ) (l : Option Refusal). or-else (at-found x 8) l) (unbound-same φ h)
-    (ap₂ (λ (d : ℕ) (y : Option ℕ). or-else (plain-unless (leb d binder-limit) 23) (at-found y 9)) (depth-same φ) (unprotected-same φ h))
+  variables-same : (φ : Formula ℕ) → size φ ≤ node-limit → variables-refusal (clamp-formula g φ) ≡ variables-refusal φ
+  unfolding variables-refusal depth-refusal
+  variables-same φ h =
+      ap₂ (λ (x : Option ℕ) (l : Option Refusal). or-else (at-found x 8) l) (unbound-same φ h)
+      (ap₂ (λ (d : ℕ) (y : Option ℕ). or-else (plain-unless (leb d binder-limit) 23) (at-found y 9)) (depth-same φ) (unprotected-same φ h))
 
 -- ---- nodes reached through accessors
 
@@ -266,24 +269,25 @@ read-size kind first value count h =
     let ns = nodes-from kind first value count 0 in
     first-size (formulas ns) node-limit (omega (arith, formulas-size ns, length-from kind first value count 0)) (omega arith)
 
-module _ (kind first value kind′ first′ value′ : ℕ → ℕ) (hk : (i : ℕ) → kind′ i ≡ clamp (kind i)) (hf : (i : ℕ) → first′ i ≡ clamp (first i))
-    (hv : (i : ℕ) → value′ i ≡ clamp (value i)) where
-  from-same : (left i : ℕ) → nodes-from kind′ first′ value′ left i ≡ map clamp-node (nodes-from kind first value left i)
+-- Nodes of the same kinds, clamped but for their values: 7 to 9 are the same.
+module _ (g : ℕ → ℕ) (kind first value kind′ first′ value′ : ℕ → ℕ) (hk : (i : ℕ) → kind-of (kind′ i) ≡ kind-of (kind i))
+    (hf : (i : ℕ) → first′ i ≡ clamp (first i)) (hv : (i : ℕ) → value′ i ≡ g (value i)) where
+  from-same : (left i : ℕ) → nodes-from kind′ first′ value′ left i ≡ map (clamp-node g) (nodes-from kind first value left i)
   unfolding nodes-from
   from-same zero i = refl
   from-same (suc left) i =
       ap₂ (λ (n : Node ℕ) (ns : List (Node ℕ)). n ∷ ns)
-      (ap (λ (x : Kind). node-of x (first′ i) (value′ i)) (ap kind-of (hk i) ∙ clamp-kind (kind i))
+      (ap (λ (x : Kind). node-of x (first′ i) (value′ i)) (hk i)
       ∙ ap₂ (λ (x y : ℕ). node-of (kind-of (kind i)) x y) (hf i) (hv i)
-      ∙ node-same (kind-of (kind i)) (first i) (value i))
+      ∙ node-same g (kind-of (kind i)) (first i) (value i))
       (from-same left (suc i))
 
-  read-same : (count : ℕ) → formula-read kind′ first′ value′ count ≡ clamp-formula (formula-read kind first value count)
+  pub read-same : (count : ℕ) → formula-read kind′ first′ value′ count ≡ clamp-formula g (formula-read kind first value count)
   unfolding formula-read
   read-same count =
       ap (λ (ns : List (Node ℕ)). first-formula (formulas ns)) (from-same count 0)
-      ∙ ap first-formula (formulas-same (nodes-from kind first value count 0))
-      ∙ first-same (formulas (nodes-from kind first value count 0))
+      ∙ ap first-formula (formulas-same g (nodes-from kind first value count 0))
+      ∙ first-same g (formulas (nodes-from kind first value count 0))
 
   end-same : (left k i : ℕ) → end-fault kind′ k left i ≡ end-fault kind k left i
   unfolding end-fault
@@ -291,13 +295,22 @@ module _ (kind first value kind′ first′ value′ : ℕ → ℕ) (hk : (i : �
   end-same zero (suc k) i = refl
   end-same (suc left) zero i = refl
   end-same (suc left) (suc k) i =
-      ap (λ (x : Kind). end-fault kind′ (awaited x k) left (suc i)) (ap kind-of (hk i) ∙ clamp-kind (kind i))
-      ∙ end-same left (awaited (kind-of (kind i)) k) (suc i)
+      ap (λ (x : Kind). end-fault kind′ (awaited x k) left (suc i)) (hk i) ∙ end-same left (awaited (kind-of (kind i)) k) (suc i)
 
+  pub structure-same : (count : ℕ) → count ≤ node-limit → structure-refusal kind′ first′ value′ count ≡ structure-refusal kind first value count
+  unfolding structure-refusal
+  structure-same count h =
+      ap₂ (λ (o : Option ℕ) (φ : Formula ℕ). or-else (at-found o 7) (variables-refusal φ)) (end-same count 1 0) (read-same count)
+      ∙ ap (λ (l : Option Refusal). or-else (at-found (end-fault kind 1 count 0) 7) l) (variables-same g (formula-read kind first value count)
+      (read-size kind first value count h))
+
+-- Numbers in the place of values: 6 to 9 are the same.
+module _ (kind first value kind′ first′ value′ : ℕ → ℕ) (hk : (i : ℕ) → kind-of (kind′ i) ≡ kind-of (kind i))
+    (hf : (i : ℕ) → first′ i ≡ clamp (first i)) (hv : (i : ℕ) → value′ i ≡ clamp (value i)) where
   nodes-same :
       (count events values : ℕ) → count ≤ node-limit → events ≤ 255 → values ≤ 255
       → nodes-refusal kind′ first′ value′ count (λ v. ltb v values) events ≡ nodes-refusal kind first value count (λ v. ltb v values) events
-  unfolding nodes-refusal misfit-place structure-refusal
+  unfolding nodes-refusal misfit-place
   nodes-same count events values h he hv′ =
       ap₂ (λ (o : Option ℕ) (l : Option Refusal). or-else (at-found o 6) l)
       (lowest-same
@@ -307,12 +320,10 @@ module _ (kind first value kind′ first′ value′ : ℕ → ℕ) (hk : (i : �
       0
       (λ j l u.
       ap not
-      (ap (λ (x : Kind). fields-fit events x (first′ j) (value′ j) (ltb (value′ j) values)) (ap kind-of (hk j) ∙ clamp-kind (kind j))
+      (ap (λ (x : Kind). fields-fit events x (first′ j) (value′ j) (ltb (value′ j) values)) (hk j)
       ∙ ap₂ (λ (x y : ℕ). fields-fit events (kind-of (kind j)) x y (ltb y values)) (hf j) (hv j)
       ∙ fit-same events values he hv′ (kind-of (kind j)) (first j) (value j))))
-      (ap₂ (λ (o : Option ℕ) (φ : Formula ℕ). or-else (at-found o 7) (variables-refusal φ)) (end-same count 1 0) (read-same count)
-      ∙ ap (λ (l : Option Refusal). or-else (at-found (end-fault kind 1 count 0) 7) l) (variables-same (formula-read kind first value count)
-      (read-size kind first value count h)))
+      (structure-same clamp kind first value kind′ first′ value′ hk hf hv count h)
 
 -- ---- a rule in numbers
 module _ (values : ℕ) (rule : List ℕ) where
@@ -325,12 +336,15 @@ module _ (values : ℕ) (rule : List ℕ) where
   at-same : (i : ℕ) → getD clamped i 0 ≡ clamp (getD rule i 0)
   at-same i = List·getD-map clamp rule i 0
 
-  formula-same : formula-of K clamped ≡ clamp-formula (formula-of K rule)
+  kind-same : (i : ℕ) → kind-of (kind-at K clamped i) ≡ kind-of (kind-at K rule i)
+  kind-same i = ap kind-of (at-same (i * 3)) ∙ clamp-kind (kind-at K rule i)
+
+  formula-same : formula-of K clamped ≡ clamp-formula clamp (formula-of K rule)
   unfolding formula-of
   formula-same =
       ap (λ (n : ℕ). formula-read (kind-at K clamped) (first-at K clamped) (value-at K clamped) (n / 3)) (length-map rule clamp)
-      ∙ read-same (kind-at K rule) (first-at K rule) (value-at K rule) (kind-at K clamped) (first-at K clamped) (value-at K clamped)
-      (λ i. at-same (i * 3)) (λ i. at-same (i * 3 + 1)) (λ i. at-same (i * 3 + 2)) (length rule / 3)
+      ∙ read-same clamp (kind-at K rule) (first-at K rule) (value-at K rule) (kind-at K clamped) (first-at K clamped) (value-at K clamped)
+      kind-same (λ i. at-same (i * 3 + 1)) (λ i. at-same (i * 3 + 2)) (length rule / 3)
 
   -- 5, then what the nodes of a rule meet
   abbrev judged : List ℕ → ℕ → ℕ → Bool → Option Refusal
@@ -348,27 +362,26 @@ module _ (values : ℕ) (rule : List ℕ) where
       go true e =
           ap (or-else (plain-unless (count-fits 3 node-limit (length rule)) 5))
           (nodes-same (kind-at K rule) (first-at K rule) (value-at K rule) (kind-at K clamped) (first-at K clamped) (value-at K clamped)
-          (λ i. at-same (i * 3)) (λ i. at-same (i * 3 + 1)) (λ i. at-same (i * 3 + 2)) (length rule / 3) events values
+          kind-same (λ i. at-same (i * 3 + 1)) (λ i. at-same (i * 3 + 2)) (length rule / 3) events values
           (let w : CountFits 3 node-limit (length rule) = count-facts 3 node-limit (length rule) e in w .within) he hv)
       go false e = ap (judged clamped events (length rule)) e ∙ sym (ap (judged rule events (length rule)) e)
 
--- a closed formula within 256 nodes whose events and values fit has no number above 255
-formula-kept :
-    (events values d : ℕ) → events ≤ 255 → values ≤ 255 → (φ : Formula ℕ) → d + size φ ≤ node-limit → FreeBelow d φ → Fits events (Below values) φ
-    → clamp-formula φ ≡ φ
-formula-kept events values d he hv truth h f g = refl
-formula-kept events values d he hv (variable n) h f g = ap variable (clamp-small n (omega arith))
-formula-kept events values d he hv (transition e φ) h f g =
-    let l : e < events = g .0 in
-    ap₂ (λ (x : ℕ) (y : Formula ℕ). transition x y) (clamp-small e (omega arith)) (formula-kept events values d he hv φ (omega arith) f (g .1))
-formula-kept events values d he hv (output e v) h f g =
-    let l : e < events = g .0 in
-    let m : v < values = g .1 in
-    ap₂ (λ (x y : ℕ). output x y) (clamp-small e (omega arith)) (clamp-small v (omega arith))
-formula-kept events values d he hv (conjunction φ χ) h f g =
-    ap₂ (λ (x y : Formula ℕ). conjunction x y) (formula-kept events values d he hv φ (omega arith) (f .0) (g .0))
-    (formula-kept events values d he hv χ (omega arith) (f .1) (g .1))
-formula-kept events values d he hv (greatest φ) h f g = ap greatest (formula-kept events values (suc d) he hv φ (omega arith) f g)
+-- a closed formula within 256 nodes whose events fit has no number above 255 but for its values, and is kept where those are
+pub formula-kept :
+    (g : ℕ → ℕ) (In : ℕ → Type 0) → ((v : ℕ) → In v → g v ≡ v) → (events d : ℕ) → events ≤ 255 → (φ : Formula ℕ) → d + size φ ≤ node-limit → FreeBelow d φ
+    → Fits events In φ → clamp-formula g φ ≡ φ
+formula-kept g In same events d he truth h f w = refl
+formula-kept g In same events d he (variable n) h f w = ap variable (clamp-small n (omega arith))
+formula-kept g In same events d he (transition e φ) h f w =
+    let l : e < events = w .0 in
+    ap₂ (λ (x : ℕ) (y : Formula ℕ). transition x y) (clamp-small e (omega arith)) (formula-kept g In same events d he φ (omega arith) f (w .1))
+formula-kept g In same events d he (output e v) h f w =
+    let l : e < events = w .0 in
+    ap₂ (λ (x y : ℕ). output x y) (clamp-small e (omega arith)) (same v (w .1))
+formula-kept g In same events d he (conjunction φ χ) h f w =
+    ap₂ (λ (x y : Formula ℕ). conjunction x y) (formula-kept g In same events d he φ (omega arith) (f .0) (w .0))
+    (formula-kept g In same events d he χ (omega arith) (f .1) (w .1))
+formula-kept g In same events d he (greatest φ) h f w = ap greatest (formula-kept g In same events (suc d) he φ (omega arith) f w)
 
 pub rule-kept : (events values : ℕ) (rule : List ℕ) → events ≤ 255 → values ≤ 255 → rule-refusal events (Numbered values) rule ≡ none → map clamp rule ≡ rule
 rule-kept events values rule he hv e =
@@ -378,7 +391,10 @@ rule-kept events values rule he hv e =
     let s : size (formula-of (Numbered values) rule) ≤ node-limit = w .accepted .within in
     v .written
     ∙ ap (encode-formula (node-bytes (Numbered values)))
-    (formula-same values rule ∙ formula-kept events values 0 he hv (formula-of (Numbered values) rule) (omega arith) (f .closed) (f .fits))
+    (formula-same values rule
+    ∙ formula-kept clamp (Below values) (λ v b. let l : v < values = b in clamp-small v (omega arith)) events 0 he (formula-of (Numbered values) rule)
+    (omega arith)
+    (f .closed) (f .fits))
     ∙ sym (w .written)
 
 -- ---- a file

@@ -1,7 +1,9 @@
 -- Numbers held in bytes, and which of them are judged; then what the functions' proofs share; then the claims; and last what document 01
 -- alone says of reading, writing and compiling.
 pub mod Clamping
+pub mod RegisterBytes
 pub mod ShownBytes
+pub mod RegisterPairs
 pub mod Pairs
 pub mod TablePairs
 pub mod TextCalls
@@ -9,4 +11,6 @@ pub mod Claims
 pub mod Callers
 pub mod WriteAnswers
 pub mod WriteClaims
+pub mod RegisterWrites
 pub mod FileDemands
+pub mod RegisterDemands

@@ -10,12 +10,12 @@ use Rattle.refusal.specs.declared.{Refusal.{Refusal}, Refusal.the-variants.{At}
 use Rattle.refusal.specs.RefusalAnswers.{or-else, plain-unless}
 use Rattle.refusal.specs.Refusal.{put}
 use Rattle.refusal.proofs.Refusals.{or-else-none, plain-none}
-use Rattle.values.specs.declared.ValueKind.the-variants.{Numbered}
+use Rattle.values.specs.declared.{ValueKind.{ValueKind}, ValueKind.the-variants.{Numbered}}
 use Rattle.values.specs.Setup.{setup}
 use Rattle.values.specs.SetupInOrder.{AcceptedSetup}
 use Rattle.values.specs.SetupTests.{events-test, values-test, meet-test, kind-refusal, setup-refusal}
 use Rattle.values.proofs.Setups.{values-small, square-small, meet-test-length, setup-accepted}
-use Rattle.formulas.specs.RuleRefusal.{count-fits, rule-refusal}
+use Rattle.formulas.specs.{RuleConditions.{node-width}, RuleRefusal.{count-fits, rule-refusal}}
 use Rattle.formulas.proofs.Decoding.{CountFits, count-facts}
 use Rattle.text_format.specs.Format.{Outcome, contents, refused}
 use Rattle.channel_file.specs.{ChannelFile.{Contents}, Reading.{read-file}}
@@ -76,16 +76,16 @@ shown-setup c = go (leb (length (c .meet)) meet-limit) refl
 -- ---- 5 to 9
 
 -- over the limit, or no nodes
-count-at-fault : (events values : ℕ) (rule other : List ℕ) → count-fits 3 node-limit (length rule) ≡ false → count-fits 3 node-limit (length other) ≡ false
-    → rule-refusal events (Numbered values) rule ≡ rule-refusal events (Numbered values) other
+pub count-at-fault : (events : ℕ) (kind : ValueKind) (rule other : List ℕ) → count-fits (node-width kind) node-limit (length rule) ≡ false
+    → count-fits (node-width kind) node-limit (length other) ≡ false → rule-refusal events kind rule ≡ rule-refusal events kind other
 unfolding rule-refusal or-else plain-unless
-count-at-fault events values rule other h g = rw (h, g)
+count-at-fault events kind rule other h g = rw (h, g)
 
-many-nodes : (n : ℕ) → node-limit < n / 3 → count-fits 3 node-limit n ≡ false
-many-nodes n h = go (count-fits 3 node-limit n) refl
+pub many-nodes : (width n : ℕ) → node-limit < n / width → count-fits width node-limit n ≡ false
+many-nodes width n h = go (count-fits width node-limit n) refl
   where
-    go : (b : Bool) → count-fits 3 node-limit n ≡ b → b ≡ false
-    go true e = let w : CountFits 3 node-limit n = count-facts 3 node-limit n e in absurd (omega (arith, w .within))
+    go : (b : Bool) → count-fits width node-limit n ≡ b → b ≡ false
+    go true e = let w : CountFits width node-limit n = count-facts width node-limit n e in absurd (omega (arith, w .within))
     go false e = refl
 
 no-nodes : count-fits 3 node-limit 0 ≡ false
@@ -102,7 +102,8 @@ shown-rule c he hv = go (leb (length (c .rule)) node-limit) refl
         ap (rule-refusal (c .events) (Numbered (c .values))) (rule-clamped (c .rule)) ∙ rule-same (c .values) (rule-numbers c) (c .events) he hv
     go false e =
         let long = leb-false (length (c .rule)) node-limit e in
-        count-at-fault (c .events) (c .values) [] (rule-numbers c) no-nodes (many-nodes (length (rule-numbers c)) (omega (arith, numbers-length c)))
+        count-at-fault (c .events) (Numbered (c .values)) [] (rule-numbers c) no-nodes (many-nodes 3 (length (rule-numbers c)) (omega
+        (arith, numbers-length c)))
 
 -- ---- a file
 
@@ -156,7 +157,7 @@ pub record Holding (t entries nodes : List ℕ) (n : FileNumbers) (m k : ℕ) : 
   pub nodes-are : take k nodes ≡ shown-nodes inside
 
 -- the bytes that were stored stand at the front
-front : (s old : List ℕ) (n : ℕ) → length s ≤ length old → n ≡ length s → take n (put-front s old) ≡ s
+pub front : (s old : List ℕ) (n : ℕ) → length s ≤ length old → n ≡ length s → take n (put-front s old) ≡ s
 unfolding put
 front s old n h l = ap (take n) (front-whole s old h) ∙ take-at s (drop (length s) old) n (sym l)
 

@@ -1,66 +1,75 @@
 -- A call on a text is judged by 4, then by what the text's contents meet, whatever the text shows.
 use Prim.Native.Nat.{ℕ}
-use mathlib.Core.{Path.{_≡_, refl, subst}, List.{List, [], _∷_}, Bool.{true}, Option.{Option, some}}
-use native.Mathlib.Omega.{arith}
+use mathlib.Core.{Path.{_≡_, refl, subst}, Logic.{_⊎_, inl, inr}, List.{List, [], _∷_}, Bool.{true}, Option.{Option, some}}
 use Rattle.refusal.specs.declared.Refusal.{Refusal}
 use Rattle.refusal.specs.Refusal.{Condition, at-lowest, First, has-place, part-of, order, condition-numbers, right-places}
 use Rattle.refusal.proofs.Refusals.{judged}
-use Rattle.text_format.specs.{Format.{Outcome, contents, refused, read}, Claims.{AnswersText}}
-use Rattle.text_format.proofs.Place.{answers, one-answer}
-use Rattle.channel_file.specs.{ChannelFile.{Contents, Shows, Refused4}, FileFormat.{file}, Reading.{AnswersFile, read-file}}
-use Rattle.channel_file.proofs.{Claims.{answer-claim, one-answer-claim, form-met, form-unmet}, FileFormat.{file-laws, file-renders}}
-use Rattle.channel_io.specs.FileConditions.{TextConditions, of-contents, no-contents, JudgedText}
+use Rattle.text_format.specs.Format.{Outcome, contents, refused}
+use Rattle.channel_file.specs.{ChannelFile.{Contents, RefusedBy}, Reading.{AnswersBy, read-file}}
+use Rattle.channel_file.proofs.{Claims.{channel-form}, Forms.{FileForm, answer-to, answer, one-answer, shows-or-not, form-met, form-unmet}}
+use Rattle.channel_io.specs.FileConditions.{ConditionsBy, JudgedBy, TextConditions, of-contents, no-contents, JudgedText}
 use Rattle.channel_io.specs.FileRefusals.{text-refusal}
 
-module _ (conditions : Contents → List Condition) (t : List ℕ) where
+-- ---- for any form of files
+module _ {A : Type 0} (K : FileForm A) (conditions : A → List Condition) (t : List ℕ) where
   -- There is a list for every text: the reader without its limit says what the text shows.
-  pub text-listed : (cs : List Condition) × TextConditions t conditions cs
-  text-listed = go (read file t) (answers file Shows file-laws file-renders t)
+  listed-by : (cs : List Condition) × ConditionsBy (K .Shows) t conditions cs
+  listed-by = go (shows-or-not K t)
     where
-      go : (x : Outcome Contents) → AnswersText Shows t x → (cs : List Condition) × TextConditions t conditions cs
-      go (contents c) a = (at-lowest 4 (Refused4 t) ∷ conditions c, of-contents c a)
-      go (refused p) a = (
-        at-lowest 4 (Refused4 t) ∷ [],
-        no-contents (λ c s.
-            let e = one-answer file Shows file-laws file-renders t (contents c) (refused p) s a in
-            let z : _≡_ {A = ℕ} 0 1 = cc in
-            omega arith),
-      )
+      go : ((c : A) × K .Shows c t) ⊎ ((c : A) → ¬ K .Shows c t) → (cs : List Condition) × ConditionsBy (K .Shows) t conditions cs
+      go (inl (c, s)) = (at-lowest 4 (RefusedBy (K .Shows) t) ∷ conditions c, of-contents c s)
+      go (inr none-shown) = (at-lowest 4 (RefusedBy (K .Shows) t) ∷ [], no-contents none-shown)
+
+  module _ (refusal : A → Option Refusal) (first : (c : A) → First (conditions c) (refusal c)) where
+    -- Every such list gives the answer that the reader's answer yields.
+    call-first-by : (cs : List Condition) → ConditionsBy (K .Shows) t conditions cs → First cs (text-refusal refusal (answer-to K t))
+    unfolding text-refusal
+    call-first-by cs (of-contents c s) = go (answer-to K t) (answer K t)
+      where
+        go : (x : Outcome A) → AnswersBy (K .Shows) t x → First (at-lowest 4 (RefusedBy (K .Shows) t) ∷ conditions c) (text-refusal refusal x)
+        go (contents d) a =
+            let e = one-answer K t (contents c) (contents d) (a .0, s) a in
+            let same : c ≡ d = cc in
+            form-unmet K t d a (conditions c) (refusal d) (subst (λ (x : A). First (conditions c) (refusal x)) same (first c))
+        go (refused p) a = form-met K t p a (conditions c)
+    call-first-by cs (no-contents none-shown) = go (answer-to K t) (answer K t)
+      where
+        go : (x : Outcome A) → AnswersBy (K .Shows) t x → First (at-lowest 4 (RefusedBy (K .Shows) t) ∷ []) (text-refusal refusal x)
+        go (contents d) a = absurd (none-shown d (a .1))
+        go (refused p) a = form-met K t p a []
+
+    pub call-by :
+        {M : Type 0} (before after : M) → ((c : A) → part-of (4 ∷ condition-numbers (conditions c)) order ≡ true)
+        → ((c : A) → right-places (conditions c) ≡ true)
+        → ((r : Refusal) → text-refusal refusal (answer-to K t) ≡ some r → after ≡ before)
+        → JudgedBy (K .Shows) t conditions (text-refusal refusal (answer-to K t)) before after
+    unfolding condition-numbers right-places has-place part-of order
+    call-by before after ordered placed kept =
+        record {
+          listed = listed-by;
+          judged = λ cs x. record { judged = judged cs _ (call-first-by cs x) (in-order cs x) (in-place cs x); kept = kept };
+        }
+      where
+        in-order : (cs : List Condition) → ConditionsBy (K .Shows) t conditions cs → part-of (condition-numbers cs) order ≡ true
+        in-order cs (of-contents c s) = ordered c
+        in-order cs (no-contents none-shown) = refl
+
+        in-place : (cs : List Condition) → ConditionsBy (K .Shows) t conditions cs → right-places cs ≡ true
+        in-place cs (of-contents c s) = placed c
+        in-place cs (no-contents none-shown) = refl
+
+-- ---- document 01's file
+module _ (conditions : Contents → List Condition) (t : List ℕ) where
+  pub text-listed : (cs : List Condition) × TextConditions t conditions cs
+  text-listed = listed-by channel-form conditions t
 
   module _ (refusal : Contents → Option Refusal) (first : (c : Contents) → First (conditions c) (refusal c)) where
-    -- Every such list gives the answer that the reader's answer yields.
     pub text-call-first : (cs : List Condition) → TextConditions t conditions cs → First cs (text-refusal refusal (read-file t))
-    unfolding text-refusal
-    text-call-first cs (of-contents c s) = go (read-file t) (answer-claim t)
-      where
-        go : (x : Outcome Contents) → AnswersFile t x → First (at-lowest 4 (Refused4 t) ∷ conditions c) (text-refusal refusal x)
-        go (contents d) a =
-            let e = one-answer-claim t (contents c) (contents d) (a .0, s) a in
-            let same : c ≡ d = cc in
-            form-unmet t d a (conditions c) (refusal d) (subst (λ (x : Contents). First (conditions c) (refusal x)) same (first c))
-        go (refused p) a = form-met t p a (conditions c)
-    text-call-first cs (no-contents none-shown) = go (read-file t) (answer-claim t)
-      where
-        go : (x : Outcome Contents) → AnswersFile t x → First (at-lowest 4 (Refused4 t) ∷ []) (text-refusal refusal x)
-        go (contents d) a = absurd (none-shown d (a .1))
-        go (refused p) a = form-met t p a []
+    text-call-first = call-first-by channel-form conditions t refusal first
 
     pub text-call :
         {M : Type 0} (before after : M) → ((c : Contents) → part-of (4 ∷ condition-numbers (conditions c)) order ≡ true)
         → ((c : Contents) → right-places (conditions c) ≡ true)
         → ((r : Refusal) → text-refusal refusal (read-file t) ≡ some r → after ≡ before)
         → JudgedText t conditions (text-refusal refusal (read-file t)) before after
-    unfolding condition-numbers right-places has-place part-of order
-    text-call before after ordered placed kept =
-        record {
-          listed = text-listed;
-          judged = λ cs x. record { judged = judged cs _ (text-call-first cs x) (in-order cs x) (in-place cs x); kept = kept };
-        }
-      where
-        in-order : (cs : List Condition) → TextConditions t conditions cs → part-of (condition-numbers cs) order ≡ true
-        in-order cs (of-contents c s) = ordered c
-        in-order cs (no-contents none-shown) = refl
-
-        in-place : (cs : List Condition) → TextConditions t conditions cs → right-places cs ≡ true
-        in-place cs (of-contents c s) = placed c
-        in-place cs (no-contents none-shown) = refl
+    text-call = call-by channel-form conditions t refusal first

@@ -28,7 +28,7 @@ use Rattle.channel_file.specs.ChannelFile.{Token, token-T, token-A, token-V, to
 use Rattle.channel_file.specs.Bytes.{clamp}
 use Rattle.channel_file.specs.ChannelFile.{encoded}
 use Rattle.channel_file.proofs.Claims.{length-claim}
-use Rattle.channel_writer.specs.Writing.{with-token, node-tokens, contents-of, written-reply, written-buffer, WritesContents}
+use Rattle.channel_writer.specs.Writing.{with-token, node-tokens, contents-of, reply-by, buffer-by, written-reply, written-buffer, WritesContents}
 use Rattle.channel_writer.specs.Claims.{All, none-left, one-more, Byte}
 use Rattle.channel_writer.proofs.Claims.{written-claim}
 use Rattle.channel_file.specs.ChannelFile.{node-numbers, rule-numbers}
@@ -153,6 +153,35 @@ textual events values top meet rule e =
 
 -- ---- the answer to a call
 
+-- What is answered where contents c were written, whose text T is within the limit: 13, or all is put.
+module _ {A : Type 0} (text : A → List ℕ) (c : A) (P : Option Refusal) (T old new : List ℕ) (r : Counted) where
+  abbrev later : Bool → Option Refusal
+  later b = or-else P (plain-unless b 13)
+
+  pub written-as : P ≡ none → T ≡ text c → length (text c) ≤ file-limit → r ≡ reply-by text old (some c) → new ≡ buffer-by text old (some c)
+      → (r ≡ counted (later (leb (length T) (length old))) (length T)) × (new ≡ put-unless (later (leb (length T) (length old))) T old)
+  unfolding or-else counted put-unless plain-unless
+  written-as p t s a b = go (ltb (min file-limit (length old)) (length (text c))) refl
+    where
+      go : (q : Bool) → ltb (min file-limit (length old)) (length (text c)) ≡ q
+          → (r ≡ counted (later (leb (length T) (length old))) (length T)) × (new ≡ put-unless (later (leb (length T) (length old))) T old)
+      go true f =
+          let h = ltb-true (min file-limit (length old)) (length (text c)) f in
+          let o : later (leb (length T) (length old)) ≡ some (Plain 13) =
+          ap₂ (λ (x : Option Refusal) (z : Bool). or-else x (plain-unless z 13)) p (lt-leb (length T) (length old) (omega (arith, ap length t))) in (
+            a ∙ ap (λ (z : Bool). cond z (Refused (Plain 13)) (Count (length (text c)))) f ∙ ap (λ (x : Option Refusal). counted x (length T)) (sym o),
+            b ∙ ap (λ (z : Bool). cond z old (put (text c) old)) f ∙ ap (λ (x : Option Refusal). put-unless x T old) (sym o),
+          )
+      go false f =
+          let h = ltb-false (min file-limit (length old)) (length (text c)) f in
+          let o : later (leb (length T) (length old)) ≡ none =
+          ap₂ (λ (x : Option Refusal) (z : Bool). or-else x (plain-unless z 13)) p (le-leb (length T) (length old) (omega (arith, ap length t))) in (
+            a ∙ ap (λ (z : Bool). cond z (Refused (Plain 13)) (Count (length (text c)))) f ∙ ap (λ (l : List ℕ). Count (length l)) (sym t)
+                ∙ ap (λ (x : Option Refusal). counted x (length T)) (sym o),
+            b ∙ ap (λ (z : Bool). cond z old (put (text c) old)) f ∙ ap (λ (l : List ℕ). put l old) (sym t)
+                ∙ ap (λ (x : Option Refusal). put-unless x T old) (sym o),
+          )
+
 module _ (events values top : ℕ) (meet rule old : List ℕ) where
   abbrev T : List ℕ
   T = file-text events values top meet rule
@@ -185,29 +214,11 @@ module _ (events values top : ℕ) (meet rule old : List ℕ) where
   pub writes-judged :
       (new : List ℕ) (r : Counted) → judgement (pair-refusal (setup events values top meet) rule) ≡ Passed
       → WritesContents (contents-of events values top meet (node-tokens rule)) old new r → WritesFile events values top meet rule old new r
-  unfolding file-write-refusal or-else counted put-unless plain-unless file-text
+  unfolding file-write-refusal file-text
   writes-judged new r e w =
       let p = judgement-accepted (pair-refusal (setup events values top meet) rule) e in
       let c = textual events values top meet rule p in
-      let t : T ≡ text (c .inside) = ap text-or-empty (c .is) in
-      let a : r ≡ written-reply old (some (c .inside)) = w .reply ∙ ap (written-reply old) (c .is) in
-      let b : new ≡ written-buffer old (some (c .inside)) = w .buffer ∙ ap (written-buffer old) (c .is) in
-      let s : length (text (c .inside)) ≤ file-limit = c .short in
-      go (c .inside) p t s (ltb (min file-limit (length old)) (length (text (c .inside)))) refl a b
-    where
-      go : (c : Contents) → pair-refusal (setup events values top meet) rule ≡ none → T ≡ text c → length (text c) ≤ file-limit → (q : Bool)
-          → ltb (min file-limit (length old)) (length (text c)) ≡ q
-          → r ≡ cond (ltb (min file-limit (length old)) (length (text c))) (Refused (Plain 13)) (Count (length (text c)))
-          → new ≡ cond (ltb (min file-limit (length old)) (length (text c))) old (put (text c) old) → WritesFile events values top meet rule old new r
-      go c p t s true f a b =
-          let h = ltb-true (min file-limit (length old)) (length (text c)) f in
-          writes (some (Plain 13)) new r
-          (ap₂ (λ (o : Option Refusal) (z : Bool). or-else o (plain-unless z 13)) p (lt-leb (length T) (length old) (omega (arith, ap length t))))
-          (a ∙ ap (λ (z : Bool). cond z (Refused (Plain 13)) (Count (length (text c)))) f)
-          (b ∙ ap (λ (z : Bool). cond z old (put (text c) old)) f)
-      go c p t s false f a b =
-          let h = ltb-false (min file-limit (length old)) (length (text c)) f in
-          writes none new r
-          (ap₂ (λ (o : Option Refusal) (z : Bool). or-else o (plain-unless z 13)) p (le-leb (length T) (length old) (omega (arith, ap length t))))
-          (a ∙ ap (λ (z : Bool). cond z (Refused (Plain 13)) (Count (length (text c)))) f ∙ ap (λ (l : List ℕ). Count (length l)) (sym t))
-          (b ∙ ap (λ (z : Bool). cond z old (put (text c) old)) f ∙ ap (λ (l : List ℕ). put l old) (sym t))
+      let a =
+      written-as text (c .inside) (pair-refusal (setup events values top meet) rule) T old new r p (ap text-or-empty (c .is)) (c .short)
+      (w .reply ∙ ap (written-reply old) (c .is)) (w .buffer ∙ ap (written-buffer old) (c .is)) in
+      record { answer = a .0; buffer = a .1 }

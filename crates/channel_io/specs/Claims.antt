@@ -1,16 +1,21 @@
 -- What is claimed of reading, writing and compiling files; each claim is inhabited in proofs/.
 use Prim.Native.Nat.{ℕ, _≤_, _*_}
-use mathlib.Core.{Path.{_≡_}, List.{List, map}, Option.{none}}
-use lib.ListN.{length}
+use mathlib.Core.{Path.{_≡_}, List.{List, map}, Option.{none, some}}
+use lib.ListN.{length, take}
 use Rattle.limits.specs.Limits.{meet-limit, state-limit, file-limit, entry-limit}
-use Rattle.refusal.specs.Refusal.{Judged}
-use Rattle.values.specs.{declared.ValueKind.the-variants.{Numbered}, Setup.{setup, setup-meet, setup-top}, SetupTests.{setup-refusal}}
+use Rattle.refusal.specs.{Refusal.{Judged, JudgedCall, counted-refusal, count-of, put}, declared.Counted.{Counted}}
+use Rattle.values.specs.{declared.ValueKind.the-variants.{Numbered}, Setup.{setup, register-setup, setup-meet, setup-top}, SetupTests.{setup-refusal}}
 use Rattle.formulas.specs.RuleRefusal.{rule-refusal}
 use Rattle.machines.specs.TableBytes.{machine-of}
 use Rattle.synthesis.specs.Claims.{RuleTable}
 use Rattle.text_format.specs.Format.{contents}
 use Rattle.channel_file.specs.{ChannelFile.{Contents, Form, rule-numbers}, Reading.{read-file}, Bytes.{clamp, meet-bytes, rule-bytes}}
-use Rattle.channel_io.specs.FileConditions.{file-setup, contents-table-conditions}
+use Rattle.channel_io.specs.FileConditions.{file-setup, contents-table-conditions, JudgedBy}
+use Rattle.channel_file.specs.RegisterFile as register
+use Rattle.channel_file.specs.RegisterReading as register-reading
+use Rattle.channel_io.specs.RegisterFiles as register-files
+use Rattle.channel_io.specs.RegisterAnswers as register-answers
+use Rattle.channel_io.specs.declared.registers.{FileNumbers.{FileNumbers}, FileRead.{FileRead}, FileTable.{FileTable}}
 use Rattle.channel_io.specs.FileRefusals.{file-text, pair-refusal, contents-refusal, file-states, file-table, contents-table-refusal}
 
 -- The bytes of a table at two an entry.
@@ -70,3 +75,28 @@ pub record WriteClaim : Type 0 where
   pub again :
       (t : List ℕ) (c : Contents) → read-file t ≡ contents c → contents-refusal c ≡ none
       → file-text (c .events) (c .values) (c .top) (c .meet) (rule-numbers c) ≡ t
+
+-- ---- a register's file (document 02, F-7), in the same words as product_claims has for document 01's
+pub record RegisterFileClaim : Type 1 where
+  -- What is stored of a file is judged as its numbers are, and of an accepted file nothing is changed.
+  pub stored-same :
+      (c : register.Contents) → pair-refusal (register-files.file-setup c) (register-reading.rule-bytes c) ≡ register-answers.contents-refusal c
+  pub nothing-changed :
+      (c : register.Contents) → register-answers.contents-refusal c ≡ none → register-reading.rule-bytes c ≡ register.rule-numbers c
+  pub reading-a-file : (t rule rule′ : List ℕ) (r : FileRead) → register-answers.ReadsFile t rule rule′ r →
+      JudgedBy register.Shows t (λ c. register-files.read-conditions c rule) (register-files.refusal-read r) rule rule′
+  pub file-to-rule : (t rule rule′ : List ℕ) (r : FileRead) → register-answers.ReadsFile t rule rule′ r →
+      (found : FileNumbers) → register-files.numbers-read r ≡ some found → register-files.ReadsAs t rule rule′ found
+  pub compiling-a-file : (t to to′ : List ℕ) (r : FileTable) → register-answers.CompilesFile t to to′ r →
+      JudgedBy register.Shows t (λ c. register-files.file-conditions c to) (register-files.refusal-made r) to to′
+  pub file-to-table : (t to to′ : List ℕ) (r : FileTable) → register-answers.CompilesFile t to to′ r →
+      (found : FileNumbers) (n : ℕ) → register-files.table-made r ≡ some (found, n) → register-files.MakesTableOf t to to′ found n
+  pub writing-a-file : (events lines : ℕ) (rule old new : List ℕ) (r : Counted) → register-answers.WritesFile events lines rule old new r →
+      JudgedCall (register-files.write-file-conditions (register-setup events lines) rule old) (counted-refusal r) old new
+  pub rule-to-file : (events lines : ℕ) (rule old new : List ℕ) (r : Counted) → register-answers.WritesFile events lines rule old new r →
+      (n : ℕ) → count-of r ≡ some n → register-files.WritesAs (register-setup events lines) rule old new n
+  -- an accepted file written out again is the same bytes
+  pub file-to-rule-to-file : (t rule rule′ : List ℕ) (r : FileRead) → register-answers.ReadsFile t rule rule′ r →
+      (found : FileNumbers) → register-files.numbers-read r ≡ some found → (old new : List ℕ) (w : Counted) →
+      register-answers.WritesFile (found .events) (found .lines) (take (6 * found .nodes) rule′) old new w →
+      length t ≤ length old → (count-of w ≡ some (length t)) × (new ≡ put t old)

@@ -6,7 +6,7 @@ use lib.ListN.{length}
 use Rattle.refusal.specs.{Refusal.{Condition, plain, at-lowest, JudgedCall, put}, declared.Refusal.{Refusal}}
 use Rattle.values.specs.Setup.{Setup, setup}
 use Rattle.synthesis.specs.TableOfRule.{pair-conditions, pair-table-conditions}
-use Rattle.channel_file.specs.ChannelFile.{Contents, rule-numbers, text, Shows, Refused4}
+use Rattle.channel_file.specs.ChannelFile.{Contents, rule-numbers, text, Shows, RefusedBy}
 use Rattle.limits.specs.Limits.{file-limit}
 use Rattle.channel_io.specs.{declared.FileNumbers.{FileNumbers}, declared.FileRead.{FileRead}, declared.FileRead.the-variants.{Accepted, Refused}}
 
@@ -26,15 +26,22 @@ pub data ReadShort (c : Contents) (meet rule : List ℕ) : Type 0 where
 abbrev pub read-conditions : Contents → List ℕ → List ℕ → List Condition
 read-conditions c meet rule = pair-conditions (file-setup c) (rule-numbers c) ++ (plain 13 (ReadShort c meet rule) ∷ [])
 
--- 4 first, then the conditions on what the text shows; none of them where it shows nothing.
-pub data TextConditions (t : List ℕ) (conditions : Contents → List Condition) : List Condition → Type 1 where
-  of-contents : (c : Contents) → Shows c t → TextConditions t conditions (at-lowest 4 (Refused4 t) ∷ conditions c)
-  no-contents : ((c : Contents) → ¬ Shows c t) → TextConditions t conditions (at-lowest 4 (Refused4 t) ∷ [])
+-- 4 first, then the conditions on what the text shows; none of them where it shows nothing. For any form of files.
+pub data ConditionsBy {A : Type 0} (Shows : A → List ℕ → Type 0) (t : List ℕ) (conditions : A → List Condition) : List Condition → Type 1 where
+  of-contents : (c : A) → Shows c t → ConditionsBy Shows t conditions (at-lowest 4 (RefusedBy Shows t) ∷ conditions c)
+  no-contents : ((c : A) → ¬ Shows c t) → ConditionsBy Shows t conditions (at-lowest 4 (RefusedBy Shows t) ∷ [])
 
 -- A call on a text is judged by such a list: there is one, and it gives the answer.
-pub record JudgedText {M : Type 0} (t : List ℕ) (conditions : Contents → List Condition) (answer : Option Refusal) (before after : M) : Type 1 where
-  pub listed : (cs : List Condition) × TextConditions t conditions cs
-  pub judged : (cs : List Condition) → TextConditions t conditions cs → JudgedCall cs answer before after
+pub record JudgedBy {A M : Type 0} (Shows : A → List ℕ → Type 0) (t : List ℕ) (conditions : A → List Condition) (answer : Option Refusal)
+    (before after : M) : Type 1 where
+  pub listed : (cs : List Condition) × ConditionsBy Shows t conditions cs
+  pub judged : (cs : List Condition) → ConditionsBy Shows t conditions cs → JudgedCall cs answer before after
+
+abbrev pub TextConditions : List ℕ → (Contents → List Condition) → List Condition → Type 1
+TextConditions = ConditionsBy Shows
+
+abbrev pub JudgedText : {M : Type 0} → List ℕ → (Contents → List Condition) → Option Refusal → M → M → Type 1
+JudgedText t conditions answer before after = JudgedBy Shows t conditions answer before after
 
 -- Document 01's answer for each case of the enums: the refusal, and the numbers of the file.
 abbrev pub refusal-read : FileRead → Option Refusal

@@ -81,7 +81,7 @@ module _ (c : Contents) where
   file-refusal meet to = pair-compile-refusal (file-setup c) (rule-numbers c) meet to
 
 -- ---- a text, by what the file reader says of it: 4, or what its contents meet
-unfoldable pub text-refusal : (Contents → Option Refusal) → Outcome Contents → Option Refusal
+unfoldable pub text-refusal : {A : Type 0} → (A → Option Refusal) → Outcome A → Option Refusal
 text-refusal refusal (refused p) = some (At 4 p)
 text-refusal refusal (contents c) = refusal c
 

@@ -8,7 +8,11 @@ pub mod FileRefusals
 pub mod FileReading
 pub mod FileCompilation
 pub mod FileWriting
+-- The same of a register's file.
+pub mod RegisterFiles
+pub mod RegisterAnswers
 -- What is claimed of them.
 pub mod Claims
 -- What the private functions of src/ say.
 pub mod Steps
+pub mod RegisterSteps

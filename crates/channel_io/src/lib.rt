@@ -1,4 +1,6 @@
-// Channel files read, written and compiled, with all their refusals: 4, 1 to 3, 5 to 10 and 13.
+// Channel files read, written and compiled, with all their refusals: 4, 1 to 3, 5 to 10 and 13; those of a register in registers.rt.
+pub mod registers;
+
 use channel_file::Stored;
 use channel_file::read_arrays;
 use channel_writer::write_text;

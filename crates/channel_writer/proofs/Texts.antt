@@ -5,16 +5,19 @@ use mathlib.Core.Option.{Option, some, none}
 use native.Mathlib.Omega.{arith}
 use lib.{Dec.{eqb, ltb}, ListN.{length, drop, getD, length-drop}}
 use borrow.Author.Tests.{eqb-true, ltb-true, ltb-false}
-use Rattle.text_format.specs.Series.{space, newline}
+use Rattle.text_format.specs.Series.{Separator, space, newline, separator-byte}
 use Rattle.text_format.specs.Texts.{numeral}
 use Rattle.text_output.specs.Output.{Puts}
 use Rattle.text_output.proofs.Outputs.{puts-as, puts-rest, numeral-within}
-use Rattle.channel_file.specs.ChannelFile.{Token, token-T, token-A, token-V, token-X, token-G, token-O, number, token-text}
-use Rattle.channel_file.specs.FileFormat.{tokens, entries}
-use Rattle.channel_file.proofs.{FileFormat.{token-print}, Offsets.{here, over}}
-use Rattle.channel_writer.specs.Writing.{bare-token, token-of-one, node-token, with-token, node-tokens}
-use Rattle.channel_writer.specs.Steps.{node-text, IsSome, items-of, nodes-text, behind}
-use Rattle.channel_writer.proofs.Nodes.{here-three}
+use Rattle.channel_file.specs.ChannelFile.{RuleItem, token-T, token-A, token-V, token-X, token-G, token-O, number, item-text}
+use Rattle.channel_file.specs.{FileFormat.{entries}, RegisterFile.{mask}, Steps.{ValueOf, value-format, unused, item-format, items-format}}
+use Rattle.channel_file.specs.declared.Values.{Values}
+use Rattle.channel_file.proofs.{RuleItems.{item-print}, RegisterFormat.{masks-print}, Offsets.{here, over}}
+use Rattle.channel_writer.specs.Writing.{bare-token, token-of-one, token-with, node-token, with-token}
+use Rattle.channel_writer.specs.RegisterWriting.{mask-of, masks-of, node-token as register-token}
+use Rattle.channel_writer.specs.Steps.{node-text, IsSome, items-of, width, value-at, value-text, is-unused, token-at, tokens-of, node-at, nodes-text}
+use Rattle.channel_writer.specs.Steps.{behind}
+use Rattle.channel_writer.proofs.Nodes.{tokens-step, tokens-none, node-left}
 
 -- ---- the byte behind an item
 
@@ -34,93 +37,104 @@ entries-step v (u ∷ s) = append-assoc (number v) (32 ∷ []) (entries .print (
 -- ---- tokens
 
 -- a node's text is its token's
-bare-text : (k a b : ℕ) (x : Token) → bare-token k ≡ some x → node-text k a b ≡ token-text x
-bare-text k a b x h = go (eqb k 0) refl h
-  where
-    go₅ : (t : Bool) → eqb k 5 ≡ t → cond t (some token-V) none ≡ some x → node-text k a b ≡ token-text x
-    go₅ true e h = let ex : token-V ≡ x = cc in rw (eqb-true k 5 e) (ap token-text ex)
-    go₅ false e h = let z : _≡_ {A = ℕ} 0 1 = cc in absurd (omega arith)
+module _ {B : Type 0} (value : B → List ℕ) (v : B) (k a : ℕ) (x : RuleItem B) where
+  bare-text : bare-token k ≡ some x → node-text (value v) k a ≡ item-text value x
+  bare-text h = go (eqb k 0) refl h
+    where
+      go₅ : (t : Bool) → eqb k 5 ≡ t → cond t (some token-V) none ≡ some x → node-text (value v) k a ≡ item-text value x
+      go₅ true e h = let ex : token-V ≡ x = cc in rw (eqb-true k 5 e) (ap (item-text value) ex)
+      go₅ false e h = let z : _≡_ {A = ℕ} 0 1 = cc in absurd (omega arith)
 
-    go₄ : (t : Bool) → eqb k 4 ≡ t → cond t (some token-A) (cond (eqb k 5) (some token-V) none) ≡ some x → node-text k a b ≡ token-text x
-    go₄ true e h = let ex : token-A ≡ x = cc in rw (eqb-true k 4 e) (ap token-text ex)
-    go₄ false e h = go₅ (eqb k 5) refl h
+      go₄ : (t : Bool) → eqb k 4 ≡ t → cond t (some token-A) (cond (eqb k 5) (some token-V) none) ≡ some x
+          → node-text (value v) k a ≡ item-text value x
+      go₄ true e h = let ex : token-A ≡ x = cc in rw (eqb-true k 4 e) (ap (item-text value) ex)
+      go₄ false e h = go₅ (eqb k 5) refl h
 
-    go : (t : Bool) → eqb k 0 ≡ t → cond t (some token-T) (cond (eqb k 4) (some token-A) (cond (eqb k 5) (some token-V) none)) ≡ some x → node-text k a b
-        ≡ token-text x
-    go true e h = let ex : token-T ≡ x = cc in rw (eqb-true k 0 e) (ap token-text ex)
-    go false e h = go₄ (eqb k 4) refl h
+      go : (t : Bool) → eqb k 0 ≡ t → cond t (some token-T) (cond (eqb k 4) (some token-A) (cond (eqb k 5) (some token-V) none)) ≡ some x
+          → node-text (value v) k a ≡ item-text value x
+      go true e h = let ex : token-T ≡ x = cc in rw (eqb-true k 0 e) (ap (item-text value) ex)
+      go false e h = go₄ (eqb k 4) refl h
 
-one-text : (k a b : ℕ) (x : Token) → token-of-one k a ≡ some x → node-text k a b ≡ token-text x
-one-text k a b x h = go (eqb k 1) refl h
-  where
-    go₀ : (t : Bool) → cond t (bare-token k) none ≡ some x → node-text k a b ≡ token-text x
-    go₀ true h = bare-text k a b x h
-    go₀ false h = let z : _≡_ {A = ℕ} 0 1 = cc in absurd (omega arith)
+  one-text : token-of-one k a ≡ some x → node-text (value v) k a ≡ item-text value x
+  one-text h = go (eqb k 1) refl h
+    where
+      go₀ : (t : Bool) → cond t (bare-token k) none ≡ some x → node-text (value v) k a ≡ item-text value x
+      go₀ true h = bare-text h
+      go₀ false h = let z : _≡_ {A = ℕ} 0 1 = cc in absurd (omega arith)
 
-    go₂ : (t : Bool) → eqb k 2 ≡ t → cond t (some (token-G a)) (cond (eqb a 0) (bare-token k) none) ≡ some x → node-text k a b ≡ token-text x
-    go₂ true e h = let ex : token-G a ≡ x = cc in rw (eqb-true k 2 e) (ap token-text ex)
-    go₂ false e h = go₀ (eqb a 0) h
+      go₂ : (t : Bool) → eqb k 2 ≡ t → cond t (some (token-G a)) (cond (eqb a 0) (bare-token k) none) ≡ some x
+          → node-text (value v) k a ≡ item-text value x
+      go₂ true e h = let ex : token-G a ≡ x = cc in rw (eqb-true k 2 e) (ap (item-text value) ex)
+      go₂ false e h = go₀ (eqb a 0) h
 
-    go : (t : Bool) → eqb k 1 ≡ t → cond t (some (token-X a)) (cond (eqb k 2) (some (token-G a)) (cond (eqb a 0) (bare-token k) none)) ≡ some x
-        → node-text k a b ≡ token-text x
-    go true e h = let ex : token-X a ≡ x = cc in rw (eqb-true k 1 e) (ap token-text ex)
-    go false e h = go₂ (eqb k 2) refl h
+      go : (t : Bool) → eqb k 1 ≡ t → cond t (some (token-X a)) (cond (eqb k 2) (some (token-G a)) (cond (eqb a 0) (bare-token k) none)) ≡ some x
+          → node-text (value v) k a ≡ item-text value x
+      go true e h = let ex : token-X a ≡ x = cc in rw (eqb-true k 1 e) (ap (item-text value) ex)
+      go false e h = go₂ (eqb k 2) refl h
 
-pub token-node-text : (k a b : ℕ) (x : Token) → node-token k a b ≡ some x → node-text k a b ≡ token-text x
-token-node-text k a b x h = go (eqb k 3) refl h
-  where
-    go₀ : (t : Bool) → cond t (token-of-one k a) none ≡ some x → node-text k a b ≡ token-text x
-    go₀ true h = one-text k a b x h
-    go₀ false h = let z : _≡_ {A = ℕ} 0 1 = cc in absurd (omega arith)
+  pub token-node-text : (u : Bool) → token-with u v k a ≡ some x → node-text (value v) k a ≡ item-text value x
+  token-node-text u h = go (eqb k 3) refl h
+    where
+      go₀ : (t : Bool) → cond t (token-of-one k a) none ≡ some x → node-text (value v) k a ≡ item-text value x
+      go₀ true h = one-text h
+      go₀ false h = let z : _≡_ {A = ℕ} 0 1 = cc in absurd (omega arith)
 
-    go : (t : Bool) → eqb k 3 ≡ t → cond t (some (token-O a b)) (cond (eqb b 0) (token-of-one k a) none) ≡ some x → node-text k a b ≡ token-text x
-    go true e h = let ex : token-O a b ≡ x = cc in rw (eqb-true k 3 e) (ap token-text ex)
-    go false e h = go₀ (eqb b 0) h
+      go : (t : Bool) → eqb k 3 ≡ t → cond t (some (token-O a v)) (cond u (token-of-one k a) none) ≡ some x
+          → node-text (value v) k a ≡ item-text value x
+      go true e h = let ex : token-O a v ≡ x = cc in rw (eqb-true k 3 e) (ap (item-text value) ex)
+      go false e h = go₀ u h
+
+-- an item prints its text
+value-prints : (k : Values) (v : ValueOf k) (e : Separator) → value-format k .print (v, e) ≡ value-text k v ++ (separator-byte e ∷ [])
+value-prints Values.Numbered v e = refl
+value-prints Values.Register m e = masks-print m e
+
+pub token-print : (k : Values) (x : RuleItem (ValueOf k)) (e : Separator)
+    → item-format k .print (x, e) ≡ item-text (value-text k) x ++ (separator-byte e ∷ [])
+token-print k = item-print (value-format k) (unused k) (value-text k) (value-prints k)
 
 -- tokens are left where bytes are
-left₀ : (o : Option Token) (y : Option (List Token)) → with-token o y ≡ some [] → ⊥
+left₀ : {X : Type 0} (o : Option X) (y : Option (List X)) → with-token o y ≡ some [] → ⊥
 left₀ (some x) (some xs) h = let z : _≡_ {A = ℕ} 0 1 = cc in omega arith
 left₀ (some x) none h = let z : _≡_ {A = ℕ} 0 1 = cc in omega arith
 left₀ none y h = let z : _≡_ {A = ℕ} 0 1 = cc in omega arith
 
-pub none-left : (s : List ℕ) → node-tokens s ≡ some [] → s ≡ []
-none-left [] h = refl
-none-left (k ∷ []) h = let z : _≡_ {A = ℕ} 0 1 = cc in absurd (omega arith)
-none-left (k ∷ a ∷ []) h = let z : _≡_ {A = ℕ} 0 1 = cc in absurd (omega arith)
-none-left (k ∷ a ∷ b ∷ s) h = absurd (left₀ (node-token k a b) (node-tokens s) h)
+pub none-left : (k : Values) (s : List ℕ) → tokens-of k s ≡ some [] → s ≡ []
+none-left k [] h = refl
+none-left Values.Numbered (a ∷ []) h = let z : _≡_ {A = ℕ} 0 1 = cc in absurd (omega arith)
+none-left Values.Numbered (a ∷ b ∷ []) h = let z : _≡_ {A = ℕ} 0 1 = cc in absurd (omega arith)
+none-left Values.Numbered (a ∷ b ∷ c ∷ s) h = absurd (left₀ (node-token a b c) (tokens-of Values.Numbered s) h)
+none-left Values.Register (a ∷ []) h = let z : _≡_ {A = ℕ} 0 1 = cc in absurd (omega arith)
+none-left Values.Register (a ∷ b ∷ []) h = let z : _≡_ {A = ℕ} 0 1 = cc in absurd (omega arith)
+none-left Values.Register (a ∷ b ∷ c ∷ []) h = let z : _≡_ {A = ℕ} 0 1 = cc in absurd (omega arith)
+none-left Values.Register (a ∷ b ∷ c ∷ d ∷ []) h = let z : _≡_ {A = ℕ} 0 1 = cc in absurd (omega arith)
+none-left Values.Register (a ∷ b ∷ c ∷ d ∷ e ∷ []) h = let z : _≡_ {A = ℕ} 0 1 = cc in absurd (omega arith)
+none-left Values.Register (a ∷ b ∷ c ∷ d ∷ e ∷ f ∷ s) h = absurd (left₀ (register-token a b (masks-of (mask-of c d) (mask-of e f)))
+    (tokens-of Values.Register s) h)
 
-some-left : (s : List ℕ) (x : Token) (xs : List Token) → node-tokens s ≡ some (x ∷ xs) → behind s ≡ 32
-some-left [] x xs h = let z : _≡_ {A = ℕ} 0 1 = cc in absurd (omega arith)
-some-left (k ∷ s) x xs h = refl
+some-left : (k : Values) (s : List ℕ) (x : RuleItem (ValueOf k)) (xs : List (RuleItem (ValueOf k))) → tokens-of k s ≡ some (x ∷ xs) → behind s ≡ 32
+some-left k [] x xs h = let f = sym (tokens-none k) ∙ h in let z : _≡_ {A = ℕ} 0 1 = cc in absurd (omega arith)
+some-left k (b ∷ s) x xs h = refl
 
-nodes-step₁ : (k a b : ℕ) (s : List ℕ) (x : Token) → node-text k a b ≡ token-text x → (y : Option (List Token)) → node-tokens s ≡ y
-    → IsSome (with-token (some x) y)
-    → IsSome y × (tokens .print (items-of (with-token (some x) y)) ≡ node-text k a b ++ (behind s ∷ tokens .print (items-of y)))
-nodes-step₁ k a b s x e (some []) f h =
-    (tt, token-print x newline ∙ ap (λ (z : List ℕ). z ++ (10 ∷ [])) (sym e) ∙ ap (λ (z : List ℕ). node-text k a b ++ (behind z ∷ [])) (sym (none-left s f)))
-nodes-step₁ k a b s x e (some (x′ ∷ xs)) f h = (
-  tt,
-  ap (λ (z : List ℕ). z ++ tokens .print (x′ ∷ xs)) (token-print x space ∙ ap (λ (z : List ℕ). z ++ (32 ∷ [])) (sym e))
-      ∙ append-assoc (node-text k a b) (32 ∷ []) (tokens .print (x′ ∷ xs))
-      ∙ ap (λ (z : ℕ). node-text k a b ++ (z ∷ tokens .print (x′ ∷ xs))) (sym (some-left s x′ xs f)),
-)
-nodes-step₁ k a b s x e none f h = absurd h
+module _ (k : Values) (n : List ℕ) (s : List ℕ) where
+  nodes-step₁ : (x : RuleItem (ValueOf k)) → n ≡ item-text (value-text k) x → (y : Option (List (RuleItem (ValueOf k)))) → tokens-of k s ≡ y
+      → IsSome (with-token (some x) y)
+      → IsSome y × (items-format k .print (items-of (with-token (some x) y)) ≡ n ++ (behind s ∷ items-format k .print (items-of y)))
+  nodes-step₁ x e (some []) f h =
+      (tt, token-print k x newline ∙ ap (λ (z : List ℕ). z ++ (10 ∷ [])) (sym e) ∙ ap (λ (z : List ℕ). n ++ (behind z ∷ [])) (sym (none-left k s f)))
+  nodes-step₁ x e (some (x′ ∷ xs)) f h = (
+    tt,
+    ap (λ (z : List ℕ). z ++ items-format k .print (x′ ∷ xs)) (token-print k x space ∙ ap (λ (z : List ℕ). z ++ (32 ∷ [])) (sym e))
+        ∙ append-assoc n (32 ∷ []) (items-format k .print (x′ ∷ xs))
+        ∙ ap (λ (z : ℕ). n ++ (z ∷ items-format k .print (x′ ∷ xs))) (sym (some-left k s x′ xs f)),
+  )
+  nodes-step₁ x e none f h = absurd h
 
-nodes-step₀ : (k a b : ℕ) (s : List ℕ) (o : Option Token) → node-token k a b ≡ o → IsSome (with-token o (node-tokens s))
-    → IsSome (node-tokens s) × (tokens .print (items-of (with-token o (node-tokens s))) ≡ node-text k a b ++ (behind s ∷ nodes-text s))
-nodes-step₀ k a b s (some x) e h = nodes-step₁ k a b s x (token-node-text k a b x e) (node-tokens s) refl h
-nodes-step₀ k a b s none e h = absurd h
-
-pub nodes-step : (k a b : ℕ) (s : List ℕ) → IsSome (node-tokens (k ∷ a ∷ b ∷ s))
-    → IsSome (node-tokens s) × (nodes-text (k ∷ a ∷ b ∷ s) ≡ node-text k a b ++ (behind s ∷ nodes-text s))
-nodes-step k a b s h = nodes-step₀ k a b s (node-token k a b) refl h
-
--- whole nodes are left
-pub three-left : (s : List ℕ) → IsSome (node-tokens s) → 1 ≤ length s → 3 ≤ length s
-three-left [] h l = absurd (omega arith)
-three-left (k ∷ []) h l = absurd h
-three-left (k ∷ a ∷ []) h l = absurd h
-three-left (k ∷ a ∷ b ∷ s) h l = omega arith
+  nodes-step₀ : (o : Option (RuleItem (ValueOf k))) → ((x : RuleItem (ValueOf k)) → o ≡ some x → n ≡ item-text (value-text k) x)
+      → IsSome (with-token o (tokens-of k s))
+      → IsSome (tokens-of k s) × (items-format k .print (items-of (with-token o (tokens-of k s))) ≡ n ++ (behind s ∷ nodes-text k s))
+  nodes-step₀ (some x) e h = nodes-step₁ x (e x refl) (tokens-of k s) refl h
+  nodes-step₀ none e h = absurd h
 
 -- ---- an item and the byte behind it
 
@@ -130,31 +144,46 @@ entries-at s j b h e =
     ap (entries .print) (here s j h) ∙ entries-step (getD s j 0) (drop (j + 1) s)
     ∙ ap (λ (x : ℕ). number (getD s j 0) ++ (x ∷ entries .print (drop (j + 1) s))) (behind-at s (j + 1) ∙ sym e)
 
-abbrev pub node-at : List ℕ → ℕ → List ℕ
-node-at s j = node-text (getD s j 0) (getD s (j + 1) 0) (getD s (j + 2) 0)
-
-module _ (s : List ℕ) (j : ℕ) (some-tokens : IsSome (node-tokens (drop j s))) (h : j < length s) where
-  pub whole-node : j + 3 ≤ length s
+module _ (k : Values) (s : List ℕ) (j : ℕ) (some-tokens : IsSome (tokens-of k (drop j s))) (h : j < length s) where
+  pub whole-node : j + width k ≤ length s
   whole-node =
-      let l : 3 ≤ length (drop j s) = three-left (drop j s) some-tokens (omega (arith, length-drop j s)) in
-      omega (arith, length-drop j s)
+      let l = node-left k (drop j s) some-tokens (omega (arith, length-drop j s)) in
+      go (ltb (length (drop j s)) (width k)) refl l
+    where
+      go : (t : Bool) → ltb (length (drop j s)) (width k) ≡ t → (length (drop j s) < width k → ⊥) → j + width k ≤ length s
+      go true e l = absurd (l (ltb-true (length (drop j s)) (width k) e))
+      go false e l = omega (arith, length-drop j s, ltb-false (length (drop j s)) (width k) e)
 
-  pub tokens-on : IsSome (node-tokens (drop (j + 3) s))
-  tokens-on = nodes-step (getD s j 0) (getD s (j + 1) 0) (getD s (j + 2) 0) (drop (j + 3) s)
-      (subst (λ (z : List ℕ). IsSome (node-tokens z)) (here-three s j whole-node) some-tokens) .0
+  step : IsSome (tokens-of k (drop (j + width k) s))
+      × (items-format k .print (items-of (with-token (token-at k s j) (tokens-of k (drop (j + width k) s))))
+      ≡ node-at k s j ++ (behind (drop (j + width k) s) ∷ nodes-text k (drop (j + width k) s)))
+  step =
+      nodes-step₀ k (node-at k s j) (drop (j + width k) s) (token-at k s j)
+      (λ x e. token-node-text (value-text k) (value-at k s (j + 2)) (getD s j 0) (getD s (j + 1) 0) x (is-unused k (value-at k s (j + 2))) e)
+      (subst (λ (o : Option (List (RuleItem (ValueOf k)))). IsSome o) (tokens-step k s j whole-node) some-tokens)
 
-  pub nodes-at : (b : ℕ) → b ≡ cond (ltb (j + 3) (length s)) 32 10
-      → nodes-text (drop j s) ≡ node-at s j ++ (b ∷ nodes-text (drop (j + 3) s))
-  nodes-at b e =
-      ap nodes-text (here-three s j whole-node)
-      ∙ nodes-step (getD s j 0) (getD s (j + 1) 0) (getD s (j + 2) 0) (drop (j + 3) s)
-      (subst (λ (z : List ℕ). IsSome (node-tokens z)) (here-three s j whole-node) some-tokens) .1
-      ∙ ap (λ (x : ℕ). node-at s j ++ (x ∷ nodes-text (drop (j + 3) s))) (behind-at s (j + 3) ∙ sym e)
+  pub tokens-on : IsSome (tokens-of k (drop (j + width k) s))
+  tokens-on = step .0
+
+  pub nodes-at : (b : ℕ) {w : ℕ} → w ≡ width k → b ≡ cond (ltb (j + w) (length s)) 32 10
+      → nodes-text k (drop j s) ≡ node-at k s j ++ (b ∷ nodes-text k (drop (j + w) s))
+  nodes-at b {w} z e =
+      ap (λ (o : Option (List (RuleItem (ValueOf k)))). items-format k .print (items-of o)) (tokens-step k s j whole-node) ∙ step .1
+      ∙ ap (λ (n : ℕ). node-at k s j ++ (behind (drop (j + n) s) ∷ nodes-text k (drop (j + n) s))) (sym z)
+      ∙ ap (λ (x : ℕ). node-at k s j ++ (x ∷ nodes-text k (drop (j + w) s))) (behind-at s (j + w) ∙ sym e)
+
+-- behind the last node
+pub nothing-left : (k : Values) (s : List ℕ) (j : ℕ) → length s ≤ j → nodes-text k (drop j s) ≡ []
+nothing-left k s j h =
+    ap (nodes-text k) (over s j h) ∙ ap (λ (o : Option (List (RuleItem (ValueOf k)))). items-format k .print (items-of o)) (tokens-none k)
 
 -- ---- numbers of one byte
 
 pub small-numeral : (key : List ℕ) (x v : ℕ) → x ≡ v → x < 256 → key ++ numeral x ≡ key ++ number v
 small-numeral key x v e h = ap (λ (s : List ℕ). key ++ s) (numeral-within 17 2 x refl (omega arith) ∙ ap number e)
+
+pub mask-numeral : (m : ℕ) → m < 65536 → 46 ∷ numeral m ≡ 46 ∷ mask m
+mask-numeral m h = ap (λ (s : List ℕ). 46 ∷ s) (numeral-within 15 4 m refl (omega arith))
 
 -- an item and the byte behind it are put: what is left gives what was to be given
 pub item-put : {l T l′ l″ rest : List ℕ} {i z n r : ℕ} (s : List ℕ) (b : ℕ) (u : List ℕ) → rest ≡ s ++ (b ∷ u) → Puts l rest T i z

@@ -9,19 +9,22 @@ use Rattle.channel_file.specs.ChannelFile.{Token, Contents, text, SmallContents
 use Rattle.channel_file.specs.FileFormat.{first, second, kind}
 use Rattle.channel_file.specs.Reading.{read-file}
 use Rattle.channel_file.specs.Bytes.{meet-bytes, rule-bytes}
-use Rattle.channel_writer.specs.Writing.{node-token, node-tokens, contents-of, written-reply, written-buffer}
+use Rattle.channel_writer.specs.Writing.{node-token, node-tokens, contents-of, reply-by, buffer-by}
+use Rattle.channel_file.specs.RegisterFile as register
+use Rattle.channel_file.specs.RegisterReading as register-reading
+use Rattle.channel_writer.specs.RegisterWriting as register-writing
 
--- The conditions of writing contents into a buffer: 5 where there are none, which no text can show; 13 for a text over 4,096 bytes or
--- longer than the buffer.
-abbrev pub text-written-conditions : Option Contents → List ℕ → List Condition
-text-written-conditions o old =
-    plain 5 (o ≡ none) ∷ plain 13 ((c : Contents) × (o ≡ some c) × (min file-limit (length old) < length (text c))) ∷ []
+-- The conditions of writing contents into a buffer, whatever their form: 5 where there are none, which no text can show; 13 for a text
+-- over 4,096 bytes or longer than the buffer.
+abbrev pub text-written-conditions : {A : Type 0} → (A → List ℕ) → Option A → List ℕ → List Condition
+text-written-conditions {A} text o old =
+    plain 5 (o ≡ none) ∷ plain 13 ((c : A) × (o ≡ some c) × (min file-limit (length old) < length (text c))) ∷ []
 
 -- The reply gives the first of them, and beside it the buffer is as before.
-abbrev pub WrittenRefusalClaim : Type 0
+abbrev pub WrittenRefusalClaim : Type 1
 WrittenRefusalClaim =
-    (o : Option Contents) (old : List ℕ) →
-    JudgedCall (text-written-conditions o old) (counted-refusal (written-reply old o)) old (written-buffer old o)
+    (A : Type 0) (text : A → List ℕ) (o : Option A) (old : List ℕ) →
+    JudgedCall (text-written-conditions text o old) (counted-refusal (reply-by text old o)) old (buffer-by text old o)
 
 -- All of a list as P says.
 pub data All {A : Type 0} (P : A → Type 0) : List A → Type 0 where
@@ -56,3 +59,30 @@ pub record WrittenTextClaim : Type 0 where
 pub record AgainClaim : Type 0 where
   pub same-contents : (t : List ℕ) (c : Contents) → read-file t ≡ contents c → ByteContents c
       → contents-of (c .events) (c .values) (c .top) (meet-bytes c) (node-tokens (rule-bytes c)) ≡ some c
+
+-- ---- the same of a register's file
+
+-- A token whose numbers fit: a byte for the first, 16 bits for a mask.
+pub record FittingToken (x : register.Token) : Type 0 where
+  pub first-fits : Byte (register-reading.first x)
+  pub low-fits : register-reading.masks x .low ≤ 65535
+  pub high-fits : register-reading.masks x .high ≤ 65535
+
+-- A node's token is the one that has its kind, its first field and its masks.
+pub record RegisterNodeClaim : Type 0 where
+  pub its-fields :
+      (k a : ℕ) (m : register.Masks) (x : register.Token) → register-writing.node-token k a m ≡ some x
+      → (register-reading.kind x ≡ k) × ((register-reading.first x ≡ a) × (register-reading.masks x ≡ m))
+  pub its-token :
+      (x : register.Token) → register-writing.node-token (register-reading.kind x) (register-reading.first x) (register-reading.masks x) ≡ some x
+
+-- What is written is of the form, and reads back as the contents written, where it is within the limit; and what was read from a text, stored
+-- as bytes and written again, is the text, where its numbers fit.
+pub record RegisterWrittenClaim : Type 0 where
+  pub of-the-form : (e l : ℕ) (nodes : List ℕ) (c : register.Contents) → Byte e → Byte l → All Byte nodes
+      → register-writing.contents-of e l (register-writing.node-tokens nodes) ≡ some c → register.SmallContents c
+  pub reads-back : (e l : ℕ) (nodes : List ℕ) (c : register.Contents) → Byte e → Byte l → All Byte nodes
+      → register-writing.contents-of e l (register-writing.node-tokens nodes) ≡ some c → length (register.text c) ≤ file-limit
+      → register-reading.read-file (register.text c) ≡ contents c
+  pub same-contents : (t : List ℕ) (c : register.Contents) → register-reading.read-file t ≡ contents c → All FittingToken (c .rule)
+      → register-writing.contents-of (c .events) (c .lines) (register-writing.node-tokens (register-reading.rule-bytes c)) ≡ some c

@@ -1,4 +1,4 @@
-// The rule of a table (document 01, "Rule of a table"): refusals 1 to 3, 11, 12, 23 and 13.
+// The rule of a table (document 01, "Rule of a table"): refusals 1 to 3, or 1 and 20 with registers, 11, 12, 23 and 13.
 use formulas::CONJUNCTION;
 use formulas::GREATEST;
 use formulas::OUTPUT;
@@ -18,6 +18,7 @@ use refusal::Judgement;
 use refusal::Refusal;
 use refusal::WRITTEN_SIZE;
 use values::ValueKind;
+use values::check_register;
 use values::check_setup;
 ghost use mathlib.Core.Path.{_≡_};
 ghost use mathlib.Core.List.{[], _∷_, _++_};
@@ -30,7 +31,7 @@ ghost use Rattle.theory.specs.Formula.{transition-node, output-node, conjunctio
 ghost use Rattle.theory.specs.CharacteristicFormula.{Writes, Rows};
 ghost use Rattle.refusal.specs.Refusal.{put};
 ghost use Rattle.values.specs.Setup.{value-width, mask-bytes, value-bytes};
-ghost use Rattle.values.specs.Setup.{setup};
+ghost use Rattle.values.specs.Setup.{setup, register-setup};
 ghost use Rattle.machines.specs.TableBytes.{machine-of};
 ghost use Rattle.machines.specs.Claims.{OfBytes};
 ghost use Rattle.characteristic.specs.RuleWriting.{write-answer, write-contents};
@@ -354,6 +355,33 @@ pub fn write_rule(
     write_accepted(
         events,
         ValueKind::Numbered(values as u32),
+        states,
+        start,
+        table,
+        to,
+    )
+}
+
+// The same over a register: five bytes an entry of the table, six a node of the rule.
+pub fn write_register_rule(
+    events: usize,
+    lines: usize,
+    states: usize,
+    start: usize,
+    table: &[u8],
+    to: &mut [u8],
+) -> Counted
+    ensures answer { λ r. ⌜ r ≡ write-answer table-limit node-limit (register-setup events lines) states start (now (table .entry)) (now (to .entry)) ⌝ }
+    ensures contents { λ _. ⌜ now (to .exit) ≡ write-contents table-limit node-limit (register-setup events lines) states start
+        (now (table .entry)) (now (to .entry)) ⌝ }
+{
+    let judged = check_register(events, lines);
+    if let Judgement::Refused(reason) = judged {
+        return Counted::Refused(reason);
+    }
+    write_accepted(
+        events,
+        ValueKind::Register(lines as u32),
         states,
         start,
         table,

@@ -1,21 +1,18 @@
 -- A proof of each claim of specs/Claims.
-use Prim.Native.Nat.{ℕ, zero, suc, _+_, _-_, _*_, _≤_}
+use Prim.Native.Nat.{ℕ, zero, suc, _≤_}
 use mathlib.Core.Path.{_≡_, refl, sym, ap, ap₂, _∙_, subst}
-use mathlib.Core.List.{List, [], _∷_, _++_, append-assoc, append-nil, List·Memᴰ, List·Memᴰ·head, List·Memᴰ·tail}
-use mathlib.Core.{Bool.{Bool, true, false, cond, _&&_}, Option.{Option, none, some}, Logic.{_⊎_, inl, inr, ⊎-elim}}
+use mathlib.Core.List.{List, [], _∷_, _++_, append-assoc, List·Memᴰ, List·Memᴰ·head, List·Memᴰ·tail}
+use mathlib.Core.Bool.{Bool, true, false, cond, _&&_}
 use native.Mathlib.Omega.{arith}
 use lib.{Dec.{eqb}, ListN.{length, take, take-append-drop, length-drop}}
 use borrow.Author.Tests.{eqb-true, eqb-false, ne-eqb}
-use Rattle.text_format.specs.Decimal.{is-digit, Digits, value-from}
-use Rattle.text_format.specs.Decimal as D
-use Rattle.text_format.proofs.Decimal.{digit-range, digit-in-range}
 use Rattle.command_line.specs.declared.Command.{Command}
 use Rattle.command_line.specs.Words.{NoSpace, Ends, Words, at-end, at-space, end, space, next-word, is-space, words, led, lengthened}
-use Rattle.command_line.specs.{Words.{after-spaces, after-word, rest}, Numbers.{IsNumber, number, other, digits-from, number-of}}
-use Rattle.command_line.specs.{Lists.{Numbers, and-then, numbers-from}, Names.{names, equal, found, named}, Steps.{gap, letters}}
-use Rattle.command_line.specs.Claims.{WordsClaim, EndOf, RestClaim, NumberClaim, NumbersClaim, NamesClaim}
+use Rattle.command_line.specs.{Words.{before, after-spaces, after-word, rest}, Lists.{Items}}
+use Rattle.command_line.specs.{Names.{names, equal, found, named}, Steps.{gap, letters}}
+use Rattle.command_line.specs.Claims.{WordsClaim, EndOf, RestClaim, NumberClaim, ListsClaim, NamesClaim}
 use Rattle.command_line.specs.Words as W
-use Rattle.command_line.specs.Lists as L
+use Rattle.command_line.proofs.Items.{number-only, number-answered, items-only, items-found}
 use Rattle.command_line.proofs.Words.{words-of, led-first, rest-led, rest-words, drop-gap, drop-letters}
 
 -- ---- words
@@ -25,7 +22,7 @@ no-space₁ true b s e h = W.none
 no-space₁ false b s e h = W.one-more (eqb-false b 32 e) h
 
 no-space-in : (s : List ℕ) → NoSpace (take (letters s) s)
-unfolding letters
+unfolding before
 no-space-in [] = W.none
 no-space-in (b ∷ s) = no-space₁ (is-space b) b s refl (no-space-in s)
 
@@ -40,7 +37,7 @@ ends-after (b ∷ s) = ends₁ (is-space b) b s refl (ends-after s)
 
 -- a text that begins with a word
 word-first : (b : ℕ) (s : List ℕ) → is-space b ≡ false → Words (after-word s) (words (after-word s)) → Words (b ∷ s) (words (b ∷ s))
-unfolding letters after-word
+unfolding before after-word
 word-first b s e r =
     let n : NoSpace (b ∷ take (letters s) s) = W.one-more (eqb-false b 32 e) (no-space-in s) in
     let t : take (letters s) s ++ after-word s ≡ s = ap (λ (z : List ℕ). take (letters s) s ++ z) (sym (drop-letters s)) ∙ take-append-drop (letters s) s in
@@ -125,87 +122,16 @@ rest-no-space n line s e =
 pub rest-claim : RestClaim
 rest-claim = record { an-end = rest-end; its-words = rest-words; no-space = rest-no-space }
 
--- ---- numbers
-
-digits-said : (v : ℕ) (s : List ℕ) → Digits s → digits-from v s ≡ some (value-from v s)
-unfolding digits-from
-digits-said v [] D.none = refl
-digits-said v (b ∷ s) (D.one-more l h d) = rw (digit-in-range b l h) (digits-said (v * 10 + (b - 48)) s d)
-
-digits-none₁ : (t : Bool) (v b : ℕ) (s : List ℕ) → is-digit b ≡ t → (Digits (b ∷ s) → ⊥)
-    → ((Digits s → ⊥) → digits-from (v * 10 + (b - 48)) s ≡ none) → digits-from v (b ∷ s) ≡ none
-unfolding digits-from
-digits-none₁ true v b s e n f = rw e (f (λ d. n (D.one-more (digit-range b e .0) (digit-range b e .1) d)))
-digits-none₁ false v b s e n f = rw e
-
-digits-none : (v : ℕ) (s : List ℕ) → (Digits s → ⊥) → digits-from v s ≡ none
-digits-none v [] n = absurd (n D.none)
-digits-none v (b ∷ s) n = digits-none₁ (is-digit b) v b s refl n (λ m. digits-none (v * 10 + (b - 48)) s m)
-
-number-only : (w : List ℕ) (answer : Option ℕ) → IsNumber w answer → answer ≡ number-of w
-unfolding number-of
-number-only [] answer (number d l) = absurd (omega arith)
-number-only (b ∷ s) answer (number d l) = sym (digits-said 0 (b ∷ s) d)
-number-only [] answer (other n) = refl
-number-only (b ∷ s) answer (other n) = sym (digits-none 0 (b ∷ s) (λ d. n d (omega arith)))
-
-head-digit : (b : ℕ) (s : List ℕ) → Digits (b ∷ s) → is-digit b ≡ true
-head-digit b s (D.one-more l h d) = digit-in-range b l h
-
-tail-digits : (b : ℕ) (s : List ℕ) → Digits (b ∷ s) → Digits s
-tail-digits b s (D.one-more l h d) = d
-
-digits-or-not₁ : (t : Bool) (b : ℕ) (s : List ℕ) → is-digit b ≡ t → Digits s ⊎ (Digits s → ⊥) → Digits (b ∷ s) ⊎ (Digits (b ∷ s) → ⊥)
-digits-or-not₁ true b s e (inl d) = inl (D.one-more (digit-range b e .0) (digit-range b e .1) d)
-digits-or-not₁ true b s e (inr n) = inr (λ d. n (tail-digits b s d))
-digits-or-not₁ false b s e o = inr (λ d. let g = head-digit b s d in let z : _≡_ {A = ℕ} 0 1 = cc in omega arith)
-
-digits-or-not : (s : List ℕ) → Digits s ⊎ (Digits s → ⊥)
-digits-or-not [] = inl D.none
-digits-or-not (b ∷ s) = digits-or-not₁ (is-digit b) b s refl (digits-or-not s)
-
-number-answered : (w : List ℕ) → IsNumber w (number-of w)
-number-answered [] = subst (λ (o : Option ℕ). IsNumber [] o) (number-only [] none (other (λ d l. omega arith))) (other (λ d l. omega arith))
-number-answered (b ∷ s) =
-    ⊎-elim
-    (λ d. subst (λ (o : Option ℕ). IsNumber (b ∷ s) o) (number-only (b ∷ s) _ (number d (omega arith))) (number d (omega arith)))
-    (λ n. subst (λ (o : Option ℕ). IsNumber (b ∷ s) o) (number-only (b ∷ s) none (other (λ d l. n d))) (other (λ d l. n d)))
-    (digits-or-not (b ∷ s))
+-- ---- numbers and lists
 
 pub number-claim : NumberClaim
 number-claim = record { answered = number-answered; only = number-only }
 
--- ---- lists of numbers
-
-numbers-only : (us : List ℕ) (ws : List (List ℕ)) (vs : List ℕ) → Numbers ws vs → numbers-from us ws ≡ some (us ++ vs)
-unfolding numbers-from
-numbers-only us ws vs L.end = ap (λ (z : List ℕ). some z) (sym (append-nil us))
-numbers-only us ws vs (L.one-more {w = w} {ws = ws′} {v = v} {vs = vs′} n r) =
-    rw (sym (number-only w (some v) n)) (numbers-only (us ++ (v ∷ [])) ws′ vs′ r ∙ ap (λ (z : List ℕ). some z) (append-assoc us (v ∷ []) vs′))
-
-record Behind (us all : List ℕ) (ws : List (List ℕ)) : Type 0 where
-  pub list : List ℕ
-  pub whole : all ≡ us ++ list
-  pub each : Numbers ws list
-
-numbers-found₁ : (o : Option ℕ) (w : List ℕ) (ws : List (List ℕ)) (us all : List ℕ) → IsNumber w o
-    → ((u : List ℕ) → numbers-from u ws ≡ some all → Behind u all ws)
-    → and-then o (λ v. numbers-from (us ++ (v ∷ [])) ws) ≡ some all → Behind us all (w ∷ ws)
-numbers-found₁ none w ws us all n f e = let z : _≡_ {A = ℕ} 0 1 = cc in absurd (omega arith)
-numbers-found₁ (some v) w ws us all n f e =
-    let b = f (us ++ (v ∷ [])) e in
-    record { list = v ∷ b .list; whole = b .whole ∙ append-assoc us (v ∷ []) (b .list); each = L.one-more n (b .each) }
-
-numbers-found : (us : List ℕ) (ws : List (List ℕ)) (all : List ℕ) → numbers-from us ws ≡ some all → Behind us all ws
-unfolding numbers-from
-numbers-found us [] all e = record { list = []; whole = (let g : us ≡ all = cc in sym g) ∙ sym (append-nil us); each = L.end }
-numbers-found us (w ∷ ws) all e = numbers-found₁ (number-of w) w ws us all (number-answered w) (λ u d. numbers-found u ws all d) e
-
-pub numbers-claim : NumbersClaim
-numbers-claim =
+pub lists-claim : ListsClaim
+lists-claim =
     record {
-      found = λ ws vs e. let b = numbers-found [] ws vs e in subst (λ (z : List ℕ). Numbers ws z) (sym (b .whole)) (b .each);
-      only = λ ws vs r. numbers-only [] ws vs r;
+      found = λ this that ws bytes e. let b = items-found this that [] ws bytes e in subst (Items this that ws) (sym (b .whole)) (b .each);
+      only = λ this that ws bytes r. items-only this that [] ws bytes r;
     }
 
 -- ---- names
@@ -242,7 +168,7 @@ each-one P ps p a (List·Memᴰ·tail m) = each-one P _ p (a .1) m
 
 names-right : Each (λ p. named (p .0) ≡ p .1) names
 unfolding equal
-names-right = (refl, (refl, (refl, (refl, (refl, (refl, (refl, (refl, (refl, (refl, (refl, (refl, (refl, (refl, (refl, tt)))))))))))))))
+names-right = (refl, (refl, (refl, (refl, (refl, (refl, (refl, (refl, (refl, (refl, (refl, (refl, (refl, (refl, (refl, (refl, tt))))))))))))))))
 
 pub names-claim : NamesClaim
 names-claim = record { named-so = λ p m. each-one (λ q. named (q .0) ≡ q .1) names p names-right m; listed-so = listed-in names }

@@ -1,7 +1,8 @@
--- Words, numbers, names and parts, then the claims.
+-- Words, numbers, lists, names and parts, then the claims.
 pub mod Words
-pub mod Writes
 pub mod Numbers
+pub mod Items
+pub mod Lists
 pub mod Large
 pub mod Names
 pub mod Claims

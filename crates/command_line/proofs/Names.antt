@@ -89,12 +89,12 @@ found-at [] w = refl
 found-at (p ∷ ps) w = found-at₁ (equal w (p .0)) p (map second ps) (place w (map first ps)) w (found ps w) (found-at ps w)
 
 -- the names are the words of one line
-name-line : words (ascii "setup wheel table load event events restart clear show device trial covers write dot help") ≡ map first names
+name-line : words (ascii "setup register wheel table load event events restart clear show device trial covers write dot help") ≡ map first names
 unfolding words
 name-line = refl
 
 pub command-of : (w : List ℕ) (n : ℕ)
-    → n ≡ place w (words (ascii "setup wheel table load event events restart clear show device trial covers write dot help")) → command-at n ≡ named w
+    → n ≡ place w (words (ascii "setup register wheel table load event events restart clear show device trial covers write dot help")) → command-at n ≡ named w
 command-of w n e = ap command-at (e ∙ ap (place w) name-line) ∙ found-at names w
 
 -- at and behind the last name
@@ -103,8 +103,8 @@ any-default [] n d e h = absurd (omega arith)
 any-default (c ∷ cs) zero d e h = refl
 any-default (c ∷ cs) (suc n) d e h = any-default cs n d e (omega arith)
 
-pub its-name : (n : ℕ) → n < 15 → getD (map second names) n Command.Setup ≡ command-at n
+pub its-name : (n : ℕ) → n < 16 → getD (map second names) n Command.Setup ≡ command-at n
 its-name n h = any-default (map second names) n Command.Setup Command.Unknown h
 
-pub no-name : (n : ℕ) → 15 ≤ n → Command.Unknown ≡ command-at n
+pub no-name : (n : ℕ) → 16 ≤ n → Command.Unknown ≡ command-at n
 no-name n h = sym (List·getD-eq-default (map second names) Command.Unknown h)

@@ -5,9 +5,9 @@ use native.Mathlib.Omega.{arith}
 use lib.{ListN.{length, getD, take, drop, length-drop}, Seq.{take-all, drop-drop, drop-nil, getD-drop}}
 use borrow.Author.Tests.{eq-eqb, ne-eqb}
 use Rattle.channel_file.proofs.Offsets.{here, over}
-use Rattle.command_line.specs.{Words.{words, led, is-space, after-spaces, after-word, rest, word}, Steps.{gap, letters, Skips, Starts}}
+use Rattle.command_line.specs.{Words.{words, before, led, is-space, after-spaces, after-word, rest, word}, Steps.{gap, letters, Skips, Starts}}
 
--- ---- a byte that is a space, and one that is none
+-- ---- a byte that is counted, and one that is not
 
 module _ (b : ℕ) (s : List ℕ) where
   gap-space : b ≡ 32 → gap (b ∷ s) ≡ suc (gap s)
@@ -18,13 +18,13 @@ module _ (b : ℕ) (s : List ℕ) where
   unfolding gap
   gap-none n = rw (ne-eqb b 32 n)
 
-  letters-space : b ≡ 32 → letters (b ∷ s) ≡ 0
-  unfolding letters
-  letters-space e = rw (eq-eqb b 32 e)
+  before-stop : (stop : ℕ) → b ≡ stop → before stop (b ∷ s) ≡ 0
+  unfolding before
+  before-stop stop e = rw (eq-eqb b stop e)
 
-  letters-more : (b ≡ 32 → ⊥) → letters (b ∷ s) ≡ suc (letters s)
-  unfolding letters
-  letters-more n = rw (ne-eqb b 32 n)
+  before-more : (stop : ℕ) → (b ≡ stop → ⊥) → before stop (b ∷ s) ≡ suc (before stop s)
+  unfolding before
+  before-more stop n = rw (ne-eqb b stop n)
 
 -- ---- counting from an offset on, as the loops do
 
@@ -39,15 +39,16 @@ module _ (line : List ℕ) (i : ℕ) where
   unfolding gap
   gap-over h = ap gap (over line i h)
 
-  pub letters-on : i < length line → (getD line i 0 ≡ 32 → ⊥) → i + 1 + letters (drop (i + 1) line) ≡ i + letters (drop i line)
-  letters-on h n = omega (arith, ap letters (here line i h) ∙ letters-more (getD line i 0) (drop (i + 1) line) n)
+  pub before-on : (stop : ℕ) → i < length line → (getD line i 0 ≡ stop → ⊥)
+      → i + 1 + before stop (drop (i + 1) line) ≡ i + before stop (drop i line)
+  before-on stop h n = omega (arith, ap (before stop) (here line i h) ∙ before-more (getD line i 0) (drop (i + 1) line) stop n)
 
-  pub letters-here : i < length line → getD line i 0 ≡ 32 → letters (drop i line) ≡ 0
-  letters-here h e = ap letters (here line i h) ∙ letters-space (getD line i 0) (drop (i + 1) line) e
+  pub before-here : (stop : ℕ) → i < length line → getD line i 0 ≡ stop → before stop (drop i line) ≡ 0
+  before-here stop h e = ap (before stop) (here line i h) ∙ before-stop (getD line i 0) (drop (i + 1) line) stop e
 
-  pub letters-over : length line ≤ i → letters (drop i line) ≡ 0
-  unfolding letters
-  letters-over h = ap letters (over line i h)
+  pub before-over : (stop : ℕ) → length line ≤ i → before stop (drop i line) ≡ 0
+  unfolding before
+  before-over stop h = ap (before stop) (over line i h)
 
 -- ---- what the counts are of
 
@@ -65,7 +66,7 @@ drop-letters₁ true b s e = refl
 drop-letters₁ false b s e = e
 
 pub drop-letters : (s : List ℕ) → drop (letters s) s ≡ after-word s
-unfolding letters after-word
+unfolding before after-word
 drop-letters [] = refl
 drop-letters (b ∷ s) = drop-letters₁ (is-space b) b s (drop-letters s)
 
@@ -114,18 +115,18 @@ words-after (b ∷ s) = words-after₁ (is-space b) b s refl (words-after s)
 
 split₁ : (t : Bool) (b c : ℕ) (s : List ℕ) → is-space c ≡ t → led c s (words s) ≡ (c ∷ take (letters s) s) ∷ words (after-word s)
     → led b (c ∷ s) (words (c ∷ s)) ≡ (b ∷ take (letters (c ∷ s)) (c ∷ s)) ∷ words (after-word (c ∷ s))
-unfolding words letters after-word
+unfolding words before after-word
 split₁ true b c s e h = simp e
 split₁ false b c s e h = simp (e, h)
 
 split : (b : ℕ) (s : List ℕ) → led b s (words s) ≡ (b ∷ take (letters s) s) ∷ words (after-word s)
-unfolding words letters after-word
+unfolding words before after-word
 split b [] = refl
 split b (c ∷ s) = split₁ (is-space c) b c s refl (split c s)
 
 -- a text that begins with a word is that word and what is behind it
 pub words-of : (b : ℕ) (s : List ℕ) → is-space b ≡ false → words (b ∷ s) ≡ take (letters (b ∷ s)) (b ∷ s) ∷ words (after-word (b ∷ s))
-unfolding words letters after-word
+unfolding words before after-word
 words-of b s e = simp (e, split b s)
 
 spaces-shorter : (s : List ℕ) → length (after-spaces s) ≤ length s
@@ -145,7 +146,7 @@ led-words (b ∷ s) h l = words-of b s (led-first b s h)
 
 -- and that word has a byte
 pub led-letters : (s : List ℕ) → Led s → 0 < length s → 0 < letters s
-unfolding letters
+unfolding before
 led-letters [] h l = absurd (omega arith)
 led-letters (b ∷ s) h l = rw (led-first b s h) (omega arith)
 
@@ -169,7 +170,7 @@ module _ (text : List ℕ) (q r : ℕ) (k : Skips gap text q r) where
   same-words = ap words (skipped-spaces text q r k) ∙ words-after (drop q text)
 
 first-word : (s : List ℕ) → Led s → getD (words s) 0 [] ≡ take (letters s) s
-unfolding words letters
+unfolding words before
 first-word [] h = refl
 first-word (b ∷ s) h = ap (λ (ws : List (List ℕ)). getD ws 0 []) (words-of b s (led-first b s h))
 

@@ -2,13 +2,13 @@
 use Prim.Native.Nat.{ℕ}
 use mathlib.Core.Path.{_≡_}
 use mathlib.Core.List.{List, [], _∷_, _++_, List·Memᴰ}
-use mathlib.Core.Option.{Option, some}
+use mathlib.Core.{Bool.{Bool}, Option.{Option, some}}
 use lib.ListN.{drop}
 use Rattle.command_line.specs.declared.Command.{Command}
 use Rattle.command_line.specs.Words.{Words, words, rest}
 use Rattle.command_line.specs.Parts.{divider, Divided, first-part, second-part}
 use Rattle.command_line.specs.Numbers.{IsNumber, number-of}
-use Rattle.command_line.specs.Lists.{Numbers, numbers-from}
+use Rattle.command_line.specs.Lists.{Items, items-from}
 use Rattle.command_line.specs.Names.{names, named}
 
 -- A line has one list of words: the computed one.
@@ -37,10 +37,10 @@ pub record NumberClaim : Type 0 where
   pub answered : (w : List ℕ) → IsNumber w (number-of w)
   pub only : (w : List ℕ) (answer : Option ℕ) → IsNumber w answer → answer ≡ number-of w
 
--- Words have a list of numbers exactly where the computed answer is that list.
-pub record NumbersClaim : Type 0 where
-  pub found : (ws : List (List ℕ)) (vs : List ℕ) → numbers-from [] ws ≡ some vs → Numbers ws vs
-  pub only : (ws : List (List ℕ)) (vs : List ℕ) → Numbers ws vs → numbers-from [] ws ≡ some vs
+-- Words stand in bytes exactly where the computed answer is those bytes.
+pub record ListsClaim : Type 0 where
+  pub found : (this that : Bool) (ws : List (List ℕ)) (bytes : List ℕ) → items-from this that [] ws ≡ some bytes → Items this that ws bytes
+  pub only : (this that : Bool) (ws : List (List ℕ)) (bytes : List ℕ) → Items this that ws bytes → items-from this that [] ws ≡ some bytes
 
 -- A word names a command exactly if the two stand beside each other in the list of names.
 pub record NamesClaim : Type 0 where

@@ -1,4 +1,4 @@
--- In reading order: the words of a line, numbers, lists of numbers, the names of the commands, the two parts of a text, the claims; and last
+-- In reading order: the words of a line, numbers, lists, the names of the commands, the two parts of a text, the claims; and last
 -- what the private functions of src/ say.
 pub mod Words
 pub mod Numbers

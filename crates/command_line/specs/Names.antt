@@ -8,6 +8,7 @@ use Rattle.command_line.specs.declared.Command.{Command}
 abbrev pub names : List (List ℕ × Command)
 names =
     (ascii "setup", Command.Setup)
+    ∷ (ascii "register", Command.Register)
     ∷ (ascii "wheel", Command.Wheel)
     ∷ (ascii "table", Command.Table)
     ∷ (ascii "load", Command.Load)

@@ -44,6 +44,11 @@ words (b ∷ s) = cond (is-space b) (words s) (led b s (words s))
 abbrev pub word : ℕ → List ℕ → List ℕ
 word n line = getD (words line) n []
 
+-- How many bytes stand before the first byte b; all where there is none.
+unfoldable pub before : ℕ → List ℕ → ℕ
+before b [] = 0
+before b (c ∷ s) = cond (eqb c b) 0 (suc (before b s))
+
 -- ---- the line from its word n on
 
 -- What is left behind leading spaces, and behind a word.

@@ -1,15 +1,19 @@
-// A line of commands: its words, its numbers and the command that it names.
+// A line of commands: its words, its numbers and lists, and the command that it names.
 ghost use mathlib.Core.Path.{_≡_};
 ghost use Prim.Native.Nat.{_+_, _-_, _*_, _≤_, _<_};
+ghost use mathlib.Core.Bool.{true, false};
 ghost use lib.ListN.{length, take, drop};
+ghost use Rattle.values.specs.Setup.{mask-bytes};
 ghost use Rattle.text_format.specs.Decimal.{is-digit};
+ghost use Rattle.text_output.specs.Output.{Puts};
 ghost use Rattle.channel_file.specs.Bytes.{clamp};
-ghost use Rattle.command_line.specs.Words.{words, rest, word};
+ghost use Rattle.command_line.specs.Words.{words, before, rest, word};
 ghost use Rattle.command_line.specs.Parts.{at-divider, before-divider, first-part, second-part};
 ghost use Rattle.command_line.specs.Numbers.{number-of, number-limit, capped, number-answer};
-ghost use Rattle.command_line.specs.Lists.{numbers-of, Lists, large, any-large};
+ghost use Rattle.command_line.specs.Lists.{clamp-mask, low-part, high-part, item-of, list-of, Lists, large, large-item, any-large};
 ghost use Rattle.command_line.specs.Names.{equal, named};
-ghost use Rattle.command_line.specs.Steps.{gap, letters, Skips, Starts, count-answer, Storable, Stores, place, command-at};
+ghost use Rattle.command_line.specs.Steps.{gap, letters, Skips, Starts, PutsAny, place, command-at};
+use text_output::put;
 
 // A number above this one stands as this one, which is one more than the most pulses of an event and legal in no place of a line.
 pub const NUMBER_LIMIT: usize = 4294967296;
@@ -20,7 +24,7 @@ pub enum Number {
     Malformed,
 }
 
-// The answer to a list of numbers: how many were stored, that a word is no number, or that the buffer is too short.
+// The answer to a list: how many bytes were stored, that a word is malformed, or that the buffer is too short.
 pub enum Listed {
     Count(usize),
     Malformed,
@@ -30,6 +34,7 @@ pub enum Listed {
 // The commands.
 pub enum Command {
     Setup,
+    Register,
     Wheel,
     Table,
     Load,
@@ -74,19 +79,27 @@ fn skip_spaces(line: &[u8], at: usize) -> usize
     i
 }
 
-// The offset of the first space from an offset on.
-fn skip_word(line: &[u8], at: usize) -> usize
+// The offset of the first byte `stop` from an offset on; the length where there is none.
+fn skip_until(line: &[u8], at: usize, stop: u8) -> usize
     requires { ⌜ at ≤ length (now line) ⌝ }
-    ensures { λ r. ⌜ Skips letters (now (line .entry)) at r ⌝ }
+    ensures { λ r. ⌜ Skips (before stop) (now (line .entry)) at r ⌝ }
 {
     let mut i = at;
     while i < line.len() {
-        if line[i] == 32 {
+        if line[i] == stop {
             return i;
         }
         i += 1;
     }
     i
+}
+
+// The offset of the first space from an offset on.
+fn skip_word(line: &[u8], at: usize) -> usize
+    requires { ⌜ at ≤ length (now line) ⌝ }
+    ensures { λ r. ⌜ Skips letters (now (line .entry)) at r ⌝ }
+{
+    skip_until(line, at, 32)
 }
 
 // The offset where word n starts; the length where there is none.
@@ -177,82 +190,176 @@ fn clip(v: usize) -> u8
     if v < 255 { v as u8 } else { 255 }
 }
 
-// How many numbers a text has, unless a word is none.
-fn count_numbers(text: &[u8]) -> Number
-    ensures { λ r. ⌜ r ≡ count-answer (numbers-of (now (text .entry))) ⌝ }
+fn clip_mask(v: usize) -> usize
+    ensures { λ r. ⌜ (r ≡ clamp-mask v) × (r < 65536) ⌝ }
+{
+    if v < 65535 { v } else { 65535 }
+}
+
+// A mask in two bytes. This and the functions below put bytes into a buffer as text_output does.
+fn put_mask(out: &mut [u8], at: usize, v: usize) -> usize
+    ensures { λ r. ⌜ Puts (now (out .entry)) (mask-bytes (clamp-mask v)) (now (out .exit)) at r ⌝ }
+{
+    let mask = clip_mask(v);
+    let n = put(out, at, (mask % 256) as u8);
+    put(out, n, (mask / 256) as u8)
+}
+
+// What stands before the first dot of a word; all of it where there is none.
+fn low_part(word: &[u8]) -> &[u8]
+    ensures { λ r. ⌜ now r ≡ low-part (now (word .entry)) ⌝ }
+{
+    front(word, skip_until(word, 0, 46))
+}
+
+// What stands behind it; nothing where there is none.
+fn high_part(word: &[u8]) -> &[u8]
+    ensures { λ r. ⌜ now r ≡ high-part (now (word .entry)) ⌝ }
+{
+    behind(behind(word, skip_until(word, 0, 46)), 1)
+}
+
+// The bytes of a word LOW.HIGH, unless it is malformed.
+fn put_value(out: &mut [u8], at: usize, word: &[u8]) -> Number
+    ensures { λ r. ⌜ PutsAny (now (out .entry)) (now (out .exit)) at (item-of true (now (word .entry))) r ⌝ }
+{
+    let first = read_number(low_part(word));
+    let Number::Value(low) = first else {
+        return Number::Malformed;
+    };
+    let second = read_number(high_part(word));
+    let Number::Value(high) = second else {
+        return Number::Malformed;
+    };
+    let n = put_mask(out, at, low);
+    Number::Value(put_mask(out, n, high))
+}
+
+// The bytes of a word that is a value, or else a number.
+fn put_item(out: &mut [u8], at: usize, value: bool, word: &[u8]) -> Number
+    ensures { λ r. ⌜ PutsAny (now (out .entry)) (now (out .exit)) at (item-of value (now (word .entry))) r ⌝ }
+{
+    if value {
+        return put_value(out, at, word);
+    }
+    let found = read_number(word);
+    let Number::Value(v) = found else {
+        return Number::Malformed;
+    };
+    Number::Value(put(out, at, clip(v)))
+}
+
+// The bytes of a list, unless a word is malformed. Here and below the words are numbers, or by turns values and numbers: `this` says
+// whether the next word is a value, `that` whether the one behind it is.
+fn put_list(out: &mut [u8], values: bool, text: &[u8]) -> Number
+    ensures { λ r. ⌜ PutsAny (now (out .entry)) (now (out .exit)) 0 (list-of values (now (text .entry))) r ⌝ }
 {
     let mut at = skip_spaces(text, 0);
+    let mut this = values;
+    let mut that = false;
     let mut n: usize = 0;
     while at < text.len() {
         let end = skip_word(text, at);
-        let found = read_number(&text[at..end]);
-        let Number::Value(_) = found else {
+        let reached = put_item(out, n, this, &text[at..end]);
+        let Number::Value(m) = reached else {
             return Number::Malformed;
         };
+        n = m;
         at = skip_spaces(text, end);
-        n += 1;
+        let was = this;
+        this = that;
+        that = was;
     }
     Number::Value(n)
 }
 
-// Puts the numbers of a text that has no other words into a buffer.
-fn store_numbers(text: &[u8], to: &mut [u8])
-    requires { ⌜ Storable (now text) (now to) ⌝ }
-    ensures { λ _. ⌜ Stores (now (text .entry)) (now (to .entry)) (now (to .exit)) ⌝ }
+// The bytes of a list, first into an empty array, which tells how many there are.
+fn read_list(values: bool, text: &[u8], to: &mut [u8]) -> Listed
+    ensures { λ r. ⌜ Lists values (now (text .entry)) (now (to .entry)) (now (to .exit)) r ⌝ }
 {
-    let mut at = skip_spaces(text, 0);
-    let mut n: usize = 0;
-    while at < text.len() {
-        let end = skip_word(text, at);
-        let found = read_number(&text[at..end]);
-        let Number::Value(v) = found else {
-            return;
-        };
-        to[n] = clip(v);
-        at = skip_spaces(text, end);
-        n += 1;
-    }
-}
-
-// The numbers of a text into a lent buffer, a number above 255 as 255.
-pub fn read_numbers(text: &[u8], to: &mut [u8]) -> Listed
-    ensures { λ r. ⌜ Lists (now (text .entry)) (now (to .entry)) (now (to .exit)) r ⌝ }
-{
-    let counted = count_numbers(text);
+    let mut none = [0u8; 0];
+    let counted = put_list(&mut none, values, text);
     let Number::Value(n) = counted else {
         return Listed::Malformed;
     };
     if to.len() < n {
         return Listed::Short;
     }
-    store_numbers(text, to);
+    put_list(to, values, text);
     Listed::Count(n)
 }
 
-// Whether a word is a number above 255.
-fn is_large(word: &[u8]) -> bool
-    ensures { λ r. ⌜ r ≡ large (number-of (now (word .entry))) ⌝ }
+// The numbers of a text into a lent buffer, a number above 255 as 255.
+pub fn read_numbers(text: &[u8], to: &mut [u8]) -> Listed
+    ensures { λ r. ⌜ Lists false (now (text .entry)) (now (to .entry)) (now (to .exit)) r ⌝ }
+{
+    read_list(false, text, to)
+}
+
+// The entries of a register's table, LOW.HIGH NEXT LOW.HIGH NEXT.., into a lent buffer, five bytes each: the masks, each mask's low byte first, a
+// mask above 65,535 as 65,535; then the next state, one above 255 as 255.
+pub fn read_masked(text: &[u8], to: &mut [u8]) -> Listed
+    ensures { λ r. ⌜ Lists true (now (text .entry)) (now (to .entry)) (now (to .exit)) r ⌝ }
+{
+    read_list(true, text, to)
+}
+
+// Whether a word is a number above a limit.
+fn is_above(limit: usize, word: &[u8]) -> bool
+    requires { ⌜ limit < number-limit ⌝ }
+    ensures { λ r. ⌜ r ≡ large limit (number-of (now (word .entry))) ⌝ }
 {
     let found = read_number(word);
     let Number::Value(v) = found else {
         return false;
     };
-    255 < v
+    limit < v
+}
+
+// Whether a word, a value or else a number, has a number that its bytes do not hold.
+fn is_large(value: bool, word: &[u8]) -> bool
+    ensures { λ r. ⌜ r ≡ large-item value (now (word .entry)) ⌝ }
+{
+    if !value {
+        return is_above(255, word);
+    }
+    if is_above(65535, low_part(word)) {
+        return true;
+    }
+    is_above(65535, high_part(word))
+}
+
+fn any_large(values: bool, text: &[u8]) -> bool
+    ensures { λ r. ⌜ r ≡ any-large values false (words (now (text .entry))) ⌝ }
+{
+    let mut at = skip_spaces(text, 0);
+    let mut this = values;
+    let mut that = false;
+    while at < text.len() {
+        let end = skip_word(text, at);
+        if is_large(this, &text[at..end]) {
+            return true;
+        }
+        at = skip_spaces(text, end);
+        let was = this;
+        this = that;
+        that = was;
+    }
+    false
 }
 
 // Whether a word of a text is a number above 255, which no byte holds.
 pub fn has_large(text: &[u8]) -> bool
-    ensures { λ r. ⌜ r ≡ any-large (words (now (text .entry))) ⌝ }
+    ensures { λ r. ⌜ r ≡ any-large false false (words (now (text .entry))) ⌝ }
 {
-    let mut at = skip_spaces(text, 0);
-    while at < text.len() {
-        let end = skip_word(text, at);
-        if is_large(&text[at..end]) {
-            return true;
-        }
-        at = skip_spaces(text, end);
-    }
-    false
+    any_large(false, text)
+}
+
+// Whether the entries of a register's table have a mask above 65,535 or a next state above 255.
+pub fn has_large_masked(text: &[u8]) -> bool
+    ensures { λ r. ⌜ r ≡ any-large true false (words (now (text .entry))) ⌝ }
+{
+    any_large(true, text)
 }
 
 // Whether two lists of bytes are the same.
@@ -330,6 +437,7 @@ fn command_at(place: usize) -> Command
 {
     let commands = [
         Command::Setup,
+        Command::Register,
         Command::Wheel,
         Command::Table,
         Command::Load,
@@ -345,7 +453,7 @@ fn command_at(place: usize) -> Command
         Command::Dot,
         Command::Help,
     ];
-    if place < 15 {
+    if place < 16 {
         return commands[place];
     }
     Command::Unknown
@@ -357,7 +465,7 @@ pub fn read_command(word: &[u8]) -> Command
 {
     let place = place_of(
         word,
-        b"setup wheel table load event events restart clear show device trial covers write dot help",
+        b"setup register wheel table load event events restart clear show device trial covers write dot help",
     );
     command_at(place)
 }

@@ -10,14 +10,16 @@ use refusal::Judgement;
 use refusal::Refusal;
 use values::Comparison;
 use values::ValueKind;
+use values::check_register;
 use values::check_setup;
 use values::compare;
 ghost use mathlib.Core.Path.{_≡_};
 ghost use Prim.Native.Nat.{_≤_, _<_};
 ghost use lib.ListN.{length};
 ghost use lib.Dec.{leb};
+ghost use Rattle.refusal.specs.declared.Judgement.the-variants.{Accepted};
 ghost use Rattle.refusal.specs.RefusalAnswers.{or-else, plain-unless, judgement};
-ghost use Rattle.values.specs.Setup.{setup};
+ghost use Rattle.values.specs.Setup.{setup, register-setup};
 ghost use Rattle.conformance.specs.Trial.{input};
 ghost use Rattle.conformance.specs.TrialAnswer.{tables-refusal, grade-of, trial-answer, trial-buffer};
 ghost use Rattle.conformance.specs.PairQueue.{small-queue, middle-queue, is-not-below, is-different, comparison-on, below-on, equal-on, JudgedPair};
@@ -497,8 +499,9 @@ fn check_tables(
     Judgement::Accepted
 }
 
-// The trial over a set-up of either kind that was accepted; its top is not looked at.
-fn trial_accepted(
+// The search over more than few pairs, where what is handed in is accepted. Each entry calls it, and searches few pairs by itself: so the
+// compiler makes no room for these arrays where they are not used.
+fn search_large(
     events: usize,
     kind: ValueKind,
     meet: &[u8],
@@ -509,36 +512,13 @@ fn trial_accepted(
     device: &[u8],
     word: &mut [u8],
 ) -> Verdict
-    requires { ⌜ events ≤ event-limit ⌝ }
+    requires { ⌜ (Accepted ≡ judgement (or-else
+        (tables-refusal device-limit table-limit events kind states (now table) «device_states» «device_start» (now device))
+        (plain-unless (leb word-limit (length (now word))) 13))) × (events ≤ event-limit) ⌝ }
     ensures { λ r. ⌜ Concluded events kind (now (meet .entry)) states (now (table .entry)) «device_states» «device_start» (now (device .entry))
         (now (word .entry)) r (now (word .exit)) ⌝ }
 {
-    let judged = check_tables(
-        events,
-        kind,
-        states,
-        table,
-        device_states,
-        device_start,
-        device,
-        word,
-    );
-    if let Judgement::Refused(refusal) = judged {
-        return Verdict::Refused(refusal);
-    }
     let pairs = device_states * states;
-    if pairs <= SMALL_QUEUE {
-        return search_few(
-            events,
-            kind,
-            meet,
-            states,
-            table,
-            device_start,
-            device,
-            word,
-        );
-    }
     if pairs <= MIDDLE_QUEUE {
         return search_many(
             events,
@@ -589,10 +569,86 @@ pub fn trial(
     if let Judgement::Refused(refusal) = judged {
         return Verdict::Refused(refusal);
     }
-    trial_accepted(
+    let kind = ValueKind::Numbered(values as u32);
+    let handed = check_tables(
         events,
-        ValueKind::Numbered(values as u32),
+        kind,
+        states,
+        table,
+        device_states,
+        device_start,
+        device,
+        word,
+    );
+    if let Judgement::Refused(refusal) = handed {
+        return Verdict::Refused(refusal);
+    }
+    if device_states * states <= SMALL_QUEUE {
+        return search_few(
+            events,
+            kind,
+            meet,
+            states,
+            table,
+            device_start,
+            device,
+            word,
+        );
+    }
+    search_large(
+        events,
+        kind,
         meet,
+        states,
+        table,
+        device_states,
+        device_start,
+        device,
+        word,
+    )
+}
+
+// The same over a register, five bytes an entry.
+pub fn trial_register(
+    events: usize,
+    lines: usize,
+    states: usize,
+    table: &[u8],
+    device_states: usize,
+    device_start: usize,
+    device: &[u8],
+    word: &mut [u8],
+) -> Verdict
+    ensures answer { λ r. ⌜ r ≡ trial-answer device-limit table-limit
+        (input (register-setup events lines) states (now (table .entry)) «device_states» «device_start» (now (device .entry))) (now (word .entry)) ⌝ }
+    ensures contents { λ r. ⌜ now (word .exit) ≡ trial-buffer device-limit table-limit
+        (input (register-setup events lines) states (now (table .entry)) «device_states» «device_start» (now (device .entry))) (now (word .entry)) ⌝ }
+{
+    let judged = check_register(events, lines);
+    if let Judgement::Refused(refusal) = judged {
+        return Verdict::Refused(refusal);
+    }
+    let kind = ValueKind::Register(lines as u32);
+    let handed = check_tables(
+        events,
+        kind,
+        states,
+        table,
+        device_states,
+        device_start,
+        device,
+        word,
+    );
+    if let Judgement::Refused(refusal) = handed {
+        return Verdict::Refused(refusal);
+    }
+    if device_states * states <= SMALL_QUEUE {
+        return search_few(events, kind, &[], states, table, device_start, device, word);
+    }
+    search_large(
+        events,
+        kind,
+        &[],
         states,
         table,
         device_states,

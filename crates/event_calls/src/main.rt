@@ -37,10 +37,10 @@ fn wide(b: u8) -> u64
 }
 
 fn value_of(reply: Reply) -> u64
-    ensures { λ r. ⌜ r < 256 ⌝ }
+    ensures { λ r. ⌜ r < 4294967296 ⌝ }
 {
     match reply {
-        Reply::Value(reading) => wide(reading.value),
+        Reply::Value(reading) => reading.value as u64,
         _ => 0,
     }
 }

@@ -1,4 +1,5 @@
 // What the program prints.
+use crate::setups::Setup;
 use libc::STDOUT_FILENO;
 use refusal::Refusal;
 
@@ -62,8 +63,45 @@ pub fn say_list(key: &[u8], numbers: &[u8]) {
     say(b"\n");
 }
 
+// A register's value as LOW.HIGH.
+fn say_masks(value: u32) {
+    say_number((value % 65536) as usize);
+    say(b".");
+    say_number((value / 65536) as usize);
+}
+
+// A value: a number, or a register's masks.
+pub fn say_value(setup: Setup, value: u32) {
+    match setup {
+        Setup::Numbers { .. } => say_number(value as usize),
+        Setup::Register { .. } => say_masks(value),
+    }
+}
+
+// A value of a list, with a space before it unless it is the first.
+fn say_masks_item(values: &[u32], i: usize) {
+    if values.len() <= i {
+        return;
+    }
+    let value = values[i];
+    if 0 < i {
+        say(b" ");
+    }
+    say_masks(value);
+}
+
+// A key with the first n values of a register, as a line.
+pub fn say_masks_list(key: &[u8], values: &[u32], n: usize) {
+    say(key);
+    for i in 0..n {
+        say_masks_item(values, i);
+    }
+    say(b"\n");
+}
+
 pub fn say_help() {
     say(b"setup EVENTS VALUES TOP MEET...   the set-up; channels are empty\n");
+    say(b"register EVENTS LINES             the set-up for a register; channels are empty\n");
     say(
         b"wheel P C                         pulses and millimetres per turn of the wheel, for the next set-up\n",
     );

@@ -3,36 +3,22 @@ use crate::answers::say;
 use crate::answers::say_error;
 use crate::answers::say_list;
 use crate::answers::say_refusal;
-use crate::devices::Device;
-use crate::devices::judge;
 use crate::rules::Made;
-use crate::rules::NODE_ROOM;
 use crate::rules::Nodes;
-use crate::rules::Setup;
 use crate::rules::compile_rule;
-use crate::rules::entries_of;
 use crate::rules::make_table;
-use crate::rules::meet_of;
 use crate::rules::read_rule;
 use crate::rules::say_unmade;
-use crate::rules::setup_of;
+use crate::setups;
+use crate::setups::NODE_ROOM;
+use crate::setups::Setup;
+use crate::setups::TABLE_ROOM;
+use crate::setups::entries_of;
 use command_line::first_part;
 use command_line::front;
 use command_line::rest;
 use command_line::second_part;
 use conformance::Verdict;
-use limits::TABLE_BYTES;
-use recorder::Tool;
-
-// A rule's table as a device from state 0.
-fn as_device(states: usize, entries: &[u8]) -> Device {
-    Device {
-        kept: true,
-        states,
-        start: 0,
-        size: entries.len(),
-    }
-}
 
 // The table of the first rule against that of the second.
 fn cover_table(
@@ -44,12 +30,13 @@ fn cover_table(
     second: &[u8],
     word: &mut [u8],
 ) {
-    let verdict = judge(
+    let verdict = setups::trial(
         setup,
         meet,
         second_states,
         second,
-        as_device(first_states, first),
+        first_states,
+        0,
         first,
         word,
     );
@@ -69,13 +56,13 @@ fn cover_rule(
     second: &[u8],
     word: &mut [u8],
 ) {
-    let mut table = [0u8; TABLE_BYTES];
+    let mut table = [0u8; TABLE_ROOM];
     let made = compile_rule(setup, meet, second, &mut table);
     let Made::States(n) = made else {
         say_unmade(made);
         return;
     };
-    let entries = entries_of(&table, n, setup.events);
+    let entries = entries_of(setup, n, &table);
     cover_table(setup, meet, states, first, n, entries, word);
 }
 
@@ -87,25 +74,18 @@ fn cover(setup: Setup, meet: &[u8], first: &[u8], second: &[u8], word: &mut [u8]
         say_error(b"tokens");
         return;
     };
-    let mut table = [0u8; TABLE_BYTES];
+    let mut table = [0u8; TABLE_ROOM];
     let made = make_table(setup, meet, first, &mut table);
     let Made::States(states) = made else {
         say_unmade(made);
         return;
     };
-    let entries = entries_of(&table, states, setup.events);
+    let entries = entries_of(setup, states, &table);
     cover_rule(setup, meet, states, entries, front(&nodes, n), word);
 }
 
 // covers TOKENS / TOKENS
-pub fn covers(tool: Tool, line: &[u8], word: &mut [u8]) {
-    let setup = setup_of(tool.setup.events, tool.setup.values, tool.setup.top);
+pub fn covers(setup: Setup, meet: &[u8], line: &[u8], word: &mut [u8]) {
     let rules = rest(line, 1);
-    cover(
-        setup,
-        meet_of(&tool.setup.meet, setup.values),
-        first_part(rules),
-        second_part(rules),
-        word,
-    );
+    cover(setup, meet, first_part(rules), second_part(rules), word);
 }

@@ -1,32 +1,26 @@
-// A kept device: its trial and its rule. Its entries are lent beside, two bytes each.
+// A kept device: its trial and its rule. Its entries are lent beside.
 use crate::answers::say;
 use crate::answers::say_error;
 use crate::answers::say_list;
 use crate::answers::say_refusal;
-use crate::calls::Numbers;
-use crate::calls::say_wrong;
-use crate::calls::two_numbers;
+use crate::numbers::Numbers;
+use crate::numbers::say_wrong;
+use crate::numbers::two_numbers;
 use crate::rules::Made;
-use crate::rules::Setup;
-use crate::rules::entries_of;
 use crate::rules::make_table;
-use crate::rules::meet_of;
 use crate::rules::say_unmade;
-use crate::rules::setup_of;
-use channel_file::tokens;
-use channel_io::write_file;
-use characteristic::write_rule;
+use crate::setups;
+use crate::setups::NODE_ROOM;
+use crate::setups::Setup;
+use crate::setups::TABLE_ROOM;
+use crate::setups::entries_of;
+use crate::setups::node_bytes;
 use command_line::Listed;
 use command_line::front;
-use command_line::has_large;
-use command_line::read_numbers;
 use command_line::rest;
 use conformance::Grade;
 use conformance::Verdict;
 use limits::FILE_LIMIT;
-use limits::NODE_LIMIT;
-use limits::TABLE_BYTES;
-use recorder::Tool;
 use refusal::Counted;
 
 // What was said of a device: its states and its start, and how many bytes its entries take.
@@ -46,55 +40,48 @@ pub fn none() -> Device {
     }
 }
 
-// A number that no byte holds is too large for every table: the device is kept as one of no states, which 11 refuses as well.
-fn kept_states(states: usize, list: &[u8]) -> usize {
-    if has_large(list) { 0 } else { states }
+fn kept(states: usize, start: usize, size: usize) -> Device {
+    Device {
+        kept: true,
+        states,
+        start,
+        size,
+    }
 }
 
-// device STATES START V N V N...
-pub fn keep(old: Device, line: &[u8], entries: &mut [u8]) -> Device {
+// A number that no byte or mask holds is too large for every table: the device is kept as one of no states, which 11 refuses as well.
+fn kept_states(setup: Setup, states: usize, list: &[u8]) -> usize {
+    if setups::has_large(setup, list) {
+        0
+    } else {
+        states
+    }
+}
+
+// device STATES START V N V N...; the values are those of the set-up in force.
+pub fn keep(old: Device, setup: Setup, line: &[u8], entries: &mut [u8]) -> Device {
     let numbers = two_numbers(line);
     let Numbers::Two(states, start) = numbers else {
         say_wrong(numbers);
         return old;
     };
     let list = rest(line, 3);
-    let listed = read_numbers(list, entries);
-    let Listed::Count(size) = listed else {
-        say_wrong(Numbers::Malformed);
-        return old;
-    };
-    say(b"ok\n");
-    Device {
-        kept: true,
-        states: kept_states(states, list),
-        start,
-        size,
+    let listed = setups::read_entries(setup, list, entries);
+    match listed {
+        Listed::Count(size) => {
+            say(b"ok\n");
+            kept(kept_states(setup, states, list), start, size)
+        }
+        // more entries than a table has, which is 11 as well
+        Listed::Short => {
+            say(b"ok\n");
+            kept(0, start, 0)
+        }
+        Listed::Malformed => {
+            say_wrong(Numbers::Malformed);
+            old
+        }
     }
-}
-
-// The trial of a device against a rule's table.
-pub fn judge(
-    setup: Setup,
-    meet: &[u8],
-    states: usize,
-    table: &[u8],
-    device: Device,
-    entries: &[u8],
-    word: &mut [u8],
-) -> Verdict {
-    conformance::trial(
-        setup.events,
-        setup.values,
-        setup.top,
-        meet,
-        states,
-        table,
-        device.states,
-        device.start,
-        entries,
-        word,
-    )
 }
 
 fn try_table(
@@ -106,7 +93,16 @@ fn try_table(
     entries: &[u8],
     word: &mut [u8],
 ) {
-    let verdict = judge(setup, meet, states, table, device, entries, word);
+    let verdict = setups::trial(
+        setup,
+        meet,
+        states,
+        table,
+        device.states,
+        device.start,
+        entries,
+        word,
+    );
     match verdict {
         Verdict::Pass(grade) => match grade {
             Grade::Same => say(b"pass=same\n"),
@@ -126,7 +122,7 @@ fn try_rule(
     entries: &[u8],
     word: &mut [u8],
 ) {
-    let mut table = [0u8; TABLE_BYTES];
+    let mut table = [0u8; TABLE_ROOM];
     let made = make_table(setup, meet, tokens, &mut table);
     let Made::States(states) = made else {
         say_unmade(made);
@@ -136,7 +132,7 @@ fn try_rule(
         setup,
         meet,
         states,
-        entries_of(&table, states, setup.events),
+        entries_of(setup, states, &table),
         device,
         front(entries, device.size),
         word,
@@ -144,58 +140,43 @@ fn try_rule(
 }
 
 // trial TOKENS
-pub fn trial(tool: Tool, device: Device, line: &[u8], entries: &[u8], word: &mut [u8]) {
+pub fn trial(
+    setup: Setup,
+    meet: &[u8],
+    device: Device,
+    line: &[u8],
+    entries: &[u8],
+    word: &mut [u8],
+) {
     if !device.kept {
         say_error(b"device");
         return;
     }
-    let setup = setup_of(tool.setup.events, tool.setup.values, tool.setup.top);
-    try_rule(
-        setup,
-        meet_of(&tool.setup.meet, setup.values),
-        rest(line, 1),
-        device,
-        entries,
-        word,
-    );
+    try_rule(setup, meet, rest(line, 1), device, entries, word);
 }
 
 // The rule of a channel file.
-fn say_rule(text: &[u8]) {
+fn say_rule(setup: Setup, text: &[u8]) {
     say(b"rule=");
-    say(tokens(text));
+    say(setups::tokens(setup, text));
     say(b"\n");
 }
 
 // A rule as tokens.
 fn say_nodes(setup: Setup, meet: &[u8], nodes: &[u8]) {
     let mut text = [0u8; FILE_LIMIT];
-    let written = write_file(
-        setup.events,
-        setup.values,
-        setup.top,
-        meet,
-        nodes,
-        &mut text,
-    );
+    let written = setups::write_file(setup, meet, nodes, &mut text);
     match written {
-        Counted::Count(n) => say_rule(front(&text, n)),
+        Counted::Count(n) => say_rule(setup, front(&text, n)),
         Counted::Refused(refusal) => say_refusal(refusal),
     }
 }
 
-// The bytes of so many nodes; 0 beyond the limit.
-fn node_bytes(count: usize) -> usize {
-    if count <= NODE_LIMIT { count * 3 } else { 0 }
-}
-
 // The rule of a device.
 fn write_device(setup: Setup, meet: &[u8], device: Device, entries: &[u8]) {
-    let mut nodes = [0u8; NODE_LIMIT * 3];
-    let written = write_rule(
-        setup.events,
-        setup.values,
-        setup.top,
+    let mut nodes = [0u8; NODE_ROOM];
+    let written = setups::write_rule(
+        setup,
         meet,
         device.states,
         device.start,
@@ -203,13 +184,13 @@ fn write_device(setup: Setup, meet: &[u8], device: Device, entries: &[u8]) {
         &mut nodes,
     );
     match written {
-        Counted::Count(count) => say_nodes(setup, meet, front(&nodes, node_bytes(count))),
+        Counted::Count(count) => say_nodes(setup, meet, front(&nodes, node_bytes(setup, count))),
         Counted::Refused(refusal) => say_refusal(refusal),
     }
 }
 
 // write
-pub fn write(tool: Tool, device: Device, line: &[u8], entries: &[u8]) {
+pub fn write(setup: Setup, meet: &[u8], device: Device, line: &[u8], entries: &[u8]) {
     if 0 < rest(line, 1).len() {
         say_wrong(Numbers::Miscounted);
         return;
@@ -218,11 +199,5 @@ pub fn write(tool: Tool, device: Device, line: &[u8], entries: &[u8]) {
         say_error(b"device");
         return;
     }
-    let setup = setup_of(tool.setup.events, tool.setup.values, tool.setup.top);
-    write_device(
-        setup,
-        meet_of(&tool.setup.meet, setup.values),
-        device,
-        entries,
-    );
+    write_device(setup, meet, device, entries);
 }

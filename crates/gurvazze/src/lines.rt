@@ -1,7 +1,10 @@
 // Lines of standard input, read block by block.
 use libc::STDIN_FILENO;
 
-// Most bytes of a line: a device of 256 states with 16 events has 4,096 entries of at most seven bytes, `15 255` and a space.
+// Most bytes that are read at once.
+pub const BLOCK_LIMIT: usize = 4096;
+
+// Most bytes of a line: a device of numbers, of 256 states with 16 events, has 4,096 entries of at most seven bytes, `15 255` and a space.
 pub const LINE_LIMIT: usize = 32768;
 
 // Most numbers of a line: each has a space before it.
@@ -36,7 +39,7 @@ pub struct LineRead {
 }
 
 // What is left of the block, or a new one.
-fn refill(block: &mut [u8], input: Input) -> Input {
+fn refill(block: &mut [u8; BLOCK_LIMIT], input: Input) -> Input {
     if input.at < input.end {
         return input;
     }
@@ -47,7 +50,7 @@ fn refill(block: &mut [u8], input: Input) -> Input {
     }
 }
 
-fn take_byte(block: &mut [u8], input: Input) -> Taken {
+fn take_byte(block: &mut [u8; BLOCK_LIMIT], input: Input) -> Taken {
     let left = refill(block, input);
     let at = left.at;
     let end = left.end;
@@ -68,7 +71,7 @@ struct Kept {
     long: bool,
 }
 
-fn keep_byte(line: &mut [u8], kept: Kept, b: u8) -> Kept {
+fn keep_byte(line: &mut [u8; LINE_LIMIT], kept: Kept, b: u8) -> Kept {
     let n = kept.n;
     if n < line.len() {
         line[n] = b;
@@ -99,7 +102,11 @@ fn over(kept: Kept, input: Input) -> LineRead {
 }
 
 // The next line, without its byte 10, to the front of a buffer. A line that is too long is passed over whole.
-pub fn read_line(block: &mut [u8], input: Input, line: &mut [u8]) -> LineRead {
+pub fn read_line(
+    block: &mut [u8; BLOCK_LIMIT],
+    input: Input,
+    line: &mut [u8; LINE_LIMIT],
+) -> LineRead {
     let mut left = input;
     let mut kept = Kept { n: 0, long: false };
     // nothing says that the input ends

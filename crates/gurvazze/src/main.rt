@@ -1,176 +1,151 @@
-// The command program: commands on standard input, a line each, and their answers on standard output. It keeps a tool, the turn of a
-// wheel for the next set-up, and a device. Every judgement is a library's; what this program adds are the answers `error=`, for lines that
-// are no commands.
+// The command program: commands on standard input, a line each, and their answers on standard output. It keeps a tool of numbers and one of
+// a register, of which the last accepted set-up has one in force, the turn of a wheel for the next set-up, and a device. Every judgement is a
+// library's; what this program adds are the answers `error=`, for lines that are no commands.
 mod answers;
 mod calls;
 mod covers;
 mod devices;
 mod lines;
+mod number_calls;
+mod numbers;
+mod register_calls;
 mod rules;
+mod setups;
+mod wheels;
 
 use answers::say_error;
 use answers::say_help;
-use calls::Turn;
+use calls::read_call;
 use command_line::Command;
 use command_line::front;
 use command_line::read_command;
 use command_line::word;
 use devices::Device;
 use limits::WORD_LIMIT;
+use lines::BLOCK_LIMIT;
 use lines::Input;
 use lines::LINE_LIMIT;
 use lines::LIST_LIMIT;
 use lines::Line;
 use lines::read_line;
 use recorder::Reply;
-use recorder::Tool;
+use setups::Setup;
+use setups::TABLE_ROOM;
+use setups::is_register;
+use setups::meet_of;
+use wheels::Turn;
 
-// The tool, whether a set-up was accepted, the wheel's turn for the next set-up, and what was said of the device; its entries are kept
-// beside.
+// What is kept beside the tools and the device's entries: whether a set-up was accepted, the one in force, the wheel's turn for the next, and
+// what was said of the device.
 struct Session {
     ready: bool,
-    tool: Tool,
+    setup: Setup,
     turn: Turn,
     device: Device,
 }
 
-// Nothing is set up, no turn was said, and there is no device.
+// Nothing is set up, no turn was said, and there is no device; one that is kept now is one of numbers.
 fn start() -> Session {
-    let made = calls::no_tool();
-    let tool = made.tool;
-    let turn = calls::first_turn();
+    let setup = setups::of_numbers(0, 0, 0);
+    let turn = wheels::first_turn();
     let device = devices::none();
     Session {
         ready: false,
-        tool,
+        setup,
         turn,
         device,
     }
 }
 
-// A set-up; a refused one leaves what was there.
-fn set_up(session: Session, line: &[u8], list: &mut [u8]) -> Session {
-    let turn = session.turn;
-    let made = calls::set_up(turn, line, list);
-    let reply = made.reply;
+// The device under another set-up: one of the other kind is dropped.
+fn device_under(old: Setup, new: Setup, device: Device) -> Device {
+    if is_register(old) == is_register(new) {
+        device
+    } else {
+        devices::none()
+    }
+}
+
+// A set-up is in force once it is accepted; a refused one leaves what was there.
+fn with_setup(session: Session, reply: Reply, setup: Setup) -> Session {
     let Reply::Accepted = reply else {
         return session;
     };
-    with_tool(session, made.tool)
-}
-
-fn with_tool(session: Session, tool: Tool) -> Session {
+    let old = session.setup;
     let turn = session.turn;
-    let device = session.device;
+    let device = device_under(old, setup, session.device);
     Session {
         ready: true,
-        tool,
+        setup,
         turn,
         device,
     }
 }
 
 fn with_turn(session: Session, turn: Turn) -> Session {
-    let tool = session.tool;
+    let setup = session.setup;
     let device = session.device;
     Session {
         ready: session.ready,
-        tool,
+        setup,
         turn,
         device,
     }
 }
 
 fn with_device(session: Session, device: Device) -> Session {
-    let tool = session.tool;
+    let setup = session.setup;
     let turn = session.turn;
     Session {
         ready: session.ready,
-        tool,
+        setup,
         turn,
         device,
     }
 }
 
-// A command that changes the tool. Here and below a list of numbers and what a command gives back, values or a failing word, go to lent
-// memory, so that it is not cleared for each command.
-fn call(
-    command: Command,
-    session: Session,
-    line: &[u8],
-    list: &mut [u8],
-    out: &mut [u8],
-) -> Session {
-    let tool = session.tool;
-    match command {
-        Command::Load => with_tool(session, calls::load(tool, line)),
-        Command::Event => with_tool(session, calls::event(tool, line)),
-        Command::Events => with_tool(session, calls::events(tool, line, list, out)),
-        Command::Restart => with_tool(session, calls::restart(tool, line)),
-        Command::Clear => with_tool(session, calls::clear(tool, line)),
-        _ => session,
-    }
-}
-
-// A command that changes nothing.
-fn ask(command: Command, session: Session, line: &[u8], entries: &[u8], out: &mut [u8]) {
-    let tool = session.tool;
-    let device = session.device;
-    match command {
-        Command::Table => rules::table(tool, line),
-        Command::Dot => rules::dot(tool, line),
-        Command::Show => calls::show(tool, line),
-        Command::Trial => devices::trial(tool, device, line, entries, out),
-        Command::Covers => covers::covers(tool, line, out),
-        Command::Write => devices::write(tool, device, line, entries),
-        _ => {}
-    }
+// What a line asks for: a set-up of numbers or of a register, something to keep, an answer that changes nothing, or a call of the tool in
+// force. Nothing is left to do where a line is skipped or has its answer.
+enum Step {
+    Nothing,
+    Setup,
+    Register,
+    Keep(Command),
+    Ask(Command),
+    Call(Command),
 }
 
 // A command that needs a set-up.
-fn answer(
-    command: Command,
-    session: Session,
-    line: &[u8],
-    entries: &[u8],
-    list: &mut [u8],
-    out: &mut [u8],
-) -> Session {
-    if !session.ready {
+fn step_under(ready: bool, command: Command) -> Step {
+    if !ready {
         say_error(b"setup");
-        return session;
+        return Step::Nothing;
     }
-    ask(command, session, line, entries, out);
-    call(command, session, line, list, out)
+    match command {
+        Command::Table => Step::Ask(command),
+        Command::Dot => Step::Ask(command),
+        Command::Trial => Step::Ask(command),
+        Command::Covers => Step::Ask(command),
+        Command::Write => Step::Ask(command),
+        _ => Step::Call(command),
+    }
 }
 
-fn obey(
-    session: Session,
-    line: &[u8],
-    entries: &mut [u8],
-    list: &mut [u8],
-    out: &mut [u8],
-) -> Session {
-    let command = read_command(word(line, 0));
+fn step_of_command(ready: bool, command: Command) -> Step {
     match command {
-        Command::Setup => set_up(session, line, list),
-        Command::Wheel => {
-            let old = session.turn;
-            with_turn(session, calls::wheel(old, line))
-        }
-        Command::Device => {
-            let old = session.device;
-            with_device(session, devices::keep(old, line, entries))
-        }
+        Command::Setup => Step::Setup,
+        Command::Register => Step::Register,
+        Command::Wheel => Step::Keep(command),
+        Command::Device => Step::Keep(command),
         Command::Help => {
             say_help();
-            session
+            Step::Nothing
         }
         Command::Unknown => {
             say_error(b"command");
-            session
+            Step::Nothing
         }
-        _ => answer(command, session, line, &*entries, list, out),
+        _ => step_under(ready, command),
     }
 }
 
@@ -184,45 +159,77 @@ fn is_skipped(line: &[u8]) -> bool {
 }
 
 // A line that is not skipped is a command.
-fn obey_line(
-    session: Session,
-    line: &[u8],
-    entries: &mut [u8],
-    list: &mut [u8],
-    out: &mut [u8],
-) -> Session {
+fn step_of_line(ready: bool, line: &[u8]) -> Step {
     if is_skipped(line) {
-        return session;
+        return Step::Nothing;
     }
-    obey(session, line, entries, list, out)
+    step_of_command(ready, read_command(word(line, 0)))
 }
 
-// What a line comes to.
-fn take_line(
+// The turn or the device of a line is kept.
+fn keep(
+    command: Command,
     session: Session,
-    found: Line,
     line: &[u8],
-    entries: &mut [u8],
-    list: &mut [u8],
-    out: &mut [u8],
+    entries: &mut [u8; TABLE_ROOM],
 ) -> Session {
+    let setup = session.setup;
+    let turn = session.turn;
+    let device = session.device;
+    match command {
+        Command::Wheel => with_turn(session, wheels::wheel(turn, line)),
+        Command::Device => with_device(session, devices::keep(device, setup, line, entries)),
+        _ => session,
+    }
+}
+
+// A command that changes nothing.
+fn ask(
+    command: Command,
+    session: Session,
+    meet: &[u8],
+    line: &[u8],
+    entries: &[u8; TABLE_ROOM],
+    out: &mut [u8; WORD_LIMIT],
+) {
+    let setup = session.setup;
+    let device = session.device;
+    match command {
+        Command::Table => rules::table(setup, meet, line),
+        Command::Dot => rules::dot(setup, meet, line),
+        Command::Trial => devices::trial(setup, meet, device, line, entries, out),
+        Command::Covers => covers::covers(setup, meet, line, out),
+        Command::Write => devices::write(setup, meet, device, line, entries),
+        _ => {}
+    }
+}
+
+// The bytes of a line; none of one that is too long.
+fn text_of(found: Line, line: &[u8; LINE_LIMIT]) -> &[u8] {
     match found {
-        Line::Whole(n) => obey_line(session, front(line, n), entries, list, out),
+        Line::Whole(n) => front(line, n),
         Line::Long => {
             say_error(b"line");
-            session
+            front(line, 0)
         }
-        Line::End => session,
+        Line::End => front(line, 0),
     }
 }
 
+// Lists, and what a command gives back, go to memory that is lent, so that it is not cleared for each command. Only the tool in force is
+// handed on.
 fn main() {
-    let mut block = [0u8; 4096];
+    let mut block = [0u8; BLOCK_LIMIT];
     let mut line = [0u8; LINE_LIMIT];
-    let mut entries = [0u8; LIST_LIMIT];
+    let mut entries = [0u8; TABLE_ROOM];
     let mut list = [0u8; LIST_LIMIT];
     // no shorter than a list
     let mut out = [0u8; WORD_LIMIT];
+    let mut values = [0u32; LIST_LIMIT];
+    let none = number_calls::no_tool();
+    let mut tool = none.tool;
+    let no_register = register_calls::no_tool();
+    let mut register = no_register.tool;
     let mut session = start();
     let mut input = Input { at: 0, end: 0 };
     // nothing says that the input ends
@@ -234,7 +241,36 @@ fn main() {
         if let Line::End = found {
             return;
         }
-        session = take_line(session, found, &line, &mut entries, &mut list, &mut out);
+        let text = text_of(found, &line);
+        let setup = session.setup;
+        let turn = session.turn;
+        let meet = meet_of(setup, &tool.setup.meet);
+        let step = step_of_line(session.ready, text);
+        match step {
+            Step::Nothing => {}
+            Step::Setup => {
+                let made = number_calls::set_up(turn, text, &mut list);
+                let reply = made.reply;
+                tool = number_calls::latest(tool, made);
+                session = with_setup(session, reply, number_calls::setup_of(tool));
+            }
+            Step::Register => {
+                let made = register_calls::set_up(turn, text);
+                let reply = made.reply;
+                register = register_calls::latest(register, made);
+                session = with_setup(session, reply, register_calls::setup_of(register));
+            }
+            Step::Keep(command) => session = keep(command, session, text, &mut entries),
+            Step::Ask(command) => ask(command, session, meet, text, &entries, &mut out),
+            Step::Call(command) => {
+                let call = read_call(command, setup, meet, text, &mut list);
+                if is_register(setup) {
+                    register = register_calls::obey(setup, register, call, &list, &mut values);
+                } else {
+                    tool = number_calls::obey(setup, tool, call, &list, &mut out);
+                }
+            }
+        }
         turns -= 1;
     }
 }

@@ -1,85 +1,38 @@
-// Rules written as tokens, which have to fit a channel file with the tool's set-up; their tables.
-ghost use Prim.Native.Nat.{_≤_};
+// Rules written as tokens, which have to fit a channel file with the set-up in force; their tables.
 use crate::answers::say;
 use crate::answers::say_error;
 use crate::answers::say_refusal;
+use crate::setups;
+use crate::setups::GRAPH_ROOM;
+use crate::setups::NODE_ROOM;
+use crate::setups::ROWS_ROOM;
+use crate::setups::Setup;
+use crate::setups::TABLE_ROOM;
+use crate::setups::entries_of;
+use crate::setups::events_of;
+use crate::setups::node_bytes;
+use crate::setups::product;
 use channel_file::TokenList;
-use channel_file::read_tokens;
-use channel_io::write_file;
 use command_line::front;
 use command_line::rest;
+use limits::ENTRY_LIMIT;
 use limits::FILE_LIMIT;
-use limits::TABLE_BYTES;
-use limits::TABLE_LIMIT;
-use recorder::Tool;
 use refusal::Counted;
 use refusal::Refusal;
-use synthesis::compile;
-use table_graph::GRAPH_LENGTH;
-use table_graph::dot as digraph;
-use table_rows::ROWS_LENGTH;
-use table_rows::rows;
-
-// A channel file has fewer tokens than bytes, and a node three bytes.
-pub const NODE_ROOM: usize = FILE_LIMIT * 3;
 
 // Most tables have at most a sixteenth of the entries; an eighth of the room is more than what is printed of them takes.
-const FEW_BYTES: usize = TABLE_BYTES / 16;
+const FEW_ENTRIES: usize = ENTRY_LIMIT / 16;
 
-const FEW_ROWS: usize = ROWS_LENGTH / 8;
+const FEW_ROWS: usize = ROWS_ROOM / 8;
 
-const FEW_ARROWS: usize = GRAPH_LENGTH / 8;
-
-// The numbers of a set-up; its meet table is kept beside.
-pub struct Setup {
-    pub events: usize,
-    pub values: usize,
-    pub top: usize,
-}
-
-pub fn setup_of(events: u8, values: u8, top: u8) -> Setup {
-    Setup {
-        events: events as usize,
-        values: values as usize,
-        top: top as usize,
-    }
-}
-
-// The product of two numbers up to 256, the most states of a table; 0 for any other.
-pub fn product(a: usize, b: usize) -> usize
-    ensures { λ r. ⌜ r ≤ 65536 ⌝ }
-{
-    if TABLE_LIMIT < a {
-        return 0;
-    }
-    if TABLE_LIMIT < b {
-        return 0;
-    }
-    a * b
-}
-
-// The entries of a meet table that are in use.
-pub fn meet_of(meet: &[u8], values: usize) -> &[u8] {
-    front(meet, product(values, values))
-}
-
-// The entries of a table, two bytes each.
-pub fn entries_of(table: &[u8], states: usize, events: usize) -> &[u8] {
-    front(table, product(states, events) * 2)
-}
+const FEW_ARROWS: usize = GRAPH_ROOM / 8;
 
 // How many bytes of tokens a channel file of a set-up has room for.
 fn token_room(setup: Setup, meet: &[u8]) -> usize {
     let mut text = [0u8; FILE_LIMIT];
     // the shortest rule, T, and byte 10
-    let written = write_file(
-        setup.events,
-        setup.values,
-        setup.top,
-        meet,
-        &[0, 0, 0],
-        &mut text,
-    );
+    let rule = [0u8; 6];
+    let written = setups::write_file(setup, meet, front(&rule, node_bytes(setup, 1)), &mut text);
     let Counted::Count(n) = written else {
         return 0;
     };
@@ -96,19 +49,14 @@ pub enum Nodes {
     Malformed,
 }
 
-// The bytes of so many nodes; a text has no more than the limit.
-fn node_bytes(nodes: usize) -> usize {
-    if nodes <= FILE_LIMIT { 3 * nodes } else { 0 }
-}
-
 // The nodes of a rule in tokens.
 pub fn read_rule(setup: Setup, meet: &[u8], tokens: &[u8], nodes: &mut [u8]) -> Nodes {
     if token_room(setup, meet) < tokens.len() {
         return Nodes::Malformed;
     }
-    let read = read_tokens(tokens, nodes);
+    let read = setups::read_tokens(setup, tokens, nodes);
     match read {
-        TokenList::Nodes(n) => Nodes::Bytes(node_bytes(n)),
+        TokenList::Nodes(n) => Nodes::Bytes(node_bytes(setup, n)),
         TokenList::Malformed => Nodes::Malformed,
     }
 }
@@ -122,7 +70,7 @@ pub enum Made {
 
 // The table of a rule.
 pub fn compile_rule(setup: Setup, meet: &[u8], rule: &[u8], table: &mut [u8]) -> Made {
-    let compiled = compile(setup.events, setup.values, setup.top, meet, rule, table);
+    let compiled = setups::compile(setup, meet, rule, table);
     match compiled {
         Counted::Count(states) => Made::States(states),
         Counted::Refused(refusal) => Made::Refused(refusal),
@@ -168,36 +116,41 @@ fn say_lines(text: &[u8]) {
 
 // The rows of a table, put into a buffer first.
 fn say_rows_by(setup: Setup, states: usize, table: &[u8], out: &mut [u8]) {
-    let printed = rows(setup.events, setup.values, states, table, out);
+    let printed = setups::rows(setup, states, table, out);
     if let Counted::Count(n) = printed {
         say_lines(front(&*out, n));
     }
 }
 
+// Whether a table of so many states is one of those.
+fn has_few(setup: Setup, states: usize) -> bool {
+    product(states, events_of(setup)) <= FEW_ENTRIES
+}
+
 fn say_rows(setup: Setup, states: usize, table: &[u8]) {
-    if table.len() <= FEW_BYTES {
+    if has_few(setup, states) {
         let mut out = [0u8; FEW_ROWS];
         say_rows_by(setup, states, table, &mut out);
     } else {
-        let mut out = [0u8; ROWS_LENGTH];
+        let mut out = [0u8; ROWS_ROOM];
         say_rows_by(setup, states, table, &mut out);
     }
 }
 
 // A table as a Graphviz digraph, put into a buffer first.
 fn say_digraph_by(setup: Setup, states: usize, table: &[u8], out: &mut [u8]) {
-    let drawn = digraph(setup.events, setup.values, setup.top, states, table, out);
+    let drawn = setups::dot(setup, states, table, out);
     if let Counted::Count(n) = drawn {
         say(front(&*out, n));
     }
 }
 
 fn say_digraph(setup: Setup, states: usize, table: &[u8]) {
-    if table.len() <= FEW_BYTES {
+    if has_few(setup, states) {
         let mut out = [0u8; FEW_ARROWS];
         say_digraph_by(setup, states, table, &mut out);
     } else {
-        let mut out = [0u8; GRAPH_LENGTH];
+        let mut out = [0u8; GRAPH_ROOM];
         say_digraph_by(setup, states, table, &mut out);
     }
 }
@@ -209,16 +162,14 @@ enum Form {
 }
 
 // The table of a rule in tokens.
-fn show(form: Form, tool: Tool, tokens: &[u8]) {
-    let setup = setup_of(tool.setup.events, tool.setup.values, tool.setup.top);
-    let meet = meet_of(&tool.setup.meet, setup.values);
-    let mut table = [0u8; TABLE_BYTES];
+fn show(form: Form, setup: Setup, meet: &[u8], tokens: &[u8]) {
+    let mut table = [0u8; TABLE_ROOM];
     let made = make_table(setup, meet, tokens, &mut table);
     let Made::States(states) = made else {
         say_unmade(made);
         return;
     };
-    let entries = entries_of(&table, states, setup.events);
+    let entries = entries_of(setup, states, &table);
     match form {
         Form::Rows => say_rows(setup, states, entries),
         Form::Digraph => say_digraph(setup, states, entries),
@@ -226,11 +177,11 @@ fn show(form: Form, tool: Tool, tokens: &[u8]) {
 }
 
 // table TOKENS
-pub fn table(tool: Tool, line: &[u8]) {
-    show(Form::Rows, tool, rest(line, 1));
+pub fn table(setup: Setup, meet: &[u8], line: &[u8]) {
+    show(Form::Rows, setup, meet, rest(line, 1));
 }
 
 // dot TOKENS
-pub fn dot(tool: Tool, line: &[u8]) {
-    show(Form::Digraph, tool, rest(line, 1));
+pub fn dot(setup: Setup, meet: &[u8], line: &[u8]) {
+    show(Form::Digraph, setup, meet, rest(line, 1));
 }

@@ -4,21 +4,22 @@ use Prim.Native.Nat.{ℕ, _/_, _≤_}
 use lib.ListN.{length}
 use Rattle.limits.specs.Limits.{state-limit, node-limit, device-limit, table-limit, word-limit}
 use Rattle.theory.specs.{Formula.{Formula, size}, MachineRuns.{word-values}, TableSatisfaction.{TableSatisfies}}
-use Rattle.refusal.specs.declared.{Refusal.{Refusal}, Refusal.the-variants.{At}, Counted.{Counted}}
-use Rattle.refusal.specs.Refusal.{Condition, First, has-place, part-of, order, condition-numbers, right-places, Judged, counted-refusal, count-of}
+use Rattle.refusal.specs.declared.{Refusal.{Refusal}, Refusal.the-variants.{At}}
+use Rattle.refusal.specs.Refusal.{Condition, First, has-place, part-of, order, condition-numbers, right-places, Judged, JudgedCall, counted-refusal, count-of}
 use Rattle.refusal.specs.RefusalAnswers.{counted}
 use Rattle.refusal.specs.Refusal.{put}
 use Rattle.refusal.specs.RefusalAnswers.{put-unless}
-use Rattle.refusal.proofs.Refusals.{all-numbered, listed-by, listed-refusal, or-else-none, first-unique}
+use Rattle.refusal.proofs.{Refusals.{all-numbered, listed-by, listed-refusal, or-else-none, first-unique}, Answers.{counted-refusal-is, counted-judged}}
 use Rattle.values.specs.{declared.ValueKind.the-variants.{Numbered}, Setup.{Setup, setup-meet, setup-conditions, kind-conditions}}
 use Rattle.formulas.specs.RuleConditions.{encode-formula, node-bytes}
-use Rattle.machines.specs.TableBytes.{machine-of}
+use Rattle.machines.specs.TableBytes.{machine-of, table-bytes, entry-bytes}
 use Rattle.machines.proofs.TableRefusals.{accepted-table}
 use Rattle.text_format.specs.Format.{Outcome, contents, refused}
 use Rattle.channel_file.specs.{ChannelFile.{Contents, rule-numbers}, Reading.{read-file}}
 use Rattle.channel_file.proofs.Claims.{shown}
 use Rattle.synthesis.specs.TableOfRule.{compile-conditions}
-use Rattle.synthesis.proofs.CompileClaims.{compile-refusal-claim, printed-table}
+use Rattle.synthesis.specs.Compilation.{setup-states, setup-table, compile-refusal, compile-answer, compile-contents}
+use Rattle.synthesis.proofs.{CompileClaims.{compile-refusal-claim, made-table, printed-table}, LentTable.{contents-at}}
 use Rattle.characteristic.specs.RuleWriting.{write-refusal, rule-of, write-answer, write-contents}
 use Rattle.characteristic.proofs.Claims.{write-refusal-claim, written-claim}
 use Rattle.conformance.specs.declared.Verdict.{Verdict}
@@ -37,7 +38,7 @@ use Rattle.gurvazze_host.specs.FileCalls.{file-trial, file-trial-refusal
 use Rattle.gurvazze_host.specs.Claims.{TellsRefusal, TellsCount, TellsVerdict, TellsNumbers, ListedAnswer, file-replay-conditions, replay-order}
 use Rattle.gurvazze_host.specs.Claims.{file-trial-conditions, JudgedReplay, TableMade, TableCall, ReplayMade, ReplayCall, TrialMade}
 use Rattle.gurvazze_host.specs.Claims.{FileTrialMade, FileTrialCall}
-use Rattle.gurvazze_host.specs.Claims.{TrialCall, RuleCall, HostClaim}
+use Rattle.gurvazze_host.specs.Claims.{TrialCall, CompileMade, CompileCall, RuleCall, HostClaim}
 use Rattle.gurvazze_host.proofs.Claims.{code-claim, replay-claim, replay-refusal-claim, file-trial-refusal-claim, file-trial-claim}
 
 -- Every refusal of a call that is judged is of the list.
@@ -201,7 +202,7 @@ trial-made x old z =
       fails = trial-fails device-limit table-limit x old;
     }
 
--- ---- gurvazze_trial_table
+-- ---- gurvazze_trial_table, gurvazze_register_trial_table
 module _ (x : TrialInput) (old new : List ℕ) (r : ℕ) (is-code : r ≡ verdict-code (trial-answer device-limit table-limit x old))
     (is-new : new ≡ trial-buffer device-limit table-limit x old) where
   abbrev verdict : Verdict
@@ -316,36 +317,79 @@ module _ (t : List ℕ) (states start : ℕ) (device old new : List ℕ) (r : �
         made = λ z. file-made (read-file t) refl (file-same (read-file t) ∙ z);
       }
 
--- ---- gurvazze_rule
+-- ---- calls that count what they make
+module _ (cs : List Condition) (a : Option Refusal) (n : ℕ) (output old new : List ℕ) (r : ℕ) (is-code : r ≡ counted-code (counted a n))
+    (is-new : new ≡ put-unless a output old) (j : Judged cs a) where
+  count-judged : JudgedCall cs (counted-refusal (counted a n)) old new
+  count-judged = counted-judged a n output old refl is-new j
+
+  count-listed : ListedAnswer (counted-refusal (counted a n))
+  count-listed = judged-listed cs _ (count-judged .judged)
+
+  count-told : TellsCount (counted a n) r
+  count-told = subst (TellsCount (counted a n)) (sym is-code) (code-claim .counts (counted a n) count-listed)
+
+-- ---- gurvazze_compile, gurvazze_register_compile
+module _ (s : Setup) (rule old new : List ℕ) (r : ℕ) (is-code : r ≡ counted-code (compile-answer state-limit s rule old))
+    (is-new : new ≡ compile-contents state-limit s rule old) where
+  abbrev compile-refused : Option Refusal
+  compile-refused = compile-refusal state-limit s rule old
+
+  abbrev compile-states : ℕ
+  compile-states = setup-states state-limit s rule
+
+  abbrev compile-bytes : List ℕ
+  compile-bytes = table-bytes (entry-bytes (s .kind)) (s .events) (setup-table state-limit s rule) compile-states
+
+  compile-put : new ≡ put-unless compile-refused compile-bytes old
+  compile-put = is-new ∙ contents-at state-limit s rule old _ refl
+
+  compile-made : compile-refused ≡ none → CompileMade s rule old new (compile-answer state-limit s rule old)
+  unfolding counted put-unless
+  compile-made z =
+      record {
+        states = compile-states;
+        table = setup-table state-limit s rule;
+        is-table = printed-table s rule compile-states _ (made-table state-limit s rule old z);
+        count-is = ap (λ (o : Option Refusal). count-of (counted o compile-states)) z;
+        table-put = compile-put ∙ ap (λ (o : Option Refusal). put-unless o compile-bytes old) z;
+      }
+
+  compile-call : CompileCall s rule old new r
+  compile-call =
+      let j = compile-refusal-claim state-limit s rule old in
+      record {
+        answer = compile-answer state-limit s rule old;
+        judged = count-judged _ compile-refused compile-states compile-bytes old new r is-code compile-put j;
+        of-list = count-listed _ compile-refused compile-states compile-bytes old new r is-code compile-put j;
+        told = count-told _ compile-refused compile-states compile-bytes old new r is-code compile-put j;
+        made = λ z. compile-made (sym (counted-refusal-is compile-refused compile-states) ∙ z);
+      }
+
+-- ---- gurvazze_rule, gurvazze_register_rule
 module _ (s : Setup) (states start : ℕ) (table old new : List ℕ) (r : ℕ)
     (is-code : r ≡ counted-code (write-answer table-limit node-limit s states start table old))
     (is-new : new ≡ write-contents table-limit node-limit s states start table old) where
-  abbrev count : Counted
-  count = write-answer table-limit node-limit s states start table old
+  abbrev rule-refused : Option Refusal
+  rule-refused = write-refusal table-limit node-limit s states start table (length old)
 
-  count-refusal : counted-refusal count ≡ write-refusal table-limit node-limit s states start table (length old)
-  unfolding write-answer counted
-  count-refusal = go (write-refusal table-limit node-limit s states start table (length old))
-    where
-      go : (o : Option Refusal) → counted-refusal (counted o (size (rule-of s states start table))) ≡ o
-      go none = refl
-      go (some q) = refl
+  abbrev nodes : ℕ
+  nodes = size (rule-of s states start table)
 
-  rule-kept : (q : Refusal) → write-refusal table-limit node-limit s states start table (length old) ≡ some q → new ≡ old
-  unfolding write-contents put-unless
-  rule-kept q e =
-      is-new ∙ ap (λ (o : Option Refusal). put-unless o (encode-formula (node-bytes (s .kind)) (rule-of s states start table)) old) e
+  abbrev rule-bytes : List ℕ
+  rule-bytes = encode-formula (node-bytes (s .kind)) (rule-of s states start table)
 
   rule-call : RuleCall s states start table old new r
+  unfolding write-answer write-contents
   rule-call =
-      let j = subst (Judged _) (sym count-refusal) (write-refusal-claim table-limit node-limit s states start table (length old)) in
+      let j = write-refusal-claim table-limit node-limit s states start table (length old) in
       record {
-        answer = count;
-        judged = record { judged = j; kept = λ q e. rule-kept q (sym count-refusal ∙ e) };
-        of-list = judged-listed _ _ j;
-        told = subst (TellsCount count) (sym is-code) (code-claim .counts count (judged-listed _ _ j));
+        answer = counted rule-refused nodes;
+        judged = count-judged _ rule-refused nodes rule-bytes old new r is-code is-new j;
+        of-list = count-listed _ rule-refused nodes rule-bytes old new r is-code is-new j;
+        told = count-told _ rule-refused nodes rule-bytes old new r is-code is-new j;
         made = λ z.
-            let w = written-claim s states start table old (sym count-refusal ∙ z) in
+            let w = written-claim s states start table old (sym (counted-refusal-is rule-refused nodes) ∙ z) in
             record {
               rule = w .rule;
               rule-written = w .rule-written;
@@ -361,6 +405,7 @@ host-claim =
       gurvazze-table = table-call;
       gurvazze-replay = replay-call;
       gurvazze-trial = file-trial-call;
+      gurvazze-compile = compile-call;
       gurvazze-trial-table = trial-call;
       gurvazze-rule = rule-call;
     }

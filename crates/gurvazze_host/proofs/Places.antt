@@ -8,7 +8,7 @@ use Rattle.refusal.specs.declared.Refusal.{Refusal}
 use Rattle.refusal.specs.RefusalAnswers.{or-else, plain-unless, at-found}
 use Rattle.values.specs.declared.ValueKind.{ValueKind}
 use Rattle.values.specs.declared.ValueKind.the-variants.{Numbered, Register}
-use Rattle.values.specs.{Setup.{Setup}, ValueTests.{value-fits}}
+use Rattle.values.specs.{Setup.{Setup, setup-top}, ValueTests.{value-fits}}
 use Rattle.values.specs.SetupTests.{events-test, values-test, meet-test, lines-test, kind-refusal, setup-refusal}
 use Rattle.formulas.specs.RuleConditions.{node-width}
 use Rattle.formulas.specs.RuleReading.{kind-of, awaited, end-fault, formula-read, unbound-search, unprotected-search, lowest-unbound, lowest-unprotected}
@@ -20,11 +20,11 @@ use Rattle.text_format.specs.Texts.{Refused, at, early}
 use Rattle.channel_file.specs.ChannelFile.{Contents, Form, Refused4, over-long, off-form}
 use Rattle.channel_file.specs.Reading.{AnswersFile, read-file}
 use Rattle.channel_file.proofs.Claims.{answer-claim}
-use Rattle.synthesis.specs.Compilation.{rule-table-refusal}
+use Rattle.synthesis.specs.Compilation.{rule-table-refusal, setup-states}
 use Rattle.channel_io.specs.FileConditions.{file-setup}
 use Rattle.channel_file.specs.ChannelFile.{rule-numbers}
 use Rattle.channel_io.proofs.Clamping.{read-size}
-use Rattle.channel_io.specs.FileRefusals.{pair-table-refusal, has-table-room, pair-compile-refusal, file-states, contents-table-refusal, file-refusal}
+use Rattle.channel_io.specs.FileRefusals.{pair-table-refusal, has-table-room, pair-compile-refusal, contents-table-refusal, file-refusal}
 use Rattle.gurvazze_host.specs.Codes.{SmallPlace}
 use Rattle.limits.specs.Limits.{node-limit, binder-limit, state-limit, file-limit}
 
@@ -95,12 +95,18 @@ unfolding setup-refusal
 setup-small s =
     or-small (plain-unless (events-test (s .events)) 1) _ (plain-small (events-test (s .events)) 1) (kind-small (s .kind) (s .top) (s .meet))
 
+-- 5 to 10
+pub rule-table-small :
+    (s : Setup) (rule : List ℕ) → SmallAnswer (rule-table-refusal (s .kind) (s .events) (setup-top s) (s .meet) rule state-limit)
+unfolding rule-table-refusal
+rule-table-small s rule =
+    or-small _ _ (rule-small (s .events) (s .kind) rule) (plain-small (leb (setup-states state-limit s rule) state-limit) 10)
+
 pub file-small : (c : Contents) (meet to : List ℕ) → SmallAnswer (file-refusal c meet to)
-unfolding pair-compile-refusal pair-table-refusal rule-table-refusal
+unfolding pair-compile-refusal pair-table-refusal
 file-small c meet to =
     or-small (contents-table-refusal c) _
-    (or-small (setup-refusal (file-setup c)) _ (setup-small (file-setup c))
-    (or-small _ _ (rule-small _ _ (rule-numbers c)) (plain-small (leb (file-states c) state-limit) 10)))
+    (or-small (setup-refusal (file-setup c)) _ (setup-small (file-setup c)) (rule-table-small (file-setup c) (rule-numbers c)))
     (plain-small (has-table-room (file-setup c) (rule-numbers c) meet to) 13)
 
 -- 4

@@ -1,10 +1,10 @@
 -- Every answer has room in a code.
 use mathlib.Core.{Path.{_≡_, refl, _∙_, ap}, Option.{Option, none, some}, List.{List}}
-use Prim.Native.Nat.{ℕ, _≤_}
+use Prim.Native.Nat.{ℕ, _^_, _≤_, _<_}
 use native.Mathlib.Omega.{arith}
 use borrow.Author.Tests.{leb-true}
 use lib.{Dec.{leb}, ListN.{length}}
-use Rattle.limits.specs.Limits.{node-limit, binder-limit, device-limit, table-limit, word-limit}
+use Rattle.limits.specs.Limits.{node-limit, binder-limit, state-limit, device-limit, table-limit, word-limit}
 use Rattle.theory.specs.{Formula.{size}, BinderDepth.{binder-depth}}
 use Rattle.refusal.specs.declared.Refusal.{Refusal}
 use Rattle.refusal.specs.RefusalAnswers.{plain-unless, counted}
@@ -13,6 +13,8 @@ use Rattle.values.specs.{Setup.{Setup}, SetupTests.{setup-refusal}}
 use Rattle.values.specs.declared.ValueKind.{ValueKind}
 use Rattle.machines.specs.{TableBytes.{entry-width}, TableRefusal.{table-refusal, table-test, entry-test}}
 use Rattle.formulas.specs.RuleRefusal.{depth-refusal}
+use Rattle.synthesis.specs.Compilation.{setup-states, compile-refusal, compile-answer}
+use Rattle.synthesis.proofs.CompileClaims.{compile-claim}
 use Rattle.characteristic.specs.RuleWriting.{output-refusal, rule-of, write-refusal, write-answer}
 use Rattle.conformance.specs.declared.Verdict.{Verdict}
 use Rattle.conformance.specs.declared.Verdict.the-variants.{Pass, Fail, Refused}
@@ -20,7 +22,7 @@ use Rattle.conformance.specs.Trial.{TrialInput, word-length}
 use Rattle.conformance.specs.TrialAnswer.{tables-refusal, trial-refusal, trial-answer, first-failure, ends-same, found-answer, answer-unless, outcome}
 use Rattle.conformance.proofs.TrialClaims.{trial-fails}
 use Rattle.gurvazze_host.specs.Codes.{SmallCount, SmallVerdict}
-use Rattle.gurvazze_host.proofs.Places.{SmallAnswer, or-small, plain-small, setup-small}
+use Rattle.gurvazze_host.proofs.Places.{SmallAnswer, or-small, plain-small, setup-small, rule-table-small}
 
 table-small :
     (limit events : ℕ) (kind : ValueKind) (states start : ℕ) (bytes : List ℕ) → SmallAnswer (table-refusal limit events kind states start bytes)
@@ -56,6 +58,23 @@ module _ (x : TrialInput) (old : List ℕ) where
           (ap (λ (q : Option Refusal). answer-unless q (found-answer x)) e ∙ ap (λ (o : Option (List ℕ)). outcome o (ends-same x)) i) f refl
       go (some r) f e i h = h
 
+-- ---- a call that counts what it makes
+counted-small : (o : Option Refusal) (n : ℕ) → SmallAnswer o → (o ≡ none → n < 2 ^ 32) → SmallCount (counted o n)
+unfolding counted
+counted-small none n small few = few refl
+counted-small (some r) n small few = small
+
+-- ---- the table of a rule
+module _ (s : Setup) (rule old : List ℕ) where
+  compile-small : SmallAnswer (compile-refusal state-limit s rule old)
+  unfolding compile-refusal
+  compile-small = or-small _ _ (setup-small s) (or-small _ _ (rule-table-small s rule) (plain-small _ 13))
+
+  pub states-small : SmallCount (compile-answer state-limit s rule old)
+  states-small =
+      counted-small (compile-refusal state-limit s rule old) (setup-states state-limit s rule) compile-small
+      (λ e. let w = compile-claim .accepted state-limit s rule old e .few in omega arith)
+
 -- ---- the rule of a table
 module _ (s : Setup) (states start : ℕ) (table old : List ℕ) where
   write-small : SmallAnswer (write-refusal table-limit node-limit s states start table (length old))
@@ -75,10 +94,7 @@ module _ (s : Setup) (states start : ℕ) (table old : List ℕ) where
       leb-true (size (rule-of s states start table)) node-limit (plain-none (leb (size (rule-of s states start table)) node-limit) 12 d)
 
   pub count-small : SmallCount (write-answer table-limit node-limit s states start table old)
-  unfolding write-answer counted
-  count-small = go (write-refusal table-limit node-limit s states start table (length old)) refl write-small
-    where
-      go : (o : Option Refusal) → write-refusal table-limit node-limit s states start table (length old) ≡ o → SmallAnswer o
-          → SmallCount (counted o (size (rule-of s states start table)))
-      go none e h = let w = size-small e in omega arith
-      go (some r) e h = h
+  unfolding write-answer
+  count-small =
+      counted-small (write-refusal table-limit node-limit s states start table (length old)) (size (rule-of s states start table)) write-small
+      (λ e. let w = size-small e in omega arith)

@@ -13,7 +13,7 @@ use Rattle.text_format.specs.Format.{contents}
 use Rattle.channel_file.specs.{ChannelFile.{Contents, Shows, rule-numbers}, Reading.{read-file}}
 use Rattle.machines.specs.TableBytes.{table-bytes, entry-bytes, machine-of, table-condition}
 use Rattle.values.specs.{declared.ValueKind.the-variants.{Numbered}, Setup.{Setup, setup-meet}}
-use Rattle.synthesis.specs.TableOfRule.{compile-conditions, IsRuleTable}
+use Rattle.synthesis.specs.{TableOfRule.{compile-conditions, IsRuleTable}, Compilation.{compile-answer, compile-contents}}
 use Rattle.characteristic.specs.{RuleOfTable.{write-conditions}, RuleWriting.{write-answer, write-contents}, Claims.{RuleWritten}}
 use Rattle.conformance.specs.{declared.Verdict.{Verdict}, Trial.{TrialInput, input, Passes, EndsSame, trial-conditions, FailsBy, refusal-of, Passed}}
 use Rattle.conformance.specs.{declared.Grade.the-variants.{Same, Stricter}, Trial.{grade, word-length}}
@@ -203,7 +203,7 @@ pub record FileTrialCall (t : List ℕ) (states start : ℕ) (device old new : L
   pub told : TellsVerdict answer r
   pub made : refusal-of answer ≡ none → FileTrialMade t states start device old new answer
 
--- gurvazze_trial_table: 1 to 3, 11, 13.
+-- gurvazze_trial_table: 1 to 3, 11, 13; gurvazze_register_trial_table: 1, 20, 11, 13.
 pub record TrialCall (x : TrialInput) (old new : List ℕ) (r : ℕ) : Type 1 where
   pub answer : Verdict
   pub judged : JudgedCall (trial-conditions device-limit table-limit x old) (refusal-of answer) old new
@@ -211,14 +211,30 @@ pub record TrialCall (x : TrialInput) (old new : List ℕ) (r : ℕ) : Type 1 wh
   pub told : TellsVerdict answer r
   pub made : refusal-of answer ≡ none → TrialMade x old new answer
 
--- An accepted gurvazze_rule: the rule of the table, and its node count.
+-- An accepted gurvazze_compile or gurvazze_register_compile: the table of the rule, and its count of states.
+pub record CompileMade (s : Setup) (rule old new : List ℕ) (answer : Counted) : Type 0 where
+  pub states : ℕ
+  pub table : Machine ℕ ℕ
+  pub is-table : IsRuleTable s rule states table
+  pub count-is : count-of answer ≡ some states
+  pub table-put : new ≡ put (table-bytes (entry-bytes (s .kind)) (s .events) table states) old
+
+-- gurvazze_compile: 1 to 3, 5 to 10, 13; gurvazze_register_compile: 1, 20, 5 to 10, 13.
+pub record CompileCall (s : Setup) (rule old new : List ℕ) (r : ℕ) : Type 1 where
+  pub answer : Counted
+  pub judged : JudgedCall (compile-conditions state-limit s rule old) (counted-refusal answer) old new
+  pub of-list : ListedAnswer (counted-refusal answer)
+  pub told : TellsCount answer r
+  pub made : counted-refusal answer ≡ none → CompileMade s rule old new answer
+
+-- An accepted gurvazze_rule or gurvazze_register_rule: the rule of the table, and its node count.
 pub record RuleMade (s : Setup) (start : ℕ) (table old new : List ℕ) (answer : Counted) : Type 0 where
   pub rule : Formula ℕ
   pub rule-written : RuleWritten s start table rule
   pub count-is : count-of answer ≡ some (size rule)
   pub nodes-put : new ≡ put (encode-formula (node-bytes (s .kind)) rule) old
 
--- gurvazze_rule: 1 to 3, 11, 12, 13.
+-- gurvazze_rule: 1 to 3, 11, 12, 23, 13; gurvazze_register_rule: 1, 20, 11, 12, 23, 13.
 pub record RuleCall (s : Setup) (states start : ℕ) (table old new : List ℕ) (r : ℕ) : Type 1 where
   pub answer : Counted
   pub judged : JudgedCall (write-conditions table-limit node-limit s states start table (length old)) (counted-refusal answer) old new
@@ -226,7 +242,9 @@ pub record RuleCall (s : Setup) (states start : ℕ) (table old new : List ℕ) 
   pub told : TellsCount answer r
   pub made : counted-refusal answer ≡ none → RuleMade s start table old new answer
 
--- For every input of each function, and the code and the later buffer that its contract gives.
+-- For every input of each function, and the code and the later buffer that its contract gives. What takes a set-up is claimed of every
+-- set-up: gurvazze_compile, gurvazze_trial_table and gurvazze_rule are the instances at `setup`, gurvazze_register_compile,
+-- gurvazze_register_trial_table and gurvazze_register_rule those at `register-setup`.
 pub record HostClaim : Type 1 where
   pub codes : CodeClaim
   pub gurvazze-table :
@@ -238,6 +256,9 @@ pub record HostClaim : Type 1 where
       (t : List ℕ) (states start : ℕ) (device old new : List ℕ) (r : ℕ) →
       r ≡ verdict-code (file-trial-answer (read-file t) states start device old) →
       new ≡ file-trial-buffer (read-file t) states start device old → FileTrialCall t states start device old new r
+  pub gurvazze-compile :
+      (s : Setup) (rule old new : List ℕ) (r : ℕ) → r ≡ counted-code (compile-answer state-limit s rule old) →
+      new ≡ compile-contents state-limit s rule old → CompileCall s rule old new r
   pub gurvazze-trial-table :
       (x : TrialInput) (old new : List ℕ) (r : ℕ) → r ≡ verdict-code (trial-answer device-limit table-limit x old) →
       new ≡ trial-buffer device-limit table-limit x old → TrialCall x old new r

@@ -3,23 +3,28 @@
 use channel_io::FileNumbers;
 use channel_io::FileTable;
 use channel_io::compile_file;
+use characteristic::write_register_rule;
 use characteristic::write_rule;
 use conformance::Grade;
 use conformance::Verdict;
 use conformance::trial;
+use conformance::trial_register;
 use limits::DEVICE_LIMIT;
 use limits::EVENT_LIMIT;
 use limits::MEET_LIMIT;
 use limits::TABLE_BYTES;
 use refusal::Counted;
 use refusal::Refusal;
+use synthesis::compile;
+use synthesis::compile_register;
 ghost use mathlib.Core.Path.{_≡_};
 ghost use lib.Dec.{ltb};
 ghost use lib.ListN.{length, getD};
 ghost use Rattle.theory.specs.MachineRuns.{word-values};
 ghost use Rattle.theory.specs.ValueSetTests.{every};
 ghost use Rattle.refusal.specs.Refusal.{put};
-ghost use Rattle.values.specs.Setup.{setup};
+ghost use Rattle.values.specs.Setup.{setup, register-setup};
+ghost use Rattle.synthesis.specs.Compilation.{compile-answer, compile-contents};
 ghost use Rattle.characteristic.specs.RuleWriting.{write-answer, write-contents};
 ghost use Rattle.conformance.specs.Trial.{input};
 ghost use Rattle.conformance.specs.TrialAnswer.{trial-answer, trial-buffer};
@@ -28,7 +33,7 @@ ghost use Rattle.gurvazze_host.specs.Codes.{refusal-code, yield-code, co
 ghost use Rattle.gurvazze_host.specs.Codes.{SmallCount, SmallVerdict, SmallNumbers};
 ghost use Rattle.gurvazze_host.specs.FileCalls.{table-code, table-after, replay-code, replay-after, file-trial-answer, file-trial-buffer, number-machine};
 ghost use Rattle.gurvazze_host.specs.FileCalls.{lacks-room, front, held-trial, Playable, Runnable, Replays, Triable};
-ghost use Rattle.limits.specs.Limits.{node-limit, device-limit, table-limit};
+ghost use Rattle.limits.specs.Limits.{node-limit, state-limit, device-limit, table-limit};
 
 // The bytes of a small table: as many states as a device may have. Replay and trial make a file's table in so many first, and in those
 // of the largest table only where it has no room in them, so that a small rule does not pay for clearing a large array.
@@ -307,6 +312,40 @@ pub extern "C" fn gurvazze_trial(
     }
 }
 
+// The table of a rule, both in bytes, two an entry and three a node; yields the number of states: 1 to 3, 5 to 10, 13.
+#[no_mangle]
+pub extern "C" fn gurvazze_compile(
+    events: usize,
+    values: usize,
+    top: usize,
+    meet: &[u8],
+    rule: &[u8],
+    to: &mut [u8],
+) -> u64
+    ensures answer { λ r. ⌜ r ≡ counted-code (compile-answer state-limit (setup events values top (now (meet .entry))) (now (rule .entry))
+        (now (to .entry))) ⌝ }
+    ensures contents { λ _. ⌜ now (to .exit) ≡ compile-contents state-limit (setup events values top (now (meet .entry))) (now (rule .entry))
+        (now (to .entry)) ⌝ }
+{
+    let counted = compile(events, values, top, meet, rule, to);
+    counted_code(counted)
+}
+
+// The same over a register, five bytes an entry and six a node: 1, 20, 5 to 10, 13.
+#[no_mangle]
+pub extern "C" fn gurvazze_register_compile(
+    events: usize,
+    lines: usize,
+    rule: &[u8],
+    to: &mut [u8],
+) -> u64
+    ensures answer { λ r. ⌜ r ≡ counted-code (compile-answer state-limit (register-setup events lines) (now (rule .entry)) (now (to .entry))) ⌝ }
+    ensures contents { λ _. ⌜ now (to .exit) ≡ compile-contents state-limit (register-setup events lines) (now (rule .entry)) (now (to .entry)) ⌝ }
+{
+    let counted = compile_register(events, lines, rule, to);
+    counted_code(counted)
+}
+
 // Trial of a device against a rule's table, both in bytes: 1 to 3, 11, 13.
 #[no_mangle]
 pub extern "C" fn gurvazze_trial_table(
@@ -343,7 +382,39 @@ pub extern "C" fn gurvazze_trial_table(
     verdict_code(verdict)
 }
 
-// The rule of a table from a start, three bytes a node; yields the node count: 1 to 3, 11, 12, 13.
+// The same over a register, five bytes an entry: 1, 20, 11, 13.
+#[no_mangle]
+pub extern "C" fn gurvazze_register_trial_table(
+    events: usize,
+    lines: usize,
+    states: usize,
+    table: &[u8],
+    device_states: usize,
+    device_start: usize,
+    device: &[u8],
+    word: &mut [u8],
+) -> u64
+    ensures answer { λ r. ⌜ r ≡ verdict-code (trial-answer device-limit table-limit
+        (input (register-setup events lines) states (now (table .entry)) «device_states» «device_start» (now (device .entry)))
+        (now (word .entry))) ⌝ }
+    ensures contents { λ _. ⌜ now (word .exit) ≡ trial-buffer device-limit table-limit
+        (input (register-setup events lines) states (now (table .entry)) «device_states» «device_start» (now (device .entry)))
+        (now (word .entry)) ⌝ }
+{
+    let verdict = trial_register(
+        events,
+        lines,
+        states,
+        table,
+        device_states,
+        device_start,
+        device,
+        word,
+    );
+    verdict_code(verdict)
+}
+
+// The rule of a table from a start, three bytes a node; yields the node count: 1 to 3, 11, 12, 23, 13.
 #[no_mangle]
 pub extern "C" fn gurvazze_rule(
     events: usize,
@@ -361,5 +432,24 @@ pub extern "C" fn gurvazze_rule(
         (now (table .entry)) (now (to .entry)) ⌝ }
 {
     let counted = write_rule(events, values, top, meet, states, start, table, to);
+    counted_code(counted)
+}
+
+// The same over a register, five bytes an entry and six a node: 1, 20, 11, 12, 23, 13.
+#[no_mangle]
+pub extern "C" fn gurvazze_register_rule(
+    events: usize,
+    lines: usize,
+    states: usize,
+    start: usize,
+    table: &[u8],
+    to: &mut [u8],
+) -> u64
+    ensures answer { λ r. ⌜ r ≡ counted-code (write-answer table-limit node-limit (register-setup events lines) states start
+        (now (table .entry)) (now (to .entry))) ⌝ }
+    ensures contents { λ _. ⌜ now (to .exit) ≡ write-contents table-limit node-limit (register-setup events lines) states start
+        (now (table .entry)) (now (to .entry)) ⌝ }
+{
+    let counted = write_register_rule(events, lines, states, start, table, to);
     counted_code(counted)
 }

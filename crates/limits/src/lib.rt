@@ -16,12 +16,14 @@ pub const BINDER_LIMIT: usize = 12;
 
 pub const SET_WORDS: usize = NODE_LIMIT / 64;
 
-// A rule's table: states, entries, and bytes at two an entry.
+// A rule's table: states, entries, and bytes at two an entry, or five with registers.
 pub const STATE_LIMIT: usize = 256;
 
 pub const ENTRY_LIMIT: usize = STATE_LIMIT * EVENT_LIMIT;
 
 pub const TABLE_BYTES: usize = ENTRY_LIMIT * 2;
+
+pub const REGISTER_TABLE_BYTES: usize = ENTRY_LIMIT * 5;
 
 // A device, and any other table handed in: states.
 pub const DEVICE_LIMIT: usize = 64;

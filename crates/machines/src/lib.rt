@@ -4,6 +4,7 @@ use refusal::Judgement;
 use refusal::Refusal;
 use refusal::TABLE_LIMITS;
 use values::ValueKind;
+use values::masks_value;
 use values::value_fits;
 use values::value_from;
 ghost use mathlib.Core.Path.{_≡_};
@@ -44,7 +45,12 @@ fn number_at(bytes: &[u8], i: usize) -> u32
 fn masks_at(lines: u32, bytes: &[u8], i: usize) -> u32
     ensures { λ r. ⌜ r ≡ masks-from (now (bytes .entry)) (i * 5) ⌝ }
 {
-    if i <= bytes.len() / 5 {
+    let whole = bytes.len() / 5;
+    if i < whole {
+        let at = i * 5;
+        return masks_value(bytes[at], bytes[at + 1], bytes[at + 2], bytes[at + 3]);
+    }
+    if i == whole {
         value_from(ValueKind::Register(lines), bytes, i * 5)
     } else {
         0

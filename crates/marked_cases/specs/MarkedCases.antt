@@ -1,15 +1,16 @@
 -- Document 01, "Marked for proof": the twelve cases in its order, the seventh as document 02 changes it, and what it is for a case to hold, by
--- the documents' definitions; then cases of our own for document 02's requests. Four-value set, two events.
-use mathlib.Core.{Path.{_≡_}, Logic.{Lift}, List.{List, [], _∷_, _++_}, Option.{Option, none, some}}
-use Prim.Native.Nat.{ℕ, zero, suc}
+-- the documents' definitions; then cases of our own for document 02's requests. Two events; the four-value set, or a register in its form.
+use mathlib.Core.{Path.{_≡_}, Logic.{Lift}, List.{List, [], _∷_, _++_, map}, Option.{Option, none, some}}
+use Prim.Native.Nat.{ℕ, zero, suc, _*_, _/_, _%_}
 use Rattle.limits.specs.Limits.{device-limit, table-limit}
-use Rattle.theory.specs.ValueSets.{four-value-meet}
+use Rattle.theory.specs.ValueSets.{four-value-meet, pack, top-masks}
 use Rattle.theory.specs.Formula.{Formula, size, Answers, Node, truth-node, variable-node, transition-node, output-node, conjunction-node, greatest-node}
 use Rattle.theory.specs.Formula.{nodes}
 use Rattle.theory.specs.{ReachableStates.{IsTableOf}, CharacteristicFormula.{Writes}}
 use Rattle.theory.specs.MealyMachine.{Machine, States, Simulated, SameValues, FirstCounterexample, Implies}
 use Rattle.refusal.specs.{declared.Refusal.{Refusal}, declared.Refusal.the-variants.{Plain, At}, Refusal.{First}}
-use Rattle.values.specs.Setup.{Setup, setup, SetupValue, setup-meet, setup-top}
+use Rattle.values.specs.{declared.ValueKind.{ValueKind}, declared.ValueKind.the-variants.{Numbered, Register}}
+use Rattle.values.specs.Setup.{Setup, setup-of-kind, register-setup, SetupValue, setup-meet, setup-top, setup-conditions, mask-bytes}
 use Rattle.formulas.specs.{RuleConditions.{encode-all, node-bytes, byte-conditions}, RuleCases.{below-binders}}
 use Rattle.machines.specs.TableBytes.{table-bytes, entry-bytes, entry-width, machine-of, table-condition}
 use Rattle.text_format.specs.Texts.{ascii}
@@ -35,7 +36,8 @@ A = conjunction-node
 abbrev pub «V» : Node ℕ
 «V» = greatest-node
 
--- A case: what is given, and what document 01 says of it. Rows are value and next state, by state, then event.
+-- A case: what is given, and what document 01 says of it. Values are those of the four-value set; rows are value and next state, by state,
+-- then event.
 pub data Case : Type 0 where
   -- the rule is accepted and its table has so many states and these rows
   tabled : List (Node ℕ) → ℕ → List ℕ → Case
@@ -64,88 +66,134 @@ pub data Case : Type 0 where
   total-above : (total pulses : ℕ) → Case
   -- where a table may have so many states, one of so many, each with both values 3 and back to state 0, is taken or refused so (document 02, F-12)
   handed : (most states : ℕ) → Option Refusal → Case
+  -- a register's set-up is accepted or refused so; and over two events and so many lines the rule O 1 with these masks (document 02, F-7)
+  registered : (events lines : ℕ) → Option Refusal → Case
+  masked : (lines low high : ℕ) → Option Refusal → Case
 
 -- An event so many times.
 abbrev pub times : ℕ → ℕ → List ℕ
 times zero e = []
 times (suc k) e = e ∷ times k e
 
--- The set-up of the cases.
-abbrev pub s : Setup
-s = setup 2 4 3 four-value-meet
-
--- φ is the rule of these nodes, accepted by 5 to 9.
-pub record IsRule (rule : List (Node ℕ)) (φ : Formula ℕ) : Type 0 where
-  pub of-nodes : nodes φ ≡ rule
-  pub accepted : First (byte-conditions (s .events) (s .kind) (encode-all (node-bytes (s .kind)) rule)) none
-
--- t is the table of the rule φ, of n states.
-abbrev pub TableOf : Formula ℕ → ℕ → Machine ℕ ℕ → Type 0
-TableOf φ n t = IsTableOf (setup-meet s) (setup-top s) (s .events) φ n t
-
-abbrev pub rows-of : Machine ℕ ℕ → ℕ → List ℕ
-rows-of t n = table-bytes (entry-bytes (s .kind)) (s .events) t n
-
--- The device of these rows; the rows of one state with this value on both events.
-abbrev pub device : List ℕ → Machine ℕ ℕ
-device rows = machine-of (s .kind) (s .events) rows
-
+-- The rows of one state with this value on both events; of so many states, each with both values 3 and back to state 0.
 abbrev pub both : ℕ → List ℕ
 both v = v ∷ 0 ∷ v ∷ 0 ∷ []
 
--- The rows of so many states, each with both values 3 and back to state 0.
 abbrev pub rows-to-0 : ℕ → List ℕ
 rows-to-0 zero = []
 rows-to-0 (suc n) = both 3 ++ rows-to-0 n
 
-unfoldable pub Holds : Case → Type 1
-Holds (tabled rule n rows) =
-    Lift {0, 1} ((φ : Formula ℕ) × IsRule rule φ × ((t : Machine ℕ ℕ) × TableOf φ n t × (rows-of t n ≡ rows)))
-Holds (printed text output) = Lift {0, 1} (Prints text output)
-Holds (repeated rule e first later) =
-    Lift {0, 1}
-    ((φ : Formula ℕ) × IsRule rule φ × Answers (setup-meet s) (setup-top s) φ [] e first
-    × ((k : ℕ) → Answers (setup-meet s) (setup-top s) φ (times (suc k) e) e later))
-Holds (refused rule refusal) = Lift {0, 1} (First (byte-conditions (s .events) (s .kind) (encode-all (node-bytes (s .kind)) rule)) (some refusal))
-Holds (written n rows count) =
-    Lift {0, 1}
-    ((φ : Formula ℕ) × Writes (machine-of (s .kind) (s .events) rows) (s .events) [] 0 φ × (size φ ≡ count)
-    × ((t : Machine ℕ ℕ) × TableOf φ n t × (rows-of t n ≡ rows)))
-Holds (failing k rows rule word) =
-    Lift {0, 1}
-    ((φ : Formula ℕ) × IsRule rule φ × ((n : ℕ) (t : Machine ℕ ℕ) → TableOf φ n t →
-    FirstCounterexample (s .events) (setup-meet s) (device rows) t 0 0 word))
-Holds (passing v) =
-    (rule : List (Node ℕ)) (φ : Formula ℕ) → IsRule rule φ → (n : ℕ) (t : Machine ℕ ℕ) → TableOf φ n t →
-    Simulated (s .events) (setup-meet s) (States 1) (device (both v)) (States n) t 0 0
-Holds (passing-same k rows rule) =
-    Lift {0, 1}
-    ((φ : Formula ℕ) × IsRule rule φ × ((n : ℕ) (t : Machine ℕ ℕ) → TableOf φ n t → SameValues (s .events) (device rows) t 0 0))
-Holds (passing-stricter k rows rule) =
-    (φ : Formula ℕ) × Lift {0, 1} (IsRule rule φ) × ((n : ℕ) (t : Machine ℕ ℕ) → TableOf φ n t →
-    Simulated (s .events) (setup-meet s) (States k) (device rows) (States n) t 0 0 × ¬ SameValues (s .events) (device rows) t 0 0)
-Holds (implying first second) =
-    (φ : Formula ℕ) × (χ : Formula ℕ) × Lift {0, 1} (IsRule first φ) × Lift {0, 1} (IsRule second χ) × Implies (s .events) (SetupValue s) (setup-meet s) φ χ
-Holds (not-implying first second word) =
-    (φ : Formula ℕ) × (χ : Formula ℕ) × Lift {0, 1} (IsRule first φ) × Lift {0, 1} (IsRule second χ)
-    × (¬ Implies (s .events) (SetupValue s) (setup-meet s) φ χ)
-    × ((n : ℕ) (m : Machine ℕ ℕ) → TableOf φ n m → (k : ℕ) (t : Machine ℕ ℕ) → TableOf χ k t →
-    Lift {0, 1} (FirstCounterexample (s .events) (setup-meet s) m t 0 0 word))
-Holds (measured pulses millimetres total whole remainder) = Lift {0, 1} (distance (wheel-of-turn pulses millimetres) total ≡ (whole, remainder))
-Holds (total-within total pulses) = Lift {0, 1} (¬ TotalAbove (some total) pulses)
-Holds (total-above total pulses) = Lift {0, 1} (TotalAbove (some total) pulses)
-Holds (handed most n answer) =
-    Lift {0, 1} (First (table-condition (entry-width (s .kind)) most (s .events) (SetupValue s) n 0 (rows-to-0 n) (device (rows-to-0 n)) ∷ []) answer)
+-- A form of the cases: a set of values, and how a value of the four-value set is one of them.
+pub record Form : Type 0 where
+  pub kind : ValueKind
+  pub top : ℕ
+  pub meet : List ℕ
+  pub value : ℕ → ℕ
 
-abbrev pub cases : List Case
-cases =
-    -- 1. one state, values 3 and 3
-    tabled (T ∷ []) 1 (3 ∷ 0 ∷ 3 ∷ 0 ∷ [])
-    -- 2. the file above: its rows
-    ∷ printed (ascii "events=2\nvalues=4\ntop=3\nmeet=0 0 0 0 0 1 0 1 0 0 2 2 0 1 2 3\nrule=A O1.1 V G1 X0\n")
+-- Document 01's.
+abbrev pub four-values : Form
+four-values = record { kind = Numbered 4; top = 3; meet = four-value-meet; value = λ v. v }
+
+-- A register of sixteen lines (document 02, F-7), all of which show the value: may be low for 1 and 3, may be high for 2 and 3.
+abbrev pub sixteen-lines : Form
+sixteen-lines =
+    record { kind = Register 16; top = pack (top-masks 16); meet = []; value = λ v. pack (record { low = v % 2 * 65535; high = v / 2 * 65535 }) }
+
+module _ (f : Form) where
+  abbrev pub s : Setup
+  s = setup-of-kind 2 (f .kind) (f .top) (f .meet)
+
+  -- A rule, and rows in bytes.
+  abbrev pub node-in : Node ℕ → Node ℕ
+  node-in truth-node = truth-node
+  node-in (variable-node n) = variable-node n
+  node-in (transition-node e) = transition-node e
+  node-in (output-node e v) = output-node e (f .value v)
+  node-in conjunction-node = conjunction-node
+  node-in greatest-node = greatest-node
+
+  abbrev pub rule-in : List (Node ℕ) → List (Node ℕ)
+  rule-in rule = map node-in rule
+
+  abbrev pub rows-in : List ℕ → List ℕ
+  rows-in [] = []
+  rows-in (v ∷ []) = []
+  rows-in (v ∷ t ∷ rows) = entry-bytes (f .kind) (f .value v) t ++ rows-in rows
+
+  -- φ is the rule of these nodes, accepted by 5 to 9.
+  pub record IsRule (rule : List (Node ℕ)) (φ : Formula ℕ) : Type 0 where
+    pub of-nodes : nodes φ ≡ rule
+    pub accepted : First (byte-conditions (s .events) (s .kind) (encode-all (node-bytes (s .kind)) rule)) none
+
+  -- t is the table of the rule φ, of n states.
+  abbrev pub TableOf : Formula ℕ → ℕ → Machine ℕ ℕ → Type 0
+  TableOf φ n t = IsTableOf (setup-meet s) (setup-top s) (s .events) φ n t
+
+  abbrev pub rows-of : Machine ℕ ℕ → ℕ → List ℕ
+  rows-of t n = table-bytes (entry-bytes (s .kind)) (s .events) t n
+
+  -- The device of these rows.
+  abbrev pub device : List ℕ → Machine ℕ ℕ
+  device rows = machine-of (s .kind) (s .events) (rows-in rows)
+
+  unfoldable pub Holds : Case → Type 1
+  Holds (tabled rule n rows) =
+      Lift {0, 1} ((φ : Formula ℕ) × IsRule (rule-in rule) φ × ((t : Machine ℕ ℕ) × TableOf φ n t × (rows-of t n ≡ rows-in rows)))
+  Holds (printed text output) = Lift {0, 1} (Prints text output)
+  Holds (repeated rule e first later) =
+      Lift {0, 1}
+      ((φ : Formula ℕ) × IsRule (rule-in rule) φ × Answers (setup-meet s) (setup-top s) φ [] e (f .value first)
+      × ((k : ℕ) → Answers (setup-meet s) (setup-top s) φ (times (suc k) e) e (f .value later)))
+  Holds (refused rule refusal) = Lift {0, 1} (First (byte-conditions (s .events) (s .kind) (encode-all (node-bytes (s .kind)) (rule-in rule))) (some refusal))
+  Holds (written n rows count) =
+      Lift {0, 1}
+      ((φ : Formula ℕ) × Writes (device rows) (s .events) [] 0 φ × (size φ ≡ count)
+      × ((t : Machine ℕ ℕ) × TableOf φ n t × (rows-of t n ≡ rows-in rows)))
+  Holds (failing k rows rule word) =
+      Lift {0, 1}
+      ((φ : Formula ℕ) × IsRule (rule-in rule) φ × ((n : ℕ) (t : Machine ℕ ℕ) → TableOf φ n t →
+      FirstCounterexample (s .events) (setup-meet s) (device rows) t 0 0 word))
+  Holds (passing v) =
+      (any : List (Node ℕ)) (φ : Formula ℕ) → IsRule any φ → (n : ℕ) (t : Machine ℕ ℕ) → TableOf φ n t →
+      Simulated (s .events) (setup-meet s) (States 1) (device (both v)) (States n) t 0 0
+  Holds (passing-same k rows rule) =
+      Lift {0, 1}
+      ((φ : Formula ℕ) × IsRule (rule-in rule) φ × ((n : ℕ) (t : Machine ℕ ℕ) → TableOf φ n t → SameValues (s .events) (device rows) t 0 0))
+  Holds (passing-stricter k rows rule) =
+      (φ : Formula ℕ) × Lift {0, 1} (IsRule (rule-in rule) φ) × ((n : ℕ) (t : Machine ℕ ℕ) → TableOf φ n t →
+      Simulated (s .events) (setup-meet s) (States k) (device rows) (States n) t 0 0 × ¬ SameValues (s .events) (device rows) t 0 0)
+  Holds (implying first second) =
+      (φ : Formula ℕ) × (χ : Formula ℕ) × Lift {0, 1} (IsRule (rule-in first) φ) × Lift {0, 1} (IsRule (rule-in second) χ)
+      × Implies (s .events) (SetupValue s) (setup-meet s) φ χ
+  Holds (not-implying first second word) =
+      (φ : Formula ℕ) × (χ : Formula ℕ) × Lift {0, 1} (IsRule (rule-in first) φ) × Lift {0, 1} (IsRule (rule-in second) χ)
+      × (¬ Implies (s .events) (SetupValue s) (setup-meet s) φ χ)
+      × ((n : ℕ) (m : Machine ℕ ℕ) → TableOf φ n m → (k : ℕ) (t : Machine ℕ ℕ) → TableOf χ k t →
+      Lift {0, 1} (FirstCounterexample (s .events) (setup-meet s) m t 0 0 word))
+  Holds (measured pulses millimetres total whole remainder) = Lift {0, 1} (distance (wheel-of-turn pulses millimetres) total ≡ (whole, remainder))
+  Holds (total-within total pulses) = Lift {0, 1} (¬ TotalAbove (some total) pulses)
+  Holds (total-above total pulses) = Lift {0, 1} (TotalAbove (some total) pulses)
+  Holds (handed most n answer) =
+      Lift {0, 1}
+      (First (table-condition (entry-width (s .kind)) most (s .events) (SetupValue s) n 0 (rows-in (rows-to-0 n)) (device (rows-to-0 n)) ∷ []) answer)
+  Holds (registered events lines answer) = Lift {0, 1} (First (setup-conditions (register-setup events lines)) answer)
+  Holds (masked lines low high answer) =
+      Lift {0, 1} (First (byte-conditions 2 (Register lines) (3 ∷ 1 ∷ (mask-bytes low ++ mask-bytes high))) answer)
+
+-- 1. one state, values 3 and 3
+abbrev pub first-case : Case
+first-case = tabled (T ∷ []) 1 (3 ∷ 0 ∷ 3 ∷ 0 ∷ [])
+
+-- 2. the file above: its rows
+abbrev pub second-case : Case
+second-case =
+    printed (ascii "events=2\nvalues=4\ntop=3\nmeet=0 0 0 0 0 1 0 1 0 0 2 2 0 1 2 3\nrule=A O1.1 V G1 X0\n")
     (ascii "events=2\nstates=3\nrow=0 0 3 1\nrow=0 1 1 2\nrow=1 0 3 1\nrow=1 1 3 1\nrow=2 0 3 1\nrow=2 1 3 2\n")
+
+abbrev pub later-cases : List Case
+later-cases =
     -- 3. two states; event 0 first gives 0
-    ∷ tabled (A ∷ O 0 1 ∷ O 0 2 ∷ []) 2 (0 ∷ 1 ∷ 3 ∷ 1 ∷ 3 ∷ 1 ∷ 3 ∷ 1 ∷ [])
+    tabled (A ∷ O 0 1 ∷ O 0 2 ∷ []) 2 (0 ∷ 1 ∷ 3 ∷ 1 ∷ 3 ∷ 1 ∷ 3 ∷ 1 ∷ [])
     -- 4. three states; event 1 repeated gives 3, then 1 for ever
     ∷ tabled («V» ∷ A ∷ G 1 ∷ O 1 1 ∷ G 1 ∷ X 0 ∷ []) 3 (3 ∷ 1 ∷ 3 ∷ 2 ∷ 3 ∷ 1 ∷ 3 ∷ 1 ∷ 3 ∷ 1 ∷ 1 ∷ 2 ∷ [])
     ∷ repeated («V» ∷ A ∷ G 1 ∷ O 1 1 ∷ G 1 ∷ X 0 ∷ []) 1 3 1
@@ -163,6 +211,9 @@ cases =
     ∷ failing 1 (both 3) (A ∷ O 0 1 ∷ O 0 2 ∷ []) (0 ∷ [])
     ∷ passing 0
     ∷ []
+
+abbrev pub cases : List Case
+cases = first-case ∷ second-case ∷ later-cases
 
 -- Cases of our own for document 02, which marks none.
 abbrev pub request-cases : List Case
@@ -194,9 +245,14 @@ request-cases =
     ∷ tabled (below-binders 12 (T ∷ [])) 1 (3 ∷ 0 ∷ 3 ∷ 0 ∷ [])
     ∷ refused (below-binders 13 (T ∷ [])) (Plain 23)
     ∷ refused (A ∷ T ∷ below-binders 13 (T ∷ [])) (Plain 23)
+    ∷ []
+
+-- Cases on limits, which no form changes.
+abbrev pub limit-cases : List Case
+limit-cases =
     -- F-6. 30 seventh parts of a millimetre; the largest total with the smallest and the largest wheels; totals at the limit, and one above:
     -- 4,294,967,295 pulses 256 times leave room for 256
-    ∷ measured 7 10 3 4 2
+    measured 7 10 3 4 2
     ∷ measured 1 1 1099511627776 1099511627776 0
     ∷ measured 65535 1 1099511627776 16777472 256
     ∷ measured 1 65535 1099511627776 72056494526300160 0
@@ -210,15 +266,29 @@ request-cases =
     ∷ handed device-limit 65 (some (Plain 11))
     ∷ handed table-limit 256 none
     ∷ handed table-limit 257 (some (Plain 11))
+    -- F-7. lines 0, 1, 16 and 17, and 1 before 20; the masks of one line and of sixteen, and a bit at the line count
+    ∷ registered 2 0 (some (Plain 20))
+    ∷ registered 2 1 none
+    ∷ registered 2 16 none
+    ∷ registered 2 17 (some (Plain 20))
+    ∷ registered 0 17 (some (Plain 1))
+    ∷ masked 1 1 1 none
+    ∷ masked 1 2 0 (some (At 6 0))
+    ∷ masked 15 0 32768 (some (At 6 0))
+    ∷ masked 15 32767 32767 none
+    ∷ masked 16 65535 65535 none
     ∷ []
 
-unfoldable pub AllHold : List Case → Type 1
-AllHold [] = Unit {1}
-AllHold (c ∷ cs) = Holds c × AllHold cs
+unfoldable pub AllHold : Form → List Case → Type 1
+AllHold f [] = Unit {1}
+AllHold f (c ∷ cs) = Holds f c × AllHold f cs
 
--- The cases hold.
-abbrev pub MarkedCasesClaim : Type 1
-MarkedCasesClaim = AllHold cases
+-- The cases hold, in both forms; the second is document 01's file.
+pub record MarkedCasesClaim : Type 1 where
+  pub numbers : AllHold four-values cases
+  pub registers : AllHold sixteen-lines (first-case ∷ later-cases)
 
-abbrev pub RequestCasesClaim : Type 1
-RequestCasesClaim = AllHold request-cases
+pub record RequestCasesClaim : Type 1 where
+  pub numbers : AllHold four-values request-cases
+  pub registers : AllHold sixteen-lines request-cases
+  pub limits : AllHold four-values limit-cases

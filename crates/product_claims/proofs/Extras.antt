@@ -5,7 +5,7 @@ use Rattle.channel_file.proofs.Claims.{token-list-claim}
 use Rattle.channel_io.proofs.FileDemands.{compiling-a-file, file-to-table}
 use Rattle.table_rows.specs.{Rendering.{handed-refusal, rendering-refusal}, Rows.{rows-text}}
 use Rattle.table_rows.proofs.Renderings.{rendering-judged}
-use Rattle.table_graph.specs.{Graph.{graph-refusal}, GraphText.{graph-text}}
+use Rattle.table_graph.specs.Graph.{graph-text, graph-refusal}
 use Rattle.table_graph.proofs.GraphClaims.{graph-refusals}
 use Rattle.gurvazze_host.proofs.HostClaims.{host-claim}
 use Rattle.product_claims.specs.Extras.{Extras}
@@ -15,13 +15,13 @@ extras =
     record {
       compiling-a-file = compiling-a-file;
       file-to-table = file-to-table;
-      printing-rows = λ events values states bytes old new r k.
-          counted-judged (rendering-refusal (handed-refusal events values 0 states bytes) (rows-text events values states bytes) (length old))
-          (length (rows-text events values states bytes)) (rows-text events values states bytes) old (k .answer) (k .buffer)
-          (rendering-judged events values 0 states bytes (rows-text events values states bytes) (length old));
-      drawing = λ events values top states bytes old new r k.
-          counted-judged (graph-refusal events values top states bytes (length old)) (length (graph-text events states top bytes))
-          (graph-text events states top bytes) old (k .answer) (k .buffer) (graph-refusals events values top states bytes (length old));
+      printing-rows = λ events kind states bytes old new r k.
+          counted-judged (rendering-refusal (handed-refusal events kind 0 states bytes) (rows-text events kind states bytes) (length old))
+          (length (rows-text events kind states bytes)) (rows-text events kind states bytes) old (k .answer) (k .buffer)
+          (rendering-judged events kind 0 states bytes (rows-text events kind states bytes) (length old));
+      drawing = λ events kind top states bytes old new r k.
+          counted-judged (graph-refusal events kind top states bytes (length old)) (length (graph-text events kind top states bytes))
+          (graph-text events kind top states bytes) old (k .answer) (k .buffer) (graph-refusals events kind top states bytes (length old));
       tokens-alone = token-list-claim;
       static-library = host-claim;
     }

@@ -3,6 +3,7 @@ pub mod InnerBinders
 pub mod TwelveBinders
 pub mod GatheredDemands
 pub mod Distances
+pub mod SixteenLines
 pub mod Rows
 pub mod Covering
 pub mod Demands

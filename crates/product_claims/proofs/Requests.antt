@@ -5,7 +5,8 @@ use Rattle.values.proofs.Comparisons.{comparisons}
 use Rattle.conformance.proofs.TrialClaims.{trial-refused, trial-grades, two-passes}
 use Rattle.product_claims.specs.Requests.{SameOrStricter, Requests}
 use Rattle.product_claims.proofs.{InnerBinders.{inner-binders}, TwelveBinders.{twelve-binders}, GatheredDemands.{gathered-demands}}
-use Rattle.product_claims.proofs.{Distances.{distance-with-every-event}, Rows.{one-store}, Compiled.{rule-grade}, Covering.{covering}}
+use Rattle.product_claims.proofs.{Distances.{distance-with-every-event}, SixteenLines.{sixteen-lines}}
+use Rattle.product_claims.proofs.{Rows.{one-store}, Compiled.{rule-grade}, Covering.{covering}}
 
 same-or-stricter : SameOrStricter
 same-or-stricter =
@@ -25,6 +26,7 @@ requests =
       twelve-binders = twelve-binders;
       gathered-demands = gathered-demands;
       distance-with-every-event = distance-with-every-event;
+      sixteen-lines = sixteen-lines;
       one-store = one-store;
       same-or-stricter = same-or-stricter;
       covering = covering;

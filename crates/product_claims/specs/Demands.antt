@@ -29,21 +29,21 @@ use Rattle.table_report.specs.{PrintedTable.{Prints, report-conditions}, Report
 -- Demand 1: "any public entry takes any input of its type: the call .. accepts or refuses by document 01's list, and a refusal changes no
 -- lent memory." That calls end and do nothing undefined is what a proved crate is; no public function has a requires.
 pub record DemandOne : Type 1 where
-  -- values `check_setup`
+  -- values `check_setup` and `check_register`: of both kinds of values (document 02, F-7), here and below
   pub checking-a-set-up : (s : Setup) → Judged (setup-conditions s) (judgement-refusal (judgement (setup-refusal s)))
-  -- synthesis `compile`
+  -- synthesis `compile` and `compile_register`
   pub compiling : (s : Setup) (rule old : List ℕ) →
       JudgedCall (compile-conditions state-limit s rule old) (counted-refusal (compile-answer state-limit s rule old)) old
       (compile-contents state-limit s rule old)
-  -- characteristic `write_rule`
+  -- characteristic `write_rule` and `write_register_rule`
   pub writing-a-rule : (s : Setup) (states start : ℕ) (table old : List ℕ) →
       JudgedCall (write-conditions table-limit node-limit s states start table (length old))
       (counted-refusal (write-answer table-limit node-limit s states start table old)) old (write-contents table-limit node-limit s states start table old)
-  -- conformance `trial`
+  -- conformance `trial` and `trial_register`
   pub trying : (x : TrialInput) (old : List ℕ) →
       JudgedCall (trial-conditions device-limit table-limit x old) (refusal-of (trial-answer device-limit table-limit x old)) old
       (trial-buffer device-limit table-limit x old)
-  -- recorder `set_up`; `load`, `event`, `restart`, `restart_all` and `clear`; `replay`
+  -- recorder `set_up`; `load`, `event`, `restart`, `restart_all` and `clear`; `replay`; and those of its module `registers`
   pub setting-up : (s : ToolSetup) → Judged (tool-setup-conditions s) (reply-refusal (set-up-called s .0))
   pub calling : (t : Store) (call : Call Occurrence) → JudgedCall (call-conditions t call) (reply-refusal (called call t .0)) t (called call t .1)
   pub replaying : (t : Store) (c : ℕ) (word : List Occurrence) (old : List ℕ) →

@@ -1,17 +1,19 @@
 -- Document 02's requests, each as one record over the definitions of both documents and the functions that contracts state; proved in
 -- proofs/Requests. F-1 stands in DemandThree (`fails`).
-use mathlib.Core.{Path.{_≡_}, Logic.{_↔_, _⊎_}, List.{List, _++_}, Option.{none, some}}
-use Prim.Native.Nat.{ℕ, zero, suc, _+_, _*_, _≤_, _<_}
-use lib.{Dec.{T}, ListN.{length, take}}
-use Rattle.limits.specs.Limits.{node-limit, binder-limit, state-limit, device-limit, table-limit, word-limit, row-limit}
-use Rattle.theory.specs.Formula.{Formula, transition, conjunction, size, conjunction-node, Stands, Answers}
+use mathlib.Core.{Path.{_≡_}, Logic.{_↔_, _⊎_}, List.{List, [], _∷_, _++_}, Option.{none, some}}
+use Prim.Native.Nat.{ℕ, zero, suc, _+_, _-_, _*_, _/_, _%_, _^_, _≤_, _<_}
+use lib.{Bits.{bitAnd}, Dec.{T}, ListN.{length, take}}
+use Rattle.limits.specs.Limits.{event-limit, line-limit, node-limit, binder-limit, state-limit, device-limit, table-limit, word-limit, row-limit}
+use Rattle.theory.specs.ValueSets.{MeetSemilattice, Masks, OfLines, pack}
+use Rattle.theory.specs.Formula.{Formula, transition, conjunction, size, output-node, conjunction-node, Stands, Answers}
 use Rattle.theory.specs.{MealyMachine.{Machine, Word, after, Implies}, ReachableStates.{NodeSet, Demands, IsSetMachine}}
 use Rattle.refusal.specs.{declared.Refusal.{Refusal}, declared.Refusal.the-variants.{Plain}, Refusal.{First, counted-refusal, count-of}}
-use Rattle.values.specs.declared.{ValueKind.{ValueKind}, Comparison.{Comparison}}
+use Rattle.values.specs.declared.{ValueKind.{ValueKind}, ValueKind.the-variants.{Register}, Comparison.{Comparison}}
+use Rattle.values.specs.Setup.{register-setup}
 use Rattle.values.specs.{Setup.{Setup, SetupValue, ValueIn, setup-meet, setup-top, meetOf, ComparesAs}, SetupTests.{setup-refusal}, ValueTests.{comparison}}
 use Rattle.conformance.specs.declared.{Grade.the-variants.{Same, Stricter}, Verdict.{Verdict}}
 use Rattle.conformance.specs.{Trial.{TrialInput, DeviceInOrder, Passes, EndsSame, refusal-of, Passed, grade}, TrialAnswer.{trial-answer}}
-use Rattle.machines.specs.TableBytes.{entry-width, machine-of}
+use Rattle.machines.specs.TableBytes.{entry-width, entry-bytes, machine-of}
 use Rattle.formulas.specs.RuleConditions.{encode-formula, node-width, node-bytes, Unbound, TooDeep, Unprotected, NodeAtFault, byte-conditions}
 use Rattle.synthesis.specs.{Compilation.{compile-answer, compile-contents}, KeptSets.{kept-set}}
 use Rattle.characteristic.specs.{RuleOfTable.{IsRuleOf}, RuleWriting.{write-answer}}
@@ -151,11 +153,31 @@ pub record OneStore : Type 0 where
   pub cleared : (t : Store) → AllCells t → (c : ℕ) → called (clear c) t .0 ≡ accepted →
       (d : ℕ) → channels (called (clear c) t .1) d ≡ with-channel c none (channels t) d
 
+-- F-7: registers of 1 to 16 lines. What is claimed in Demands and above of a set-up is claimed of both kinds; this is what a register's is.
+pub record SixteenLines : Type 0 where
+  -- "20, lines outside 1 to 16, in the place of 2 and 3"
+  pub accepted : (events lines : ℕ) →
+      (setup-refusal (register-setup events lines) ≡ none) ↔ ((1 ≤ events) × (events ≤ event-limit) × (1 ≤ lines) × (lines ≤ line-limit))
+  -- "A value is two 16-bit masks, may-be-low and may-be-high"; "meet is the bitwise and of each; top has all lines' bits set in both"
+  pub values : (lines v : ℕ) → lines ≤ line-limit → ValueIn (Register lines) v ↔ ((m : Masks) × OfLines lines m × (v ≡ pack m))
+  pub meet : (events lines : ℕ) (a b : Masks) → OfLines line-limit a → OfLines line-limit b →
+      setup-meet (register-setup events lines) (pack a) (pack b) ≡ pack (record { low = bitAnd (a .low) (b .low); high = bitAnd (a .high) (b .high) })
+  pub top : (events lines : ℕ) → setup-top (register-setup events lines) ≡ pack (record { low = 2 ^ lines - 1; high = 2 ^ lines - 1 })
+  -- "A node is six bytes: kind, first, low mask, high mask, each mask's low byte first"; "A lent table entry is five: the masks likewise, then
+  -- the next state"
+  pub node : (lines e : ℕ) (m : Masks) → OfLines line-limit m →
+      node-bytes (Register lines) (output-node e (pack m)) ≡ 3 ∷ e ∷ m .low % 256 ∷ m .low / 256 ∷ m .high % 256 ∷ m .high / 256 ∷ []
+  pub entry : (lines t : ℕ) (m : Masks) → OfLines line-limit m →
+      entry-bytes (Register lines) (pack m) t ≡ m .low % 256 ∷ m .low / 256 ∷ m .high % 256 ∷ m .high / 256 ∷ t ∷ []
+  -- "shown correct for any values with the four laws, so both kinds rest on the same argument"
+  pub laws : (s : Setup) → setup-refusal s ≡ none → MeetSemilattice (SetupValue s) (setup-meet s) (setup-top s)
+
 pub record Requests : Type 1 where
   pub inner-binders : InnerBinders
   pub twelve-binders : TwelveBinders
   pub gathered-demands : GatheredDemands
   pub distance-with-every-event : DistanceWithEveryEvent
+  pub sixteen-lines : SixteenLines
   pub one-store : OneStore
   pub same-or-stricter : SameOrStricter
   pub covering : Covering

@@ -1,22 +1,59 @@
--- A column of a table's bytes; three copies into zeros make a splice.
-use mathlib.Core.{Path.{_≡_, sym, _∙_, ap, ap₂}, List.{List, _++_}}
+-- Columns of a table's bytes; three copies into zeros make a splice.
+use mathlib.Core.{Path.{_≡_, refl, sym, _∙_, ap, ap₂}, List.{List, _++_}}
 use Prim.Native.Nat.{ℕ, _+_, _*_, _-_, _≤_, _<_}
-use native.Mathlib.Omega.{arith}
+use native.Mathlib.{Nat.{add-zero, add-mul, one-mul, mul-le-mul-right}, Omega.{arith}}
 use lib.ListN.{length, getD, take, drop, replicate, length-append, length-replicate}
 use lib.Seq.{paste, length-paste, length-take-le, take-length, take-append-seam, drop-append-add, drop-drop}
 use Rattle.limits.specs.Limits.{store-limit}
 use Rattle.formulas.proofs.Padding.{padded-length, padded-field}
-use Rattle.recorder.specs.Splicing.{part, spliced, column}
-use Rattle.recorder.proofs.Rows.{length-part, drop-zeros}
+use Rattle.values.specs.declared.ValueKind.the-variants.{Numbered, Register}
+use Rattle.values.specs.ValueTests.{masks-from}
+use Rattle.recorder.specs.Splicing.{part, spliced, replaced, column, mask-column, entry-values, entry-nexts}
+use Rattle.recorder.specs.{declared.row_store.Room.{Room}, Store.{Store}, Called.{with-rows, with-entries}, Decisions.{room-of}}
+use Rattle.recorder.proofs.Rows.{length-part, drop-zeros, same-padded}
 
-module _ (which : ℕ) (table : List ℕ) (n : ℕ) where
-  pub column-length : length (column which table n) ≡ n
+module _ (width which : ℕ) (table : List ℕ) (n : ℕ) where
+  pub column-length : length (column width which table n) ≡ n
   unfolding column
-  column-length = padded-length (λ i. getD table (i * 2 + which) 0) n n 0
+  column-length = padded-length (λ i. getD table (i * width + which) 0) n n 0
 
-  pub column-at : (i : ℕ) → i < n → getD (column which table n) i 0 ≡ getD table (i * 2 + which) 0
+  pub column-at : (i : ℕ) → i < n → getD (column width which table n) i 0 ≡ getD table (i * width + which) 0
   unfolding column
-  column-at i h = padded-field (λ i. getD table (i * 2 + which) 0) n n i h (omega arith)
+  column-at i h = padded-field (λ i. getD table (i * width + which) 0) n n i h (omega arith)
+
+module _ (table : List ℕ) (n : ℕ) where
+  pub masks-length : length (mask-column table n) ≡ n
+  unfolding mask-column
+  masks-length = padded-length (λ i. masks-from table (i * 5)) n n 0
+
+  pub masks-at : (i : ℕ) → i < n → getD (mask-column table n) i 0 ≡ masks-from table (i * 5)
+  unfolding mask-column
+  masks-at i h = padded-field (λ i. masks-from table (i * 5)) n n i h (omega arith)
+
+-- A byte of an entry lies within the table.
+pub entry-inside :
+    (width which count i len : ℕ) → i < count → which < width → count * width ≤ len → i * width + which < len
+entry-inside width which count i len h g k =
+    let e : (i + 1) * width ≤ count * width = mul-le-mul-right width (omega arith) in
+    omega (arith, add-mul i 1 width, one-mul width)
+
+-- The next states are one column for either kind, the values of numbers another.
+pub number-values : (v : ℕ) (table : List ℕ) (n : ℕ) → column 2 0 table n ≡ entry-values (Numbered v) table n
+unfolding column entry-values
+number-values v table n =
+    same-padded (λ i. getD table (i * 2 + 0) 0) (λ i. getD table (i * 2) 0) n (λ i h. ap (λ x. getD table x 0) (add-zero (i * 2))) n 0
+
+pub number-nexts : (v : ℕ) (table : List ℕ) (n : ℕ) → column 2 1 table n ≡ entry-nexts (Numbered v) table n
+unfolding column entry-nexts
+number-nexts v table n = refl
+
+pub register-values : (lines : ℕ) (table : List ℕ) (n : ℕ) → mask-column table n ≡ entry-values (Register lines) table n
+unfolding mask-column entry-values
+register-values lines table n = refl
+
+pub register-nexts : (lines : ℕ) (table : List ℕ) (n : ℕ) → column 5 4 table n ≡ entry-nexts (Register lines) table n
+unfolding column entry-nexts
+register-nexts lines table n = refl
 
 abbrev empty : List ℕ
 empty = replicate store-limit 0
@@ -90,3 +127,16 @@ module _ (rows new : List ℕ) (at old n later : ℕ) (sized : length rows ≡ s
     pub two-length : length b ≡ store-limit
     two-length =
         ap length second ∙ length-paste a at new n (omega (arith, one-length)) (omega arith) ∙ one-length
+
+-- What is stored: both lists spliced with what is read from a table's bytes.
+pub stored-is :
+    (t : Store) (c k : ℕ) (table : List ℕ) (room : Room) → room ≡ room-of (t .setup .events) (t .states) c k → (v n : List ℕ) (values nexts : ℕ → List ℕ) →
+    ((m : ℕ) → values m ≡ entry-values (t .setup .kind) table m) → ((m : ℕ) → nexts m ≡ entry-nexts (t .setup .kind) table m) →
+    v ≡ spliced (t .value) (room .at) (room .old) (values (room .new)) (room .later) →
+    n ≡ spliced (t .next) (room .at) (room .old) (nexts (room .new)) (room .later) → with-rows t c k v n ≡ with-entries t c k table
+stored-is t c k table room e v n values nexts is-values is-nexts e-value e-next =
+    ap₂ (with-rows t c k)
+    (e-value ∙ ap (λ r. spliced (t .value) (r .at) (r .old) (values (r .new)) (r .later)) e
+    ∙ ap (λ l. replaced (t .setup .events) (t .states) c l (t .value)) (is-values (k * t .setup .events)))
+    (e-next ∙ ap (λ r. spliced (t .next) (r .at) (r .old) (nexts (r .new)) (r .later)) e
+    ∙ ap (λ l. replaced (t .setup .events) (t .states) c l (t .next)) (is-nexts (k * t .setup .events)))

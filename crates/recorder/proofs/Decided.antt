@@ -4,7 +4,7 @@ use mathlib.Core.Option.{Option, none, some}
 use Prim.Native.Nat.{ℕ, zero, suc, _+_, _*_, _%_, _≤_, _<_}
 use native.Mathlib.{Nat.{mod-eq-of-lt}, Omega.{arith}}
 use borrow.Author.Tests.{ltb-true, ltb-false, leb-true, leb-false, le-leb, lt-leb}
-use lib.{Dec.{ltb, leb}, ListN.{getD, set, replicate}, Seq.{set-getD}}
+use lib.{Dec.{ltb, leb}, ListN.{getD, set}, Seq.{set-getD}}
 use Rattle.limits.specs.Limits.{channel-limit, event-limit, meet-limit, row-limit, store-limit, total-limit}
 use Rattle.theory.specs.MealyMachine.{Machine}
 use Rattle.theory.proofs.ValueSets.{and-left, and-right}
@@ -13,7 +13,7 @@ use Rattle.refusal.specs.declared.Refusal.the-variants.{Plain}
 use Rattle.refusal.specs.declared.Judgement.the-variants.{Accepted, Refused}
 use Rattle.refusal.specs.RefusalAnswers.{or-else, plain-unless, judgement}
 use Rattle.refusal.proofs.Refusals.{or-else-none, or-else-assoc, plain-none, judgement-accepted, judgement-refused}
-use Rattle.values.specs.Setup.{setup}
+use Rattle.values.specs.Setup.{setup, register-setup}
 use Rattle.values.proofs.Setups.{setup-accepted}
 use Rattle.machines.proofs.EntryIndex.{index-below}
 use Rattle.channel_log.specs.Calls.{Call, event, restart, restart-all, Reply, accepted, returned, refused}
@@ -31,7 +31,7 @@ use Rattle.recorder.specs.Called.{with-current, next-state, next-total, 
 use Rattle.recorder.specs.Called.{empty-store, filled, new-store, blank, set-up-answer, set-up-called}
 use Rattle.recorder.specs.Decisions.{number-refusal, number-unless, first-number, fault-number, channel-number, loaded-number, event-number}
 use Rattle.recorder.specs.Decisions.{total-number, limited, Measurable}
-use Rattle.recorder.specs.Decisions.{decided, entry-place, Bounds, plain-reply, value-reply, kept-number, kept-numbers, judged-reply}
+use Rattle.recorder.specs.Decisions.{decided, entry-place, read-place, Bounds, plain-reply, value-reply, kept-number, kept-numbers, judged-reply}
 use Rattle.recorder.proofs.{Numbers.{first-refusal, unless-refusal, test-refusal}, Rows.{getD-part, entries-fit}}
 use Rattle.recorder.proofs.RowCounts.{start, all-rows-are, rows-within}
 use Rattle.recorder.proofs.Held.{channel-below, few-events, held-above, held-some, held-cases, empty-held, in-order-of-test}
@@ -315,14 +315,13 @@ module _ (t : Store) (c : ℕ) (i : Occurrence) (f : ℕ) (e-fault : f ≡ read-
             );
       })
 
-  abbrev value-there : ℕ → ℕ
-  value-there d = getD (t .value) (entry-place (start t d) (t .setup .events) (getD (t .current) d 0) (i .event)) 0
-
-  abbrev next-there : ℕ → ℕ
-  next-there d = getD (t .next) (entry-place (start t d) (t .setup .events) (getD (t .current) d 0) (i .event)) 0
+  -- The entry as it is read beside a refusal's number, and what the event comes to.
+  abbrev there : ℕ → ℕ → ℕ
+  there m d = read-place m (entry-place (start t d) (t .setup .events) (getD (t .current) d 0) (i .event))
 
   abbrev decision : ℕ → ℕ → ℕ → Decision
-  decision m d total = decided m (getD (t .current) d 0) (getD (t .total) d 0) (value-there d) (next-there d) total
+  decision m d total =
+      decided m (getD (t .current) d 0) (getD (t .total) d 0) (getD (t .value) (there m d) 0) (getD (t .next) (there m d) 0) total
 
   abbrev outcome : ℕ → Decision → Reply (Reading ℕ) × Store
   outcome d x = (value-reply (t .wheel) x, with-current t (set (t .current) d (x .next)) (set (t .total) d (x .total)))
@@ -420,36 +419,50 @@ restart-all-done t a l totals m e1 e2 e3 e4 =
     go zero h = sym (accepted-call t restart-all (sym h))
     go (suc m) h = sym (refused-call t restart-all (Plain (suc m)) (sym h))
 
--- Set up: what 1 to 3 and 18 say, and the tool.
-module _ (events values top : ℕ) (meet : List ℕ) (pulses millimetres : ℕ) (j : Judgement)
-    (e : j ≡ judgement (tool-setup-refusal (tool-setup (setup events values top meet) (wheel-of-turn pulses millimetres)))) where
-  abbrev s : ToolSetup
-  s = tool-setup (setup events values top meet) (wheel-of-turn pulses millimetres)
-
+-- Set up: what the refusals say, and the tool.
+module _ (s : ToolSetup) (j : Judgement) (e : j ≡ judgement (tool-setup-refusal s)) where
   pub set-up-refused :
-      (a : Reply (Reading ℕ)) (u : Store) (r : Refusal) → j ≡ Refused r → a ≡ judged-reply j →
-      u ≡ empty-store (setup 0 0 0 (replicate meet-limit 0)) (wheel-of-turn 0 0) → (a, u) ≡ set-up-called s
-  unfolding blank
+      (a : Reply (Reading ℕ)) (u : Store) (r : Refusal) → j ≡ Refused r → a ≡ judged-reply j → u ≡ blank (s .values .kind) → (a, u) ≡ set-up-called s
   set-up-refused a u r h e1 e2 =
       ap₂ (λ a u. (a, u)) (e1 ∙ ap judged-reply h) e2 ∙ sym (ap (set-up-answer s) (judgement-refused (tool-setup-refusal s) r (sym e ∙ h)))
 
-  pub set-up-accepted :
-      (u : Store) → j ≡ Accepted →
-      u
-      ≡ empty-store (setup (events % 256) (values % 256) (top % 256) (filled meet-limit meet)) (wheel-of-turn (pulses % 65536) (millimetres % 65536)) →
-      (accepted, u) ≡ set-up-called s
-  unfolding new-store
+  pub set-up-accepted : (u : Store) → j ≡ Accepted → (tool-setup-refusal s ≡ none → u ≡ new-store s) → (accepted, u) ≡ set-up-called s
   set-up-accepted u h e1 =
       let ok = judgement-accepted (tool-setup-refusal s) (sym e ∙ h) in
+      ap (λ u. (accepted, u)) (e1 ok) ∙ sym (ap (set-up-answer s) ok)
+
+-- What is kept of an accepted set-up in fewer bits is what was handed in.
+narrow-wheel :
+    (s : ToolSetup) → tool-setup-refusal s ≡ none →
+    wheel-of-turn (s .wheel .pulses % 65536) (s .wheel .millimetres % 65536) ≡ wheel-of-turn (s .wheel .pulses) (s .wheel .millimetres)
+narrow-wheel s ok =
+    let w = wheel-of-test (s .wheel) (wheel-accepted s ok) in
+    ap₂ wheel-of-turn (mod-eq-of-lt {n = s .wheel .pulses} {m = 65536} (omega (arith, w .0 .1)))
+    (mod-eq-of-lt {n = s .wheel .millimetres} {m = 65536} (omega (arith, w .1 .1)))
+
+module _ (events pulses millimetres : ℕ) where
+  pub narrow-numbers :
+      (values top : ℕ) (meet : List ℕ) → tool-setup-refusal (tool-setup (setup events values top meet) (wheel-of-turn pulses millimetres)) ≡ none →
+      empty-store (setup (events % 256) (values % 256) (top % 256) (filled meet-limit meet)) (wheel-of-turn (pulses % 65536) (millimetres % 65536))
+      ≡ new-store (tool-setup (setup events values top meet) (wheel-of-turn pulses millimetres))
+  unfolding new-store
+  narrow-numbers values top meet ok =
+      let s = tool-setup (setup events values top meet) (wheel-of-turn pulses millimetres) in
       let f = setup-accepted (s .values) .0 (values-accepted s ok) in
-      let w = wheel-of-test (s .wheel) (wheel-accepted s ok) in
       let below : top < values = f .laws .top-in in
-      ap (λ u. (accepted, u))
-      (e1
-      ∙ ap₂ (λ a b. empty-store (setup a b (top % 256) (filled meet-limit meet)) (wheel-of-turn (pulses % 65536) (millimetres % 65536)))
+      ap₂ (λ a b. empty-store (setup a b (top % 256) (filled meet-limit meet)) (wheel-of-turn (pulses % 65536) (millimetres % 65536)))
       (mod-eq-of-lt {n = events} {m = 256} (omega (arith, f .few-events))) (mod-eq-of-lt {n = values} {m = 256} (omega (arith, f .of-kind .few-values)))
-      ∙ ap (λ a. empty-store (setup events values a (filled meet-limit meet)) (wheel-of-turn (pulses % 65536) (millimetres % 65536)))
-      (mod-eq-of-lt {n = top} {m = 256} (omega (arith, f .of-kind .few-values)))
-      ∙ ap₂ (λ p c. empty-store (setup events values top (filled meet-limit meet)) (wheel-of-turn p c))
-      (mod-eq-of-lt {n = pulses} {m = 65536} (omega (arith, w .0 .1))) (mod-eq-of-lt {n = millimetres} {m = 65536} (omega (arith, w .1 .1))))
-      ∙ sym (ap (set-up-answer s) ok)
+      ∙ ap₂ (λ a w. empty-store (setup events values a (filled meet-limit meet)) w)
+      (mod-eq-of-lt {n = top} {m = 256} (omega (arith, f .of-kind .few-values))) (narrow-wheel s ok)
+
+  pub narrow-register :
+      (lines : ℕ) → tool-setup-refusal (tool-setup (register-setup events lines) (wheel-of-turn pulses millimetres)) ≡ none →
+      empty-store (register-setup (events % 256) (lines % 256)) (wheel-of-turn (pulses % 65536) (millimetres % 65536))
+      ≡ new-store (tool-setup (register-setup events lines) (wheel-of-turn pulses millimetres))
+  unfolding new-store
+  narrow-register lines ok =
+      let s = tool-setup (register-setup events lines) (wheel-of-turn pulses millimetres) in
+      let f = setup-accepted (s .values) .0 (values-accepted s ok) in
+      ap₂ (λ a b. empty-store (register-setup a b) (wheel-of-turn (pulses % 65536) (millimetres % 65536)))
+      (mod-eq-of-lt {n = events} {m = 256} (omega (arith, f .few-events))) (mod-eq-of-lt {n = lines} {m = 256} (omega (arith, f .of-kind .few-lines)))
+      ∙ ap (empty-store (register-setup events lines)) (narrow-wheel s ok)

@@ -1,20 +1,18 @@
 -- What channels hold; the tests of refusal 17 decide the printed condition.
 use mathlib.Core.{Path.{_≡_, refl, sym, _∙_, ap, ap₂}, Bool.{Bool, true, false, _&&_, and-false, cond, false≢true}, List.{List}}
 use mathlib.Core.Option.{Option, none, some}
-use Prim.Native.Nat.{ℕ, _+_, _*_, _-_, _≤_, _<_, min}
+use Prim.Native.Nat.{ℕ, _+_, _*_, _≤_, _<_}
 use native.Mathlib.Omega.{arith}
-use borrow.Author.Tests.{lt-ltb, le-ltb, le-leb, lt-leb, ltb-true, ltb-false, leb-true}
-use lib.{Dec.{ltb, leb}, ListN.{length, getD, List·getD-eq-default}}
-use Rattle.limits.specs.Limits.{channel-limit, event-limit, value-limit, table-limit, store-limit, turn-limit, total-limit}
+use borrow.Author.Tests.{lt-ltb, le-ltb, le-leb, ltb-true, leb-true}
+use lib.{Dec.{ltb, leb}, ListN.{getD}}
+use Rattle.limits.specs.Limits.{channel-limit, event-limit, value-limit, table-limit, turn-limit, total-limit}
 use Rattle.theory.specs.ValueSetTests.{every}
 use Rattle.theory.proofs.ValueSets.{and-left, and-right, and-both, every-at, every-of}
 use Rattle.refusal.specs.declared.Refusal.the-variants.{Plain}
-use Rattle.refusal.specs.declared.{Refusal.{Refusal}, Judgement.{Judgement}}
-use Rattle.refusal.specs.declared.Judgement.the-variants.{Accepted, Refused}
+use Rattle.refusal.specs.declared.Refusal.{Refusal}
 use Rattle.refusal.specs.RefusalAnswers.{or-else, plain-unless, judgement}
-use Rattle.refusal.proofs.Refusals.{or-else-none, plain-none, judgement-accepted, judgement-refused}
+use Rattle.refusal.proofs.Refusals.{or-else-none, plain-none}
 use Rattle.values.specs.declared.ValueKind.{ValueKind}
-use Rattle.values.specs.declared.ValueKind.the-variants.{Numbered}
 use Rattle.values.specs.ValueTests.{value-fits}
 use Rattle.values.specs.Setup.{setup}
 use Rattle.values.specs.SetupInOrder.{AcceptedSetup}
@@ -28,7 +26,8 @@ use Rattle.machines.proofs.{EntryIndex.{index-below, every-entry}, EntryBytes.{
 use Rattle.recorder.specs.Splicing.{part}
 use Rattle.recorder.specs.Store.{ToolSetup, tool-setup, table-at, loaded-at, held}
 use Rattle.recorder.specs.Store.{ChannelInOrder}
-use Rattle.recorder.specs.ToolTests.{passed, turn-test, wheel-test, tool-setup-refusal, setup-test, entries-test, loaded-test, channel-test}
+use Rattle.recorder.specs.ToolTests.{passed, turn-test, wheel-test, tool-setup-refusal, setup-test, entries-test, loaded-test}
+use Rattle.recorder.specs.Decisions.{wheel-judged, accepting}
 use Rattle.recorder.proofs.Rows.{getD-part}
 
 -- 14.
@@ -103,36 +102,24 @@ many-values e v t m w h = go (setup-test (tool-setup (setup e v t m) w)) refl
     go true p = absurd (omega (arith, h, few-values e v t m w p))
     go false p = refl
 
--- A judgement of 1 to 3, and 18 after it.
-module _ (s : ToolSetup) (j : Judgement) (e : j ≡ judgement (setup-refusal (s .values))) where
-  abbrev eighteen : Option Refusal → Bool → Option Refusal
-  eighteen earlier test = or-else earlier (plain-unless test 18)
+-- 18 after what else a set-up is judged by; and the test of a set-up from its judgement.
+pub judged-is :
+    (s : ToolSetup) → wheel-judged (judgement (setup-refusal (s .values))) (wheel-test (s .wheel)) ≡ judgement (tool-setup-refusal s)
+unfolding tool-setup-refusal or-else plain-unless judgement
+judged-is s = go (setup-refusal (s .values)) (wheel-test (s .wheel))
+  where
+    go : (o : Option Refusal) (b : Bool) → wheel-judged (judgement o) b ≡ judgement (or-else o (plain-unless b 18))
+    go none true = refl
+    go none false = refl
+    go (some r) b = refl
 
-  pub values-judged : (r : Refusal) → j ≡ Refused r → j ≡ judgement (tool-setup-refusal s)
-  unfolding tool-setup-refusal or-else
-  values-judged r h =
-      let a = judgement-refused (setup-refusal (s .values)) r (sym e ∙ h) in
-      e ∙ ap judgement a ∙ sym (ap (λ o. judgement (eighteen o (wheel-test (s .wheel)))) a)
-
-  wheel-judged : (b : Bool) → j ≡ Accepted → wheel-test (s .wheel) ≡ b → judgement (plain-unless b 18) ≡ judgement (tool-setup-refusal s)
-  unfolding tool-setup-refusal or-else
-  wheel-judged b h g = sym (ap judgement (ap₂ eighteen (judgement-accepted (setup-refusal (s .values)) (sym e ∙ h)) g))
-
-  pub wheel-passed : j ≡ Accepted → wheel-test (s .wheel) ≡ true → Accepted ≡ judgement (tool-setup-refusal s)
-  unfolding judgement plain-unless
-  wheel-passed h g = wheel-judged true h g
-
-  pub wheel-refused : j ≡ Accepted → wheel-test (s .wheel) ≡ false → Refused (Plain 18) ≡ judgement (tool-setup-refusal s)
-  unfolding judgement plain-unless
-  wheel-refused h g = wheel-judged false h g
-
-module _ (s : ToolSetup) (j : Judgement) (e : j ≡ judgement (tool-setup-refusal s)) where
-  pub accepted-test : j ≡ Accepted → true ≡ setup-test s
-  accepted-test h = sym (test-of-accepted s (judgement-accepted (tool-setup-refusal s) (sym e ∙ h)))
-
-  pub refused-test : (r : Refusal) → j ≡ Refused r → false ≡ setup-test s
-  unfolding setup-test
-  refused-test r h = sym (ap passed (judgement-refused (tool-setup-refusal s) r (sym e ∙ h)))
+pub accepting-is : (s : ToolSetup) → accepting (judgement (tool-setup-refusal s)) ≡ setup-test s
+unfolding setup-test judgement
+accepting-is s = go (tool-setup-refusal s)
+  where
+    go : (o : Option Refusal) → accepting (judgement o) ≡ passed o
+    go none = refl
+    go (some r) = refl
 
 -- What a channel holds.
 module _ (c at n k q total : ℕ) (L N : List ℕ) where
@@ -246,58 +233,15 @@ module _ (n : ℕ) (kind : ValueKind) (x : Loaded ℕ) where
       (λ e q.
       and-both (value-kinds .fits kind (x .table .value l e) .1 (g .values-in l e p q)) (lt-ltb (x .table .next l e) k (g .nexts-in l e p q))))))))
 
--- Where the tests of a loaded channel fail, and where only its entries are left.
 module _ (at n : ℕ) (kind : ValueKind) (k q total : ℕ) (L N : List ℕ) where
-  pub many-states : table-limit < k → channel-test n kind (some (loaded-at at n k q total L N)) ≡ false
-  unfolding loaded-test
-  many-states h = simp (lt-leb k table-limit h, and-false)
-
-  pub state-outside : k ≤ q → channel-test n kind (some (loaded-at at n k q total L N)) ≡ false
-  unfolding loaded-test
-  state-outside h = simp (le-ltb q k h, and-false)
-
-  pub total-outside : total-limit < total → channel-test n kind (some (loaded-at at n k q total L N)) ≡ false
-  unfolding loaded-test
-  total-outside h = simp (lt-leb total total-limit h, and-false)
-
-  pub entries-only :
-      0 < k → k ≤ table-limit → q < k → total ≤ total-limit →
-      channel-test n kind (some (loaded-at at n k q total L N)) ≡ every (k * n) (flat-test at n kind k L N)
-  unfolding loaded-test
-  entries-only h g l i =
-      simp (lt-ltb 0 k h, le-leb k table-limit g, lt-ltb q k l, le-leb total total-limit i, flat-entries at n kind k L N)
-
   -- Next states by their numbers, as the arrays have them.
   pub flat-next : ChannelInOrder n kind (loaded-at at n k q total L N) → (i : ℕ) → i < k * n → getD N (at + i) 0 < k
+  unfolding loaded-test
   flat-next f i h =
+      let x = loaded-at at n k q total L N in
+      let a = and-right (ltb 0 k) (leb k table-limit && (ltb q k && (total-test n kind x && last n kind x))) (test-of-in-order n kind x f) in
+      let b = and-right (leb k table-limit) (ltb q k && (total-test n kind x && last n kind x)) a in
+      let d = and-right (total-test n kind x) (last n kind x) (and-right (ltb q k) (total-test n kind x && last n kind x) b) in
       ltb-true (getD N (at + i) 0) k
       (and-right (value-fits kind (getD L (at + i) 0)) (ltb (getD N (at + i) 0) k)
-      (every-at (k * n) (flat-test at n kind k L N)
-      (sym (entries-only (f .table .some-states) (f .table .few-states) (f .table .start-in) (f .total))
-      ∙ test-of-in-order n kind (loaded-at at n k q total L N) f) i h))
-
--- Where numbered values would lie behind the lists they read as 0, as next states do, and are in range.
-module _ (at n values k : ℕ) (L N : List ℕ) (sized-values : length L ≡ store-limit) (sized-nexts : length N ≡ store-limit) (some : 0 < values)
-    (loaded : 0 < k) where
-  abbrev in-range : ℕ → Bool
-  in-range = flat-test at n (Numbered values) k L N
-
-  beyond : (i : ℕ) → store-limit ≤ at + i → in-range i ≡ true
-  beyond i h =
-      and-both (ap (λ v. ltb v values) (List·getD-eq-default L 0 {n = at + i} (omega arith)) ∙ lt-ltb 0 values some)
-      (ap (λ q. ltb q k) (List·getD-eq-default N 0 {n = at + i} (omega arith)) ∙ lt-ltb 0 k loaded)
-
-  pub all-beyond : (count : ℕ) → store-limit ≤ at → true ≡ every count in-range
-  all-beyond count h = sym (every-of count in-range (λ i l. beyond i (omega arith)))
-
-  pub clipped : (count : ℕ) → every (min count (store-limit - at)) in-range ≡ every count in-range
-  clipped count =
-      same-test _ _ (λ e. every-of count in-range (inside e))
-      (λ e. every-of (min count (store-limit - at)) in-range (λ i l. every-at count in-range e i (omega arith)))
-    where
-      inside : every (min count (store-limit - at)) in-range ≡ true → (i : ℕ) → i < count → in-range i ≡ true
-      inside e i l = go (ltb i (min count (store-limit - at))) refl
-        where
-          go : (t : Bool) → ltb i (min count (store-limit - at)) ≡ t → in-range i ≡ true
-          go true p = every-at (min count (store-limit - at)) in-range e i (ltb-true i (min count (store-limit - at)) p)
-          go false p = beyond i (omega (arith, ltb-false i (min count (store-limit - at)) p))
+      (every-at (k * n) (flat-test at n kind k L N) (flat-entries at n kind k L N ∙ d) i h))

@@ -5,10 +5,12 @@ pub mod Rows
 pub mod RowTotals
 pub mod Splices
 pub mod Copies
--- The largest entry of a part, against a bound.
-pub mod Largest
+-- One test for many numbers taken together.
+pub mod Together
 -- What channels hold, and the tests of refusal 17.
 pub mod Held
+-- Refusal 17's test of channels, split into that of their values and the rest.
+pub mod ChannelTests
 -- The rows of channels, by what they hold and by the counts.
 pub mod RowCounts
 -- What channels hold once one of them has another table.

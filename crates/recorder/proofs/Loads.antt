@@ -12,17 +12,17 @@ use Rattle.refusal.specs.declared.Counted.{Counted}
 use Rattle.refusal.specs.declared.Counted.the-variants.{Count, Refused}
 use Rattle.refusal.specs.RefusalAnswers.{or-else, plain-unless}
 use Rattle.refusal.proofs.Refusals.{or-else-none, or-else-assoc, plain-none}
-use Rattle.values.specs.SetupTests.{setup-refusal}
-use Rattle.machines.specs.{TableBytes.{entry-width, entry-bytes}, StoredEntries.{two-bytes}}
+use Rattle.values.specs.{declared.ValueKind.{ValueKind}, SetupTests.{setup-refusal}}
+use Rattle.machines.specs.TableBytes.{entry-width}
 use Rattle.synthesis.specs.Compilation.{compile-answer, compile-contents}
 use Rattle.formulas.specs.NodeArrays.{padded}
 use Rattle.channel_log.specs.{Calls.{load, clear, Reply, accepted, refused}, Distance.{Reading}}
 use Rattle.channel_log.specs.{CallSteps.{channel-refusal}, Log.{rows-refusal, load-rows-refusal}, Rows.{all-rows, other-rows}}
 use Rattle.recorder.specs.Store.{Store, setup-of, tool-setup-of, rows}
 use Rattle.recorder.specs.ToolTests.{setup-test, test-of}
-use Rattle.recorder.specs.Splicing.{row-count, column}
+use Rattle.recorder.specs.Splicing.{row-count, entry-values, entry-nexts}
 use Rattle.recorder.specs.CompiledRule.{rule-judged, states-of-rule}
-use Rattle.recorder.specs.Called.{with-table, tool-refusal, called}
+use Rattle.recorder.specs.Called.{with-table, with-entries, tool-refusal, called}
 use Rattle.recorder.specs.Decisions.{number-refusal, channel-number, plain-reply, counted-reply, Storable}
 use Rattle.recorder.proofs.{Numbers.{number-some, plain-refused}, Held.{channel-below, accepted-of-test, values-accepted, few-events}}
 use Rattle.recorder.proofs.{RowTotals.{before-moved}, RowCounts.{others-are}}
@@ -78,15 +78,19 @@ module _ (t : Store) (c f : ℕ) (e-fault : f ≡ read-fault t c) (m : ℕ) (e-n
         storable went 0
         (omega (arith, rows-fitting t (sound went .1), before-moved (t .states) w 0 (omega (arith, sized, inside)) channel-limit inside))
 
-    pub clear-stored :
-        (u : Store) → u ≡ with-table t w 0 (column 0 [] (0 * t .setup .events)) (column 1 [] (0 * t .setup .events)) → (accepted, u) ≡ called (clear c) t
-    unfolding column padded
+    pub clear-stored : (u : Store) → u ≡ with-entries t w 0 [] → (accepted, u) ≡ called (clear c) t
+    unfolding entry-values entry-nexts padded
     clear-stored u e =
-        ap (λ u. (accepted, u)) (e ∙ ap₂ (λ a b. with-table t w 0 a b) (none-there 0) (none-there 1) ∙ ap (λ d. with-table t d 0 [] []) (at-c went))
+        ap (λ u. (accepted, u))
+        (e ∙ ap₂ (λ a b. with-table t w 0 a b) (ap (λ n. entry-values kind [] n) none) (ap (λ n. entry-nexts kind [] n) none)
+        ∙ ap (λ d. with-table t d 0 [] []) (at-c went))
         ∙ sym (accepted-call t (clear c) (sym number-is ∙ ap number-refusal went))
       where
-        none-there : (which : ℕ) → column which [] (0 * t .setup .events) ≡ []
-        none-there which = let z : 0 * t .setup .events ≡ 0 = omega arith in ap (λ n. column which [] n) z
+        kind : ValueKind
+        kind = t .setup .kind
+
+        none : 0 * t .setup .events ≡ 0
+        none = omega arith
 
   -- Load.
   module _ (r : List ℕ) where
@@ -158,20 +162,20 @@ module _ (t : Store) (c f : ℕ) (e-fault : f ≡ read-fault t c) (m : ℕ) (e-n
           pub load-storable : Storable (t .setup .events) (t .states) w (n % 65536)
           load-storable = storable went (n % 65536) (subst (λ k. row-count (set (t .states) w k) ≤ row-limit) (sym narrow) fits)
 
-          pub load-room : (len : ℕ) → state-limit * event-limit * 2 ≤ len → n % 65536 * t .setup .events * 2 ≤ len
+          pub load-room :
+              (len : ℕ) → state-limit * event-limit * entry-width (setup-of t .kind) ≤ len → n % 65536 * t .setup .events * entry-width (setup-of t .kind) ≤ len
           load-room len h =
-              subst (λ k. k * t .setup .events * 2 ≤ len) (sym (narrow ∙ counted-rule .1)) (table-fits (setup-of t) r (ok went) (counted-rule .0) 2 len h)
+              subst (λ k. k * t .setup .events * entry-width (setup-of t .kind) ≤ len) (sym (narrow ∙ counted-rule .1))
+              (table-fits (setup-of t) r (ok went) (counted-rule .0) (entry-width (setup-of t .kind)) len h)
 
           pub load-stored :
-              (u : Store) (table : List ℕ) → entry-bytes (setup-of t .kind) ≡ two-bytes → table ≡ compile-contents state-limit (setup-of t) r old →
-              u ≡ with-table t w (n % 65536) (column 0 table (n % 65536 * t .setup .events)) (column 1 table (n % 65536 * t .setup .events)) →
+              (u : Store) (table : List ℕ) → table ≡ compile-contents state-limit (setup-of t) r old → u ≡ with-entries t w (n % 65536) table →
               (accepted, u) ≡ called (load c r) t
-          load-stored u table two e-table e =
+          load-stored u table e-table e =
               ap (λ u. (accepted, u))
               (e
-              ∙ ap₂ (λ d k. with-table t d k (column 0 table (k * t .setup .events)) (column 1 table (k * t .setup .events))) (at-c went)
-              (narrow ∙ counted-rule .1)
-              ∙ ap (λ l. with-table t c S (column 0 l (S * t .setup .events)) (column 1 l (S * t .setup .events))) e-table
-              ∙ ap₂ (λ a b. with-table t c S a b) (values-are (setup-of t) r (ok went) old room (counted-rule .0) two)
-              (nexts-are (setup-of t) r (ok went) old room (counted-rule .0) two))
+              ∙ ap₂ (λ d k. with-entries t d k table) (at-c went) (narrow ∙ counted-rule .1)
+              ∙ ap (with-entries t c S) e-table
+              ∙ ap₂ (λ a b. with-table t c S a b) (values-are (setup-of t) r (ok went) old room (counted-rule .0))
+              (nexts-are (setup-of t) r (ok went) old room (counted-rule .0)))
               ∙ sym (accepted-call t (load c r) (refusal-is ∙ ap over-unless (sym e-left ∙ left)))

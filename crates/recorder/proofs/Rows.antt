@@ -1,10 +1,13 @@
 -- Parts of a list, copies into it and padding.
-use mathlib.Core.{Path.{_≡_, sym, _∙_, ap, ap₂, subst}, Logic.{_⊎_, inl, inr}, List.{List, _++_}}
+use mathlib.Core.{Path.{_≡_, refl, sym, _∙_, ap, ap₂, subst}, Logic.{_⊎_, inl, inr}, Bool.{Bool, true, false, cond}, List.{List, _∷_, _++_}}
 use Prim.Native.Nat.{ℕ, zero, suc, _+_, _*_, _-_, _≤_, _<_}
 use native.Mathlib.{Nat.{mul-le-mul-right}, Numerals.{add-one}, Omega.{arith}}
+use borrow.Author.Tests.{ltb-true}
+use lib.Dec.{ltb}
 use lib.ListN.{length, getD, set, take, drop, replicate, length-append, length-take, length-drop, length-replicate, List·getD-append}
 use lib.Seq.{paste, paste-suc, length-take-le, take-all, getD-take, getD-drop, ext-getD}
 use Rattle.limits.specs.Limits.{event-limit, table-limit, entry-limit}
+use Rattle.formulas.specs.NodeArrays.{padded}
 use Rattle.recorder.specs.Splicing.{part}
 use Rattle.recorder.specs.Called.{filled}
 
@@ -66,3 +69,13 @@ paste-next d s i h g =
 -- A table's entries fit the rows.
 pub entries-fit : (k n : ℕ) → k ≤ table-limit → n ≤ event-limit → k * n ≤ entry-limit
 entries-fit k n h g = omega (arith, mul-le-mul-right n h)
+
+-- Padding with the same numbers.
+pub same-padded : (f g : ℕ → ℕ) (count : ℕ) → ((x : ℕ) → x < count → f x ≡ g x) → (left i : ℕ) → padded f count left i ≡ padded g count left i
+unfolding padded
+same-padded f g count h zero i = refl
+same-padded f g count h (suc left) i = ap₂ (λ x l. x ∷ l) (cell (ltb i count) refl) (same-padded f g count h left (suc i))
+  where
+    cell : (t : Bool) → ltb i count ≡ t → cond t (f i) 0 ≡ cond t (g i) 0
+    cell true e = h i (ltb-true i count e)
+    cell false e = refl

@@ -7,8 +7,7 @@ use Rattle.theory.proofs.Words.{length-word-values, word-values-at, after-take}
 use Rattle.theory.specs.MealyMachine.{Machine, after}
 use Rattle.theory.specs.MachineRuns.{word-values}
 use Rattle.machines.proofs.EntryIndex.{index-below}
-use Rattle.limits.specs.Limits.{entry-limit, store-limit}
-use Rattle.recorder.specs.{Store.{table-at}, Decisions.{Runnable}}
+use Rattle.recorder.specs.{Store.{table-at}, Decisions.{Bounds, Runnable}}
 use Rattle.recorder.proofs.Rows.{getD-part, paste-next, entries-fit}
 
 -- After i events: the state p and the buffer b.
@@ -44,11 +43,9 @@ module _ {from n k q : ℕ} {L N w out : List ℕ} (g : Runnable from n k q L N 
     entry : p * n + e < k * n
     entry = index-below n k p e (h .below) (g .word-in i l)
 
-    pub row : p * n ≤ entry-limit
-    row = entries-fit p n (omega (arith, h .below, g .few-states)) (g .few-events)
-
-    pub place : from + (p * n + e) < store-limit
-    place = omega (arith, g .room, entry)
+    pub bounds : Bounds from n p e
+    bounds =
+        record { row = entries-fit p n (omega (arith, h .below, g .few-states)) (g .few-events); place = omega (arith, g .room, entry) }
 
     pub slot : i < length b
     slot = omega (arith, g .fits, l, same-size h)

@@ -1,17 +1,18 @@
 -- Twin of Store, pinned by product_claims DemandThree.
 -- The calls on a tool (document 01, "Tool"; document 02, F-6 and F-12): what each answers and what the tool holds afterwards, whatever it held before.
 use mathlib.Core.{List.{List, [], _++_}, Option.{Option, none, some}}
-use Prim.Native.Nat.{ℕ, _+_, _-_}
+use Prim.Native.Nat.{ℕ, _+_, _*_, _-_}
 use lib.ListN.{length, set, take, replicate}
 use Rattle.limits.specs.Limits.{meet-limit, channel-limit, store-limit}
 use Rattle.refusal.specs.{declared.Refusal.{Refusal}, RefusalAnswers.{or-else, plain-unless}}
-use Rattle.values.specs.{declared.ValueKind.{ValueKind}, declared.ValueKind.the-variants.{Numbered, Register}, Setup.{Setup, setup-of-kind, setup}}
+use Rattle.values.specs.{declared.ValueKind.{ValueKind}, declared.ValueKind.the-variants.{Numbered, Register}}
+use Rattle.values.specs.Setup.{Setup, setup-of-kind, setup, register-setup}
 use Rattle.channel_log.specs.Distance.{Wheel, wheel-of-turn, Occurrence, Reading}
 use Rattle.channel_log.specs.Calls.{Call, load, event, restart, restart-all, clear, Reply, accepted, refused, Loaded}
 use Rattle.channel_log.specs.{CallSteps.{Content, call-refusal, accepted-reply}, Log.{rows-refusal}, Recorded.{recorded}, Rows.{all-rows}}
-use Rattle.recorder.specs.{Store.{Store, ToolSetup, setup-of, channels, rows}, ToolTests.{tool-test, tool-setup-refusal}, Splicing.{replaced}}
+use Rattle.recorder.specs.{Store.{Store, ToolSetup, setup-of, channels, rows}, ToolTests.{tool-test, tool-setup-refusal}}
+use Rattle.recorder.specs.Splicing.{replaced, entry-values, entry-nexts}
 use Rattle.recorder.specs.CompiledRule.{rule-judged, states-of-rule, values-of-rule, nexts-of-rule, loaded-rule}
-use Rattle.theory.specs.ValueSets.{pack, top-masks}
 
 -- The store with other current states and totals; with other entries and k states in channel c, at state 0 and with no pulses.
 abbrev pub with-current : Store → List ℕ → List ℕ → Store
@@ -34,6 +35,11 @@ with-rows t c k value next =
 abbrev pub with-table : Store → ℕ → ℕ → List ℕ → List ℕ → Store
 with-table t c k values nexts =
     with-rows t c k (replaced (t .setup .events) (t .states) c values (t .value)) (replaced (t .setup .events) (t .states) c nexts (t .next))
+
+-- The same with the entries of a table's bytes.
+abbrev pub with-entries : Store → ℕ → ℕ → List ℕ → Store
+with-entries t c k table =
+    with-table t c k (entry-values (t .setup .kind) table (k * t .setup .events)) (entry-nexts (t .setup .kind) table (k * t .setup .events))
 
 -- The state that an event leads to, and the total with its pulses.
 abbrev pub next-state : Option (Loaded ℕ) → ℕ → ℕ
@@ -102,10 +108,6 @@ unfoldable pub new-store : ToolSetup → Store
 new-store s =
     empty-store
     (setup-of-kind (s .values .events) (s .values .kind) (s .values .top) (meet-cells (s .values .kind) (s .values .meet))) (s .wheel)
-
--- A register's set-up.
-abbrev pub register-setup : ℕ → ℕ → Setup
-register-setup events lines = setup-of-kind events (Register lines) (pack (top-masks lines)) []
 
 -- What a refused set-up hands back, by its kind of values: every cell is 0, and every call on it is 17.
 abbrev pub blank-setup : ValueKind → Setup

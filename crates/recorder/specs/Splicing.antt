@@ -6,6 +6,8 @@ use lib.ListN.{length, getD, take, drop, replicate}
 use Rattle.limits.specs.Limits.{channel-limit, store-limit}
 use Rattle.channel_log.specs.Rows.{sum-below}
 use Rattle.formulas.specs.NodeArrays.{padded}
+use Rattle.values.specs.{declared.ValueKind.{ValueKind}, ValueTests.{masks-from}}
+use Rattle.machines.specs.TableRefusal.{entry-value, entry-next}
 use Rattle.recorder.specs.Store.{rows-start}
 
 -- So many elements of a list from a place on.
@@ -35,6 +37,17 @@ abbrev pub replaced : ℕ → List ℕ → ℕ → List ℕ → List ℕ → Lis
 replaced events states c new rows =
     spliced rows (rows-start events states c) (own-entries events states c) new (later-entries events states c)
 
--- Of a table's bytes, two an entry, the first or the second of each: the values, or the next states.
-unfoldable pub column : ℕ → List ℕ → ℕ → List ℕ
-column which table n = padded (λ i. getD table (i * 2 + which) 0) n n 0
+-- One byte of each of the first n entries of a table, whose entries have so many bytes.
+unfoldable pub column : ℕ → ℕ → List ℕ → ℕ → List ℕ
+column width which table n = padded (λ i. getD table (i * width + which) 0) n n 0
+
+-- The packed masks of each, where an entry is four bytes of masks and one more.
+unfoldable pub mask-column : List ℕ → ℕ → List ℕ
+mask-column table n = padded (λ i. masks-from table (i * 5)) n n 0
+
+-- The values of the first n entries of a table of a kind, and the next states.
+unfoldable pub entry-values : ValueKind → List ℕ → ℕ → List ℕ
+entry-values kind table n = padded (entry-value kind table) n n 0
+
+unfoldable pub entry-nexts : ValueKind → List ℕ → ℕ → List ℕ
+entry-nexts kind table n = padded (entry-next kind table) n n 0

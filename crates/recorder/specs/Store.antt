@@ -1,17 +1,19 @@
--- What a tool holds, however it is represented, and the tool of numbered values as one representation (document 01, "Tool"); when a call on
--- it is refused, and with what ("Who can cause a refusal": 17, 25, 14, 15, 16, 19, then 5 to 10 and 25).
+-- What a tool holds, however it is represented, and its two representations, the tool of numbered values and that of registers (document 01,
+-- "Tool"; document 02, F-7); when a call on it is refused, and with what ("Who can cause a refusal": 17, 25, 14, 15, 16, 19, then 5 to 10 and 25).
 use mathlib.Core.{Path.{_≡_}, Bool.{_&&_, cond}, List.{List, [], _∷_, _++_, map}, Option.{Option, none, some}}
 use Prim.Native.Nat.{ℕ, _+_, _*_, _≤_, _<_}
 use lib.{Dec.{ltb}, ListN.{length, getD, take, drop}}
 use Rattle.limits.specs.Limits.{channel-limit, row-limit, store-limit, table-limit, total-limit}
 use Rattle.theory.specs.{Formula.{Formula}, MealyMachine.{Machine, Word}, ReachableStates.{IsTableOf}}
 use Rattle.values.specs.{declared.ValueKind.{ValueKind}, declared.ValueKind.the-variants.{Numbered, Register}}
-use Rattle.values.specs.Setup.{Setup, setup-of-kind, setup, setup-meet, setup-top, ValueIn, setup-conditions}
+use Rattle.values.specs.Setup.{Setup, setup-of-kind, setup, register-setup, setup-meet, setup-top, ValueIn, setup-conditions}
 use Rattle.formulas.specs.RuleConditions.{node-bytes, OfFormula}
 use Rattle.channel_log.specs.Distance.{Wheel, wheel-of-turn, WheelFault, Occurrence, Reading, TotalAbove}
 use Rattle.channel_log.specs.Calls.{Channels, map-option, Loaded, Reply, accepted, returned, refused, Call, load, event, restart, restart-all, clear, concerns}
 use Rattle.channel_log.specs.Rows.{sum-below, all-rows, other-rows}
 use Rattle.recorder.specs.{declared.Tool.{Tool}, declared.Answer.{Answer}}
+use Rattle.recorder.specs.declared.registers.RegisterTool.{RegisterTool}
+use Rattle.recorder.specs.declared.registers.RegisterAnswer.{RegisterAnswer}
 use Rattle.recorder.specs.declared.Wheel as declared-wheel
 use Rattle.recorder.specs.declared.Reading as declared-reading
 use Rattle.refusal.specs.{declared.Refusal.{Refusal}, Refusal.{First, Condition, plain}}
@@ -106,6 +108,19 @@ store-of t =
       next = t .next;
     }
 
+-- The tool of registers is another (document 02, F-7).
+abbrev pub register-store : RegisterTool → Store
+register-store t =
+    record {
+      setup = register-setup (t .setup .events) (t .setup .lines);
+      wheel = wheel-of (t .setup .wheel);
+      states = t .states;
+      current = t .current;
+      total = t .total;
+      value = t .value;
+      next = t .next;
+    }
+
 -- The documents' answer for each case of the enum.
 abbrev pub reading-of : declared-reading.Reading → Reading ℕ
 reading-of r = record { value = r .value; millimetres = r .millimetres; remainder = r .remainder }
@@ -118,12 +133,22 @@ reply-of (variant.Refused r) = refused r
 abbrev pub answer : Answer → Reply (Reading ℕ) × Store
 answer r = (reply-of (r .reply), store-of (r .tool))
 
+abbrev pub register-answer : RegisterAnswer → Reply (Reading ℕ) × Store
+register-answer r = (reply-of (r .reply), register-store (r .tool))
+
 abbrev pub replay-answer : Answer → List ℕ → (Reply (Reading ℕ) × Store) × List ℕ
 replay-answer r buffer = (answer r, buffer)
 
--- A store is that of one tool: what a contract says of it, it says of the tool.
-abbrev pub StoreClaim : Type 0
-StoreClaim = (t u : Tool) → store-of t ≡ store-of u → t ≡ u
+abbrev pub register-replay-answer : RegisterAnswer → List ℕ → (Reply (Reading ℕ) × Store) × List ℕ
+register-replay-answer r buffer = (register-answer r, buffer)
+
+-- A store is that of one tool of each kind: what a contract says of it, it says of the tool.
+abbrev pub OneTool : {T : Type 0} → (T → Store) → Type 0
+OneTool {T} store = (t u : T) → store t ≡ store u → t ≡ u
+
+pub record StoreClaim : Type 0 where
+  pub of-numbers : OneTool store-of
+  pub of-registers : OneTool register-store
 
 -- A loaded channel's table is one that 11 does not refuse, its current state taken as the start; its total is not above the limit.
 pub record ChannelInOrder (events : ℕ) (kind : ValueKind) (x : Loaded ℕ) : Type 0 where

@@ -1,16 +1,43 @@
 // Document 01, "Tool": one set-up and eight channels, and the calls on them; document 02, F-6: the distance with every event, F-12: one store
-// of rows. Refusals 14 to 19, and 25.
+// of rows. Refusals 14 to 19, and 25. Here the tool of numbered values; `registers` has that of registers (F-7).
 // Each call first decides, then writes and returns the tool once; a refused call returns the tool as it came.
+mod decisions;
+mod faults;
+mod mask_store;
+pub mod registers;
 mod row_store;
 mod widths;
 
-use crate::row_store::largest;
-use crate::row_store::replace;
-use crate::row_store::rows_fit;
+use crate::decisions::channel_refusal;
+use crate::decisions::counted_reply;
+use crate::decisions::decide_event;
+use crate::decisions::entry_place;
+use crate::decisions::event_refusal;
+use crate::decisions::judged_reply;
+use crate::decisions::loaded_refusal;
+use crate::decisions::measured;
+use crate::decisions::plain_reply;
+use crate::decisions::read_place;
+use crate::decisions::replay_refusal;
+use crate::decisions::state_after;
+use crate::decisions::states_after;
+use crate::decisions::total_after;
+use crate::decisions::total_with;
+use crate::decisions::total_with_all;
+use crate::decisions::totals_after;
+use crate::decisions::value_reply;
+use crate::decisions::word_in_order;
+use crate::faults::accepted;
+use crate::faults::channel_fault;
+use crate::faults::channels_fault;
+use crate::faults::entries_below;
+use crate::faults::judged_wheel;
+use crate::row_store::room_for;
 use crate::row_store::rows_left;
 use crate::row_store::rows_start;
-use crate::widths::smaller;
+use crate::row_store::splice;
 use crate::widths::wide;
+use crate::widths::wide_byte;
 use crate::widths::wide16;
 use crate::widths::wide32;
 use crate::widths::wide64;
@@ -18,9 +45,6 @@ use limits::CHANNEL_LIMIT;
 use limits::MEET_LIMIT;
 use limits::STORE_LIMIT;
 use limits::TABLE_BYTES;
-use limits::TABLE_LIMIT;
-use limits::TOTAL_LIMIT;
-use limits::TURN_LIMIT;
 use limits::VALUE_LIMIT;
 use refusal::Counted;
 use refusal::Judgement;
@@ -28,34 +52,29 @@ use refusal::Refusal;
 use synthesis::compile;
 ghost use mathlib.Core.Path.{_≡_};
 ghost use mathlib.Core.Bool.{_&&_};
-ghost use Prim.Native.Nat.{_+_, _*_, _≤_, _<_};
-ghost use lib.Dec.{ltb, leb};
-ghost use lib.ListN.{length, getD, take, drop};
+ghost use Prim.Native.Nat.{_*_, _≤_};
+ghost use lib.ListN.{length, getD, take};
 ghost use lib.Seq.{paste};
-ghost use Rattle.limits.specs.Limits.{channel-limit, event-limit, meet-limit, row-limit, state-limit, store-limit, value-limit};
+ghost use Rattle.limits.specs.Limits.{channel-limit, meet-limit, state-limit, store-limit, value-limit};
 ghost use Rattle.theory.specs.MealyMachine.{after};
 ghost use Rattle.theory.specs.MachineRuns.{word-values};
 ghost use Rattle.theory.specs.ValueSetTests.{every};
 ghost use Rattle.values.specs.declared.ValueKind.the-variants.{Numbered};
 ghost use Rattle.values.specs.Setup.{setup};
 ghost use Rattle.channel_log.specs.Calls as calls;
-ghost use Rattle.channel_log.specs.Distance.{wheel-of-turn, reading};
+ghost use Rattle.channel_log.specs.Distance.{wheel-of-turn};
 ghost use Rattle.refusal.specs.RefusalAnswers.{judgement};
-ghost use Rattle.recorder.specs.Store.{tool-setup, table-at, rows-start, held, wheel-of, reading-of, occurrences};
-ghost use Rattle.recorder.specs.Splicing.{row-count, column};
-ghost use Rattle.recorder.specs.ToolTests.{turn-test, wheel-test, tool-setup-refusal, setup-test, channel-test};
 ghost use Rattle.synthesis.specs.Compilation.{compile-answer, compile-contents};
-ghost use Rattle.recorder.specs.Called.{filled, with-table, empty-store, called, set-up-called};
-ghost use Rattle.recorder.specs.Replay.{word-test, replayed};
-ghost use Rattle.recorder.specs.Store.{store-of, reply-of, answer, replay-answer};
-ghost use Rattle.recorder.specs.Decisions.{number-unless, fault-number, channel-number, loaded-number, event-number, replay-number, limited, sum-of};
-ghost use Rattle.recorder.specs.Decisions.{decided, entry-place, Bounds, plain-reply, value-reply, end-reply, kept-number, kept-numbers};
-ghost use Rattle.recorder.specs.Decisions.{pulse-block, Measurable, judged-reply, counted-reply, Storable, Runnable};
+ghost use Rattle.recorder.specs.Store.{tool-setup, table-at, rows-start, held, wheel-of, store-of, reply-of, answer, replay-answer, occurrences};
+ghost use Rattle.recorder.specs.ToolTests.{tool-setup-refusal, setup-test, channel-test};
+ghost use Rattle.recorder.specs.Called.{filled, with-entries, empty-store, called, set-up-called};
+ghost use Rattle.recorder.specs.Replay.{replayed};
+ghost use Rattle.recorder.specs.Decisions.{fault-number, end-reply, Measurable, Storable, Runnable};
 
-// What an accepted event returns: the value, and the distance of the channel's total, in whole millimetres and a remainder in parts of a
-// millimetre, as many to one as the wheel's turn has pulses.
+// What an accepted event returns: the value, which is a number, or a register's masks as low + 65536 * high, and the distance of the channel's
+// total, in whole millimetres and a remainder in parts of a millimetre, as many to one as the wheel's turn has pulses.
 pub struct Reading {
-    pub value: u8,
+    pub value: u32,
     pub millimetres: u64,
     pub remainder: u32,
 }
@@ -101,28 +120,9 @@ pub struct Answer {
 // What an event comes to: a refusal's number, or 0; the value that it returns; the channel's state and total after it.
 struct Decision {
     refusal: u8,
-    value: u8,
+    value: u32,
     next: u8,
     total: u64,
-}
-
-fn turn_in_order(n: usize) -> bool
-    ensures { λ r. ⌜ r ≡ turn-test n ⌝ }
-{
-    if n < 1 {
-        return false;
-    }
-    n <= TURN_LIMIT
-}
-
-// Whether a wheel does not meet 18.
-fn wheel_in_order(pulses: usize, millimetres: usize) -> bool
-    ensures { λ r. ⌜ r ≡ wheel-test (wheel-of-turn pulses millimetres) ⌝ }
-{
-    if turn_in_order(pulses) {
-        return turn_in_order(millimetres);
-    }
-    false
 }
 
 // 1 to 3, then 18.
@@ -136,14 +136,11 @@ fn check_tool_setup(
 ) -> Judgement
     ensures { λ r. ⌜ r ≡ judgement (tool-setup-refusal (tool-setup (setup events values top (now (meet .entry))) (wheel-of-turn pulses millimetres))) ⌝ }
 {
-    let judgement = values::check_setup(events, values, top, meet);
-    let Judgement::Accepted = judgement else {
-        return judgement;
-    };
-    if wheel_in_order(pulses, millimetres) {
-        return Judgement::Accepted;
-    }
-    Judgement::Refused(Refusal::Plain(refusal::SETUP_WHEEL))
+    judged_wheel(
+        values::check_setup(events, values, top, meet),
+        pulses,
+        millimetres,
+    )
 }
 
 // Whether the set-up meets none of 1 to 3 and 18.
@@ -155,88 +152,14 @@ fn setup_in_order(meet: &[u8], events: usize, values: usize, top: usize, wheel: 
         return false;
     }
     let count = values * values;
-    let judgement = check_tool_setup(
+    accepted(check_tool_setup(
         events,
         values,
         top,
         &meet[..count],
         wide32(wheel.pulses),
         wide32(wheel.millimetres),
-    );
-    match judgement {
-        Judgement::Accepted => true,
-        Judgement::Refused(_) => false,
-    }
-}
-
-// Whether the values and next states of so many entries are in range.
-fn entries_in_order<'a>(
-    value: &'a [u8; STORE_LIMIT],
-    next: &'a [u8; STORE_LIMIT],
-    from: usize,
-    count: usize,
-    values: usize,
-    states: usize,
-) -> bool
-    requires { ⌜ (from + count ≤ store-limit) × (0 < values) × (0 < states) × (length (now value) ≡ store-limit)
-        × (length (now next) ≡ store-limit) ⌝ }
-    ensures { λ r. ⌜ r ≡ every count
-        (λ i. ltb (getD (now (value .entry)) (from + i) 0) values && ltb (getD (now (next .entry)) (from + i) 0) states) ⌝ }
-{
-    let most = largest(value, from, count);
-    let last = largest(next, from, count);
-    if wide(most) < values {
-        return wide(last) < states;
-    }
-    false
-}
-
-// Refusal 17's test of one channel, whose rows start at a place. Rows that would lie behind the store, where 25 answers, are 0, which is in range.
-fn channel_in_order<'a>(
-    value: &'a [u8; STORE_LIMIT],
-    next: &'a [u8; STORE_LIMIT],
-    channel: usize,
-    at: usize,
-    events: usize,
-    values: usize,
-    states: usize,
-    current: usize,
-    total: u64,
-) -> bool
-    requires { ⌜ (events ≤ event-limit) × (0 < values) × (length (now value) ≡ store-limit) × (length (now next) ≡ store-limit) ⌝ }
-    ensures { λ r. ⌜ r ≡ channel-test events (Numbered values) (held channel at events states current total (now (value .entry)) (now (next .entry))) ⌝ }
-{
-    if CHANNEL_LIMIT <= channel {
-        return true;
-    }
-    if states == 0 {
-        return true;
-    }
-    if TABLE_LIMIT < states {
-        return false;
-    }
-    if states <= current {
-        return false;
-    }
-    if TOTAL_LIMIT < total {
-        return false;
-    }
-    if STORE_LIMIT <= at {
-        return true;
-    }
-    let count = smaller(states * events, STORE_LIMIT - at);
-    entries_in_order(value, next, at, count, values, states)
-}
-
-// Refusal 25's test: its number, or 0.
-fn store_fault(states: &[u16; CHANNEL_LIMIT]) -> u8
-    requires { ⌜ length (now states) ≡ channel-limit ⌝ }
-    ensures { λ r. ⌜ r ≡ number-unless (leb (row-count (now (states .entry))) row-limit) 25 ⌝ }
-{
-    if rows_fit(states) {
-        return 0;
-    }
-    refusal::ROW_TOTAL
+    ))
 }
 
 // Refusal 17's test of the set-up and one channel of so many states, then 25's of the rows: the number of the refusal, or 0.
@@ -261,166 +184,22 @@ fn tool_fault<'a>(
         && channel-test events (Numbered values) (held channel at events count current total (now (value .entry)) (now (next .entry))))
         (now (states .entry)) ⌝ }
 {
-    let n = wide(events);
     let v = wide(values);
-    if setup_in_order(meet, n, v, wide(top), wheel) {
-        if channel_in_order(
-            value,
+    if setup_in_order(meet, wide(events), v, wide(top), wheel) {
+        let fits = entries_below(value, at, wide16(count) * wide(events), v);
+        return channel_fault(
+            fits,
             next,
+            states,
             channel,
             at,
-            n,
-            v,
-            wide16(count),
-            wide(current),
+            events,
+            count,
+            current,
             total,
-        ) {
-            return store_fault(states);
-        }
+        );
     }
     refusal::TOOL_CONTENTS
-}
-
-// 17 and 25, then 14.
-fn channel_refusal(fault: u8, channel: usize) -> u8
-    ensures { λ r. ⌜ r ≡ channel-number fault channel ⌝ }
-{
-    if 0 < fault {
-        return fault;
-    }
-    if CHANNEL_LIMIT <= channel {
-        return refusal::CHANNEL_NUMBER;
-    }
-    0
-}
-
-// Then 15.
-fn loaded_refusal(fault: u8, channel: usize, states: u16) -> u8
-    ensures { λ r. ⌜ r ≡ loaded-number fault channel states ⌝ }
-{
-    let earlier = channel_refusal(fault, channel);
-    if 0 < earlier {
-        return earlier;
-    }
-    if states < 1 {
-        return refusal::CHANNEL_EMPTY;
-    }
-    0
-}
-
-// A total with more pulses; one above the limit where it would be above it.
-fn total_with(total: u64, pulses: u64) -> u64
-    ensures { λ r. ⌜ r ≡ limited (total + pulses) ⌝ }
-{
-    if TOTAL_LIMIT < total {
-        return TOTAL_LIMIT + 1;
-    }
-    if TOTAL_LIMIT - total < pulses {
-        return TOTAL_LIMIT + 1;
-    }
-    total + pulses
-}
-
-// Then 16, and 19 of the total that the event would leave.
-fn event_refusal(fault: u8, channel: usize, states: u16, events: u8, event: usize, total: u64) -> u8
-    ensures { λ r. ⌜ r ≡ event-number fault channel states events event total ⌝ }
-{
-    let earlier = loaded_refusal(fault, channel, states);
-    if 0 < earlier {
-        return earlier;
-    }
-    if wide(events) <= event {
-        return refusal::EVENT_NUMBER;
-    }
-    if TOTAL_LIMIT < total {
-        return refusal::PULSE_TOTAL;
-    }
-    0
-}
-
-// What an event comes to beside a refusal's number, on a channel whose rows start at a place.
-fn decide_event<'a>(
-    value: &'a [u8; STORE_LIMIT],
-    next: &'a [u8; STORE_LIMIT],
-    refusal: u8,
-    at: usize,
-    events: u8,
-    current: u8,
-    event: usize,
-    before: u64,
-    total: u64,
-) -> Decision
-    requires { ⌜ (length (now value) ≡ store-limit) × (length (now next) ≡ store-limit) × (refusal ≡ 0 → Bounds at events current event) ⌝ }
-    ensures { λ r. ⌜ r ≡ decided refusal current before (getD (now (value .entry)) (entry-place at events current event) 0)
-        (getD (now (next .entry)) (entry-place at events current event) 0) total ⌝ }
-{
-    if 0 < refusal {
-        return Decision {
-            refusal: refusal,
-            value: 0,
-            next: current,
-            total: before,
-        };
-    }
-    let place = at + (wide(current) * wide(events) + event);
-    Decision {
-        refusal: 0,
-        value: value[place],
-        next: next[place],
-        total: total,
-    }
-}
-
-// A value with the distance of a total.
-fn measured(value: u8, total: u64, wheel: Wheel) -> Reading
-    requires { ⌜ Measurable (wheel-of wheel) total ⌝ }
-    ensures { λ r. ⌜ reading-of r ≡ reading (wheel-of wheel) value total ⌝ }
-{
-    let parts = total * (wheel.millimetres as u64);
-    let pulses = wheel.pulses as u64;
-    Reading {
-        value: value,
-        millimetres: parts / pulses,
-        remainder: (parts % pulses) as u32,
-    }
-}
-
-fn value_reply(decision: Decision, wheel: Wheel) -> Reply
-    requires { ⌜ (decision .refusal ≡ 0 → Measurable (wheel-of wheel) (decision .total)) ⌝ }
-    ensures { λ r. ⌜ reply-of r ≡ value-reply (wheel-of wheel) decision ⌝ }
-{
-    if 0 < decision.refusal {
-        return Reply::Refused(Refusal::Plain(decision.refusal));
-    }
-    Reply::Value(measured(decision.value, decision.total, wheel))
-}
-
-fn plain_reply(refusal: u8) -> Reply
-    ensures { λ r. ⌜ reply-of r ≡ plain-reply refusal ⌝ }
-{
-    if 0 < refusal {
-        return Reply::Refused(Refusal::Plain(refusal));
-    }
-    Reply::Accepted
-}
-
-// The state of a restarted channel, and its total: 0, or beside a refusal as it was.
-fn state_after(refusal: u8, old: u8) -> u8
-    ensures { λ r. ⌜ r ≡ kept-number refusal old ⌝ }
-{
-    if 0 < refusal {
-        return old;
-    }
-    0
-}
-
-fn total_after(refusal: u8, old: u64) -> u64
-    ensures { λ r. ⌜ r ≡ kept-number refusal old ⌝ }
-{
-    if 0 < refusal {
-        return old;
-    }
-    0
 }
 
 // An event: returns the value and the distance, moves to the next state and adds the pulses.
@@ -453,17 +232,10 @@ pub fn event(mut tool: Tool, channel: usize, event: usize, pulses: u32) -> Answe
     );
     let sum = total_with(total, wide64(pulses));
     let refusal = event_refusal(fault, channel, states, events, event, sum);
-    let decision = decide_event(
-        &tool.value,
-        &tool.next,
-        refusal,
-        at,
-        events,
-        current,
-        event,
-        total,
-        sum,
-    );
+    let place = read_place(refusal, at, events, current, event);
+    let value = wide_byte(tool.value[place]);
+    let next = tool.next[place];
+    let decision = decide_event(refusal, value, next, current, total, sum);
     let reply = value_reply(decision, wheel);
     tool.current[c] = decision.next;
     tool.total[c] = decision.total;
@@ -512,41 +284,6 @@ pub fn restart(mut tool: Tool, channel: usize) -> Answer
     }
 }
 
-// Refusal 17's test of all channels.
-fn channels_in_order<'a>(
-    value: &'a [u8; STORE_LIMIT],
-    next: &'a [u8; STORE_LIMIT],
-    states: &'a [u16; CHANNEL_LIMIT],
-    current: &'a [u8; CHANNEL_LIMIT],
-    total: &'a [u64; CHANNEL_LIMIT],
-    events: u8,
-    values: usize,
-) -> bool
-    requires { ⌜ (events ≤ event-limit) × (0 < values) × (length (now value) ≡ store-limit) × (length (now next) ≡ store-limit)
-        × (length (now states) ≡ channel-limit) × (length (now current) ≡ channel-limit) × (length (now total) ≡ channel-limit) ⌝ }
-    ensures { λ r. ⌜ r ≡ every channel-limit (λ c. channel-test events (Numbered values)
-        (held c (rows-start events (now (states .entry)) c) events (getD (now (states .entry)) c 0) (getD (now (current .entry)) c 0)
-        (getD (now (total .entry)) c 0) (now (value .entry)) (now (next .entry)))) ⌝ }
-{
-    for c in 0..CHANNEL_LIMIT {
-        let at = rows_start(states, c, events);
-        if !channel_in_order(
-            value,
-            next,
-            c,
-            at,
-            wide(events),
-            values,
-            wide16(states[c]),
-            wide(current[c]),
-            total[c],
-        ) {
-            return false;
-        }
-    }
-    true
-}
-
 // Refusal 17's test of the set-up and all channels, then 25's of the rows: the number of the refusal, or 0.
 fn all_fault<'a>(
     meet: &'a [u8],
@@ -567,32 +304,12 @@ fn all_fault<'a>(
         (held c (rows-start events (now (states .entry)) c) events (getD (now (states .entry)) c 0) (getD (now (current .entry)) c 0)
         (getD (now (total .entry)) c 0) (now (value .entry)) (now (next .entry))))) (now (states .entry)) ⌝ }
 {
-    let n = wide(events);
     let v = wide(values);
-    if setup_in_order(meet, n, v, wide(top), wheel) {
-        if channels_in_order(value, next, states, current, total, events, v) {
-            return store_fault(states);
-        }
+    if setup_in_order(meet, wide(events), v, wide(top), wheel) {
+        let fits = entries_below(value, 0, rows_start(states, CHANNEL_LIMIT, events), v);
+        return channels_fault(fits, next, states, current, total, events);
     }
     refusal::TOOL_CONTENTS
-}
-
-fn states_after(refusal: u8, old: [u8; CHANNEL_LIMIT]) -> [u8; CHANNEL_LIMIT]
-    ensures { λ r. ⌜ r ≡ kept-numbers refusal old ⌝ }
-{
-    if 0 < refusal {
-        return old;
-    }
-    [0u8; CHANNEL_LIMIT]
-}
-
-fn totals_after(refusal: u8, old: [u64; CHANNEL_LIMIT]) -> [u64; CHANNEL_LIMIT]
-    ensures { λ r. ⌜ r ≡ kept-numbers refusal old ⌝ }
-{
-    if 0 < refusal {
-        return old;
-    }
-    [0u64; CHANNEL_LIMIT]
 }
 
 // Restart all: every loaded channel is at state 0 again, with no pulses; empty ones remain empty.
@@ -639,15 +356,6 @@ fn padded_meet(meet: &[u8]) -> [u8; MEET_LIMIT]
         i += 1;
     }
     array
-}
-
-fn judged_reply(judgement: Judgement) -> Reply
-    ensures { λ r. ⌜ reply-of r ≡ judged-reply judgement ⌝ }
-{
-    match judgement {
-        Judgement::Accepted => Reply::Accepted,
-        Judgement::Refused(x) => Reply::Refused(x),
-    }
 }
 
 // A tool with all channels empty.
@@ -709,18 +417,6 @@ pub fn set_up(
     }
 }
 
-// Whether all events of a sequence are below the event count.
-fn word_in_order(word: &[u8], events: u8) -> bool
-    ensures { λ r. ⌜ r ≡ word-test events (now (word .entry)) ⌝ }
-{
-    for i in 0..word.len() {
-        if events <= word[i] {
-            return false;
-        }
-    }
-    true
-}
-
 // Runs a sequence of events from a state of a table: the state after it; the values go to the buffer.
 fn run<'a>(
     value: &'a [u8; STORE_LIMIT],
@@ -740,72 +436,12 @@ fn run<'a>(
     let mut state = start;
     let mut i: usize = 0;
     while i < word.len() {
-        let e = wide(word[i]);
-        let at = from + (wide(state) * wide(events) + e);
+        let at = entry_place(from, events, state, wide(word[i]));
         buffer[i] = value[at];
         state = next[at];
         i += 1;
     }
     state
-}
-
-// So many pulses are added up before the total is looked at.
-const PULSE_BLOCK: usize = 4096;
-
-// The sum of so many pulses from a place on.
-fn pulse_sum(pulses: &[u32], from: usize, count: usize) -> u64
-    requires { ⌜ (from + count ≤ length (now pulses)) × (count ≤ pulse-block) ⌝ }
-    ensures { λ r. ⌜ r ≡ sum-of (take count (drop from (now (pulses .entry)))) ⌝ }
-{
-    let mut sum: u64 = 0;
-    let mut i: usize = 0;
-    while i < count {
-        sum += wide64(pulses[from + i]);
-        i += 1;
-    }
-    sum
-}
-
-// The total with the pulses of so many events.
-fn total_with_all(total: u64, pulses: &[u32], count: usize) -> u64
-    ensures { λ r. ⌜ r ≡ limited (total + sum-of (take count (now (pulses .entry)))) ⌝ }
-{
-    let end = smaller(count, pulses.len());
-    let mut sum = total_with(total, 0);
-    let mut i: usize = 0;
-    while i < end {
-        let n = smaller(end - i, PULSE_BLOCK);
-        sum = total_with(sum, pulse_sum(pulses, i, n));
-        i += n;
-    }
-    sum
-}
-
-// 17 and 25, 14, 15, 16, 19, then 13.
-fn replay_refusal(
-    fault: u8,
-    channel: usize,
-    states: u16,
-    allowed: bool,
-    total: u64,
-    fits: bool,
-) -> u8
-    ensures { λ r. ⌜ r ≡ replay-number fault channel states allowed total fits ⌝ }
-{
-    let earlier = loaded_refusal(fault, channel, states);
-    if 0 < earlier {
-        return earlier;
-    }
-    if !allowed {
-        return refusal::EVENT_NUMBER;
-    }
-    if TOTAL_LIMIT < total {
-        return refusal::PULSE_TOTAL;
-    }
-    if !fits {
-        return refusal::BUFFER_LENGTH;
-    }
-    0
 }
 
 // The reply to a sequence of so many events: that of its last event, or accepted where there is none.
@@ -816,7 +452,7 @@ fn end_reply(values: &[u8], count: usize, total: u64, wheel: Wheel) -> Reply
     if count == 0 {
         return Reply::Accepted;
     }
-    Reply::Value(measured(values[count - 1], total, wheel))
+    Reply::Value(measured(wide_byte(values[count - 1]), total, wheel))
 }
 
 // Replay: a sequence of events with their pulses on one channel, the values into a lent buffer; 17 is tested once. Events for which there
@@ -887,12 +523,11 @@ pub fn replay<'a>(
 // The tool with another table in a channel, at state 0 and with no pulses: so many states, whose entries' bytes these are.
 fn stored(tool: Tool, channel: usize, states: u16, table: &[u8]) -> Tool
     requires { ⌜ Storable (tool .setup .events) (tool .states) channel states × (states * tool .setup .events * 2 ≤ length (now table)) ⌝ }
-    ensures { λ r. ⌜ store-of r ≡ with-table (store-of tool) channel states (column 0 (now (table .entry)) (states * tool .setup .events))
-        (column 1 (now (table .entry)) (states * tool .setup .events)) ⌝ }
+    ensures { λ r. ⌜ store-of r ≡ with-entries (store-of tool) channel states (now (table .entry)) ⌝ }
 {
-    let events = tool.setup.events;
-    let value = replace(&tool.value, &tool.states, channel, events, states, table, 0);
-    let next = replace(&tool.next, &tool.states, channel, events, states, table, 1);
+    let room = room_for(&tool.states, channel, tool.setup.events, states);
+    let value = splice(&tool.value, room, table, 2, 0);
+    let next = splice(&tool.next, room, table, 2, 1);
     let mut t = tool;
     t.value = value;
     t.next = next;
@@ -961,15 +596,6 @@ fn compile_for(
     let v = wide(values);
     let count = v * v;
     compile(wide(events), v, wide(top), &meet[..count], rule, table)
-}
-
-fn counted_reply(verdict: Counted) -> Reply
-    ensures { λ r. ⌜ reply-of r ≡ counted-reply verdict ⌝ }
-{
-    match verdict {
-        Counted::Count(_) => Reply::Accepted,
-        Counted::Refused(x) => Reply::Refused(x),
-    }
 }
 
 // Load a rule: its table replaces what the channel had, at state 0 and with no pulses. A refused loading hands the old tool back.

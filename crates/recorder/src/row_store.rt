@@ -1,19 +1,28 @@
 // Document 02, F-12: one store of rows for all channels, packed in channel order. Where a channel's rows start follows from the counts of
 // states; no place is stored.
+use crate::widths::smaller;
 use crate::widths::wide;
 use crate::widths::wide16;
 use limits::CHANNEL_LIMIT;
 use limits::ROW_LIMIT;
 use limits::STORE_LIMIT;
 ghost use mathlib.Core.Path.{_≡_};
-ghost use Prim.Native.Nat.{_+_, _*_, _≤_, _<_};
+ghost use Prim.Native.Nat.{_+_, _*_, _-_, _≤_, _<_, max, min};
 ghost use lib.Dec.{leb};
-ghost use lib.ListN.{length, set};
+ghost use lib.ListN.{length, getD, set};
 ghost use lib.Seq.{paste};
 ghost use Rattle.limits.specs.Limits.{channel-limit, row-limit, store-limit};
 ghost use Rattle.recorder.specs.Store.{rows-start};
-ghost use Rattle.recorder.specs.Splicing.{part, rows-before, row-count, spliced, replaced, column};
-ghost use Rattle.recorder.specs.Decisions.{largest, Storable};
+ghost use Rattle.recorder.specs.Splicing.{rows-before, row-count, spliced, column};
+ghost use Rattle.recorder.specs.Decisions.{together, Storable, room-of, RoomFits};
+
+// What a splice goes by: where the old entries lie and how many they are, how many come for them, and how many lie behind.
+pub struct Room {
+    pub at: usize,
+    pub old: usize,
+    pub new: usize,
+    pub later: usize,
+}
 
 // The rows of the first so many channels.
 pub fn rows_before(states: &[u16; CHANNEL_LIMIT], count: usize) -> usize
@@ -55,14 +64,41 @@ pub fn rows_left(states: &[u16; CHANNEL_LIMIT], channel: usize, new: usize) -> b
     rows - own + new <= ROW_LIMIT
 }
 
-// The largest of so many entries from a place on, or 0. No early exit: the loop is one of vectors.
-pub fn largest(entries: &[u8; STORE_LIMIT], from: usize, count: usize) -> u8
-    requires { ⌜ (from + count ≤ store-limit) × (length (now entries) ≡ store-limit) ⌝ }
-    ensures { λ r. ⌜ r ≡ largest (part (now (entries .entry)) from count) ⌝ }
+// Where the rows of a channel lie, and what a table of so many states needs in their place.
+pub fn room_for(states: &[u16; CHANNEL_LIMIT], channel: usize, events: u8, new: u16) -> Room
+    requires { ⌜ Storable events (now states) channel new × (length (now states) ≡ channel-limit) ⌝ }
+    ensures { λ r. ⌜ (r ≡ room-of events (now (states .entry)) channel new) × RoomFits r ⌝ }
 {
+    let n = wide(events);
+    let all = rows_before(states, CHANNEL_LIMIT);
+    let passed = rows_before(states, channel + 1);
+    Room {
+        at: rows_start(states, channel, events),
+        old: wide16(states[channel]) * n,
+        new: wide16(new) * n,
+        later: (all - passed) * n,
+    }
+}
+
+// How many of so many entries from a place on lie in the store.
+pub fn entries_there(from: usize, count: usize) -> usize
+    ensures { λ r. ⌜ r ≡ min count (store-limit - from) ⌝ }
+{
+    if STORE_LIMIT <= from {
+        return 0;
+    }
+    smaller(count, STORE_LIMIT - from)
+}
+
+// The largest of so many entries from a place on, or 0; those that would lie behind the store are 0. No early exit: the loop is one of vectors.
+pub fn largest(entries: &[u8; STORE_LIMIT], from: usize, count: usize) -> u8
+    requires { ⌜ length (now entries) ≡ store-limit ⌝ }
+    ensures { λ r. ⌜ r ≡ together max count (λ i. getD (now (entries .entry)) (from + i) 0) ⌝ }
+{
+    let end = entries_there(from, count);
     let mut most: u8 = 0;
     let mut i: usize = 0;
-    while i < count {
+    while i < end {
         let x = entries[from + i];
         if most < x {
             most = x;
@@ -84,67 +120,44 @@ fn copy_entries(store: &mut [u8; STORE_LIMIT], at: usize, entries: &[u8])
     }
 }
 
-// Copies the values of a table's entries, or the next states, into the store from a place on.
-fn copy_column(store: &mut [u8; STORE_LIMIT], at: usize, table: &[u8], which: usize, count: usize)
-    requires { ⌜ (at + count ≤ store-limit) × (which ≤ 1) × (count * 2 ≤ length (now table)) × (length (now store) ≡ store-limit) ⌝ }
-    ensures { λ _. ⌜ now (store .exit) ≡ paste (now (store .entry)) at (column which (now (table .entry)) count) count ⌝ }
+// Copies one byte of each entry of a table, whose entries have so many bytes, into the store from a place on.
+fn copy_column(
+    store: &mut [u8; STORE_LIMIT],
+    at: usize,
+    table: &[u8],
+    width: usize,
+    which: usize,
+    count: usize,
+)
+    requires { ⌜ (at + count ≤ store-limit) × (which < width) × (width ≤ 5) × (count * width ≤ length (now table)) × (length (now store) ≡ store-limit) ⌝ }
+    ensures { λ _. ⌜ now (store .exit) ≡ paste (now (store .entry)) at (column width which (now (table .entry)) count) count ⌝ }
 {
     let mut i: usize = 0;
     while i < count {
-        store[at + i] = table[i * 2 + which];
+        store[at + i] = table[i * width + which];
         i += 1;
     }
 }
 
-// New entries for the old ones at a place; what lies behind them moves up or down, and zeros come last.
-fn splice<'a>(
+// One byte of each entry of a table for the old entries at a place; what lies behind them moves up or down, and zeros come last.
+pub fn splice<'a>(
     rows: &'a [u8],
-    at: usize,
-    old: usize,
+    room: Room,
     table: &'a [u8],
+    width: usize,
     which: usize,
-    new: usize,
-    later: usize,
 ) -> [u8; STORE_LIMIT]
-    requires { ⌜ (length (now rows) ≡ store-limit) × (at + old + later ≤ store-limit) × (at + new + later ≤ store-limit) × (which ≤ 1)
-        × (new * 2 ≤ length (now table)) ⌝ }
-    ensures { λ r. ⌜ r ≡ spliced (now (rows .entry)) at old (column which (now (table .entry)) new) later ⌝ }
+    requires { ⌜ (length (now rows) ≡ store-limit) × RoomFits room × (which < width) × (width ≤ 5) × (room .new * width ≤ length (now table)) ⌝ }
+    ensures { λ r. ⌜ r ≡ spliced (now (rows .entry)) (room .at) (room .old) (column width which (now (table .entry)) (room .new)) (room .later) ⌝ }
 {
+    let at = room.at;
+    let new = room.new;
+    let old = room.old;
     let behind = at + old;
-    let end = behind + later;
+    let end = behind + room.later;
     let mut store = [0u8; STORE_LIMIT];
     copy_entries(&mut store, 0, &rows[..at]);
-    copy_column(&mut store, at, table, which, new);
+    copy_column(&mut store, at, table, width, which, new);
     copy_entries(&mut store, at + new, &rows[behind..end]);
     store
-}
-
-// The values of a table of so many states for those of a channel, or the next states.
-pub fn replace<'a>(
-    rows: &'a [u8],
-    states: &'a [u16; CHANNEL_LIMIT],
-    channel: usize,
-    events: u8,
-    new: u16,
-    table: &'a [u8],
-    which: usize,
-) -> [u8; STORE_LIMIT]
-    requires { ⌜ Storable events (now states) channel new × (which ≤ 1) × (new * events * 2 ≤ length (now table)) × (length (now rows) ≡ store-limit)
-        × (length (now states) ≡ channel-limit) ⌝ }
-    ensures { λ r. ⌜ r ≡ replaced events (now (states .entry)) channel (column which (now (table .entry)) (new * events)) (now (rows .entry)) ⌝ }
-{
-    let n = wide(events);
-    let at = rows_start(states, channel, events);
-    let old = wide16(states[channel]) * n;
-    let all = rows_before(states, CHANNEL_LIMIT);
-    let passed = rows_before(states, channel + 1);
-    splice(
-        rows,
-        at,
-        old,
-        table,
-        which,
-        wide16(new) * n,
-        (all - passed) * n,
-    )
 }

@@ -8,6 +8,12 @@ pub fn wide(x: u8) -> usize
     x as usize
 }
 
+pub fn wide_byte(x: u8) -> u32
+    ensures { λ r. ⌜ r ≡ x ⌝ }
+{
+    x as u32
+}
+
 pub fn wide16(x: u16) -> usize
     ensures { λ r. ⌜ (r ≡ x) × (r ≤ 65535) ⌝ }
 {

@@ -1,6 +1,6 @@
 -- The answer and the buffer's later contents of `compile`, case by case.
-use mathlib.Core.{Path.{_≡_, refl, sym, _∙_, ap, ap₂, subst}, Logic.{⊎-elim}, Bool.{Bool, true, false}, List.{List}, Option.{Option, none, some}}
-use Prim.Native.Nat.{ℕ, _*_, _/_, _%_, _≤_, _<_}
+use mathlib.Core.{Path.{_≡_, refl, sym, _∙_, ap, ap₂, subst}, Logic.{⊎-elim}, Bool.{Bool, true, false}, List.{List, []}, Option.{Option, none, some}}
+use Prim.Native.Nat.{ℕ, _*_, _/_, _%_, _≤_, _<_, min}
 use native.Mathlib.{Nat.{mul-le-mul-right}, Decide.{decLe}, Omega.{arith}}
 use borrow.Author.Tests.{leb-true, le-leb, lt-leb}
 use lib.{Dec.{leb}, ListN.{length}}
@@ -17,7 +17,8 @@ use Rattle.refusal.specs.RefusalAnswers.{put-unless}
 use Rattle.refusal.proofs.Refusals.{judgement-accepted, judgement-refused, or-else-none, plain-none}
 use Rattle.values.specs.declared.ValueKind.{ValueKind}
 use Rattle.values.specs.declared.ValueKind.the-variants.{Numbered, Register}
-use Rattle.values.specs.Setup.{ValueIn, meetOf, topOf, Setup, setup-of-kind, setup, setup-meet, setup-top}
+use Rattle.theory.specs.ValueSets.{pack, top-masks}
+use Rattle.values.specs.Setup.{ValueIn, meetOf, topOf, Setup, setup-of-kind, setup, register-setup, setup-meet, setup-top}
 use Rattle.values.specs.SetupInOrder.{SetupLaws}
 use Rattle.values.specs.SetupTests.{kind-refusal, setup-refusal}
 use Rattle.values.specs.ValueTests.{value-fits}
@@ -32,7 +33,7 @@ use Rattle.machines.proofs.{Stores.{stored-table, storable-room, after-none, af
 use Rattle.synthesis.specs.Compilation.{rule-states, rule-table, rule-table-refusal, setup-states, setup-table}
 use Rattle.synthesis.specs.{Compilation.{compile-refusal, compile-answer, compile-contents}, MadeTable.{Tabled, Attempted, Answered, attempt-answer}}
 use Rattle.synthesis.proofs.{Compilation.{judged-nodes, answer-many, answer-short, answer-stored}, CompiledTable.{table-runs, wider}}
-use Rattle.limits.specs.Limits.{event-limit, value-limit, node-limit, state-limit}
+use Rattle.limits.specs.Limits.{event-limit, value-limit, line-limit, node-limit, state-limit}
 
 -- The lent buffer beside an answer.
 pub contents-at :
@@ -284,3 +285,25 @@ module _ (events values top : ℕ) (meet : List ℕ) (e : judgement (setup-refus
 
   pub in-limits : (values ≤ value-limit) × (top < values)
   in-limits = let w = setup-accepted (setup events values top meet) .0 setup-fine in (w .of-kind .few-values, w .laws .top-in)
+
+-- A register's.
+module _ (events lines : ℕ) (e : judgement (setup-refusal (register-setup events lines)) ≡ AcceptedJudgement) where
+  pub register-fine : setup-refusal (register-setup events lines) ≡ none
+  register-fine = judgement-accepted (setup-refusal (register-setup events lines)) e
+
+  pub few-lines : lines ≤ line-limit
+  few-lines = setup-accepted (register-setup events lines) .0 register-fine .of-kind .few-lines
+
+  pub top-is : pack (top-masks (min lines line-limit)) ≡ pack (top-masks lines)
+  top-is = ap (λ n. pack (top-masks n)) (omega (arith, few-lines))
+
+  -- What is answered of a set-up with that top is answered of the register's.
+  pub register-answer :
+      (limit top : ℕ) (rule old : List ℕ) (a : Counted) (new : List ℕ) → top ≡ pack (top-masks (min lines line-limit)) →
+      (a ≡ compile-answer limit (setup-of-kind events (Register lines) top []) rule old)
+      × (new ≡ compile-contents limit (setup-of-kind events (Register lines) top []) rule old) →
+      (a ≡ compile-answer limit (register-setup events lines) rule old) × (new ≡ compile-contents limit (register-setup events lines) rule old)
+  register-answer limit top rule old a new t h =
+      subst
+      (λ x. (a ≡ compile-answer limit (setup-of-kind events (Register lines) x []) rule old)
+      × (new ≡ compile-contents limit (setup-of-kind events (Register lines) x []) rule old)) (t ∙ top-is) h

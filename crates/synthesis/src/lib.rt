@@ -25,13 +25,15 @@ use refusal::Refusal;
 use refusal::STATE_COUNT;
 use tables::table_of;
 use values::ValueKind;
+use values::check_register;
 use values::check_setup_by_sets;
+use values::register_top;
 ghost use mathlib.Core.Path.{_≡_};
 ghost use mathlib.Core.Option.{none};
 ghost use Prim.Native.Nat.{_*_, _<_, _≤_};
 ghost use lib.ListN.{length};
 ghost use Rattle.refusal.specs.RefusalAnswers.{or-else, plain-unless, judgement};
-ghost use Rattle.values.specs.Setup.{topOf, meetOf, setup-of-kind, setup};
+ghost use Rattle.values.specs.Setup.{topOf, meetOf, setup-of-kind, setup, register-setup};
 ghost use Rattle.formulas.specs.RuleConditions.{node-width};
 ghost use Rattle.formulas.specs.NodeWalks.{field};
 ghost use Rattle.formulas.specs.RuleRefusal.{count-fits, fields-refusal};
@@ -319,6 +321,25 @@ pub fn compile(
         events,
         top as u32,
         meet,
+        rule,
+        to,
+    )
+}
+
+// The table of a register's rule in lent bytes, five an entry: 1, 20, 5 to 10, 13.
+pub fn compile_register(events: usize, lines: usize, rule: &[u8], to: &mut [u8]) -> Counted
+    ensures answer { λ r. ⌜ r ≡ compile-answer state-limit (register-setup events lines) (now (rule .entry)) (now (to .entry)) ⌝ }
+    ensures contents { λ _. ⌜ now (to .exit) ≡ compile-contents state-limit (register-setup events lines) (now (rule .entry)) (now (to .entry)) ⌝ }
+{
+    let judged = check_register(events, lines);
+    if let Judgement::Refused(refusal) = judged {
+        return Counted::Refused(refusal);
+    }
+    compile_accepted(
+        ValueKind::Register(lines as u32),
+        events,
+        register_top(lines),
+        &[],
         rule,
         to,
     )

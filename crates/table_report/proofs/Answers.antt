@@ -8,6 +8,7 @@ use Rattle.channel_io.specs.Claims.{table-bytes-limit}
 use Rattle.refusal.specs.declared.{Refusal.{Refusal}, Counted.{Counted}}
 use Rattle.refusal.specs.declared.Counted.the-variants.{Count}
 use Rattle.refusal.proofs.Refusals.{counted-accepted}
+use Rattle.values.specs.declared.ValueKind.the-variants.{Numbered}
 use Rattle.channel_io.specs.declared.FileNumbers.{FileNumbers}
 use Rattle.channel_io.specs.FileReading.{numbers}
 use Rattle.channel_io.specs.FileRefusals.{file-states, file-table}
@@ -51,13 +52,14 @@ module _ {t meet table meet′ made : List ℕ} {n : FileNumbers} {k : ℕ} (w :
   bytes = take (k * n .events * 2) made
 
   pub made-reports : {old new : List ℕ} {answer : Counted}
-      → Renders (handed-refusal (n .events) (n .values) 0 k bytes) (rows-text (n .events) (n .values) k bytes) old new answer → Reports t old new answer
+      → Renders (handed-refusal (n .events) (Numbered (n .values)) 0 k bytes) (rows-text (n .events) (Numbered (n .values)) k bytes) old new answer
+      → Reports t old new answer
   unfolding outcome-text answer-text
   made-reports h =
       record {
         rendered =
-            renders-as (of-file (λ e v j b. handed-refusal e v 0 j b) ∙ handed-passed (w .inside) (w .passed))
-            (of-file rows-text
+            renders-as (of-file (λ e v j b. handed-refusal e (Numbered v) 0 j b) ∙ handed-passed (w .inside) (w .passed))
+            (of-file (λ e v j b. rows-text e (Numbered v) j b)
             ∙ sym (ap outcome-text (w .reads)
             ∙ ap (λ (o : Option Refusal). answer-text o (w .inside .events) (w .inside .values) (file-states (w .inside)) (file-table (w .inside)))
             (w .passed)))

@@ -7,6 +7,7 @@ use Rattle.theory.proofs.{Claims.{numbering}, SetMachine.{table-of-iff}}
 use Rattle.refusal.specs.declared.Refusal.{Refusal}
 use Rattle.refusal.specs.Refusal.{First}
 use Rattle.values.specs.declared.ValueKind.{ValueKind}
+use Rattle.values.specs.declared.ValueKind.the-variants.{Numbered}
 use Rattle.values.specs.Setup.{ValueIn, Setup, setup-meet, setup-top}
 use Rattle.text_format.specs.Format.{Outcome, contents, refused}
 use Rattle.text_format.specs.Texts.{ascii}
@@ -31,7 +32,7 @@ use Rattle.table_report.specs.Claims.{ReportClaim, OneReportClaim}
 -- ---- a text
 module _ (t : List ℕ) where
   table-printed : (c : Contents) → AnswersFile t (contents c) → contents-table-refusal c ≡ none
-      → Prints t (rows-text (c .events) (c .values) (file-states c) (file-table c))
+      → Prints t (rows-text (c .events) (Numbered (c .values)) (file-states c) (file-table c))
   table-printed c a e =
       table c _ _ (a .0) (a .1) (subst (First (contents-table-conditions c)) e (contents-table-claim c .first))
       (printed-table (file-setup c) (rule-numbers c) _ _ (file-table-made c e .table))
@@ -65,7 +66,7 @@ module _ (s : Setup) (rule : List ℕ) where
 
   -- a rule has one table, and so one text of it
   one-table : (n k : ℕ) (t u : Machine ℕ ℕ) → 1 ≤ events → RuleTable meet top events kind rule n t → IsRuleTable s rule k u
-      → table-text events n t ≡ table-text events k u
+      → table-text kind events n t ≡ table-text kind events k u
   unfolding table-text
   one-table n k t u some-events x y =
       let φ = x .formula in
@@ -75,14 +76,14 @@ module _ (s : Setup) (rule : List ℕ) where
       (table-of-iff meet top φ (well .guarded) events k u .0
       (subst (λ (χ : Formula ℕ). IsTableOf meet top events χ k u) (x .only (y .formula) (y .code)) (y .is-table))) in
       ap (λ (rows : List ℕ). line (ascii "events=") (numeral events) ++ (line (ascii "states=") (numeral n) ++ rows))
-      (each-same (entry-line events t) (entry-line events u) (n * events) 0 (λ i low high.
+      (each-same (entry-line kind events t) (entry-line kind events u) (n * events) 0 (λ i low high.
       let l : i / events < n = div-lt-iff-lt-mul some-events .1 (omega arith) in
       let e : i % events < events = mod-lt i some-events in
-      ap₂ (λ (v m : ℕ). row-line (i / events) (i % events) v m) (same .1 (i / events) (i % events) l e .0) (same .1 (i / events) (i % events) l e .1)))
-      ∙ ap (λ (m : ℕ). table-text events m u) (same .0)
+      ap₂ (row-line kind (i / events) (i % events)) (same .1 (i / events) (i % events) l e .0) (same .1 (i / events) (i % events) l e .1)))
+      ∙ ap (λ (m : ℕ). table-text kind events m u) (same .0)
 
 some-events : (c : Contents) → contents-table-refusal c ≡ none → 1 ≤ c .events
-some-events c e = few-entries (c .events) (c .values) 0 (file-states c) (file-table c) (handed-passed c e) .some-events
+some-events c e = few-entries (c .events) (Numbered (c .values)) 0 (file-states c) (file-table c) (handed-passed c e) .some-events
 
 module _ (t : List ℕ) (c : Contents) (a : AnswersFile t (contents c)) where
   printed-as : (x : Option Refusal) → contents-table-refusal c ≡ x
@@ -98,7 +99,7 @@ module _ (t : List ℕ) (c : Contents) (a : AnswersFile t (contents c)) where
 
   one-text : (n : ℕ) (m : Machine ℕ ℕ) → First (contents-table-conditions c) none
       → IsRuleTable (file-setup c) (rule-numbers c) n m
-      → table-text (c .events) n m ≡ outcome-text (read-file t)
+      → table-text (file-setup c .kind) (c .events) n m ≡ outcome-text (read-file t)
   unfolding answer-text
   one-text n m x y =
       let e = sym (contents-table-claim c .only none x) in

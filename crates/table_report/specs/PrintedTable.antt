@@ -21,7 +21,7 @@ pub data Prints (t : List ℕ) : List ℕ → Type 0 where
   off-form : (p : ℕ) → Refused4 t p → Prints t (refusal-text (At 4 p))
   refused : (c : Contents) (r : Refusal) → length t ≤ file-limit → Shows c t → First (contents-table-conditions c) (some r) → Prints t (refusal-text r)
   table : (c : Contents) (n : ℕ) (m : Machine ℕ ℕ) → length t ≤ file-limit → Shows c t → First (contents-table-conditions c) none →
-      IsRuleTable (file-setup c) (rule-numbers c) n m → Prints t (table-text (c .events) n m)
+      IsRuleTable (file-setup c) (rule-numbers c) n m → Prints t (table-text (file-setup c .kind) (c .events) n m)
 
 -- 13, where the lent buffer is shorter than what is printed.
 abbrev pub report-conditions : List ℕ → List ℕ → List Condition

@@ -2,18 +2,19 @@
 -- What is printed for a text (document 01, "Channel file"): the table of its rule, or the refusal, where 4, 1 to 3, 5 to 9 and 10
 -- are looked at in this order.
 use Prim.Native.Nat.{ℕ, _≤_}
-use mathlib.Core.{List.{List, [], _∷_}, Option.{Option, none, some}}
+use mathlib.Core.{List.{List}, Option.{Option, none, some}}
 use lib.ListN.{length}
-use Rattle.refusal.specs.{declared.Refusal.{Refusal}, declared.Refusal.the-variants.{Plain, At}, declared.Counted.{Counted}}
-use Rattle.text_format.specs.{Format.{Outcome, contents, refused}, Texts.{ascii, separated, numeral}}
-use Rattle.channel_file.specs.{ChannelFile.{Contents, line}, Reading.{read-file}}
+use Rattle.refusal.specs.{declared.Refusal.{Refusal}, declared.Refusal.the-variants.{At}, declared.Counted.{Counted}}
+use Rattle.values.specs.declared.ValueKind.the-variants.{Numbered}
+use Rattle.text_format.specs.Format.{Outcome, contents, refused}
+use Rattle.channel_file.specs.{ChannelFile.{Contents}, Reading.{read-file}}
 use Rattle.table_rows.specs.{Rendering.{Renders}, Rows.{rows-text, rows-limit}}
 use Rattle.channel_io.specs.FileRefusals.{file-states, file-table, contents-table-refusal}
 use Rattle.table_report.specs.PrintedTable.{refusal-text}
 
 -- The lines for an answer: those of a table of n states in bytes, or of a refusal.
 unfoldable pub answer-text : Option Refusal → ℕ → ℕ → ℕ → List ℕ → List ℕ
-answer-text none events values n bytes = rows-text events values n bytes
+answer-text none events values n bytes = rows-text events (Numbered values) n bytes
 answer-text (some refusal) events values n bytes = refusal-text refusal
 
 -- For a text, by what the file reader says of it.

@@ -4,8 +4,8 @@ use mathlib.Core.{Path.{_≡_, refl, sym, ap, ap₂, _∙_, subst}, List.{List},
 use native.Mathlib.Omega.{arith}
 use lib.{Dec.{leb}, ListN.{length}}
 use borrow.Author.Tests.{lt-leb, le-leb, leb-true, leb-false}
-use Rattle.limits.specs.Limits.{event-limit, value-limit, table-limit}
-use Rattle.theory.specs.{ValueSets.{Below}, MealyMachine.{States, Runs}}
+use Rattle.limits.specs.Limits.{event-limit, table-limit}
+use Rattle.theory.specs.MealyMachine.{States, Runs}
 use Rattle.theory.proofs.ValueSets.{and-left, and-right}
 use Rattle.refusal.specs.declared.{Refusal.{Refusal}, Counted.{Counted}}
 use Rattle.refusal.specs.declared.Refusal.the-variants.{Plain}
@@ -16,94 +16,110 @@ use Rattle.refusal.specs.RefusalAnswers.{or-else, plain-unless, judgement, coun
 use Rattle.refusal.specs.Refusal.{put}
 use Rattle.refusal.specs.RefusalAnswers.{put-unless}
 use Rattle.refusal.proofs.Refusals.{plain-first, first-append, judged, or-else-assoc, or-else-none, plain-none}
-use Rattle.values.specs.declared.ValueKind.the-variants.{Numbered}
-use Rattle.values.specs.SetupTests.{events-test, values-test}
-use Rattle.values.proofs.Setups.{events-first, values-first, values-small}
+use Rattle.values.specs.declared.ValueKind.{ValueKind}
+use Rattle.values.specs.declared.ValueKind.the-variants.{Numbered, Register}
+use Rattle.values.specs.{Setup.{ValueIn, register-setup, kind-conditions, setup-conditions}, SetupTests.{events-test, values-test}}
+use Rattle.values.proofs.Setups.{events-first, values-first, setup-first, accepted-events}
 use Rattle.machines.specs.{TableBytes.{machine-of}, TableRefusal.{table-refusal}}
 use Rattle.machines.proofs.TableRefusals.{table-refusal-first, none-in-order, accepted-table}
 use Rattle.text_output.specs.Output.{Puts}
 use Rattle.text_output.proofs.Outputs.{puts-long, puts-again}
-use Rattle.table_rows.specs.TableConditions.{rendering-conditions}
-use Rattle.table_rows.specs.Rendering.{handed-refusal, rendering-refusal, Renders}
+use Rattle.table_rows.specs.TableConditions.{count-conditions, rendering-conditions}
+use Rattle.table_rows.specs.Rendering.{count-refusal, handed-refusal, rendering-refusal, Renders}
 use Rattle.table_rows.specs.Claims.{RenderingClaim}
 use Rattle.table_rows.specs.Claims.{FewEntries, RowsLengthClaim}
 use Rattle.table_rows.proofs.Texts.{table-length}
 
 -- ---- the judgement
 
-rendering-first : (events values top states : ℕ) (bytes text : List ℕ) (room : ℕ)
-    → First (rendering-conditions events values top states bytes text room) (rendering-refusal (handed-refusal events values top states bytes) text room)
+count-first : (events : ℕ) (kind : ValueKind) (top : ℕ) → First (count-conditions events kind top) (count-refusal events kind top)
+unfolding count-refusal
+count-first events (Numbered values) top = first-append _ _ _ _ (events-first events) (values-first values top)
+count-first events (Register lines) top = setup-first (register-setup events lines)
+
+rendering-first : (events : ℕ) (kind : ValueKind) (top states : ℕ) (bytes text : List ℕ) (room : ℕ)
+    → First (rendering-conditions events kind top states bytes text room) (rendering-refusal (handed-refusal events kind top states bytes) text room)
 unfolding rendering-refusal handed-refusal
-rendering-first events values top states bytes text room =
-    let e = plain-unless (events-test events) 1 in
-    let v = plain-unless (values-test values top) 2 in
-    let t = table-refusal table-limit events (Numbered values) states 0 bytes in
+rendering-first events kind top states bytes text room =
+    let c = count-refusal events kind top in
+    let t = table-refusal table-limit events kind states 0 bytes in
     let b = plain-unless (leb (length text) room) 13 in
-    subst (First (rendering-conditions events values top states bytes text room))
-    (ap (or-else e) (or-else-assoc v t b) ∙ or-else-assoc e (or-else v t) b)
-    (first-append _ _ e _ (events-first events)
-    (first-append _ _ v _ (values-first values top)
-    (first-append _ _ t _ (table-refusal-first table-limit events (Numbered values) states 0 bytes)
+    subst (First (rendering-conditions events kind top states bytes text room)) (or-else-assoc c t b)
+    (first-append _ _ c _ (count-first events kind top)
+    (first-append _ _ t _ (table-refusal-first table-limit events kind states 0 bytes)
     (plain-first 13 (room < length text) (leb (length text) room)
     (λ f. leb-false (length text) room f)
-    (λ f h. omega (arith, leb-true (length text) room f))))))
+    (λ f h. omega (arith, leb-true (length text) room f)))))
 
 pub rendering-judged : RenderingClaim
-unfolding condition-numbers right-places part-of order has-place
-rendering-judged events values top states bytes text room =
-    judged _ _ (rendering-first events values top states bytes text room) refl refl
+unfolding setup-conditions kind-conditions condition-numbers right-places part-of order has-place
+rendering-judged events (Numbered values) top states bytes text room =
+    judged _ _ (rendering-first events (Numbered values) top states bytes text room) refl refl
+rendering-judged events (Register lines) top states bytes text room =
+    judged _ _ (rendering-first events (Register lines) top states bytes text room) refl refl
 
-module _ (events values top states : ℕ) (bytes : List ℕ) where
+counts-events : (events : ℕ) (kind : ValueKind) (top : ℕ) → count-refusal events kind top ≡ none → events-test events ≡ true
+unfolding count-refusal
+counts-events events (Numbered values) top e = plain-none (events-test events) 1 (or-else-none (plain-unless (events-test events) 1) _ e .0)
+counts-events events (Register lines) top e = accepted-events (register-setup events lines) e
+
+module _ (events : ℕ) (kind : ValueKind) (top states : ℕ) (bytes : List ℕ) where
   -- what is known of a table that passed
-  module _ (passed : handed-refusal events values top states bytes ≡ none) where
-    events-passed : events-test events ≡ true
+  module _ (passed : handed-refusal events kind top states bytes ≡ none) where
+    pub counts-passed : count-refusal events kind top ≡ none
     unfolding handed-refusal
-    events-passed = plain-none (events-test events) 1 (or-else-none (plain-unless (events-test events) 1) _ passed .0)
+    counts-passed = or-else-none (count-refusal events kind top) _ passed .0
 
-    later-passed : (values-test values top ≡ true) × (table-refusal table-limit events (Numbered values) states 0 bytes ≡ none)
+    table-passed : table-refusal table-limit events kind states 0 bytes ≡ none
     unfolding handed-refusal
-    later-passed =
-        let p = or-else-none (plain-unless (values-test values top) 2) _ (or-else-none (plain-unless (events-test events) 1) _ passed .1) in
-        (plain-none (values-test values top) 2 (p .0), p .1)
+    table-passed = or-else-none (count-refusal events kind top) _ passed .1
 
     pub few-entries : FewEntries events states
     unfolding events-test
     few-entries =
+        let few = counts-events events kind top counts-passed in
         record {
-          some-events = leb-true 1 events (and-left (leb 1 events) (leb events event-limit) events-passed);
-          few-events = leb-true events event-limit (and-right (leb 1 events) (leb events event-limit) events-passed);
-          few-states = none-in-order table-limit events (Numbered values) states 0 bytes (later-passed .1) .few-states;
+          some-events = leb-true 1 events (and-left (leb 1 events) (leb events event-limit) few);
+          few-events = leb-true events event-limit (and-right (leb 1 events) (leb events event-limit) few);
+          few-states = none-in-order table-limit events kind states 0 bytes table-passed .few-states;
         }
 
-    pub few-values : values ≤ value-limit
-    few-values = values-small values top (later-passed .0)
+    pub handed-runs : Runs events (ValueIn kind) (States states) (machine-of kind events bytes)
+    handed-runs = accepted-table table-limit events kind states 0 bytes table-passed .runs
 
-    pub handed-runs : Runs events (Below values) (States states) (machine-of (Numbered values) events bytes)
-    handed-runs = accepted-table table-limit events (Numbered values) states 0 bytes (later-passed .1) .runs
-
-  pub handed-none : events-test events ≡ true → values-test values top ≡ true
-      → table-refusal table-limit events (Numbered values) states 0 bytes ≡ none → handed-refusal events values top states bytes ≡ none
-  unfolding handed-refusal or-else plain-unless
-  handed-none e v t = rw (e, v) t
+  pub handed-none : count-refusal events kind top ≡ none → table-refusal table-limit events kind states 0 bytes ≡ none
+      → handed-refusal events kind top states bytes ≡ none
+  unfolding handed-refusal or-else
+  handed-none c t = rw c t
 
   -- the answers of the check
-  pub bad-events : events-test events ≡ false → Unaccepted (Plain 1) ≡ judgement (handed-refusal events values top states bytes)
-  unfolding handed-refusal judgement or-else plain-unless
+  pub bad-counts : (r : Refusal) → count-refusal events kind top ≡ some r → Unaccepted r ≡ judgement (handed-refusal events kind top states bytes)
+  unfolding handed-refusal judgement or-else
+  bad-counts r e = rw e
+
+  pub table-left : count-refusal events kind top ≡ none
+      → judgement (table-refusal table-limit events kind states 0 bytes) ≡ judgement (handed-refusal events kind top states bytes)
+  unfolding handed-refusal or-else
+  table-left e = rw e
+
+-- what the tests of numbers say
+module _ (events values top : ℕ) where
+  pub bad-events : events-test events ≡ false → count-refusal events (Numbered values) top ≡ some (Plain 1)
+  unfolding count-refusal or-else plain-unless
   bad-events e = rw e
 
-  pub bad-values : events-test events ≡ true → values-test values top ≡ false → Unaccepted (Plain 2) ≡ judgement (handed-refusal events values top states bytes)
-  unfolding handed-refusal judgement or-else plain-unless
+  pub bad-values : events-test events ≡ true → values-test values top ≡ false → count-refusal events (Numbered values) top ≡ some (Plain 2)
+  unfolding count-refusal or-else plain-unless
   bad-values e v = rw (e, v)
 
-  pub table-left : events-test events ≡ true → values-test values top ≡ true
-      → judgement (table-refusal table-limit events (Numbered values) states 0 bytes) ≡ judgement (handed-refusal events values top states bytes)
-  unfolding handed-refusal or-else plain-unless
-  table-left e v = rw (e, v)
+  pub counts-none : events-test events ≡ true → values-test values top ≡ true → count-refusal events (Numbered values) top ≡ none
+  unfolding count-refusal or-else plain-unless
+  counts-none e v = rw (e, v)
 
 pub rows-length : RowsLengthClaim
-rows-length events values states bytes passed =
-    table-length events states values _ (few-entries events values 0 states bytes passed) (few-values events values 0 states bytes passed)
-    (handed-runs events values 0 states bytes passed)
+rows-length events kind states bytes passed =
+    table-length events kind 0 states _ (few-entries events kind 0 states bytes passed) (counts-passed events kind 0 states bytes passed)
+    (handed-runs events kind 0 states bytes passed)
 
 -- ---- the answer
 

@@ -172,8 +172,12 @@ pub numeral-length : (v : ℕ) → length (numeral v) ≤ 20
 unfolding numeral
 numeral-length v = decimal-length 19 v
 
+-- the digits of a number within a limit
+pub numeral-digits : (j k v : ℕ) → j + k ≡ 19 → v < limit k → length (numeral v) ≤ k + 1
+numeral-digits j k v e h = omega (arith, ap length (numeral-within j k v e h), decimal-length k v)
+
 pub numeral-short : (v : ℕ) → v < 1000 → length (numeral v) ≤ 3
-numeral-short v h = omega (arith, ap length (numeral-within 17 2 v refl h), decimal-length 2 v)
+numeral-short v h = numeral-digits 17 2 v refl h
 
 -- ---- items
 

@@ -18,7 +18,7 @@ use Rattle.theory.proofs.ValueSets.{four-value-semilattice}
 use Rattle.limits.specs.Limits.{event-limit, value-limit, meet-limit, line-limit}
 use Rattle.values.specs.declared.ValueKind.{ValueKind}
 use Rattle.values.specs.declared.ValueKind.the-variants.{Numbered, Register}
-use Rattle.values.specs.Setup.{ValueIn, meetOf, topOf}
+use Rattle.values.specs.Setup.{ValueIn, meetOf, topOf, register-setup}
 use Rattle.values.specs.Setup.{Setup, setup, EventsFault, ValuesFault, values-out-of-limits, top-not-below, MeetFault, length-wrong, entry-not-below}
 use Rattle.values.specs.Setup.{law-broken, LinesFault, kind-conditions, setup-conditions}
 use Rattle.values.specs.SetupInOrder.{KindInLimits, AcceptedSetup}
@@ -123,6 +123,22 @@ module _ (events values top : ℕ) (meet : List ℕ) where
       → judgement (setup-refusal (setup events values top meet)) ≡ Accepted
   unfolding judgement setup-refusal kind-refusal or-else plain-unless
   judged-accepted e v m = rw (e, v, m)
+
+-- The same for a register.
+module _ (events lines : ℕ) where
+  pub judged-register-events : events-test events ≡ false → judgement (setup-refusal (register-setup events lines)) ≡ Refused (Plain 1)
+  unfolding judgement setup-refusal or-else plain-unless
+  judged-register-events e = rw e
+
+  pub judged-lines :
+      events-test events ≡ true → lines-test lines ≡ false → judgement (setup-refusal (register-setup events lines)) ≡ Refused (Plain 20)
+  unfolding judgement setup-refusal kind-refusal or-else plain-unless
+  judged-lines e l = rw (e, l)
+
+  pub judged-register :
+      events-test events ≡ true → lines-test lines ≡ true → judgement (setup-refusal (register-setup events lines)) ≡ Accepted
+  unfolding judgement setup-refusal kind-refusal or-else plain-unless
+  judged-register e l = rw (e, l)
 
 -- An entry of a whole table is the meet of two values.
 entry-below :

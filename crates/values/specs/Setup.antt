@@ -69,6 +69,10 @@ setup-of-kind events kind top meet = record { events = events; kind = kind; top 
 abbrev pub setup : ℕ → ℕ → ℕ → List ℕ → Setup
 setup events values top meet = setup-of-kind events (Numbered values) top meet
 
+-- Document 02's, of registers of so many lines (F-7): "top has all lines' bits set in both".
+abbrev pub register-setup : ℕ → ℕ → Setup
+register-setup events lines = setup-of-kind events (Register lines) (pack (top-masks lines)) []
+
 -- Which numbers are its values, their meet, and top.
 abbrev pub SetupValue : Setup → ℕ → Type 0
 SetupValue s = ValueIn (s .kind)

@@ -1,18 +1,20 @@
 // Document 01, "Value sets": the check of a set-up, the four-value set, values of either kind, their meet and how they compare.
 use limits::EVENT_LIMIT;
+use limits::LINE_LIMIT;
 use limits::VALUE_LIMIT;
 use refusal::Judgement;
 use refusal::Refusal;
 ghost use mathlib.Core.Path.{_≡_};
 ghost use mathlib.Core.Bool.{true};
-ghost use Prim.Native.Nat.{_+_, _^_, _<_, _≤_};
+ghost use Prim.Native.Nat.{_+_, _^_, _<_, _≤_, min};
 ghost use lib.ListN.{length, getD};
 ghost use Rattle.refusal.specs.RefusalAnswers.{judgement};
-ghost use Rattle.theory.specs.ValueSets.{meetAt, four-value-meet};
+ghost use Rattle.limits.specs.Limits.{line-limit};
+ghost use Rattle.theory.specs.ValueSets.{meetAt, four-value-meet, pack, top-masks};
 ghost use Rattle.theory.specs.ValueSetTests.{idempotent-test, commutative-test, associative-test, neutral-test};
 ghost use Rattle.values.specs.DownSets.{down-set, pair-test, pairs-test, DownSets};
-ghost use Rattle.values.specs.Setup.{setup};
-ghost use Rattle.values.specs.SetupTests.{events-test, values-test, entries-test, meet-test, setup-refusal, Square};
+ghost use Rattle.values.specs.Setup.{setup, register-setup};
+ghost use Rattle.values.specs.SetupTests.{events-test, values-test, lines-test, entries-test, meet-test, setup-refusal, Square};
 ghost use Rattle.values.specs.Setup.{value-width};
 ghost use Rattle.values.specs.Setup.{masks-value, value-from};
 ghost use Rattle.values.specs.ValueTests.{masks-from};
@@ -117,7 +119,7 @@ pub fn value_width(kind: ValueKind) -> usize
 }
 
 // The value of two masks in bytes, each mask's low byte first.
-fn masks_value(a: u8, b: u8, c: u8, d: u8) -> u32
+pub fn masks_value(a: u8, b: u8, c: u8, d: u8) -> u32
     ensures { λ r. ⌜ r ≡ masks-value a b c d ⌝ }
 {
     wide32(a) + 256 * wide32(b) + 65536 * (wide32(c) + 256 * wide32(d))
@@ -137,6 +139,9 @@ fn masks_from(bytes: &[u8], at: usize) -> u32
         return 0;
     }
     let rest = &bytes[at..];
+    if 4 <= rest.len() {
+        return masks_value(rest[0], rest[1], rest[2], rest[3]);
+    }
     masks_value(
         byte_at(rest, 0),
         byte_at(rest, 1),
@@ -400,4 +405,38 @@ pub fn check_setup_by_sets(events: usize, values: usize, top: usize, meet: &[u8]
     } else {
         Judgement::Accepted
     }
+}
+
+// Whether lines are 1 to 16.
+pub fn lines_in_limits(lines: usize) -> bool
+    ensures { λ r. ⌜ r ≡ lines-test lines ⌝ }
+{
+    if lines < 1 {
+        return false;
+    }
+    lines <= LINE_LIMIT
+}
+
+// The check of a register's set-up (document 02, F-7): refusals 1 and 20, in this order.
+pub fn check_register(events: usize, lines: usize) -> Judgement
+    ensures { λ r. ⌜ r ≡ judgement (setup-refusal (register-setup events lines)) ⌝ }
+{
+    if !events_in_limits(events) {
+        return Judgement::Refused(Refusal::Plain(refusal::SETUP_EVENTS));
+    }
+    if !lines_in_limits(lines) {
+        return Judgement::Refused(Refusal::Plain(refusal::SETUP_LINES));
+    }
+    Judgement::Accepted
+}
+
+// Top of a register: all lines' bits in both masks. More lines than 16 are taken as 16.
+pub fn register_top(lines: usize) -> u32
+    ensures { λ r. ⌜ r ≡ pack (top-masks (min lines line-limit)) ⌝ }
+{
+    if lines < LINE_LIMIT {
+        let mask = mask_bound(lines as u32) - 1;
+        return mask + 65536 * mask;
+    }
+    4294967295
 }

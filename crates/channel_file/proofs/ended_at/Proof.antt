@@ -11,7 +11,8 @@ use Rattle.channel_file.proofs.ended_at.Tie as tie
 
 returns : tie.Need-returns
 returns c =
-    let q = subst (SawNumber (numeral-parse 2) (now (c .before .before .before .before .before .before .args .text))
+    let q = subst (SawNumber (numeral-parse (c .before .before .before .before .before .before .args .more)) (now
+    (c .before .before .before .before .before .before .args .text))
     (c .before .before .before .before .before .before .args .at)) (c .before .before .v .given .1)
     (c .before .before .before .before .number-at .ensures) in
     record { same = rw (q .same) (rw (over _ _ (c .if1 .taken))); within = q .within }
@@ -19,13 +20,15 @@ returns c =
 returns-2 : tie.Need-returns-2
 returns-2 c =
     let q = subst
-    (SawNumber (numeral-parse 2) (now (c .before .before .before .before .before .args .text)) (c .before .before .before .before .before .args .at))
+    (SawNumber (numeral-parse (c .before .before .before .before .before .args .more)) (now (c .before .before .before .before .before .args .text))
+    (c .before .before .before .before .before .args .at))
     (c .before .p .given .1) (c .before .before .before .number-at .ensures) in
     record { same = rw (q .same); within = q .within }
 
 returns-3 : tie.Need-returns-3
 returns-3 c =
-    let q = subst (SawNumber (numeral-parse 2) (now (c .before .before .before .before .before .before .before .before .args .text))
+    let q = subst (SawNumber (numeral-parse (c .before .before .before .before .before .before .before .before .args .more)) (now
+    (c .before .before .before .before .before .before .before .before .args .text))
     (c .before .before .before .before .before .before .before .before .args .at)) (c .before .before .before .before .v .given .1)
     (c .before .before .before .before .before .before .number-at .ensures) in
     record {
@@ -38,7 +41,8 @@ returns-3 c =
 
 returns-4 : tie.Need-returns-4
 returns-4 c =
-    let q = subst (SawNumber (numeral-parse 2) (now (c .before .before .before .before .before .before .before .before .args .text))
+    let q = subst (SawNumber (numeral-parse (c .before .before .before .before .before .before .before .before .args .more)) (now
+    (c .before .before .before .before .before .before .before .before .args .text))
     (c .before .before .before .before .before .before .before .before .args .at)) (c .before .before .before .before .v .given .1)
     (c .before .before .before .before .before .before .number-at .ensures) in
     record {

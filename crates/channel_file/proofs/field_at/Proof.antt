@@ -3,6 +3,7 @@ use Rattle.channel_file.specs.Steps.{SawWord}
 use Rattle.channel_file.proofs.Offsets.{fielded}
 use denote.Ref.{now}
 use mathlib.Core.Path.{subst}
+use native.Mathlib.Omega.{arith}
 use borrow.Author.Needs.{needs}
 use Rattle.channel_file.proofs.field_at.Statement.{statement}
 use Rattle.channel_file.proofs.field_at.Tie as tie
@@ -12,7 +13,7 @@ ended-at-requires c κs =
     let q = subst (SawWord (now (c .before .before .before .before .before .before .args .key))
     (now (c .before .before .before .before .before .before .args .text)) (c .before .before .before .before .before .before .args .at))
     (c .before .a .given .1) (c .before .before .before .word-at .ensures) in
-    q .within
+    (q .within, omega arith)
 
 returns : tie.Need-returns
 returns c =

@@ -23,15 +23,15 @@ read-line-requires-2 c κs =
     (e .entries .given .1)
     (e .before .before .before .before .read-line .ensures .reply) .within
 
-add-t34 : tie.Need-add-t34
-add-t34 c =
+add-t35 : tie.Need-add-t35
+add-t35 c =
     let h = c .before .before .before .before .before .before .before .before .before .before .before .before .before .before .before .before in
     let w = subst (SawHead (h .before .before .before .before .before .before .args .text .now) 0) (h .events .given .1)
     (h .before .before .head-at .ensures) .within in
     omega arith
 
-add-t35 : tie.Need-add-t35
-add-t35 c =
+add-t36 : tie.Need-add-t36
+add-t36 c =
     let e = c .before .before .before .before .before .before .before .before .before in
     let h = e .before .before .before .before .before .before .before in
     let w = subst (SawNumber (count-of meet-line) (h .before .before .before .before .before .before .args .text .now) (h .events .given .0 .1 .1 .1 .0))
@@ -107,5 +107,5 @@ returns-5 c =
 
 pub read-lines-spec : {M : Type 1} → statement M
 read-lines-spec = tie.close (tie.spec (λ c κs. search needs) (λ c. search needs) (λ c. search needs) read-line-requires (λ c. search needs)
-    (λ c. search needs) read-line-requires-2 (λ c. search needs) (λ c. search needs) add-t34 add-t35 returns (λ c. search needs) returns-2
+    (λ c. search needs) read-line-requires-2 (λ c. search needs) (λ c. search needs) add-t35 add-t36 returns (λ c. search needs) returns-2
     (λ c. search needs) (λ c. search needs) returns-3 (λ c. search needs) (λ c. search needs) returns-4 (λ c. search needs) (λ c. search needs) returns-5)

@@ -6,7 +6,7 @@ use Rattle.event_calls.proofs.play.Statement.{statement}
 use Rattle.event_calls.proofs.play.Tie as tie
 
 abbrev Inv-loop : tie.InvT-loop
-Inv-loop digits t₀ sum₀ i₀ t sum i = (i ≤ length digits) × (sum ≤ 5294967556)
+Inv-loop digits t₀ sum₀ i₀ t sum i = (i ≤ length digits) × (sum ≤ 9589934596)
 
 abbrev μ-loop : tie.MeasureT-loop
 μ-loop digits t₀ sum₀ i₀ t sum i = length digits - i

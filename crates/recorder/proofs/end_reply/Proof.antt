@@ -12,10 +12,12 @@ use Rattle.recorder.proofs.end_reply.Tie as tie
 
 returns-2 : tie.Need-returns-2
 returns-2 c =
-    let a = c .before .before .before .before .args in
+    let a = c .before .before .before .before .before .args in
     let e : suc (a .count - 1) ≡ a .count = omega arith in
-    ap returned (c .measured .ensures) ∙ last-value (wheel-of (a .wheel)) (a .values .now) (a .count - 1) (a .total) (omega arith)
+    ap returned (rw (c .before .wide-byte .ensures) at (c .measured .ensures)) ∙ last-value (wheel-of (a .wheel)) (a .values .now) (a .count - 1)
+    (a .total) (omega arith)
     ∙ ap (λ n. end-reply (wheel-of (a .wheel)) (take n (a .values .now)) (a .total)) e
 
 pub end-reply-spec : {M : Type 1} → statement M
-end-reply-spec = tie.close (tie.spec (λ c. search needs) (λ c. search needs) (λ c. search needs) (λ c κs. search needs) returns-2)
+end-reply-spec = tie.close (tie.spec (λ c. search needs) (λ c. search needs) (λ c. search needs) (λ c κs. search needs) (λ c κs. search needs)
+    returns-2)

@@ -1,5 +1,5 @@
 -- `recorder::load` meets its contract: refused before the compiler, by it or for want of rows, or stored.
-use mathlib.Core.Path.{_≡_, refl}
+use mathlib.Core.Path.{_≡_}
 use native.Mathlib.Omega.{arith}
 use borrow.Author.{Needs.{needs}, Tests.{not-true, not-false}}
 use lib.ListN.{length, length-map}
@@ -139,7 +139,7 @@ returns-4 c =
     let y = not-false _ (c .before .before .if2 .left) in
     let z : n .result ≡ 0 = omega (arith, i .if1 .left) in
     load-stored t (a .channel) (f .result) h (n .result) (n .ensures) (a .rule .now) z _ (omega arith) (x .result) (x .ensures .0) (v .0 .0) (v .1)
-    sized (l .result) (l .ensures) y (store-of (c .stored .result)) _ refl (x .ensures .1) (c .stored .ensures)
+    sized (l .result) (l .ensures) y (store-of (c .stored .result)) _ (x .ensures .1) (c .stored .ensures)
 
 pub load-spec : {M : Type 1} → statement M
 load-spec = tie.close (tie.spec (λ c. search needs) (λ c. search needs) (λ c. search needs) (λ c. search needs) (λ c. search needs)

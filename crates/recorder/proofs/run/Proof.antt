@@ -3,7 +3,7 @@ use Prim.Native.Nat.{_-_}
 use native.Mathlib.Omega.{arith}
 use borrow.Author.Needs.{needs}
 use lib.ListN.{length}
-use Rattle.recorder.proofs.Runs.{Ran, begins, same-size, ends-state, ends-buffer, row, place, slot, again}
+use Rattle.recorder.proofs.Runs.{Ran, begins, same-size, ends-state, ends-buffer, bounds, slot, again}
 use Rattle.recorder.proofs.run.Statement.{statement}
 use Rattle.recorder.proofs.run.Tie as tie
 
@@ -17,44 +17,21 @@ abbrev μ-loop : tie.MeasureT-loop
 loop-holds : tie.Need-loop-holds Inv-loop μ-loop
 loop-holds c = begins (c .before .before .pre)
 
-mul-at : tie.Need-mul-at Inv-loop μ-loop
-mul-at c =
-    let b = c .before .before .before .before in
-    rw (c .before .wide2 .ensures, c .wide3 .ensures) (omega (arith, row (b .before .before .before .before .pre) (b .before .loop .inv) (b .loop-test .taken)))
-
-add-at : tie.Need-add-at Inv-loop μ-loop
-add-at c =
-    let b = c .before .before .before .before in
-    rw (c .before .wide2 .ensures, c .wide3 .ensures, c .before .before .wide .ensures)
-    (omega (arith, place (b .before .before .before .before .pre) (b .before .loop .inv) (b .loop-test .taken)))
-
-add-at-2 : tie.Need-add-at-2 Inv-loop μ-loop
-add-at-2 c =
-    let b = c .before .before .before .before in
-    rw (c .before .wide2 .ensures, c .wide3 .ensures, c .before .before .wide .ensures)
-    (omega (arith, place (b .before .before .before .before .pre) (b .before .loop .inv) (b .loop-test .taken)))
-
-element-copy-out-buffer : tie.Need-element-copy-out-buffer Inv-loop μ-loop
-element-copy-out-buffer c =
-    let b = c .before .before .before .before in
-    rw (c .before .wide2 .ensures, c .wide3 .ensures, c .before .before .wide .ensures)
-    (place (b .before .before .before .before .pre) (b .before .loop .inv) (b .loop-test .taken))
+entry-place-requires : tie.Need-entry-place-requires Inv-loop μ-loop
+entry-place-requires c κs =
+    let c6 = c .before .before .before .before .before .before in
+    rw (c .wide .ensures) (bounds (c6 .pre) (c .before .before .before .loop .inv) (c .before .before .loop-test .taken))
 
 slice-write-buffer : tie.Need-slice-write-buffer Inv-loop μ-loop
 slice-write-buffer c =
-    let b = c .before .before .before .before .before in slot (b .before .before .before .before .pre) (b .before .loop .inv) (b .loop-test .taken)
-
-element-copy-out-state : tie.Need-element-copy-out-state Inv-loop μ-loop
-element-copy-out-state c =
-    let b = c .before .before .before .before .before in
-    rw (c .before .before .wide2 .ensures, c .before .wide3 .ensures, c .before .before .before .wide .ensures)
-    (place (b .before .before .before .before .pre) (b .before .loop .inv) (b .loop-test .taken))
+    let c6 = c .before .before .before .before .before .before in
+    slot (c6 .before .before .pre) (c .before .before .before .before .before .loop .inv) (c .before .before .before .before .loop-test .taken)
 
 loop-again : tie.Need-loop-again Inv-loop μ-loop
 loop-again c =
-    let b = c .before .before .before .before .before .before in
-    rw (c .before .before .before .wide2 .ensures, c .before .before .wide3 .ensures, c .before .before .before .before .wide .ensures)
-    (again (b .before .before .before .before .pre) (b .before .loop .inv) (b .loop-test .taken))
+    let c6 = c .before .before .before .before .before .before in
+    rw (c .before .before .entry-place .ensures .0, c .before .before .before .wide .ensures)
+    (again (c6 .before .before .before .pre) (c6 .loop .inv) (c .before .before .before .before .before .loop-test .taken))
 
 same-length : tie.Need-same-length Inv-loop μ-loop
 same-length c = same-size (c .before .before .before .before .pre) (c .before .loop .inv)
@@ -67,6 +44,5 @@ returns c = (
 )
 
 pub run-spec : {M : Type 1} → statement M
-run-spec = tie.close (tie.spec Inv-loop μ-loop loop-holds (λ c. search needs) (λ c κs. search needs) (λ c κs. search needs) (λ c κs. search needs)
-    mul-at add-at add-at-2 element-copy-out-buffer slice-write-buffer element-copy-out-state (λ c. search needs) (λ c. search needs) loop-again
-    same-length returns)
+run-spec = tie.close (tie.spec Inv-loop μ-loop loop-holds (λ c. search needs) (λ c κs. search needs) entry-place-requires (λ c. search needs)
+    slice-write-buffer (λ c. search needs) (λ c. search needs) (λ c. search needs) loop-again same-length returns)

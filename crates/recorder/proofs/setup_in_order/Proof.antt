@@ -1,13 +1,13 @@
 -- `recorder::setup_in_order` meets its contract: a set-up of more than 16 values is refused at once;
 -- any other is judged on the part of the array that is its table.
-use mathlib.Core.Path.{sym}
+use mathlib.Core.Path.{sym, _∙_}
 use Prim.Native.Nat.{_≤_, _*_}
 use native.Mathlib.Omega.{arith}
 use borrow.Author.Needs.{needs}
 use lib.Seq.{length-take-le}
 use Rattle.limits.specs.Limits.{meet-limit}
 use Rattle.values.proofs.Setups.{square-small}
-use Rattle.recorder.proofs.Held.{many-values, accepted-test, refused-test}
+use Rattle.recorder.proofs.Held.{many-values, accepting-is}
 use Rattle.recorder.proofs.setup_in_order.Statement.{statement}
 use Rattle.recorder.proofs.setup_in_order.Tie as tie
 
@@ -25,17 +25,9 @@ slice-aggregate-check-tool-setup c =
 
 returns-2 : tie.Need-returns-2
 returns-2 c =
-    let b = c .before .before in
-    accepted-test _ (b .check-tool-setup .result)
-    (rw (b .before .before .wide32 .ensures, b .before .wide322 .ensures) at (b .check-tool-setup .ensures)) (c .enum-told .given .1)
-
-returns-3 : tie.Need-returns-3
-returns-3 c =
-    let b = c .before .before in
-    refused-test _ (b .check-tool-setup .result)
-    (rw (b .before .before .wide32 .ensures, b .before .wide322 .ensures) at (b .check-tool-setup .ensures)) (c .enum-told2 .given .0 .0)
-    (c .enum-told2 .given .1)
+    let b = c .before in
+    rw (b .check-tool-setup .ensures, b .before .before .wide32 .ensures, b .before .wide322 .ensures) at (c .accepted .ensures) ∙ accepting-is _
 
 pub setup-in-order-spec : {M : Type 1} → statement M
 setup-in-order-spec = tie.close (tie.spec returns mul-count slice-aggregate-check-tool-setup (λ c κs. search needs) (λ c κs. search needs)
-    (λ c κs. search needs) (λ c. search needs) (λ c. search needs) returns-2 returns-3)
+    (λ c κs. search needs) (λ c κs. search needs) returns-2)

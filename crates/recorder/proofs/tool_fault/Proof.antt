@@ -1,44 +1,40 @@
--- `recorder::tool_fault` meets its contract: the set-up's test, then the channel's, then that of the rows.
-use mathlib.Core.{Path.{sym, _∙_, ap₂}, Bool.{_&&_}}
-use native.Mathlib.Omega.{arith}
+-- `recorder::tool_fault` meets its contract: the set-up's test, then the values', then the channel's, then that of the rows.
+use mathlib.Core.Path.{sym, _∙_}
+use native.Mathlib.{Nat.{mul-le-mul}, Omega.{arith}}
+use Prim.Native.Nat.{_≤_}
 use borrow.Author.Needs.{needs}
-use Rattle.theory.proofs.ValueSets.{and-both, and-failed}
-use Rattle.recorder.proofs.{Numbers.{passes, fails, earlier-stands, later-stands}, Held.{few-events, some-values}}
+use Rattle.values.specs.declared.ValueKind.the-variants.{Numbered}
+use Rattle.recorder.proofs.{Held.{some-values}, ChannelTests.{channel-tested, setup-at-fault}}
 use Rattle.recorder.proofs.tool_fault.Statement.{statement}
 use Rattle.recorder.proofs.tool_fault.Tie as tie
 
-channel-in-order-requires : tie.Need-channel-in-order-requires
-channel-in-order-requires c κs =
-    let h = sym (c .before .before .before .setup-in-order .ensures) ∙ c .before .before .if1 .taken in
-    (few-events _ h, some-values _ _ _ _ _ h, search needs, search needs)
+mul-entries-below : tie.Need-mul-entries-below
+mul-entries-below c =
+    let h : c .wide4 .result ≤ 255 = search needs in
+    omega (arith, mul-le-mul (c .before .wide16 .ensures .1) h)
+
+entries-below-requires : tie.Need-entries-below-requires
+entries-below-requires c κs = (some-values _ _ _ _ _ (sym (c .before .before .before .setup-in-order .ensures) ∙ c .before .before .if1 .taken), search needs)
 
 returns : tie.Need-returns
 returns c =
-    let d = c .before .before in
-    let b = d .before .before .before .before in
-    let n = b .before .before .before .wide .ensures in
-    let v = b .before .before .wide2 .ensures in
-    let s = rw (n, v, b .before .wide3 .ensures) at (b .setup-in-order .ensures) in
-    let x = rw (n, v, d .before .before .wide16 .ensures .0, d .before .wide4 .ensures) at (d .channel-in-order .ensures) in
-    later-stands _ _ 0 _ (passes _ 17 (and-both (sym s ∙ d .before .before .before .if1 .taken) (sym x ∙ c .before .if2 .taken))) (omega arith)
-    (c .store-fault .ensures)
+    let c6 = c .before .before .before .before .before .before in
+    let a = c6 .before .before .before .before .args in
+    let v = c6 .before .before .wide .ensures in
+    channel-tested _ (a .states .now) (a .channel) (a .at) (a .events) (a .count) (a .current) (a .total) (Numbered (a .values)) (a .value .now)
+    (a .next .now) (c .before .before .before .before .before .setup-in-order .result) (c .before .entries-below .result) _
+    (rw (v, c6 .before .wide2 .ensures, c6 .wide3 .ensures) at (c .before .before .before .before .before .setup-in-order .ensures))
+    (c .before .before .before .before .if1 .taken)
+    (rw (c .before .before .before .wide16 .ensures .0, c .before .before .wide4 .ensures, v) at (c .before .entries-below .ensures))
+    (c .channel-fault .ensures)
 
 returns-2 : tie.Need-returns-2
 returns-2 c =
-    let d = c .before in
-    let b = d .before .before .before .before in
-    let n = b .before .before .before .wide .ensures in
-    let v = b .before .before .wide2 .ensures in
-    let s = rw (n, v, b .before .wide3 .ensures) at (b .setup-in-order .ensures) in
-    let x = rw (n, v, d .before .before .wide16 .ensures .0, d .before .wide4 .ensures) at (d .channel-in-order .ensures) in
-    earlier-stands _ _ 17 (fails _ 17 (ap₂ _&&_ (sym s ∙ d .before .before .before .if1 .taken) (sym x ∙ c .if2 .left))) (omega arith)
-
-returns-3 : tie.Need-returns-3
-returns-3 c =
-    let b = c .before in
-    let s = rw (b .before .before .before .wide .ensures, b .before .before .wide2 .ensures, b .before .wide3 .ensures) at (b .setup-in-order .ensures) in
-    earlier-stands _ _ 17 (fails _ 17 (and-failed _ (sym s ∙ c .if1 .left))) (omega arith)
+    let c6 = c .before .before .before .before .before .before in
+    setup-at-fault _ (c6 .args .states .now) (c .before .setup-in-order .result) _
+    (rw (c .before .before .before .before .wide .ensures, c .before .before .before .wide2 .ensures, c .before .before .wide3 .ensures) at
+    (c .before .setup-in-order .ensures)) (c .if1 .left)
 
 pub tool-fault-spec : {M : Type 1} → statement M
 tool-fault-spec = tie.close (tie.spec (λ c κs. search needs) (λ c κs. search needs) (λ c κs. search needs) (λ c κs. search needs)
-    (λ c κs. search needs) (λ c κs. search needs) channel-in-order-requires (λ c κs. search needs) returns returns-2 returns-3)
+    (λ c κs. search needs) (λ c κs. search needs) mul-entries-below entries-below-requires (λ c κs. search needs) returns returns-2)

@@ -1,21 +1,24 @@
 -- `put_graph` meets its contract. The invariant: the arrows passed were put.
-use Prim.Native.Nat.{ℕ, _*_, _-_, _≤_}
+use Prim.Native.Nat.{ℕ, _*_, _-_, _/_, _%_, _≤_}
 use mathlib.Core.Path.{_≡_, ap}
 use native.Mathlib.{Omega.{arith}, Nat.{mul-le-mul}}
 use Rattle.text_output.specs.Output.{Puts}
 use Rattle.text_format.specs.Texts.{each}
 use Rattle.text_output.proofs.Outputs.{puts-length, puts-start, puts-then, puts-as, puts-each}
-use Rattle.table_graph.specs.GraphText.{entry-arrow}
-use Rattle.table_graph.proofs.Graphs.{entry-parts, graph-parts}
+use Rattle.machines.specs.TableBytes.{machine-of}
+use Rattle.table_rows.proofs.Texts.{entry-text}
+use Rattle.table_graph.specs.GraphText.{arrow-line, entry-arrow}
+use Rattle.table_graph.proofs.Graphs.{graph-parts}
 use borrow.Author.Needs.{needs}
 use Rattle.table_graph.proofs.put_graph.Statement.{statement}
 use Rattle.table_graph.proofs.put_graph.Tie as tie
 
 abbrev Inv-loop : tie.InvT-loop
-Inv-loop out₀ events states top table n₀ count i₀ t12 out n i = (i ≤ count) × Puts out₀ (each (entry-arrow events top table) i 0) out n₀ n
+Inv-loop out₀ events kind top states table n₀ count i₀ t12 out n i =
+    (i ≤ count) × Puts out₀ (each (entry-arrow kind events top (machine-of kind events table)) i 0) out n₀ n
 
 abbrev μ-loop : tie.MeasureT-loop
-μ-loop out₀ events states top table n₀ count i₀ t12 out n i = count - i
+μ-loop out₀ events kind top states table n₀ count i₀ t12 out n i = count - i
 
 mul-count : tie.Need-mul-count Inv-loop μ-loop
 mul-count c =
@@ -45,8 +48,9 @@ loop-again c =
     let next-at = c .before .before .before .before .next-at in
     let a = args in (
       omega arith,
-      puts-each (entry-arrow (a .events) (a .top) (a .table .now)) (loop .i)
-          (entry-parts (a .events) (a .top) (a .table .now) (loop .i) _ _ (value-at .ensures) (next-at .ensures)) (loop .inv .1)
+      puts-each (entry-arrow (a .kind) (a .events) (a .top) (machine-of (a .kind) (a .events) (a .table .now))) (loop .i)
+          (entry-text (a .events) (a .kind) (a .table .now) (loop .i) _ _ (arrow-line (a .kind) (a .top) (loop .i / a .events) (loop .i % a .events))
+          (value-at .ensures) (next-at .ensures)) (loop .inv .1)
           (c .before .before .put-arrow .ensures),
     )
 
@@ -56,9 +60,10 @@ same-length c =
     let v = c .before .before .before .before .before .before .loop .inv in
     let left = c .before .before .before .before .before .loop-test .left in
     let e : c .before .before .before .before .before .before .loop .i ≡ a .states * a .events = omega (arith, v .0) in
-    puts-length (puts-as (graph-parts (a .events) (a .states) (a .top) (a .table .now))
+    puts-length (puts-as (graph-parts (a .events) (a .kind) (a .states) (a .top) (machine-of (a .kind) (a .events) (a .table .now)))
     (puts-then (c .before .before .before .before .before .before .before .before .before .put-word .ensures)
-    (puts-then (puts-as (ap (λ (j : ℕ). each (entry-arrow (a .events) (a .top) (a .table .now)) j 0) e) (v .1)) (c .before .before .put-word2 .ensures))))
+    (puts-then (puts-as (ap (λ (j : ℕ). each (entry-arrow (a .kind) (a .events) (a .top) (machine-of (a .kind) (a .events) (a .table .now))) j 0) e) (v .1))
+    (c .before .before .put-word2 .ensures))))
 
 returns : tie.Need-returns Inv-loop μ-loop
 returns c =
@@ -66,11 +71,12 @@ returns c =
     let v = c .before .before .before .before .before .before .loop .inv in
     let left = c .before .before .before .before .before .loop-test .left in
     let e : c .before .before .before .before .before .before .loop .i ≡ a .states * a .events = omega (arith, v .0) in
-    puts-as (graph-parts (a .events) (a .states) (a .top) (a .table .now))
+    puts-as (graph-parts (a .events) (a .kind) (a .states) (a .top) (machine-of (a .kind) (a .events) (a .table .now)))
     (puts-then (c .before .before .before .before .before .before .before .before .before .put-word .ensures)
-    (puts-then (puts-as (ap (λ (j : ℕ). each (entry-arrow (a .events) (a .top) (a .table .now)) j 0) e) (v .1)) (c .before .before .put-word2 .ensures)))
+    (puts-then (puts-as (ap (λ (j : ℕ). each (entry-arrow (a .kind) (a .events) (a .top) (machine-of (a .kind) (a .events) (a .table .now))) j 0) e) (v .1))
+    (c .before .before .put-word2 .ensures)))
 
 pub put-graph-spec : {M : Type 1} → statement M
 put-graph-spec = tie.close (tie.spec Inv-loop μ-loop (λ c. search needs) (λ c κs. search needs) mul-count loop-holds (λ c κs. search needs)
-    (λ c. search needs) (λ c κs. search needs) div-put-arrow rem-put-arrow (λ c κs. search needs) add-i (λ c. search needs) loop-again
+    (λ c κs. search needs) div-put-arrow rem-put-arrow (λ c κs. search needs) add-i (λ c. search needs) loop-again
     (λ c. search needs) (λ c κs. search needs) same-length returns)

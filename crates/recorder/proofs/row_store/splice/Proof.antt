@@ -9,55 +9,60 @@ use Rattle.recorder.proofs.row_store.splice.Tie as tie
 
 slice-aggregate-copy-entries : tie.Need-slice-aggregate-copy-entries
 slice-aggregate-copy-entries c =
-    let b = c .before .before .before .before in
-    let a = b .args in
-    let p = b .pre in
-    let new = column (a .which) (a .table .now) (a .new) in
-    let n = column-length (a .which) (a .table .now) (a .new) in
-    sym (front-length (a .rows .now) new (a .at) (a .old) (a .new) (a .later) (p .0) n (p .1) (p .2))
+    let a = c .before .before .before .before .before .args in
+    let p = c .before .before .before .before .before .pre in
+    let room = a .room in
+    let new = column (a .width) (a .which) (a .table .now) (room .new) in
+    let n = column-length (a .width) (a .which) (a .table .now) (room .new) in
+    sym (front-length (a .rows .now) new (room .at) (room .old) (room .new) (room .later) (p .0) n (p .1 .old-fits) (p .1 .new-fits))
 
 copy-entries-requires : tie.Need-copy-entries-requires
 copy-entries-requires c κs =
-    let b = c .before .before .before .before in
-    let a = b .args in
-    let p = b .pre in
-    let new = column (a .which) (a .table .now) (a .new) in
-    let n = column-length (a .which) (a .table .now) (a .new) in
-    (omega (arith, front-length (a .rows .now) new (a .at) (a .old) (a .new) (a .later) (p .0) n (p .1) (p .2)), refl)
+    let a = c .before .before .before .before .before .args in
+    let p = c .before .before .before .before .before .pre in
+    let room = a .room in
+    let new = column (a .width) (a .which) (a .table .now) (room .new) in
+    let n = column-length (a .width) (a .which) (a .table .now) (room .new) in
+    (omega (arith, front-length (a .rows .now) new (room .at) (room .old) (room .new) (room .later) (p .0) n (p .1 .old-fits) (p .1 .new-fits)), refl)
 
 copy-column-requires : tie.Need-copy-column-requires
 copy-column-requires c κs =
-    let b = c .before .before .before .before .before .before in
-    let a = b .args in
-    let p = b .pre in
-    let new = column (a .which) (a .table .now) (a .new) in
-    let n = column-length (a .which) (a .table .now) (a .new) in (
-      omega arith,
+    let c6 = c .before .before .before .before .before .before in
+    let a = c6 .before .args in
+    let p = c6 .before .pre in
+    let room = a .room in
+    let new = column (a .width) (a .which) (a .table .now) (room .new) in
+    let n = column-length (a .width) (a .which) (a .table .now) (room .new) in (
+      omega (arith, p .1 .new-fits),
+      p .2,
       p .3,
       p .4,
-      one-length (a .rows .now) new (a .at) (a .old) (a .new) (a .later) (p .0) n (p .1) (p .2) _ _ (c .before .copy-entries .ensures) refl,
+      one-length (a .rows .now) new (room .at) (room .old) (room .new) (room .later) (p .0) n
+          (p .1 .old-fits) (p .1 .new-fits) _ _ (c .before .copy-entries .ensures) refl,
     )
 
 copy-entries-requires-2 : tie.Need-copy-entries-requires-2
 copy-entries-requires-2 c κs =
-    let b = c .before .before .before .before .before .before .before .before .before in
-    let a = b .args in
-    let p = b .pre in
-    let new = column (a .which) (a .table .now) (a .new) in
-    let n = column-length (a .which) (a .table .now) (a .new) in (
-      omega (arith, behind-length (a .rows .now) new (a .at) (a .old) (a .new) (a .later) (p .0) n (p .1) (p .2)),
-      two-length (a .rows .now) new (a .at) (a .old) (a .new) (a .later) (p .0) n (p .1) (p .2) _ _
+    let c6 = c .before .before .before .before .before .before in
+    let a = c6 .before .before .before .before .args in
+    let p = c6 .before .before .before .before .pre in
+    let room = a .room in
+    let new = column (a .width) (a .which) (a .table .now) (room .new) in
+    let n = column-length (a .width) (a .which) (a .table .now) (room .new) in (
+      omega (arith, behind-length (a .rows .now) new (room .at) (room .old) (room .new) (room .later) (p .0) n (p .1 .old-fits) (p .1 .new-fits)),
+      two-length (a .rows .now) new (room .at) (room .old) (room .new) (room .later) (p .0) n (p .1 .old-fits) (p .1 .new-fits) _ _
           (c .before .before .before .before .copy-entries .ensures) (c .before .before .copy-column .ensures),
     )
 
 returns : tie.Need-returns
 returns c =
-    let b = c .before .before .before .before .before .before .before .before .before .before in
-    let a = b .args in
-    let p = b .pre in
-    let new = column (a .which) (a .table .now) (a .new) in
-    let n = column-length (a .which) (a .table .now) (a .new) in
-    copied (a .rows .now) new (a .at) (a .old) (a .new) (a .later) (p .0) n (p .1) (p .2) _ _ _
+    let c6 = c .before .before .before .before .before .before in
+    let a = c6 .before .before .before .before .before .args in
+    let p = c6 .before .before .before .before .before .pre in
+    let room = a .room in
+    let new = column (a .width) (a .which) (a .table .now) (room .new) in
+    let n = column-length (a .width) (a .which) (a .table .now) (room .new) in
+    copied (a .rows .now) new (room .at) (room .old) (room .new) (room .later) (p .0) n (p .1 .old-fits) (p .1 .new-fits) _ _ _
     (c .before .before .before .before .before .copy-entries .ensures) (c .before .before .before .copy-column .ensures) (c .copy-entries2 .ensures)
 
 pub splice-spec : {M : Type 1} → statement M
