@@ -8,6 +8,11 @@
  * Every answer is one number: its low byte is the number of the refusal in the lists of documents 01 and 02, 0 where there is none;
  * above it stands the refusal's place (4 and 6 to 9 have one), or what the call yields.
  *
+ * In bytes a node of a rule is its kind (0 T, 1 X, 2 G, 3 O, 4 A, 5 V), a first number, and the value of an O node; what a node does not use
+ * is 0. An entry of a table is a value and a next state; entries stand by state and then event. A number as value is one byte, so that a
+ * node has three bytes and an entry two. A register's value is four: the mask of the lines that may be low, then that of those that may be
+ * high, bit 0 for line 0, each mask's low byte first; so a node has six bytes and an entry five.
+ *
  * Example, compiled and run by hosts/c/test:
  *
  *     #include <stdio.h>
@@ -52,6 +57,20 @@
  *         printf("%u steps: refused=%u states=%u\n", count, gurvazze_refusal(answer), gurvazze_states(answer));
  *     }
  *
+ *     static void say_register(void)
+ *     {
+ *         static uint8_t table[GURVAZZE_REGISTER_TABLE_BYTES], rule[GURVAZZE_REGISTER_RULE_BYTES], word[GURVAZZE_WORD_BYTES];
+ *         uint8_t line_8_low[6] = {3, 1};
+ *         gurvazze_put_masks(line_8_low + 2, 0x1ff, 0xff);
+ *         uint64_t answer = gurvazze_register_compile(2, 9, line_8_low, sizeof line_8_low, table, sizeof table);
+ *         printf("register: states=%u value=%u.%u\n", (unsigned)gurvazze_yield(answer), gurvazze_low(table + 5), gurvazze_high(table + 5));
+ *         say_trial(gurvazze_register_trial_table(2, 9, 2, table, 2 * 2 * 5, 2, 1, table, 2 * 2 * 5, word, sizeof word), word);
+ *         answer = gurvazze_register_rule(2, 9, 2, 0, table, 2 * 2 * 5, rule, sizeof rule);
+ *         printf("register: nodes=%u\n", (unsigned)gurvazze_yield(answer));
+ *         answer = gurvazze_register_compile(2, 8, line_8_low, sizeof line_8_low, table, sizeof table);
+ *         printf("register: refused=%u %u\n", gurvazze_refusal(answer), (unsigned)gurvazze_place(answer));
+ *     }
+ *
  *     int main(void)
  *     {
  *         static const uint8_t file[] =
@@ -82,6 +101,7 @@
  *         say_rule_of_chain(256);
  *         say_states_of_steps(64);
  *         say_states_of_steps(255);
+ *         say_register();
  *         return 0;
  *     }
  *
@@ -100,6 +120,10 @@
  *     chain of 256: refused=12
  *     64 steps: refused=0 states=65
  *     255 steps: refused=0 states=256
+ *     register: states=2 value=511.255
+ *     word of 1: 1
+ *     register: nodes=28
+ *     register: refused=6 0
  */
 #ifndef GURVAZZE_H
 #define GURVAZZE_H
@@ -116,6 +140,10 @@ extern "C" {
 #define GURVAZZE_TABLE_BYTES 8192
 #define GURVAZZE_RULE_BYTES 768
 #define GURVAZZE_WORD_BYTES 16384
+
+/* The same of a register's tables, five bytes an entry, and rules, six bytes a node. */
+#define GURVAZZE_REGISTER_TABLE_BYTES 20480
+#define GURVAZZE_REGISTER_RULE_BYTES 1536
 
 /* What a trial yields for a pass: every event sequence ends in equal values, or some ends in one strictly below the rule's. The length of
  * a failing word is neither. */
@@ -143,17 +171,36 @@ uint64_t gurvazze_replay(const uint8_t *text, size_t text_length, const uint8_t 
 uint64_t gurvazze_trial(const uint8_t *text, size_t text_length, size_t device_states, size_t device_start, const uint8_t *device,
                         size_t device_length, uint8_t *word, size_t word_length);
 
-/* The same against a rule's table, of 1 to 256 states, from its state 0: a pass yields GURVAZZE_SAME or GURVAZZE_STRICTER, and a failing word is the first
- * here too. Refusals 1 to 3, 11, 13. */
+/* The table of a rule, both in bytes. Yields the number of states. Refusals 1 to 3, 5 to 8, 23, 9, 10, 13. */
+uint64_t gurvazze_compile(size_t events, size_t values, size_t top, const uint8_t *meet, size_t meet_length, const uint8_t *rule,
+                          size_t rule_length, uint8_t *to, size_t to_length);
+
+/* The same over a register of so many lines, 1 to 16; refusal 20 is given for any other number. A mask bit at or above the line count is
+ * refusal 6. Refusals 1, 20, 5 to 8, 23, 9, 10, 13. */
+uint64_t gurvazze_register_compile(size_t events, size_t lines, const uint8_t *rule, size_t rule_length, uint8_t *to, size_t to_length);
+
+/* Trial of a device, of 1 to 64 states, against a rule's table, of 1 to 256 states, from its state 0: a pass yields GURVAZZE_SAME or
+ * GURVAZZE_STRICTER, and a failing word is the first here too. Refusals 1 to 3, 11, 13. */
 uint64_t gurvazze_trial_table(size_t events, size_t values, size_t top, const uint8_t *meet, size_t meet_length, size_t states,
                               const uint8_t *table, size_t table_length, size_t device_states, size_t device_start,
                               const uint8_t *device, size_t device_length, uint8_t *word, size_t word_length);
 
-/* The rule of a table, of 1 to 256 states, from a start, three bytes a node. Yields the number of nodes. Refusals 1 to 3, 11, 12, 23, 13. What is written is
- * always a rule that gurvazze_table takes. A path of it has a V node for each state that is open there, and 23 is given for more than
- * twelve. */
+/* The same over a register: table and device have five bytes an entry, and a mask bit at or above the line count is refusal 11.
+ * Refusals 1, 20, 11, 13. */
+uint64_t gurvazze_register_trial_table(size_t events, size_t lines, size_t states, const uint8_t *table, size_t table_length,
+                                       size_t device_states, size_t device_start, const uint8_t *device, size_t device_length,
+                                       uint8_t *word, size_t word_length);
+
+/* The rule of a table, of 1 to 256 states, from a start, three bytes a node. Yields the number of nodes. Refusals 1 to 3, 11, 12, 23, 13.
+ * What is written is always a rule that gurvazze_table and gurvazze_compile take. A path of it has a V node for each state that is open
+ * there, and 23 is given for more than twelve. */
 uint64_t gurvazze_rule(size_t events, size_t values, size_t top, const uint8_t *meet, size_t meet_length, size_t states, size_t start,
                        const uint8_t *table, size_t table_length, uint8_t *to, size_t to_length);
+
+/* The same over a register, five bytes an entry of the table and six a node of the rule, which gurvazze_register_compile takes. A mask bit at
+ * or above the line count is refusal 11. Refusals 1, 20, 11, 12, 23, 13. */
+uint64_t gurvazze_register_rule(size_t events, size_t lines, size_t states, size_t start, const uint8_t *table, size_t table_length,
+                                uint8_t *to, size_t to_length);
 
 /* The number of the refusal; 0 where the call was accepted. */
 static inline unsigned gurvazze_refusal(uint64_t answer) { return (unsigned)(answer & 255); }
@@ -169,6 +216,18 @@ static inline unsigned gurvazze_states(uint64_t answer) { return (unsigned)(answ
 static inline unsigned gurvazze_events(uint64_t answer) { return (unsigned)(answer >> 24 & 255); }
 static inline unsigned gurvazze_values(uint64_t answer) { return (unsigned)(answer >> 32 & 255); }
 static inline unsigned gurvazze_top(uint64_t answer) { return (unsigned)(answer >> 40 & 255); }
+
+/* A register's value in four bytes, of a node (from its third byte on) or of an entry: the masks of the lines that may be low and may be
+ * high. */
+static inline void gurvazze_put_masks(uint8_t *at, uint16_t low, uint16_t high)
+{
+    at[0] = (uint8_t)(low & 255);
+    at[1] = (uint8_t)(low >> 8);
+    at[2] = (uint8_t)(high & 255);
+    at[3] = (uint8_t)(high >> 8);
+}
+static inline unsigned gurvazze_low(const uint8_t *at) { return at[0] + 256u * at[1]; }
+static inline unsigned gurvazze_high(const uint8_t *at) { return at[2] + 256u * at[3]; }
 
 #ifdef __cplusplus
 }

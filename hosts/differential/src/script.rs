@@ -7,9 +7,9 @@ use gurvazze_reference::generate::{
 };
 use gurvazze_reference::table::{Table, MAX_DEVICE_STATES, MAX_STATES};
 use gurvazze_reference::tool::{Tool, Wheel, CHANNELS, MAX_PER_TURN, MAX_ROWS, MAX_TOTAL};
-use gurvazze_reference::values::{RawSetUp, SetUp};
+use gurvazze_reference::values::{masks_of, Kind, RawSetUp, RawValues, SetUp};
 
-use crate::session::{file_head, Answer, Session, LINE_BYTES};
+use crate::session::{Answer, Session, LINE_BYTES};
 use crate::tally::Tally;
 
 /// A script and what the program prints for it.
@@ -26,7 +26,7 @@ pub struct Script {
 
 impl Script {
     /// A script of about so many lines. The first come before a set-up, and the next before a device. In the scripts of odd seeds no wheel
-    /// is kept before the first set-up.
+    /// is kept before the first set-up, which is one of a register.
     pub fn new(seed: u64, lines: usize) -> Script {
         let mut writer = Writer(Generator::new(seed));
         let mut script = Script { commands: Vec::new(), answers: Vec::new(), tally: Tally::default(), ends: Vec::new() };
@@ -37,14 +37,20 @@ impl Script {
         for _ in 0..lines / 28 {
             script.add(&mut session, &[writer.before_set_up()]);
         }
-        script.add(&mut session, &[SET_UP.into()]);
+        // A device that was kept before any set-up is one of numbers, and a register's set-up drops it.
+        let first: &[&str] = if seed.is_multiple_of(2) { &[SET_UP, "write"] } else { &[] };
+        let then = ["register 1 1", "write", "device 1 0 1.0 0", "write", SET_UP];
+        let commands = ["device 1 0 3 0", "write"].iter().chain(first).chain(&then);
+        script.add(&mut session, &commands.map(|&command| command.into()).collect::<Vec<Vec<u8>>>());
         for _ in 0..lines / 160 {
             script.add(&mut session, &[writer.before_device()]);
         }
         script.add(&mut session, &limits());
         script.add(&mut session, &limits_of_states());
-        script.add(&mut session, &limits_of_rows());
+        script.add(&mut session, &limits_of_rows(SET_UP, &|value| value.to_string()));
         script.add(&mut session, &limits_of_distances());
+        script.add(&mut session, &limits_of_registers());
+        script.add(&mut session, &limits_of_rows("register 1 4", &|value| format!("{}.{}", 15 - value, 13 + value)));
         for part in 1..=PARTS {
             let set_up = session.set_up().expect("a set-up was accepted").clone();
             script.add(&mut session, &writer.channel_to_limit(&set_up));
@@ -83,15 +89,24 @@ impl Script {
     }
 
     fn add_answer(&mut self, session: &mut Session, line: &[u8]) {
-        let rows = session.rows();
+        let (rows, kind, had_device) = (session.rows(), session.kind(), session.device().is_some());
         let Some(answer) = session.answer(line) else {
             return self.tally.count("line", "skipped");
         };
         self.answers.extend_from_slice(answer.text.as_bytes());
         self.tally.answer(&answer);
-        if let ("setup", "ok\n", Some(tool)) = (answer.command, answer.text.as_str(), session.tool()) {
-            self.count_set_up(tool);
+        if kind == Kind::Register && session.kind() == kind {
+            self.tally.answer_with_register(&answer);
         }
+        if let ("setup" | "register", "ok\n", Some(tool)) = (answer.command, answer.text.as_str(), session.tool()) {
+            self.count_set_up(tool);
+            if had_device {
+                let fate = if session.device().is_some() { "device kept by" } else { "device dropped by" };
+                self.tally.count(fate, answer.command);
+            }
+        }
+        self.count_devices(kind, session, line, &answer);
+        self.count_tokens(kind, line, &answer);
         self.count_distance(session, line, &answer);
         self.count_rows(rows, session, line, &answer);
         if let (false, Some(set_up)) = (answer.is_refused(), session.set_up()) {
@@ -140,10 +155,51 @@ impl Script {
         }
     }
 
-    fn count_set_up(&mut self, tool: &Tool) {
+    /// Document 02, F-7: devices of registers that are kept though no table has such an entry.
+    fn count_devices(&mut self, kind: Kind, session: &Session, line: &[u8], answer: &Answer) {
+        let (Kind::Register, "device", false, Some(device)) = (kind, answer.command, answer.is_refused(), session.device())
+        else {
+            return;
+        };
+        let line = String::from_utf8_lossy(line);
+        let words: Vec<&str> = line.split(' ').filter(|word| !word.is_empty()).skip(3).collect();
+        let too_large = device.bytes.is_empty() && !words.is_empty();
         for (arises, kind) in [
-            (tool.set_up.events == 16, "16-events"),
-            (tool.set_up.values == 16, "16-values"),
+            (too_large && words.iter().any(|word| is_too_large_value(word)), "mask-too-large"),
+            (too_large && words.iter().all(|word| !is_too_large_value(word)), "next-too-large"),
+            (!too_large && words.len() % 2 == 1, "ends-behind-value"),
+        ] {
+            if arises {
+                self.tally.count("register's device", kind);
+            }
+        }
+    }
+
+    /// Document 02, F-7: tokens that would be in the form of the other kind.
+    fn count_tokens(&mut self, kind: Kind, line: &[u8], answer: &Answer) {
+        if answer.text != "error=tokens\n" {
+            return;
+        }
+        let line = String::from_utf8_lossy(line);
+        let dots = line.split(' ').filter(|word| word.starts_with('O')).map(|word| word.matches('.').count());
+        match (kind, dots.max()) {
+            (Kind::Numbers, Some(2)) => self.tally.count("O of the other kind", "register's"),
+            (Kind::Register, Some(1)) => self.tally.count("O of the other kind", "number's"),
+            _ => {}
+        }
+    }
+
+    fn count_set_up(&mut self, tool: &Tool) {
+        let (values, lines) = match &tool.set_up.values {
+            RawValues::Numbers(numbers) => (numbers.values, 0),
+            RawValues::Register { lines } => (0, *lines),
+        };
+        for (arises, kind) in [
+            (lines == 0 && tool.set_up.events == 16, "16-events"),
+            (lines > 0 && tool.set_up.events == 16, "16-events-of-register"),
+            (values == 16, "16-values"),
+            (lines == 1, "1-line"),
+            (lines == 16, "16-lines"),
             (tool.wheel.pulses == 1, "1-pulse"),
             (tool.wheel.pulses == MAX_PER_TURN, "65535-pulses"),
             (tool.wheel.millimetres == 1, "1-millimetre"),
@@ -162,6 +218,9 @@ impl Script {
             "setup" if text.starts_with("refused=") && session.wheel().check().is_err() => {
                 self.tally.count("bad wheel at", text)
             }
+            "register" if text.starts_with("refused=") && session.wheel().check().is_err() => {
+                self.tally.count("bad wheel at register", text)
+            }
             "event" if text.starts_with("refused=") && has_no_room(session, line) => self.tally.count("no room at", text),
             "event" if text.ends_with(" rest=0") => self.tally.count("distance", "whole"),
             "event" if text.contains(" rest=") => self.tally.count("distance", "remainder"),
@@ -174,6 +233,11 @@ impl Script {
             _ => {}
         }
     }
+}
+
+/// Whether a value word of a device has a mask of more than 16 bits.
+fn is_too_large_value(word: &str) -> bool {
+    word.split_once('.').is_some_and(|(low, high)| [low, high].iter().any(|mask| mask.parse::<u16>().is_err()))
 }
 
 /// The channel that a command on one names.
@@ -208,6 +272,10 @@ const PARTS: usize = 5;
 
 /// The four-value set with one event.
 const SET_UP: &str = "setup 1 4 3 0 0 0 0 0 1 0 1 0 0 2 2 0 1 2 3";
+
+/// Words that are no values of a register's device.
+const NO_MASKS: [&str; 16] =
+    ["1", "0", "1.", ".1", ".", "1..1", "1.1.1", "1.1.", ".1.1", "x.1", "1.x", "-1.1", "1.+1", "0x1.1", "1,1", "1.1\r"];
 
 /// Words that are no numbers.
 const NO_NUMBERS: [&str; 10] = ["x", "-1", "+1", "1x", "0x1", "1.0", "1,", "al", "\t1", "1\r"];
@@ -251,11 +319,18 @@ const CALLS: [&str; 13] = [
 ];
 
 /// Set-ups, wheels and devices that are refused or not read.
-const NOT_KEPT: [&str; 9] = [
+const NOT_KEPT: [&str; 16] = [
     "setup 0 1 0 0",
     "setup 1 1 1 0",
     "setup 1 1 0 1",
     "setup 1 1",
+    "register 0 1",
+    "register 1 0",
+    "register 1 17",
+    "register 1",
+    "register 1 x",
+    "register 1 1 1",
+    "device 1 0 1.1 0",
     "wheel 7",
     "wheel 7 x",
     "wheel 7 7 7",
@@ -288,7 +363,7 @@ impl Writer {
         match self.0.below(8) {
             0 => "write now".into(),
             1..=3 => "write".into(),
-            4 => self.0.one_of(&["device", "device 1", "device x 0", "device 1 0 3 y"]).into(),
+            4 => self.0.one_of(&["device", "device 1", "device x 0", "device 1 0 3 y", "device 1 0 1.1 0"]).into(),
             _ => {
                 let set_up = self.set_up();
                 self.tokens("trial", &set_up)
@@ -322,18 +397,28 @@ impl Writer {
 
     // Set-ups.
 
+    /// A set-up of either kind.
     fn set_up(&mut self) -> SetUp {
-        match self.0.below(8) {
+        match self.0.below(12) {
             // The sets of four things, which are 16 values.
-            0 | 2 => {
+            0..=2 => {
                 let meet = (0..16u8).flat_map(|b| (0..16u8).map(move |c| b & c)).collect();
-                let raw = RawSetUp { events: self.0.between(1, 3), values: 16, top: 15, meet };
+                let raw = RawSetUp::numbers(self.0.between(1, 3), 16, 15, meet);
                 SetUp::new(raw).expect("intersections obey the laws")
             }
-            1 => {
+            3 => {
                 let raw = RawSetUp { events: 16, ..self.0.set_up().raw().clone() };
                 SetUp::new(raw).expect("the laws do not speak of events")
             }
+            4 => {
+                let lines = self.0.one_of(&[1, 2, 16]);
+                SetUp::new(RawSetUp::register(16, lines)).expect("the numbers are in their ranges")
+            }
+            5 => {
+                let events = self.0.between(1, 3);
+                SetUp::new(RawSetUp::register(events, 1)).expect("the numbers are in their ranges")
+            }
+            6 | 7 => self.0.register(),
             _ => self.0.set_up(),
         }
     }
@@ -374,14 +459,23 @@ impl Writer {
     }
 
     fn damaged_set_up(&mut self) -> Vec<u8> {
-        let raw = self.0.damaged_set_up();
+        let kind = if self.0.once_in(3) { Kind::Register } else { Kind::Numbers };
+        let raw = self.0.damaged_set_up_of(kind);
         self.set_up_line(&raw)
     }
 
     fn set_up_line(&mut self, raw: &RawSetUp) -> Vec<u8> {
-        let mut words = vec!["setup".to_string()];
-        words.extend([raw.events, raw.values, raw.top].map(|number| self.number(number)));
-        words.extend(raw.meet.iter().map(|&entry| entry.to_string()));
+        let mut words;
+        match &raw.values {
+            RawValues::Numbers(numbers) => {
+                words = vec!["setup".to_string()];
+                words.extend([raw.events, numbers.values, numbers.top].map(|number| self.number(number)));
+                words.extend(numbers.meet.iter().map(|&entry| entry.to_string()));
+            }
+            RawValues::Register { lines } => {
+                words = vec!["register".to_string(), self.number(raw.events), self.number(*lines)];
+            }
+        }
         if self.0.once_in(12) {
             let at = self.0.between(1, words.len() - 1);
             words[at] = self.0.one_of(&LARGE).to_string();
@@ -597,10 +691,13 @@ impl Writer {
     }
 
     fn any_tokens(&mut self, set_up: &SetUp) -> Vec<u8> {
-        if self.0.once_in(60) {
-            self.long_tokens(set_up)
-        } else {
-            self.0.tokens(set_up)
+        match self.0.below(60) {
+            0 => self.long_tokens(set_up),
+            1 => {
+                let other = self.0.set_up_of(other(set_up.kind()));
+                self.0.good_tokens(&other).into()
+            }
+            _ => self.0.tokens(set_up),
         }
     }
 
@@ -620,7 +717,7 @@ impl Writer {
 
     /// As many tokens as a channel file has room for, or a byte more or less.
     fn long_tokens(&mut self, set_up: &SetUp) -> Vec<u8> {
-        let room = channel_file::MAX_BYTES - file_head(set_up).len() - 1;
+        let room = channel_file::MAX_BYTES - channel_file::head(set_up).len() - 1;
         let length = room + self.0.below(3) - 1;
         let mut tokens = if length.is_multiple_of(2) { "G0" } else { "T" }.to_string();
         while tokens.len() < length {
@@ -640,13 +737,19 @@ impl Writer {
             (3 | 4, _) | (_, None) => self.0.device(set_up),
             (_, Some(table)) => self.0.device_near(set_up, &table),
         };
-        let mut commands = vec![self.device(&device), format!("trial {tokens}").into()];
+        let mut commands = vec![self.device(set_up, &device), format!("trial {tokens}").into()];
         for _ in 0..self.0.below(3) {
             commands.push(self.tokens("trial", set_up));
         }
         // A device that is not read leaves the last one.
         if self.0.once_in(4) {
-            commands.push(format!("device 1 0 {} 0 x", self.0.below(16)).into());
+            let value = self.0.value(set_up);
+            let value = words_of(set_up.kind(), &set_up.kind().value_to_bytes(value))[0].clone();
+            let bad = match set_up.kind() {
+                Kind::Register if self.0.once_in(2) => self.0.one_of(&NO_MASKS),
+                _ => "x",
+            };
+            commands.push(format!("device 1 0 {value} 0 {bad}").into());
             commands.push(format!("trial {tokens}").into());
         }
         commands
@@ -660,27 +763,47 @@ impl Writer {
             (2, Some(table)) => RawTable { states: table.states(), start: 0, bytes: table.to_bytes() },
             _ => self.0.chain(set_up),
         };
-        vec![self.device(&device), self.spaced(&["write".to_string()])]
+        vec![self.device(set_up, &device), self.spaced(&["write".to_string()])]
     }
 
-    fn device(&mut self, device: &RawTable) -> Vec<u8> {
+    /// A device as a command, at times with the words of the other kind.
+    fn device(&mut self, set_up: &SetUp, device: &RawTable) -> Vec<u8> {
         let mut words = vec!["device".to_string(), self.number(device.states), self.number(device.start)];
-        words.extend(device.bytes.iter().map(|&byte| byte.to_string()));
+        let kind = if self.0.once_in(40) { other(set_up.kind()) } else { set_up.kind() };
+        words.extend(words_of(kind, &device.bytes));
         if self.0.once_in(15) {
             // A number that wraps to the one that was there, in a byte or in two.
-            let at = self.0.between(1, words.len() - 1);
-            let number: u128 = words[at].parse().expect("the words are numbers");
-            words[at] = (number + self.0.one_of(&[256, 65_536, 1 << 32, 1 << 64])).to_string();
+            let more = self.0.one_of(&[256, 65_536, 1 << 32, 1 << 64]);
+            self.change_number(&mut words, |number| number.parse::<u128>().expect("the words are numbers") + more);
+        }
+        // A list that ends behind a value.
+        if self.0.once_in(20) && words.len() > 4 && words.len() % 2 == 1 {
+            words.pop();
+        }
+        if self.0.once_in(15) {
+            let zeros = "0".repeat(self.0.between(1, 30));
+            self.change_number(&mut words, |number| zeros.clone() + number);
         }
         self.spaced(&words)
+    }
+
+    /// Changes one number of a device's words, which may be a mask.
+    fn change_number<T: ToString>(&mut self, words: &mut [String], change: impl Fn(&str) -> T) {
+        let at = self.0.between(1, words.len() - 1);
+        words[at] = match words[at].split_once('.') {
+            Some((low, high)) if self.0.once_in(2) => format!("{}.{high}", change(low).to_string()),
+            Some((low, high)) => format!("{low}.{}", change(high).to_string()),
+            None => change(&words[at]).to_string(),
+        };
     }
 
     // Lines that are not of the form.
 
     /// Too few or too many words, or a word that is no number.
     fn miscounted_or_no_number(&mut self, set_up: &SetUp) -> Vec<u8> {
-        const GOOD: [&str; 13] = [
+        const GOOD: [&str; 14] = [
             "setup 2 1 0 0",
+            "register 2 2",
             "wheel 1 1",
             "load 0 T",
             "load 1",
@@ -702,6 +825,12 @@ impl Writer {
             3 => {
                 let more = if self.0.once_in(2) { self.event(set_up) } else { self.0.one_of(&NO_NUMBERS).to_string() };
                 words.push(more);
+            }
+            // Numbers are no values of a register's device, so its words are those of one.
+            _ if words[0] == "device" && set_up.kind() == Kind::Register => {
+                words[3] = "1.1".to_string();
+                let at = self.0.between(1, last);
+                words[at] = if at == 3 { self.0.one_of(&NO_MASKS) } else { self.0.one_of(&NO_NUMBERS) }.to_string();
             }
             _ if last > 0 => {
                 let at = self.0.between(1, last);
@@ -761,10 +890,33 @@ impl Writer {
     }
 }
 
+/// The other kind of values.
+fn other(kind: Kind) -> Kind {
+    match kind {
+        Kind::Numbers => Kind::Register,
+        Kind::Register => Kind::Numbers,
+    }
+}
+
+/// The words of a device's entries in bytes: of a register a value LOW.HIGH and a next state in turn. Bytes that are no whole value there
+/// have no word.
+fn words_of(kind: Kind, bytes: &[u8]) -> Vec<String> {
+    let of_register = |entry: &[u8]| {
+        let (value, next) = entry.split_at_checked(4).unwrap_or_default();
+        let value = (!value.is_empty()).then(|| masks_of(Kind::Register.value_from(value)));
+        let words = value.into_iter().map(|(low, high)| format!("{low}.{high}"));
+        words.chain(next.iter().map(u8::to_string)).collect::<Vec<String>>()
+    };
+    match kind {
+        Kind::Numbers => bytes.iter().map(u8::to_string).collect(),
+        Kind::Register => bytes.chunks(5).flat_map(of_register).collect(),
+    }
+}
+
 /// The rule in tokens, if 4 to 9 and 23 do not refuse it.
 fn rule_of(set_up: &SetUp, tokens: &str) -> Option<Rule> {
-    let text = format!("{}{tokens}\n", file_head(set_up));
-    Some(channel_file::read(text.as_bytes()).ok()?.rule)
+    let text = format!("{}{tokens}\n", channel_file::head(set_up));
+    Some(channel_file::read_of(set_up.kind(), text.as_bytes()).ok()?.rule)
 }
 
 /// The table of a rule in tokens, if it has at most 256 states.
@@ -915,9 +1067,9 @@ fn limits_of_states() -> Vec<Vec<u8>> {
     commands.into_iter().map(String::into_bytes).collect()
 }
 
-/// Commands at document 02's limit of rows, for one event.
-fn limits_of_rows() -> Vec<Vec<u8>> {
-    let mut commands = vec![SET_UP.to_string()];
+/// Commands at document 02's limit of rows, for a set-up of one event, with some of its values by a number below 3.
+fn limits_of_rows(set_up: &str, value: &dyn Fn(usize) -> String) -> Vec<Vec<u8>> {
+    let mut commands = vec![set_up.to_string()];
     let load = |channel: usize, states: usize| format!("load {channel} {}", steps(states - 1));
     // 256 + 256 + 1, with the rule's own refusals before 25; then a row less.
     commands.extend([load(3, 256), load(5, 256), load(0, 1), load(4, 1), load(7, 1), load(8, 1), load(5, 256)]);
@@ -925,23 +1077,24 @@ fn limits_of_rows() -> Vec<Vec<u8>> {
     commands.push(format!("load 7 {}", joined_loops(16, 17)));
     commands.extend([load(5, 255), load(7, 2), load(7, 1), load(6, 1)]);
     // Each has 64 rows; its own are free, and no more.
-    commands.push(SET_UP.to_string());
+    commands.push(set_up.to_string());
     commands.extend((0..CHANNELS).map(|channel| load(channel, 64)));
     for channel in 0..CHANNELS {
         commands.extend([load(channel, 65), load(channel, 64), format!("show {channel}")]);
     }
     // A long rule that comes, is replaced by a short one, comes again and goes, between others that go on.
     for long in [0, 3, 7] {
-        commands.push(SET_UP.to_string());
+        commands.push(set_up.to_string());
         let others: Vec<usize> = (0..CHANNELS).filter(|&channel| channel != long).collect();
         let on_others = |command: &str, end: &str| -> Vec<String> {
             others.iter().map(|channel| format!("{command} {channel}{end}")).collect()
         };
-        commands
-            .extend(others.iter().map(|&channel| format!("load {channel} {}O0.{}", "G0 ".repeat(28 + channel), channel % 3)));
+        let load =
+            |channel: usize, steps: usize, last: usize| format!("load {channel} {}O0.{}", "G0 ".repeat(steps), value(last));
+        commands.extend(others.iter().map(|&channel| load(channel, 28 + channel, channel % 3)));
         commands.extend(on_others("events", &" 0".repeat(20)));
         for (steps, times) in [(253, 256), (1, 4), (253, 300)] {
-            commands.push(format!("load {long} {}O0.1", "G0 ".repeat(steps)));
+            commands.push(load(long, steps, 1));
             commands.extend(on_others("events", " 0 0"));
             commands.push(format!("events {long}{}", " 0".repeat(times)));
         }
@@ -950,13 +1103,210 @@ fn limits_of_rows() -> Vec<Vec<u8>> {
         commands.push("restart all".to_string());
         commands.extend(on_others("events", &" 0".repeat(38)));
     }
-    commands.push(SET_UP.to_string());
+    commands.push(set_up.to_string());
     commands.into_iter().map(String::into_bytes).collect()
+}
+
+/// Commands at the limits of document 02's F-7.
+fn limits_of_registers() -> Vec<Vec<u8>> {
+    let mut commands = Vec::new();
+    commands.extend(limits_of_lines());
+    commands.extend([1, 8, 15, 16].into_iter().flat_map(limits_of_masks));
+    commands.extend(marked_cases());
+    commands.extend(sixteen_events_and_lines());
+    commands.extend(both_kinds_in_turn());
+    commands.extend(long_devices());
+    commands.into_iter().map(String::into_bytes).collect()
+}
+
+/// Events and lines at the ends of their ranges; 1 comes before 20, and 20 before 18. What is refused leaves all as it was.
+fn limits_of_lines() -> Vec<String> {
+    let mut commands = several("register 2 16, load 0 V A O0.65535.1 G0 X0, event 0 0 7, device 1 0 9.9 0 9.9 0");
+    for wheel in ["wheel 100 314", "wheel 0 1"] {
+        commands.push(wheel.to_string());
+        for lines in ["0", "17", "18", "255", "256", "257", "272", "65537", "4294967297", "18446744073709551617"] {
+            commands.extend(["0", "1", "16", "17", "65537"].map(|events| format!("register {events} {lines}")));
+            commands.extend(several("event 0 0 7, write"));
+        }
+        commands.extend(several(
+            "register 1 1, register 16 1, register 1 16, register 16 16, register 0 1, register 17 16, show 0",
+        ));
+    }
+    commands.extend(several("wheel 65535 1, register 2 16, load 0 T, event 0 0 65536, wheel 100 314, register 2 16, load 0 T"));
+    commands.extend(several("event 0 0 7, register, register 1, register 1 1 1, register x 1, register 1 x, register 1 1.1"));
+    commands.extend(several("register 0002 0016, show 0, help"));
+    commands
+}
+
+/// Masks about the number of lines, and those that have more digits or bits than a mask may have, in tokens and in devices.
+fn limits_of_masks(lines: usize) -> Vec<String> {
+    let all = (1usize << lines) - 1;
+    let mut commands = vec![format!("register 2 {lines}")];
+    for mask in [0, 1, all, all + 1, 65_535, 65_536, 65_537, 98_304, 99_999, 100_000] {
+        for value in [format!("{mask}.0"), format!("0.{mask}"), format!("{mask}.{all}")] {
+            commands.push(format!("table A T O1.{value}"));
+            commands.push(format!("device 1 0 {value} 0 {all}.{all} 0"));
+            commands.push("write".to_string());
+        }
+        let value = format!("{all}.{mask}");
+        commands.extend([format!("load 0 O0.{value}"), "event 0 0".to_string(), "events 0 0 1".to_string()]);
+        commands.extend([
+            format!("dot O1.{value}"),
+            format!("trial O1.{value}"),
+            format!("covers O0.{value} / O0.{mask}.{all}"),
+        ]);
+    }
+    // A bit of each line, in one mask or the other, is low, high or both.
+    for line in 0..lines {
+        let bit = 1 << line;
+        commands.push(format!("device 1 0 {bit}.{} 0 {}.{bit} 0", all - bit, all - bit));
+        commands.extend([format!("trial O0.{bit}.{all}"), format!("trial O0.{all}.{bit}"), format!("trial O1.{all}.{bit}")]);
+    }
+    commands
+}
+
+/// Document 01's marked cases for a register of four lines, and tokens that are not in its form.
+fn marked_cases() -> Vec<String> {
+    let mut commands = vec!["register 2 4".to_string()];
+    for tokens in [
+        "T",
+        "A O1.15.14 V G1 X0",
+        "A O0.15.14 O0.14.15",
+        "V A G1 O1.15.14 G1 X0",
+        "X0",
+        "V X0",
+        "V A G0 X0 X0",
+        "V G0 V A X1 G0 X0",
+        "A T",
+        "T T",
+        "V V G0 X1",
+        "O1.15",
+        "O1.15.",
+        "O1..15",
+        "O.15.15",
+        "O1",
+        "O1.15.15.15",
+        "O1.015.15",
+        "O1.15.00",
+        "O01.1.1",
+        "O1.15.15 ",
+        "O1.15.15x",
+        "O1000.1.1",
+        "O256.1.1",
+        "O1.1.1 T",
+        "X256",
+        "A X0 O0.99999.0",
+    ]
+    .map(str::to_string)
+    .into_iter()
+    .chain([257, 258].map(|count| vec!["T"; count].join(" ")))
+    .chain([13, 14, 15, 20].map(|binders| under(binders, "T")))
+    .chain([16, 18, 19, 23, 25].map(|length| joined_loops(length, 17)))
+    .chain([64, 65, 66, 67, 68].map(steps))
+    {
+        commands.extend(["table", "dot", "load 0"].map(|command| format!("{command} {tokens}")));
+        commands.extend(several("events 0 1 1 1 0, event 0 1 3"));
+        commands.extend([format!("covers {tokens} / T"), format!("covers O1.0.0 / {tokens}")]);
+    }
+    commands.extend(several("device 2 0 15.14 0 14.15 1 14.15 1 15.14 1, write, trial O0.15.14, trial O0.14.14"));
+    commands.extend(several("device 1 0 15.15 0 15.15 0, trial A O0.15.14 O0.14.15, trial T, device 1 0 0.0 0 0.0 0, trial T"));
+    commands
+}
+
+/// Rules of a register on each of sixteen events, each with a line of its own.
+fn sixteen_events_and_lines() -> Vec<String> {
+    let of_event = |event: usize| {
+        let rule = format!("load 0 V A O{event}.65535.{} G{event} X0", 1 << event);
+        ["register 16 16".to_string(), rule, format!("events 0 0 {event} {event} 15")]
+    };
+    (0..16).flat_map(of_event).collect()
+}
+
+/// Set-ups of both kinds, each with a device, a rule and distances; a device of the other kind is dropped, one of the same kind is kept, and
+/// what is refused leaves all as it was.
+fn both_kinds_in_turn() -> Vec<String> {
+    let numbers = SET_UP.replacen("setup 1 ", "setup 2 ", 1);
+    let of_numbers =
+        several("device 1 0 1 0 2 0, load 0 V A O0.1 G0 X0, load 1 O0.1.1, device 1 0 1.1 0 2.2 0, trial O0.1, write");
+    let of_register =
+        several("device 1 0 1.2 0 2.1 0, load 0 V A O0.1.2 G0 X0, load 1 O0.1, device 1 0 1 0 2 0, trial O0.1.2, write");
+    let used = several("event 0 0, event 0 0 5, events 0 0 1 0, show 0, show 1, trial T, trial O0.1, trial O0.1.2, write");
+    let refused = several(
+        "register 2 17, register 0 2, setup 2 4 4 0, setup 17 1 0 0, register 2, setup 2 4, restart 8, clear x, show x, device 1, help",
+    );
+    let mut commands = Vec::new();
+    for register in ["register 2 2", "register 2 16", "register 2 1", "register 1 2"] {
+        for (set_up, more) in [(numbers.as_str(), &of_numbers), (register, &of_register)] {
+            commands.push(set_up.to_string());
+            commands.extend(used.iter().chain(more).chain(&used).chain(&refused).chain(&used).cloned());
+            // Set up again, the device stays.
+            commands.push(set_up.to_string());
+            commands.extend(used.clone());
+        }
+        // Another register keeps the device, whatever its lines; so does another set of values one of numbers.
+        commands
+            .extend(several("register 2 3, write, trial O0.1.2, trial T, register 16 16, write, register 2 1, write, trial T"));
+        commands.push(SET_UP.replacen("setup 1 ", "setup 16 ", 1));
+        commands.extend(several("write, device 1 0 1 0, write, load 0 V A O15.1 G15 X0, events 0 0 15 15 14"));
+        commands.extend([SET_UP.to_string(), "write".to_string()]);
+    }
+    commands
+}
+
+/// Devices of registers of as many entries as there may be, and of more than a table has; lists that end behind a value, and numbers that
+/// are too large, or no numbers, at their ends.
+fn long_devices() -> Vec<String> {
+    let mut commands = vec!["register 16 1".to_string()];
+    let device = |states: usize, entries: usize, end: &str| format!("device {states} 0{}{end}", " 1.1 0".repeat(entries));
+    for (states, entries, end) in [
+        (256, 4096, ""),
+        (256, 4095, " 0.0 255"),
+        (256, 4095, " 1.1 256"),
+        (256, 4095, " 65536.1 0"),
+        (256, 4095, " 1.1"),
+        (256, 4096, " 1.1"),
+        (256, 4096, " 1.1 0"),
+        (256, 4095, " 1.1 x"),
+        (256, 4096, " x"),
+        (256, 5400, ""),
+        (256, 5400, " 1.1"),
+        (256, 5400, " 1.65536 0"),
+        (256, 5400, " 1"),
+        (257, 4112, ""),
+        (64, 1024, ""),
+        (65, 1040, ""),
+        (1, 0, " 1.1"),
+        (1, 15, " 1.1"),
+        (1, 16, " 1.1"),
+        (1, 17, " 1.1"),
+        (1, 31, " 1.1"),
+        (2, 31, " 1.1"),
+        (2, 32, " 0.0"),
+        (3, 47, " 0.1"),
+        (1, 16, " 65536.0"),
+    ] {
+        commands.extend([device(states, entries, end), "write".to_string(), "trial T".to_string()]);
+    }
+    for next in ["1", "255", "256", "257", "511", "512", "65535", "65536", "4294967295", "4294967296", "18446744073709551616"] {
+        commands.extend([device(1, 15, &format!(" 1.1 {next}")), "write".to_string()]);
+        commands.extend([device(1, 16, &format!(" 1.1 {next}")), "trial T".to_string()]);
+    }
+    // One event: from its last state on a chain is one state long.
+    commands.push("register 1 16".to_string());
+    for states in [1, 12, 13, 63, 64, 65, 255, 256, 257] {
+        for start in [0, states - 1, states] {
+            let entries = (0..states).map(|state| format!(" 65535.{} {}", state % 2, (state + 1).min(states - 1).min(255)));
+            commands.push(format!("device {states} {start}{}", entries.collect::<String>()));
+            commands.extend(several("write, trial T, trial V A O0.65535.1 G0 X0, trial O0.65534.65535"));
+        }
+    }
+    commands
 }
 
 /// Commands at the limits of document 02's F-6, for one event.
 fn limits_of_distances() -> Vec<Vec<u8>> {
-    let mut commands = limits_of_totals();
+    let mut commands = limits_of_totals(SET_UP);
+    commands.extend(limits_of_totals("register 1 2"));
     for pulses in ["0", "1", "65535", "65536"] {
         for millimetres in ["0", "1", "65535", "65536"] {
             commands.extend(wheel_at_set_ups(pulses, millimetres));
@@ -975,9 +1325,9 @@ fn limits_of_distances() -> Vec<Vec<u8>> {
 }
 
 /// The first wheel; then a channel's total at its limit and beyond it, what leaves it and what zeroes it.
-fn limits_of_totals() -> Vec<String> {
+fn limits_of_totals(set_up: &str) -> Vec<String> {
     let mut commands = several("load 1 T, event 1 0 1, event 1 0 4294967295, show 1, wheel 7 65535");
-    commands.push(SET_UP.to_string());
+    commands.push(set_up.to_string());
     commands.extend(several("load 0 T, load 1 T, event 1 0 1"));
     commands.extend(std::iter::repeat_n("event 0 0 4294967295".to_string(), 256));
     commands.extend(several("show 0, event 0 0 257, event 0 0 255, show 0, event 0 0 2, event 0 1 2, event 0 0 1, show 0"));
@@ -988,10 +1338,11 @@ fn limits_of_totals() -> Vec<String> {
     commands
 }
 
-/// A wheel, which leaves the tool's own, then set-ups that 1 to 3 refuse and one that only 18 may refuse.
+/// A wheel, which leaves the tool's own, then set-ups that 1 to 3 or 20 refuse and two that only 18 may refuse.
 fn wheel_at_set_ups(pulses: &str, millimetres: &str) -> Vec<String> {
     let mut commands = vec![format!("wheel {pulses} {millimetres}")];
-    commands.extend(several("event 1 0 7, setup 0 1 0 0, setup 1 1 1 0, setup 1 1 0 1"));
+    commands.extend(several("event 1 0 7, setup 0 1 0 0, setup 1 1 1 0, setup 1 1 0 1, register 17 0, register 1 17, show 1"));
+    commands.extend(several("register 1 1, show 1, load 1 O0.0.1, event 1 0 65534"));
     commands.push(SET_UP.to_string());
     commands.extend(several("show 1, load 1 T, event 1 0 4294967295, event 1 0 65534"));
     commands

@@ -1,13 +1,13 @@
 //! The command program as docs/DECISIONS.md, "Command program", has it; every judgement is the reference's.
 
-use std::fmt::Write;
+use std::fmt::{Display, Write};
 
-use gurvazze_reference::formula::{Rule, MAX_NODES, NODE_BYTES};
+use gurvazze_reference::formula::{Rule, MAX_NODES};
 use gurvazze_reference::generate::RawTable;
 use gurvazze_reference::table::Table;
 use gurvazze_reference::tool::{Reading, Tool, Wheel, CHANNELS};
 use gurvazze_reference::trial::{covers, trial_of_rule, Grade, Outcome, WORD_BYTES};
-use gurvazze_reference::values::{RawSetUp, SetUp};
+use gurvazze_reference::values::{of_masks, Kind, RawSetUp, SetUp, Value};
 use gurvazze_reference::{channel_file, characteristic, render, Refusal};
 
 /// "A line has at most 32,768 bytes".
@@ -15,6 +15,7 @@ pub const LINE_BYTES: usize = 32_768;
 
 const HELP: &str = "\
 setup EVENTS VALUES TOP MEET...   the set-up; channels are empty
+register EVENTS LINES             the set-up for a register; channels are empty
 wheel P C                         pulses and millimetres per turn of the wheel, for the next set-up
 table TOKENS                      the table of a rule
 load C TOKENS                     a rule into channel C
@@ -90,6 +91,11 @@ impl Session {
         self.ready.as_ref().map(|ready| &ready.set_up)
     }
 
+    /// The kind of the set-up in force; before any set-up that of numbers.
+    pub fn kind(&self) -> Kind {
+        self.set_up().map_or(Kind::Numbers, SetUp::kind)
+    }
+
     /// The tool, once a set-up was accepted.
     pub fn tool(&self) -> Option<&Tool> {
         self.ready.as_ref().map(|ready| &ready.tool)
@@ -136,7 +142,8 @@ impl Session {
         match command {
             "unknown" => return Err(Problem::Error("command")),
             "help" => return Ok(HELP.to_string()),
-            "setup" => return self.set_up_anew(line),
+            "setup" => return self.set_up_numbers(line),
+            "register" => return self.set_up_register(line),
             "wheel" => return self.keep_wheel(line),
             "device" => return self.keep_device(line),
             _ => {}
@@ -158,12 +165,23 @@ impl Session {
         }
     }
 
-    /// "A new set-up empties the channels and keeps the device; a refused one leaves all as it was."
-    fn set_up_anew(&mut self, line: &Line) -> Reply {
+    fn set_up_numbers(&mut self, line: &Line) -> Reply {
         line.at_least(4)?;
         let (events, values, top) = (line.number(1)?, line.number(2)?, line.number(3)?);
-        let raw = RawSetUp { events, values, top, meet: line.bytes_from(4)? };
+        self.set_up_anew(RawSetUp::numbers(events, values, top, line.bytes_from(4)?))
+    }
+
+    fn set_up_register(&mut self, line: &Line) -> Reply {
+        line.exactly(3)?;
+        self.set_up_anew(RawSetUp::register(line.number(1)?, line.number(2)?))
+    }
+
+    /// "A new set-up empties the channels and keeps the device; a refused one leaves all as it was." A device of the other kind is dropped.
+    fn set_up_anew(&mut self, raw: RawSetUp) -> Reply {
         let tool = Tool::new(raw.clone(), self.wheel)?;
+        if raw.kind() != self.kind() {
+            self.device = None;
+        }
         self.ready = Some(Ready { set_up: SetUp::new(raw)?, tool });
         Ok("ok\n".to_string())
     }
@@ -175,12 +193,15 @@ impl Session {
         Ok("ok\n".to_string())
     }
 
-    /// The device is judged when it is used. A number that no byte holds is too large in every table: the device is kept as one of no
-    /// states, which is 11 too.
+    /// The device is read by the kind of the set-up in force and judged when it is used. A number that no byte holds, or no mask, is too
+    /// large in every table: the device is kept as one of no states, which is 11 too. All of the list is read, however long it is.
     fn keep_device(&mut self, line: &Line) -> Reply {
         line.at_least(3)?;
-        let (states, start, numbers) = (line.number(1)?, line.number(2)?, line.numbers_from(3)?);
-        let bytes: Option<Vec<u8>> = numbers.into_iter().map(|number| u8::try_from(number).ok()).collect();
+        let (states, start) = (line.number(1)?, line.number(2)?);
+        let bytes = match self.kind() {
+            Kind::Numbers => bytes_of(&line.numbers_from(3)?),
+            Kind::Register => line.masks_and_states_from(3)?,
+        };
         self.device = Some(match bytes {
             Some(bytes) => RawTable { states, start, bytes },
             None => RawTable { states: 0, start, bytes: Vec::new() },
@@ -192,10 +213,15 @@ impl Session {
 impl Ready {
     /// The rule in bytes: "tokens keep the channel file's form", and "Tokens too long for a channel file are `error=tokens`".
     fn rule(&self, tokens: &[u8]) -> Result<Vec<u8>, Problem> {
-        let mut text = file_head(&self.set_up).into_bytes();
+        let mut text = channel_file::head(&self.set_up).into_bytes();
         text.extend_from_slice(tokens);
         text.push(b'\n');
-        channel_file::lines(&text).map(|lines| lines.rule).map_err(|_| Problem::Error("tokens"))
+        channel_file::lines_of(self.set_up.kind(), &text).map(|lines| lines.rule).map_err(|_| Problem::Error("tokens"))
+    }
+
+    /// A value as it is printed: a number, or LOW.HIGH.
+    fn value(&self, value: Value) -> String {
+        self.set_up.kind().numbers_of(value).iter().map(usize::to_string).collect::<Vec<String>>().join(".")
     }
 
     fn table_of(&self, tokens: &[u8]) -> Result<Table, Problem> {
@@ -214,7 +240,7 @@ impl Ready {
         let mut text = "digraph table {\n".to_string();
         for (index, entry) in table.entries().iter().enumerate() {
             let (state, event) = (index / table.events(), index % table.events());
-            let value = if entry.value == self.set_up.top() { "open".to_string() } else { entry.value.to_string() };
+            let value = if entry.value == self.set_up.top() { "open".to_string() } else { self.value(entry.value) };
             add(&mut text, format_args!("  {state} -> {} [label=\"{event}/{value}\"];\n", entry.next));
         }
         text.push_str("}\n");
@@ -235,13 +261,14 @@ impl Ready {
         }
         line.exactly(3)?;
         let (channel, event) = (line.number(1)?, line.number(2)?);
-        Ok(format!("value={}\n", self.tool.event(channel, event, 0)?.value))
+        let value = self.tool.event(channel, event, 0)?.value;
+        Ok(format!("value={}\n", self.value(value)))
     }
 
     fn event_with_pulses(&mut self, line: &Line) -> Reply {
         let (channel, event, pulses) = (line.number(1)?, line.number(2)?, line.pulses(3)?);
         let Reading { value, distance } = self.tool.event(channel, event, pulses)?;
-        Ok(format!("value={value} mm={} rest={}\n", distance.millimetres, distance.rest))
+        Ok(format!("value={} mm={} rest={}\n", self.value(value), distance.millimetres, distance.rest))
     }
 
     /// All or none, without pulses. 14 and 15 are those of a restart, also where there are no events.
@@ -252,9 +279,9 @@ impl Ready {
         self.tool.clone().restart_one(channel)?;
         let mut after = self.tool.clone();
         let values = events.iter().map(|&event| Ok(after.sound_event(channel, event, 0)?.value));
-        let values = values.collect::<Result<Vec<u8>, Refusal>>()?;
+        let values = values.collect::<Result<Vec<Value>, Refusal>>()?;
         self.tool = after;
-        Ok(list("values=", &values))
+        Ok(list("values=", values.into_iter().map(|value| self.value(value))))
     }
 
     fn restart(&mut self, line: &Line) -> Reply {
@@ -310,20 +337,13 @@ impl Ready {
     fn write(&self, device: Option<&RawTable>, line: &Line) -> Reply {
         line.exactly(1)?;
         let device = device.ok_or(Problem::Error("device"))?;
-        let mut nodes = [0; MAX_NODES * NODE_BYTES];
+        let node_bytes = self.set_up.kind().node_bytes();
+        let mut nodes = vec![0; MAX_NODES * node_bytes];
         let count = characteristic::write_rule(self.set_up.raw(), device.lent(), &mut nodes)?;
-        let rule = Rule::from_bytes(&self.set_up, &nodes[..count * NODE_BYTES])?;
+        let rule = Rule::from_bytes(&self.set_up, &nodes[..count * node_bytes])?;
         let text = channel_file::to_text(&self.set_up, &rule);
         Ok(text[text.find("rule=").expect("a file has a rule line")..].to_string())
     }
-}
-
-/// The text of a channel file up to its tokens.
-pub(crate) fn file_head(set_up: &SetUp) -> String {
-    let rule = Rule::from_bytes(set_up, &[0, 0, 0]).expect("T is a rule");
-    let mut text = channel_file::to_text(set_up, &rule);
-    text.truncate(text.len() - "T\n".len());
-    text
 }
 
 /// A line and its words.
@@ -369,6 +389,19 @@ impl<'a> Line<'a> {
         self.words[index.min(self.words.len())..].iter().map(|word| number(word)).collect()
     }
 
+    /// The entries of a register's device in bytes: the words are a value LOW.HIGH and a next state in turn. Nothing where a mask or a next
+    /// state is too large.
+    fn masks_and_states_from(&self, index: usize) -> Result<Option<Vec<u8>>, Problem> {
+        let words = &self.words[index.min(self.words.len())..];
+        let entry = |entry: &[&[u8]]| {
+            let value = masks(entry[0])?.map(|value| Kind::Register.value_to_bytes(value));
+            let next = bytes_of(&entry[1..].iter().map(|word| number(word)).collect::<Result<Vec<usize>, Problem>>()?);
+            Ok(value.zip(next).map(|(value, next)| [value, next].concat()))
+        };
+        let entries = words.chunks(2).map(entry).collect::<Result<Vec<Option<Vec<u8>>>, Problem>>()?;
+        Ok(entries.into_iter().collect::<Option<Vec<Vec<u8>>>>().map(|entries| entries.concat()))
+    }
+
     /// Numbers above 255 stand as 255, too large for a value all the same.
     fn bytes_from(&self, index: usize) -> Result<Vec<u8>, Problem> {
         Ok(self.numbers_from(index)?.into_iter().map(|number| u8::try_from(number).unwrap_or(u8::MAX)).collect())
@@ -395,9 +428,9 @@ fn two_parts(text: &[u8]) -> (&[u8], &[u8]) {
 
 /// The name of a command, `unknown` where there is none.
 fn name(word: &[u8]) -> &'static str {
-    const NAMES: [&str; 15] = [
-        "setup", "wheel", "table", "load", "event", "events", "restart", "clear", "show", "device", "trial", "covers", "write",
-        "dot", "help",
+    const NAMES: [&str; 16] = [
+        "setup", "register", "wheel", "table", "load", "event", "events", "restart", "clear", "show", "device", "trial",
+        "covers", "write", "dot", "help",
     ];
     NAMES.into_iter().find(|name| name.as_bytes() == word).unwrap_or("unknown")
 }
@@ -410,12 +443,27 @@ fn number(word: &[u8]) -> Result<usize, Problem> {
     })
 }
 
-/// A key with numbers, as a line.
-fn list(key: &str, numbers: &[u8]) -> String {
+/// A value word, LOW.HIGH: digits, one dot, digits. Nothing where a mask has more than 16 bits.
+fn masks(word: &[u8]) -> Result<Option<Value>, Problem> {
+    let parts: Vec<&[u8]> = word.split(|&byte| byte == b'.').collect();
+    let (&[low, high], false) = (&parts[..], parts.iter().any(|part| part.is_empty())) else {
+        return Err(Problem::Error("number"));
+    };
+    let (low, high) = (number(low)?, number(high)?);
+    Ok(u16::try_from(low).ok().zip(u16::try_from(high).ok()).map(|(low, high)| of_masks(low, high)))
+}
+
+/// Numbers as bytes; nothing where one is too large.
+fn bytes_of(numbers: &[usize]) -> Option<Vec<u8>> {
+    numbers.iter().map(|&number| u8::try_from(number).ok()).collect()
+}
+
+/// A key with a list, as a line.
+fn list<T: Display>(key: &str, items: impl IntoIterator<Item = T>) -> String {
     let mut text = key.to_string();
-    for (index, number) in numbers.iter().enumerate() {
+    for (index, item) in items.into_iter().enumerate() {
         let space = if index > 0 { " " } else { "" };
-        add(&mut text, format_args!("{space}{number}"));
+        add(&mut text, format_args!("{space}{item}"));
     }
     text.push('\n');
     text

@@ -5,18 +5,33 @@ mod both;
 use std::collections::BTreeMap;
 use std::fmt::Debug;
 
-use both::{covers, replay, rule, table, trial, trial_table, Called};
+use both::{compile, covers, replay, rule, table, trial, trial_table, Called};
 use gurvazze_reference::channel_file::{self, ChannelFile};
-use gurvazze_reference::formula::{joined, Rule};
+use gurvazze_reference::formula::{joined, Node, Rule};
 use gurvazze_reference::generate::{
     has_most_binders, has_variable_under_inner_binder, inner_binders, under, Generator, RawTable,
 };
-use gurvazze_reference::table::Table;
+use gurvazze_reference::table::{in_bytes, Entry, Table};
 use gurvazze_reference::trial::{first_word, same_values, Grade, Outcome, WORD_BYTES};
-use gurvazze_reference::values::{RawSetUp, SetUp};
+use gurvazze_reference::values::{of_masks, Kind, RawSetUp, SetUp, Value};
 
-/// Every table has room in so many bytes: 256 states, 16 events, two bytes an entry.
-const TABLE_BYTES: usize = 8192;
+/// Every table has room in so many bytes: 256 states, 16 events.
+const fn table_bytes(kind: Kind) -> usize {
+    256 * 16 * kind.entry_bytes()
+}
+
+/// Every rule has room in so many bytes: 256 nodes.
+const fn rule_bytes(kind: Kind) -> usize {
+    256 * kind.node_bytes()
+}
+
+/// The refusals of a set-up: 1 to 3; for a register 1, then 20 in the place of 2 and 3 (document 02, F-7).
+const fn of_set_up(kind: Kind) -> &'static [u8] {
+    match kind {
+        Kind::Numbers => &[1, 2, 3],
+        Kind::Register => &[1, 20],
+    }
+}
 
 /// So many seeds, times the number in the environment's SEEDS_TIMES where there is one.
 fn seeds(count: u64) -> std::ops::Range<u64> {
@@ -116,7 +131,7 @@ fn tables() {
     for seed in seeds(100_000) {
         let mut generator = Generator::new(seed);
         let text = text(&mut generator);
-        let output = match table::reference(&text, &[0; TABLE_BYTES]).0 {
+        let output = match table::reference(&text, &[0; table_bytes(Kind::Numbers)]).0 {
             Ok((states, events, _, _)) => states * events * 2,
             Err(_) => 512,
         };
@@ -178,6 +193,53 @@ fn replays() {
     assert!(wide > 1000 && deep > 200 && far > 500, "{wide} wide, {deep} deep, {far} by long rules");
 }
 
+/// A rule in bytes, good or damaged.
+fn rule_in_bytes(generator: &mut Generator, set_up: &SetUp) -> Vec<u8> {
+    match generator.below(12) {
+        0..=4 => generator.damaged_rule(set_up),
+        5 if generator.once_in(3) => generator.rule_of_too_many_states(set_up).to_bytes(),
+        5 if generator.once_in(2) => {
+            let event = generator.below(set_up.events());
+            generator.large_rule(set_up, event).to_bytes()
+        }
+        5 | 6 => generator.rule_of_loops(set_up).to_bytes(),
+        _ => generator.rule(set_up).to_bytes(),
+    }
+}
+
+/// Set-ups and rules of this kind.
+fn compiles_of(kind: Kind, count: u64) {
+    let mut tally = Tally::default();
+    let mut large = 0;
+    for seed in seeds(count) {
+        let mut generator = Generator::new(seed);
+        let set_up = generator.set_up_of(kind);
+        let rule = rule_in_bytes(&mut generator, &set_up);
+        let raw = if generator.once_in(10) { generator.damaged_set_up_of(kind) } else { set_up.raw().clone() };
+        let output = match compile::reference(&raw, &rule, &vec![0; table_bytes(kind)]).0 {
+            Ok(states) => states * raw.events * kind.entry_bytes(),
+            Err(_) => 512,
+        };
+        let old = buffer(&mut generator, output);
+        let library = compile::library(&raw, &rule, &old);
+        large += usize::from(library.0.is_ok_and(|states| states > 64));
+        tally.compare(library, compile::reference(&raw, &rule, &old), &old, || format!("seed {seed}: {raw:?} {rule:?}"));
+    }
+    tally.has(of_set_up(kind));
+    tally.has(&[0, 5, 6, 7, 8, 23, 9, 10, 13]);
+    assert!(large > 100, "{large} of more than 64 states");
+}
+
+#[test]
+fn compiles() {
+    compiles_of(Kind::Numbers, 30_000);
+}
+
+#[test]
+fn register_compiles() {
+    compiles_of(Kind::Register, 30_000);
+}
+
 /// A device: any table, one near the rule's, or a damaged one.
 fn device(generator: &mut Generator, set_up: &SetUp, rule: Option<&Table>) -> RawTable {
     match (generator.below(8), rule) {
@@ -199,19 +261,9 @@ fn word_buffer(generator: &mut Generator) -> Vec<u8> {
 }
 
 /// After the word's last event the device's value is not at or below the table's, and before it is everywhere.
-fn is_counterexample(set_up: &SetUp, device: &RawTable, table: &Table, word: &[u8]) -> bool {
-    let entry = |state: usize, event: usize| {
-        let at = 2 * (state * set_up.events() + event);
-        (device.bytes[at], usize::from(device.bytes[at + 1]))
-    };
-    let (mut s, mut t) = (device.start, 0);
-    let mut below = Vec::new();
-    for &event in word {
-        let (value, next) = entry(s, event.into());
-        let of_table = table.entry(t, event.into());
-        below.push(set_up.at_or_below(value, of_table.value));
-        (s, t) = (next, of_table.next.into());
-    }
+fn is_counterexample(set_up: &SetUp, (device, start): (&Table, usize), table: &Table, word: &[u8]) -> bool {
+    let (ours, theirs) = (device.run(start, word).0, table.run(0, word).0);
+    let mut below: Vec<bool> = ours.into_iter().zip(theirs).map(|(b, c)| set_up.at_or_below(b, c)).collect();
     below.pop() == Some(false) && below.iter().all(|&holds| holds)
 }
 
@@ -236,7 +288,7 @@ impl Verdicts {
             Outcome::Passes(_) => assert_eq!(first, None, "{}", what()),
             Outcome::Fails(length) => {
                 assert_eq!(first.as_deref(), Some(&word[..length]), "{}", what());
-                assert!(is_counterexample(set_up, device, table, &word[..length]), "{}", what());
+                assert!(is_counterexample(set_up, ours, table, &word[..length]), "{}", what());
             }
         }
         match outcome {
@@ -295,18 +347,18 @@ fn trials() {
     assert!(deep > 200, "{deep}");
 }
 
-#[test]
-fn trials_of_tables() {
+/// Set-ups, tables and devices of this kind; each verdict has to arise so often of tables with more than 64 states.
+fn trials_of_tables_of(kind: Kind, count: u64, of_many_states: usize) {
     let mut tally = Tally::default();
     let mut verdicts = Verdicts::default();
     let mut of_large = Verdicts::default();
-    for seed in seeds(50_000) {
+    for seed in seeds(count) {
         let mut generator = Generator::new(seed);
-        let set_up = generator.set_up();
+        let set_up = generator.set_up_of(kind);
         let table = if generator.once_in(10) { generator.damaged_table(&set_up) } else { generator.table(&set_up) };
         let typed = RawTable { start: 0, ..table.clone() }.lent().table(&set_up).ok();
         let device = device(&mut generator, &set_up, typed.as_ref());
-        let raw = if generator.once_in(10) { generator.damaged_set_up() } else { set_up.raw().clone() };
+        let raw = if generator.once_in(10) { generator.damaged_set_up_of(kind) } else { set_up.raw().clone() };
         let old = word_buffer(&mut generator);
         let library = trial_table::library(&raw, &table, &device, &old);
         // A damaged set-up may be another good one.
@@ -319,9 +371,20 @@ fn trials_of_tables() {
             format!("seed {seed}: {raw:?} {table:?} {device:?}")
         });
     }
-    tally.has(&[0, 1, 2, 3, 11, 13]);
+    tally.has(of_set_up(kind));
+    tally.has(&[0, 11, 13]);
     verdicts.are_many(1000);
-    of_large.are_many(20);
+    of_large.are_many(of_many_states);
+}
+
+#[test]
+fn trials_of_tables() {
+    trials_of_tables_of(Kind::Numbers, 50_000, 20);
+}
+
+#[test]
+fn trials_of_register_tables() {
+    trials_of_tables_of(Kind::Register, 30_000, 5);
 }
 
 /// Document 02, F-14: one rule implies another exactly if its table, as a device, passes.
@@ -360,25 +423,27 @@ fn joining() {
         let mut generator = Generator::new(seed);
         let set_up = generator.set_up();
         let (first, second) = generator.pair_of_rules(&set_up);
-        let Ok(both) = Rule::from_bytes(&set_up, &joined(&first.to_bytes(), &second.to_bytes())) else { continue };
+        let Ok(both) = Rule::from_bytes(&set_up, &joined(set_up.kind(), &first.to_bytes(), &second.to_bytes())) else {
+            continue;
+        };
         let word = generator.word(&set_up, 50);
         let values = |rule: &Rule| replay::library(channel_file::to_text(&set_up, rule).as_bytes(), &word, &[0; 50]);
         let ((Ok(()), both), (Ok(()), first), (Ok(()), second)) = (values(&both), values(&first), values(&second)) else {
             continue;
         };
-        let meets: Vec<u8> = first.iter().zip(&second).map(|(&b, &c)| set_up.meet(b, c)).collect();
+        let meets: Vec<u8> = first.iter().zip(&second).map(|(&b, &c)| set_up.meet(b.into(), c.into()) as u8).collect();
         assert_eq!(both, meets, "seed {seed}");
         words += 1;
     }
     assert!(words > 10_000, "{words}");
 }
 
-#[test]
-fn rules() {
+/// Set-ups and tables of this kind.
+fn rules_of(kind: Kind, count: u64) {
     let mut tally = Tally::default();
-    for seed in seeds(50_000) {
+    for seed in seeds(count) {
         let mut generator = Generator::new(seed);
-        let set_up = generator.set_up();
+        let set_up = generator.set_up_of(kind);
         let of_rule = generator.rule(&set_up);
         let table = match (generator.below(8), Table::of_rule(&set_up, &of_rule)) {
             (0, _) => generator.damaged_table(&set_up),
@@ -386,28 +451,44 @@ fn rules() {
             (3, Ok(table)) => RawTable { states: table.states(), start: 0, bytes: table.to_bytes() },
             _ => generator.chain(&set_up),
         };
-        let raw = if generator.once_in(10) { generator.damaged_set_up() } else { set_up.raw().clone() };
-        let output = rule::reference(&raw, &table, &[0; 768]).0.unwrap_or(256) * 3;
-        let old = buffer(&mut generator, output);
+        let raw = if generator.once_in(10) { generator.damaged_set_up_of(kind) } else { set_up.raw().clone() };
+        let nodes = rule::reference(&raw, &table, &vec![0; rule_bytes(kind)]).0.unwrap_or(256);
+        let old = buffer(&mut generator, nodes * kind.node_bytes());
         tally.compare(rule::library(&raw, &table, &old), rule::reference(&raw, &table, &old), &old, || {
             format!("seed {seed}: {raw:?} {table:?}")
         });
     }
-    tally.has(&[0, 1, 2, 3, 11, 12, 23, 13]);
+    tally.has(of_set_up(kind));
+    tally.has(&[0, 11, 12, 23, 13]);
 }
 
-/// The rule that was written is a rule whose values are the start's.
+#[test]
+fn rules() {
+    rules_of(Kind::Numbers, 50_000);
+}
+
+#[test]
+fn register_rules() {
+    rules_of(Kind::Register, 30_000);
+}
+
+/// The rule that was written is a rule whose values are the start's; the library compiles it.
 #[test]
 fn written_rules_are_rules() {
     let mut deep = 0;
     for seed in seeds(20_000) {
         let mut generator = Generator::new(seed);
-        let set_up = generator.set_up();
+        let set_up = generator.any_set_up();
+        let kind = set_up.kind();
         let table = generator.chain(&set_up);
-        let (Ok(count), bytes) = rule::library(set_up.raw(), &table, &[0; 768]) else { continue };
-        let rule = Rule::from_bytes(&set_up, &bytes[..3 * count]).expect("each rule so written is accepted as a rule");
+        let (Ok(count), bytes) = rule::library(set_up.raw(), &table, &vec![0; rule_bytes(kind)]) else { continue };
+        let bytes = &bytes[..kind.node_bytes() * count];
+        let rule = Rule::from_bytes(&set_up, bytes).expect("each rule so written is accepted as a rule");
         deep += usize::from(has_most_binders(&rule));
-        let of_rule = Table::of_rule(&set_up, &rule).expect("and has one state for each V");
+        let (states, mut made) = compile::library(set_up.raw(), bytes, &vec![0; table_bytes(kind)]);
+        let states = states.expect("and has one state for each V");
+        made.truncate(states * set_up.events() * kind.entry_bytes());
+        let of_rule = RawTable { states, start: 0, bytes: made }.lent().table(&set_up).expect("which is a table");
         let word = generator.word(&set_up, 50);
         assert_eq!(of_rule.run(0, &word).0, table.lent().table(&set_up).unwrap().run(table.start, &word).0, "seed {seed}");
     }
@@ -416,24 +497,34 @@ fn written_rules_are_rules() {
 
 /// A loop of states on one event, top but for a low one.
 fn ring(states: usize, low: usize) -> RawTable {
-    let bytes = (0..states).flat_map(|state| [if state == low { 1 } else { 3 }, ((state + 1) % states) as u8]).collect();
-    RawTable { states, start: 0, bytes }
+    ring_of(Kind::Numbers, states, low)
+}
+
+/// The same with values of this kind; a register has two lines, the second one of them low.
+fn ring_of(kind: Kind, states: usize, low: usize) -> RawTable {
+    let (of_low, top) = match kind {
+        Kind::Numbers => (1, 3),
+        Kind::Register => (of_masks(3, 1), of_masks(3, 3)),
+    };
+    let entry = |state| Entry { value: if state == low { of_low } else { top }, next: ((state + 1) % states) as u8 };
+    RawTable { states, start: 0, bytes: in_bytes(kind, (0..states).map(entry)) }
 }
 
 /// Loops that pass: as same, and as stricter by the device's first or last state alone.
 #[test]
 fn grades_of_loops() {
     let mut tally = Tally::default();
-    let one = RawSetUp::four_values(1);
-    for (low, grade) in [(usize::MAX, Grade::Same), (0, Grade::Stricter), (63, Grade::Stricter)] {
-        for others in [1, 63, 64, 65, 255, 256] {
-            let (device, table) = (ring(64, low), ring(others, usize::MAX));
-            let old = vec![170; WORD_BYTES];
-            let library = trial_table::library(&one, &table, &device, &old);
-            assert_eq!(library.0, Ok(Outcome::Passes(grade)));
-            tally.compare(library, trial_table::reference(&one, &table, &device, &old), &old, || {
-                format!("{device:?} {table:?}")
-            });
+    for one in [RawSetUp::four_values(1), RawSetUp::register(1, 2)] {
+        for (low, grade) in [(usize::MAX, Grade::Same), (0, Grade::Stricter), (63, Grade::Stricter)] {
+            for others in [1, 63, 64, 65, 255, 256] {
+                let (device, table) = (ring_of(one.kind(), 64, low), ring_of(one.kind(), others, usize::MAX));
+                let old = vec![170; WORD_BYTES];
+                let library = trial_table::library(&one, &table, &device, &old);
+                assert_eq!(library.0, Ok(Outcome::Passes(grade)));
+                tally.compare(library, trial_table::reference(&one, &table, &device, &old), &old, || {
+                    format!("{device:?} {table:?}")
+                });
+            }
         }
     }
 }
@@ -585,4 +676,121 @@ fn limits() {
         }
     }
     println!("{:?}", tally.0);
+}
+
+/// Each bit of a register's masks with its number, and all bits of one or both masks with that of one of them.
+fn masks() -> impl Iterator<Item = (usize, Value)> {
+    let all = [(15, Value::MAX), (15, of_masks(u16::MAX, 0)), (31, of_masks(0, u16::MAX))];
+    (0..32).map(|bit| (bit, 1 << bit)).chain(all)
+}
+
+/// The answer where the number of lines is one that a register may have, and 20 otherwise.
+fn beside_20<T>(lines: usize, answer: Result<T, (u8, Option<usize>)>) -> Result<T, (u8, Option<usize>)> {
+    match lines {
+        1..=16 => answer,
+        _ => Err((20, None)),
+    }
+}
+
+/// Document 02, F-7: "A mask bit at or above the line count is refusal 6 in a rule", and so is one in a node that has no value.
+#[test]
+fn bits_in_nodes() {
+    let mut tally = Tally::default();
+    let nodes = [Node::True, Node::Variable(0), Node::After(0), Node::Output(0, 0), Node::Both, Node::Greatest];
+    for lines in 0..=18 {
+        let raw = RawSetUp::register(1, lines);
+        for ((bit, value), node) in masks().flat_map(|mask| nodes.map(|node| (mask, node))) {
+            let mut bytes = node.to_bytes(Kind::Register);
+            bytes[2..].copy_from_slice(&Kind::Register.value_to_bytes(value));
+            let is_value = matches!(node, Node::Output(..)) && bit % 16 < lines;
+            let expected = if is_value { Ok(2) } else { Err((6, Some(0))) };
+            // The table has two entries.
+            for length in [0, 9, 10, 11] {
+                let old = vec![170; length];
+                let library = compile::library(&raw, &bytes, &old);
+                if length >= 10 {
+                    assert_eq!(library.0, beside_20(lines, expected), "{lines} lines, {value:#x} in {node:?}");
+                }
+                tally.compare(library, compile::reference(&raw, &bytes, &old), &old, || format!("{raw:?} {bytes:?}"));
+            }
+        }
+    }
+    tally.has(&[0, 20, 6, 13]);
+}
+
+/// Document 02, F-7: "and 11 in a table", of a rule, of a device, and of a written rule.
+#[test]
+fn bits_in_tables() {
+    let mut tally = Tally::default();
+    let conflict = RawTable { states: 1, start: 0, bytes: vec![0; 5] };
+    for lines in 0..=18 {
+        let raw = RawSetUp::register(1, lines);
+        for (bit, value) in masks() {
+            let table = RawTable::chain_of(Kind::Register, 1, value);
+            // The rule has five nodes.
+            for length in [0, 29, 30, 31] {
+                let old = vec![170; length];
+                let library = rule::library(&raw, &table, &old);
+                if length >= 30 {
+                    let expected = if bit % 16 < lines { Ok(5) } else { Err((11, None)) };
+                    assert_eq!(library.0, beside_20(lines, expected), "{lines} lines, {value:#x}");
+                }
+                tally.compare(library, rule::reference(&raw, &table, &old), &old, || format!("{raw:?} {table:?}"));
+            }
+            for (device, table) in [(&table, &conflict), (&conflict, &table), (&table, &table)] {
+                for length in [WORD_BYTES - 1, WORD_BYTES] {
+                    let old = vec![170; length];
+                    let library = trial_table::library(&raw, table, device, &old);
+                    tally.compare(library, trial_table::reference(&raw, table, device, &old), &old, || {
+                        format!("{raw:?} {device:?} {table:?}")
+                    });
+                }
+            }
+        }
+    }
+    tally.has(&[0, 20, 11, 13]);
+}
+
+/// Lengths about those of whole nodes and entries of a register, all bytes 0: T, and tables in conflict.
+#[test]
+fn lengths_about_whole_nodes() {
+    let mut tally = Tally::default();
+    let lengths = |each: usize| [0, 1, 2, 64, 255, 256, 257].into_iter().flat_map(move |n| each * n..each * (n + 1));
+    for events in 1..=3 {
+        let raw = RawSetUp::register(events, 3);
+        for length in lengths(6) {
+            let (rule, old) = (vec![0; length], vec![170; 5 * events]);
+            tally.compare(compile::library(&raw, &rule, &old), compile::reference(&raw, &rule, &old), &old, || {
+                format!("{raw:?} {length} bytes")
+            });
+        }
+        for length in lengths(5 * events) {
+            for states in [length / (5 * events), length / (5 * events) + 1] {
+                let (table, old) = (RawTable { states, start: 0, bytes: vec![0; length] }, vec![170; WORD_BYTES]);
+                let what = || format!("{raw:?} {states} states, {length} bytes");
+                tally.compare(rule::library(&raw, &table, &old), rule::reference(&raw, &table, &old), &old, what);
+                let library = trial_table::library(&raw, &table, &table, &old);
+                tally.compare(library, trial_table::reference(&raw, &table, &table, &old), &old, what);
+            }
+        }
+    }
+    tally.has(&[0, 5, 11]);
+}
+
+/// 1 before 20, and numbers that wrap to good ones.
+#[test]
+fn numbers_of_registers() {
+    let mut tally = Tally::default();
+    let numbers = [0, 1, 16, 17, 255, 256, 257, 65_536, 65_537, 1 << 32, (1 << 32) + 1, usize::MAX - 1, usize::MAX];
+    let table = RawTable { states: 1, start: 0, bytes: vec![0; 5] };
+    let (rule, old) = (Node::True.to_bytes(Kind::Register), vec![170; WORD_BYTES]);
+    for (events, lines) in numbers.into_iter().flat_map(|events| numbers.map(|lines| (events, lines))) {
+        let raw = RawSetUp::register(events, lines);
+        let what = || format!("{raw:?}");
+        tally.compare(compile::library(&raw, &rule, &old), compile::reference(&raw, &rule, &old), &old, what);
+        tally.compare(rule::library(&raw, &table, &old), rule::reference(&raw, &table, &old), &old, what);
+        let library = trial_table::library(&raw, &table, &table, &old);
+        tally.compare(library, trial_table::reference(&raw, &table, &table, &old), &old, what);
+    }
+    tally.has(&[1, 20]);
 }

@@ -1,6 +1,6 @@
 //! The rule of a table: the characteristic formula of a state.
 
-use crate::formula::{Node, Rule, MAX_BINDERS, MAX_NODES, NODE_BYTES};
+use crate::formula::{in_bytes, Node, Rule, MAX_BINDERS, MAX_NODES};
 use crate::refusal::room;
 use crate::table::{Lent, Table, MAX_STATES};
 use crate::values::{RawSetUp, SetUp};
@@ -8,7 +8,7 @@ use crate::Refusal;
 
 /// The rule of a table from a start state: refusals 12 and 23. Writing stops at node 257, since the whole may be very long.
 pub fn rule_of(table: &Table, start: usize) -> Result<Rule, Refusal> {
-    Ok(Rule::from_nodes(nodes_of(table, start)?).expect("each rule so written is accepted as a rule"))
+    Ok(Rule::from_nodes(table.kind(), nodes_of(table, start)?).expect("each rule so written is accepted as a rule"))
 }
 
 /// The nodes of that rule.
@@ -22,14 +22,14 @@ fn nodes_of(table: &Table, start: usize) -> Result<Vec<Node>, Refusal> {
     Ok(writer.nodes)
 }
 
-/// Writes the rule of a table handed in into lent memory and returns its size in nodes: refusals 1 to 3, 11, 12, 23, 13.
+/// Writes the rule of a table handed in into lent memory and returns its size in nodes: refusals 1 to 3 (or 1,
+/// 20), 11, 12, 23, 13.
 pub fn write_rule(set_up: &RawSetUp, table: Lent<'_>, lent: &mut [u8]) -> Result<usize, Refusal> {
     let set_up = SetUp::new(set_up.clone())?;
     let nodes = nodes_of(&table.table(&set_up)?, table.start)?;
-    room(lent, nodes.len() * NODE_BYTES)?;
-    for (bytes, node) in lent.chunks_exact_mut(NODE_BYTES).zip(&nodes) {
-        bytes.copy_from_slice(&node.to_bytes());
-    }
+    let bytes = in_bytes(set_up.kind(), &nodes);
+    room(lent, bytes.len())?;
+    lent[..bytes.len()].copy_from_slice(&bytes);
     Ok(nodes.len())
 }
 

@@ -1,9 +1,9 @@
 //! Seeded random inputs, good and damaged, for property tests and for comparing two versions. Equal seeds give equal inputs.
 
-use crate::formula::{joined, Node, Rule, MAX_BINDERS, MAX_NODES};
-use crate::table::{Entry, Table, MAX_DEVICE_STATES, MAX_STATES};
+use crate::formula::{self, joined, Node, Rule, MAX_BINDERS, MAX_NODES};
+use crate::table::{self, Entry, Table, MAX_DEVICE_STATES, MAX_STATES};
 use crate::tool::{Call, Wheel, CHANNELS, MAX_PER_TURN, MAX_ROWS, MAX_TOTAL};
-use crate::values::{RawSetUp, SetUp, MAX_VALUES};
+use crate::values::{masks_of, of_masks, Kind, RawNumbers, RawSetUp, RawValues, SetUp, Value, MAX_LINES, MAX_VALUES};
 use crate::{channel_file, characteristic};
 
 /// A xorshift generator.
@@ -24,10 +24,15 @@ pub struct RawTable {
 }
 
 impl RawTable {
-    /// One event, one value: a chain of states whose last returns to itself.
+    /// One event, one number as value: a chain of states whose last returns to itself.
     pub fn chain(states: usize, value: u8) -> RawTable {
-        let bytes = (0..states).flat_map(|state| [value, (state + 1).min(states - 1) as u8]).collect();
-        RawTable { states, start: 0, bytes }
+        RawTable::chain_of(Kind::Numbers, states, value.into())
+    }
+
+    /// The same with a value of this kind.
+    pub fn chain_of(kind: Kind, states: usize, value: Value) -> RawTable {
+        let entries = (0..states).map(|state| Entry { value, next: (state + 1).min(states - 1) as u8 });
+        RawTable { states, start: 0, bytes: table::in_bytes(kind, entries) }
     }
 
     /// The table as the calls take it.
@@ -91,6 +96,9 @@ pub fn has_most_binders(rule: &Rule) -> bool {
 
 /// Numbers of the first lines of a file, or of a set-up, that are out of range; some of them wrap to a good byte.
 const LARGE: [usize; 8] = [16, 17, 18, 64, 255, 256, 258, 999];
+
+/// Numbers that a mask of a file may be, the last ones of no 16 bits.
+const LARGE_MASKS: [usize; 10] = [255, 256, 32_767, 32_768, 65_534, 65_535, 65_536, 65_537, 98_304, 99_999];
 
 impl Generator {
     /// A generator for a seed.
@@ -168,15 +176,45 @@ impl Generator {
         }
         let number = |set: usize| sets.iter().position(|&other| other == set).expect("closed under intersection");
         let meet = sets.iter().flat_map(|b| sets.iter().map(move |c| b & c)).map(|set| number(set) as u8).collect();
-        RawSetUp { events, values: sets.len(), top: number(full), meet }
+        RawSetUp::numbers(events, sets.len(), number(full), meet)
+    }
+
+    /// A set-up of a register (document 02, F-7), often of as many lines as there may be.
+    pub fn register(&mut self) -> SetUp {
+        let events = if self.once_in(8) { self.between(1, 16) } else { self.between(1, 3) };
+        let lines = match self.below(4) {
+            0 => MAX_LINES,
+            1 => self.between(1, MAX_LINES),
+            _ => self.between(1, 4),
+        };
+        SetUp::new(RawSetUp::register(events, lines)).expect("the numbers are in their ranges")
+    }
+
+    /// A set-up of either kind.
+    pub fn any_set_up(&mut self) -> SetUp {
+        if self.once_in(3) {
+            self.register()
+        } else {
+            self.set_up()
+        }
+    }
+
+    /// A set-up of this kind.
+    pub fn set_up_of(&mut self, kind: Kind) -> SetUp {
+        match kind {
+            Kind::Numbers => self.set_up(),
+            Kind::Register => self.register(),
+        }
     }
 
     /// A set-up damaged in one way. A damaged entry may by chance be lawful again, so the refusal is for the caller to find.
     pub fn damaged_set_up(&mut self) -> RawSetUp {
-        let mut raw = self.set_up().raw().clone();
-        let values = raw.values;
+        let RawSetUp { mut events, values: RawValues::Numbers(mut raw) } = self.set_up().raw().clone() else {
+            unreachable!("the set-up is one of numbers");
+        };
+        let RawNumbers { values, .. } = raw;
         match self.below(10) {
-            0 => raw.events = if self.once_in(3) { 0 } else { self.one_of(&LARGE[1..]) },
+            0 => events = if self.once_in(3) { 0 } else { self.one_of(&LARGE[1..]) },
             1 => raw.values = if self.once_in(3) { 0 } else { self.one_of(&LARGE[1..]) },
             2 => raw.top = if self.once_in(2) { values } else { values + self.one_of(&LARGE) },
             3 => drop(raw.meet.pop()),
@@ -199,7 +237,80 @@ impl Generator {
             }
             _ => raw.top = self.below(values),
         }
-        raw
+        RawSetUp { events, values: RawValues::Numbers(raw) }
+    }
+
+    /// A set-up of a register that 1 or 20 refuses.
+    pub fn damaged_register(&mut self) -> RawSetUp {
+        let RawSetUp { mut events, values: RawValues::Register { mut lines } } = *self.register().raw() else {
+            unreachable!("the set-up is one of a register");
+        };
+        let which = self.below(5);
+        if which < 2 {
+            events = if self.once_in(3) { 0 } else { self.one_of(&LARGE[1..]) };
+        }
+        if which > 0 {
+            lines = if self.once_in(3) { 0 } else { self.one_of(&LARGE[1..]) };
+        }
+        RawSetUp::register(events, lines)
+    }
+
+    /// A set-up of this kind damaged in one way.
+    pub fn damaged_set_up_of(&mut self, kind: Kind) -> RawSetUp {
+        match kind {
+            Kind::Numbers => self.damaged_set_up(),
+            Kind::Register => self.damaged_register(),
+        }
+    }
+
+    // Values.
+
+    /// A value of a set-up.
+    pub fn value(&mut self, set_up: &SetUp) -> Value {
+        match set_up.raw().values {
+            RawValues::Numbers(RawNumbers { values, .. }) => self.below(values) as Value,
+            RawValues::Register { lines } => self.masks(lines),
+        }
+    }
+
+    /// A value of a register: open, with one or two bits less than that, any, or a level on each line.
+    fn masks(&mut self, lines: usize) -> Value {
+        let all = u16::MAX >> (MAX_LINES - lines);
+        let (mut low, mut high) = (all, all);
+        match self.below(6) {
+            0 => {}
+            1 | 2 => {
+                for _ in 0..self.between(1, 2) {
+                    let mask = if self.once_in(2) { &mut low } else { &mut high };
+                    *mask &= !(1 << self.below(lines));
+                }
+            }
+            3 => (low, high) = (self.bits() as u16 & all, self.bits() as u16 & all),
+            _ => {
+                low = self.bits() as u16 & all;
+                high = all & !low;
+            }
+        }
+        of_masks(low, high)
+    }
+
+    /// A value that is none of the set-up's; nothing where each is one, as with 16 lines. Of numbers it fits a byte.
+    fn no_value(&mut self, set_up: &SetUp) -> Option<Value> {
+        match set_up.raw().values {
+            RawValues::Numbers(RawNumbers { values, .. }) => Some(self.one_of(&[values as Value, 16, 255])),
+            RawValues::Register { lines: MAX_LINES } => None,
+            RawValues::Register { lines } => {
+                // A bit at the line count, one above it, or all of them.
+                let (mut low, mut high) = masks_of(self.masks(lines));
+                let bits = match self.below(4) {
+                    0 | 1 => 1 << lines,
+                    2 => 1 << self.between(lines, MAX_LINES - 1),
+                    _ => u16::MAX << lines,
+                };
+                *if self.once_in(2) { &mut low } else { &mut high } |= bits;
+                Some(of_masks(low, high))
+            }
+        }
     }
 
     // Rules.
@@ -217,7 +328,7 @@ impl Generator {
     pub fn rule_of_size(&mut self, set_up: &SetUp, size: usize) -> Rule {
         let mut nodes = Vec::with_capacity(size);
         self.part(set_up, size, Around::default(), &mut nodes);
-        Rule::from_nodes(nodes).expect("no refusal holds of the rule")
+        Rule::from_nodes(set_up.kind(), nodes).expect("no refusal holds of the rule")
     }
 
     /// A part of so many nodes.
@@ -251,14 +362,14 @@ impl Generator {
         } else if self.once_in(5) {
             Node::True
         } else {
-            Node::Output(self.below(set_up.events()) as u8, self.below(set_up.values()) as u8)
+            Node::Output(self.below(set_up.events()) as u8, self.value(set_up))
         }
     }
 
     /// A rule of nested binders, at times of as many as a path may have.
     pub fn rule_of_binders(&mut self, set_up: &SetUp) -> Rule {
         let binders = if self.once_in(4) { self.between(MAX_BINDERS - 2, MAX_BINDERS) } else { self.between(1, 6) };
-        Rule::from_nodes(self.nested_binders(set_up, binders)).expect("no refusal holds of the rule")
+        Rule::from_nodes(set_up.kind(), self.nested_binders(set_up, binders)).expect("no refusal holds of the rule")
     }
 
     /// So many binders on one path, at times without a G between two of them. Each has variables of outer binders beside it, and at times
@@ -320,7 +431,7 @@ impl Generator {
             let length = self.one_of(&[1, 2, 3, 4, 5, 7, 8, 13, 16, 17]);
             self.add_loop(set_up, event, length, &mut nodes);
         }
-        Rule::from_bytes(set_up, &bytes_of(&nodes)).expect("no refusal holds of the rule")
+        Rule::from_nodes(set_up.kind(), nodes).expect("no refusal holds of the rule")
     }
 
     /// A loop of so many G nodes, some of them with a demand before them.
@@ -329,7 +440,7 @@ impl Generator {
         nodes.push(Node::Greatest);
         for _ in 0..length {
             if self.once_in(3) {
-                nodes.extend([Node::Both, Node::Output(event, self.below(set_up.values()) as u8)]);
+                nodes.extend([Node::Both, Node::Output(event, self.value(set_up))]);
             }
             nodes.push(Node::After(event));
         }
@@ -340,7 +451,7 @@ impl Generator {
     pub fn rule_of_states(&mut self, set_up: &SetUp, event: usize, states: usize) -> Rule {
         let event = event as u8;
         // The empty set is a state, and so is a demand at the end.
-        let last = if states > 1 { Node::Output(event, self.below(set_up.values()) as u8) } else { Node::True };
+        let last = if states > 1 { Node::Output(event, self.value(set_up)) } else { Node::True };
         let steps = states.saturating_sub(2);
         let mut left = (MAX_NODES - steps - 1) / 2;
         let mut nodes = Vec::new();
@@ -348,12 +459,12 @@ impl Generator {
             // As many demands as there is room for, anywhere.
             if left > 0 && self.below(steps - step) < left {
                 left -= 1;
-                nodes.extend([Node::Both, Node::Output(event, self.below(set_up.values()) as u8)]);
+                nodes.extend([Node::Both, Node::Output(event, self.value(set_up))]);
             }
             nodes.push(Node::After(event));
         }
         nodes.push(last);
-        Rule::from_nodes(nodes).expect("no refusal holds of the rule")
+        Rule::from_nodes(set_up.kind(), nodes).expect("no refusal holds of the rule")
     }
 
     /// A rule of many states on one event, more than a device may have: at times as many as there may be, or too many.
@@ -381,7 +492,7 @@ impl Generator {
         for &length in lengths {
             self.add_loop(set_up, event, length, &mut nodes);
         }
-        Rule::from_nodes(nodes).expect("no refusal holds of the rule")
+        Rule::from_nodes(set_up.kind(), nodes).expect("no refusal holds of the rule")
     }
 
     /// A rule of two loops that has too many states.
@@ -392,7 +503,7 @@ impl Generator {
             let length = self.one_of(&lengths);
             self.add_loop(set_up, event, length, &mut nodes);
         }
-        Rule::from_nodes(nodes).expect("no refusal holds of the rule")
+        Rule::from_nodes(set_up.kind(), nodes).expect("no refusal holds of the rule")
     }
 
     /// A rule of one loop, of so many G nodes up to 150.
@@ -402,12 +513,12 @@ impl Generator {
         // One demand for each three nodes, so that there is room for all.
         for step in 0..length {
             if step % 3 == 0 {
-                nodes.extend([Node::Both, Node::Output(event, self.below(set_up.values()) as u8)]);
+                nodes.extend([Node::Both, Node::Output(event, self.value(set_up))]);
             }
             nodes.push(Node::After(event));
         }
         nodes.push(Node::Variable(0));
-        Rule::from_nodes(nodes).expect("no refusal holds of the rule")
+        Rule::from_nodes(set_up.kind(), nodes).expect("no refusal holds of the rule")
     }
 
     /// A rule of one loop on this event, of two to seven states, each with a demand: repeated, the event moves it for ever.
@@ -415,11 +526,11 @@ impl Generator {
         let event = event as u8;
         let mut nodes = vec![Node::Greatest];
         for _ in 0..self.between(2, 7) {
-            let value = self.below(set_up.values()) as u8;
+            let value = self.value(set_up);
             nodes.extend([Node::Both, Node::Output(event, value), Node::After(event)]);
         }
         nodes.push(Node::Variable(0));
-        Rule::from_nodes(nodes).expect("no refusal holds of the rule")
+        Rule::from_nodes(set_up.kind(), nodes).expect("no refusal holds of the rule")
     }
 
     /// Two rules, often such that the first implies the second (document 02, F-14) or nearly does.
@@ -433,8 +544,8 @@ impl Generator {
         let (one, any) = (draw(self), draw(self));
         let other = match self.below(8) {
             // Both of the two, where that is a rule.
-            0 => Rule::from_bytes(set_up, &joined(&one.to_bytes(), &any.to_bytes())).unwrap_or(any),
-            1 => Rule::from_bytes(set_up, &joined(&any.to_bytes(), &one.to_bytes())).unwrap_or(any),
+            0 => Rule::from_bytes(set_up, &joined(set_up.kind(), &one.to_bytes(), &any.to_bytes())).unwrap_or(any),
+            1 => Rule::from_bytes(set_up, &joined(set_up.kind(), &any.to_bytes(), &one.to_bytes())).unwrap_or(any),
             2..=4 => self.with_other_leaf(set_up, &one),
             // The rule of its table, which has the same values, where that is a rule.
             5 => Table::of_rule(set_up, &one).and_then(|table| characteristic::rule_of(&table, 0)).unwrap_or(any),
@@ -452,42 +563,46 @@ impl Generator {
         let mut nodes = rule.nodes().to_vec();
         let leaves: Vec<usize> = (0..nodes.len()).filter(|&number| nodes[number].parts() == 0).collect();
         let leaf = self.one_of(&leaves);
-        let any = self.below(set_up.values()) as u8;
+        let any = self.value(set_up);
         nodes[leaf] = match (nodes[leaf], self.below(4)) {
             (Node::Output(event, value), 0 | 1) => Node::Output(event, set_up.meet(value, any)),
             (Node::Output(event, _), 2) => Node::Output(event, any),
             _ => Node::True,
         };
-        Rule::from_nodes(nodes).expect("T and O may stand everywhere")
+        Rule::from_nodes(set_up.kind(), nodes).expect("T and O may stand everywhere")
     }
 
     /// A rule in bytes, damaged in one way. The refusal is for the caller to find, since damage may by chance be harmless.
     pub fn damaged_rule(&mut self, set_up: &SetUp) -> Vec<u8> {
-        let mut bytes = bytes_of(&self.tree(set_up));
-        let nodes = bytes.len() / 3;
-        let node = 3 * self.below(nodes);
+        let (kind, each) = (set_up.kind(), set_up.kind().node_bytes());
+        let mut bytes = formula::in_bytes(kind, &self.tree(set_up));
+        let nodes = bytes.len() / each;
+        let node = each * self.below(nodes);
         match self.below(19) {
             // 5
             0 => bytes.clear(),
-            1 => bytes.resize(3 * MAX_NODES + self.between(1, 6), 0),
-            2 => bytes.truncate(bytes.len() - self.between(1, 2)),
+            1 => bytes.resize(each * MAX_NODES + self.between(1, 2 * each), 0),
+            2 => bytes.truncate(bytes.len() - self.between(1, each - 1)),
             3 => bytes.push(0),
             // 6
             4 => bytes[node] = self.one_of(&[6, 7, 128, 255]),
             5 => bytes[node + 1] = self.one_of(&[1, 16, 17, 255]),
-            6 => bytes[node + 2] = self.one_of(&[1, 16, 17, 255]),
+            6 => {
+                let of_value = self.below(kind.value_bytes());
+                bytes[node + 2 + of_value] = self.one_of(&[1, 16, 17, 255]);
+            }
             // 7
-            7 => bytes.truncate(3 * self.between(1, nodes)),
-            8 => bytes.extend_from_slice(&[0, 0, 0]),
-            9 => bytes[node..node + 3].copy_from_slice(&[4, 0, 0]),
+            7 => bytes.truncate(each * self.between(1, nodes)),
+            8 => bytes.extend(Node::True.to_bytes(kind)),
+            9 => bytes[node..node + each].copy_from_slice(&Node::Both.to_bytes(kind)),
             // 8 and 9
             10 => {
                 let index = if self.once_in(2) { 0 } else { self.bits() as u8 };
-                bytes[node..node + 3].copy_from_slice(&[1, index, 0]);
+                bytes[node..node + each].copy_from_slice(&Node::Variable(index).to_bytes(kind));
             }
-            11..=14 => bytes = bytes_of(&self.misplaced_variables(set_up)),
+            11..=14 => bytes = formula::in_bytes(kind, &self.misplaced_variables(set_up)),
             // 23
-            15 | 16 => bytes = bytes_of(&self.about_most_binders(set_up)),
+            15 | 16 => bytes = formula::in_bytes(kind, &self.about_most_binders(set_up)),
             // Any of them, often several.
             17 => {
                 for _ in 0..self.between(1, 4) {
@@ -556,9 +671,13 @@ impl Generator {
 
     /// A table of so many states and a start.
     fn table_of_states(&mut self, set_up: &SetUp, states: usize) -> RawTable {
-        let bytes =
-            (0..states * set_up.events()).flat_map(|_| [self.below(set_up.values()) as u8, self.below(states) as u8]).collect();
-        RawTable { states, start: self.below(states), bytes }
+        let entries: Vec<Entry> = (0..states * set_up.events()).map(|_| self.entry(set_up, states)).collect();
+        RawTable { states, start: self.below(states), bytes: table::in_bytes(set_up.kind(), entries) }
+    }
+
+    /// An entry of a table of so many states.
+    fn entry(&mut self, set_up: &SetUp, states: usize) -> Entry {
+        Entry { value: self.value(set_up), next: self.below(states) as u8 }
     }
 
     /// A table that may be written as a rule: on some event each state goes to the next one, on the others mostly to one before it, so
@@ -571,16 +690,20 @@ impl Generator {
         }
         let before = if self.once_in(2) { MAX_STATES - states } else { self.between(1, MAX_STATES - states) };
         let all = before + states;
-        let mut moved: Vec<u8> =
-            (0..before * set_up.events()).flat_map(|_| [self.below(set_up.values()) as u8, self.below(all) as u8]).collect();
-        moved.extend(bytes.chunks_exact(2).flat_map(|entry| [entry[0], entry[1] + before as u8]));
+        let kind = set_up.kind();
+        let entries: Vec<Entry> = (0..before * set_up.events()).map(|_| self.entry(set_up, all)).collect();
+        let mut moved = table::in_bytes(kind, entries);
+        for entry in bytes.chunks_exact(kind.entry_bytes()) {
+            moved.extend_from_slice(entry);
+            *moved.last_mut().expect("an entry has bytes") += before as u8;
+        }
         RawTable { states: all, start: before, bytes: moved }
     }
 
     fn chain_from_0(&mut self, set_up: &SetUp) -> RawTable {
         let states =
             if self.once_in(3) { self.between(MAX_BINDERS - 1, MAX_BINDERS + 2) } else { self.between(1, MAX_BINDERS) };
-        let mut bytes = Vec::with_capacity(2 * states * set_up.events());
+        let mut entries = Vec::with_capacity(states * set_up.events());
         for state in 0..states {
             let onwards = self.below(set_up.events());
             for event in 0..set_up.events() {
@@ -591,10 +714,10 @@ impl Generator {
                 } else {
                     self.below(state + 1)
                 };
-                bytes.extend([self.below(set_up.values()) as u8, next as u8]);
+                entries.push(Entry { value: self.value(set_up), next: next as u8 });
             }
         }
-        RawTable { states, start: 0, bytes }
+        RawTable { states, start: 0, bytes: table::in_bytes(set_up.kind(), entries) }
     }
 
     /// A device made from a table: states doubled, and the values of none, one or half of its entries lowered, so that it passes
@@ -603,26 +726,26 @@ impl Generator {
     pub fn device_near(&mut self, set_up: &SetUp, table: &Table) -> RawTable {
         let copies = if table.states() * 2 <= MAX_DEVICE_STATES { self.between(1, 2) } else { 1 };
         let states = (copies * table.states()).min(MAX_DEVICE_STATES);
-        let mut bytes = Vec::with_capacity(2 * states * set_up.events());
+        let mut entries = Vec::with_capacity(states * set_up.events());
         for state in 0..states {
             for event in 0..set_up.events() {
                 let Entry { value, next } = self.folded_entry(set_up, table, state / copies, event);
-                bytes.extend_from_slice(&[value, next * copies as u8 + self.below(copies) as u8]);
+                entries.push(Entry { value, next: next * copies as u8 + self.below(copies) as u8 });
             }
         }
-        let entries = states * set_up.events();
+        let count = entries.len();
         let lowered: Vec<usize> = match self.below(3) {
             0 => Vec::new(),
-            1 => vec![self.below(entries)],
-            _ => (0..entries).filter(|_| self.once_in(2)).collect(),
+            1 => vec![self.below(count)],
+            _ => (0..count).filter(|_| self.once_in(2)).collect(),
         };
         for entry in lowered {
-            bytes[2 * entry] = set_up.meet(bytes[2 * entry], self.below(set_up.values()) as u8);
+            entries[entry].value = set_up.meet(entries[entry].value, self.value(set_up));
         }
         if self.once_in(2) {
-            bytes[2 * self.below(entries)] = self.below(set_up.values()) as u8;
+            entries[self.below(count)].value = self.value(set_up);
         }
-        RawTable { states, start: self.below(copies), bytes }
+        RawTable { states, start: self.below(copies), bytes: table::in_bytes(set_up.kind(), entries) }
     }
 
     /// The entry of a state of a device that stands for each 64th state of a table from that one on: the meet of their values, mostly, and
@@ -650,6 +773,7 @@ impl Generator {
         // A table of 256 states has no next state that is too large.
         let states = self.count_of_states(most).min(MAX_STATES - 1);
         let mut table = self.table_of_states(set_up, states);
+        let (kind, each) = (set_up.kind(), set_up.kind().entry_bytes());
         match self.below(8) {
             0 => {
                 table.states = 0;
@@ -662,19 +786,18 @@ impl Generator {
                 table = self.table_of_states(set_up, states);
             }
             2 => table.states += 1,
-            3 => table.bytes.truncate(table.bytes.len() - self.between(1, 2)),
+            3 => table.bytes.truncate(table.bytes.len() - self.between(1, each)),
             4 => {
-                let more = self.between(1, 2);
+                let more = self.between(1, each);
                 table.bytes.extend(std::iter::repeat_n(0, more));
             }
             5 => table.start = table.states + self.one_of(&[0, 1, 255, usize::MAX / 2]),
-            6 => {
-                let at = 2 * self.below(table.bytes.len() / 2);
-                table.bytes[at] = self.one_of(&[set_up.values() as u8, 16, 255]);
-            }
-            _ => {
-                let at = 2 * self.below(table.bytes.len() / 2) + 1;
-                table.bytes[at] = self.one_of(&[states as u8, 64, 255]).max(states as u8);
+            which => {
+                let at = each * self.below(table.bytes.len() / each);
+                match self.no_value(set_up).filter(|_| which == 6) {
+                    Some(value) => table.bytes[at..at + each - 1].copy_from_slice(&kind.value_to_bytes(value)),
+                    None => table.bytes[at + each - 1] = self.one_of(&[states as u8, 64, 255]).max(states as u8),
+                }
             }
         }
         table
@@ -857,29 +980,41 @@ impl Generator {
 
     /// A channel file.
     pub fn file(&mut self) -> Vec<u8> {
-        let set_up = self.set_up();
+        self.file_of(Kind::Numbers)
+    }
+
+    /// A channel file for values of this kind.
+    pub fn file_of(&mut self, kind: Kind) -> Vec<u8> {
+        let set_up = self.set_up_of(kind);
         let rule = if self.once_in(6) { self.rule_of_loops(&set_up) } else { self.rule(&set_up) };
         channel_file::to_text(&set_up, &rule).into_bytes()
     }
 
     /// A text in the form whose numbers and items are any, so that 1 to 3, 5 to 10 and 23 arise.
     pub fn loose_file(&mut self) -> Vec<u8> {
-        let file = self.file();
+        self.loose_file_of(Kind::Numbers)
+    }
+
+    /// The same for values of this kind, so that for a register 20 arises in the place of 2 and 3.
+    pub fn loose_file_of(&mut self, kind: Kind) -> Vec<u8> {
+        let file = self.file_of(kind);
         let text = String::from_utf8(file).expect("a file is plain text");
         let mut lines: Vec<String> = text.lines().map(str::to_string).collect();
+        let last = lines.len() - 1;
         if self.once_in(4) {
             // The rule line alone, so that 8, 9 and 23 are not hidden by what comes before them.
-            let set_up = channel_file::read(text.as_bytes()).expect("a file is accepted").set_up;
+            let set_up = channel_file::read_of(kind, text.as_bytes()).expect("a file is accepted").set_up;
             let nodes = if self.once_in(4) { self.about_most_binders(&set_up) } else { self.misplaced_variables(&set_up) };
-            lines[4] = format!("rule={}", tokens_of(&nodes));
+            lines[last] = format!("rule={}", tokens_of(kind, &nodes));
             return (lines.join("\n") + "\n").into_bytes();
         }
         for _ in 0..self.between(1, 2) {
-            match self.below(8) {
-                0 => lines[0] = format!("events={}", self.loose_number()),
-                1 => lines[1] = format!("values={}", self.loose_number()),
-                2 => lines[2] = format!("top={}", self.loose_number()),
-                3 => {
+            match (self.below(8), kind) {
+                (0, _) => lines[0] = format!("events={}", self.loose_number()),
+                (1 | 2, Kind::Register) => lines[1] = format!("lines={}", self.loose_number()),
+                (1, _) => lines[1] = format!("values={}", self.loose_number()),
+                (2, _) => lines[2] = format!("top={}", self.loose_number()),
+                (3, Kind::Numbers) => {
                     let mut items: Vec<String> = lines[3]["meet=".len()..].split(' ').map(str::to_string).collect();
                     let at = self.below(items.len());
                     match self.below(3) {
@@ -889,9 +1024,7 @@ impl Generator {
                     }
                     lines[3] = format!("meet={}", items.join(" "));
                 }
-                _ => {
-                    lines[4] = format!("rule={}", self.loose_items(&lines[4]["rule=".len()..]));
-                }
+                _ => lines[last] = format!("rule={}", self.loose_items(kind, &lines[last]["rule=".len()..])),
             }
         }
         (lines.join("\n") + "\n").into_bytes()
@@ -899,7 +1032,16 @@ impl Generator {
 
     /// A text in the form of exactly so many bytes, at least 100; its rule has too many nodes left over or more than 256.
     pub fn long_file(&mut self, length: usize) -> Vec<u8> {
-        let set_up = SetUp::new(RawSetUp::four_values(2)).expect("the four-value set is lawful");
+        self.long_file_of(Kind::Numbers, length)
+    }
+
+    /// The same for values of this kind.
+    pub fn long_file_of(&mut self, kind: Kind, length: usize) -> Vec<u8> {
+        let raw = match kind {
+            Kind::Numbers => RawSetUp::four_values(2),
+            Kind::Register => RawSetUp::register(2, 4),
+        };
+        let set_up = SetUp::new(raw).expect("1 to 3 and 20 do not refuse it");
         let rule = self.rule_of_size(&set_up, 2);
         let mut text = channel_file::to_text(&set_up, &rule).into_bytes();
         text.pop();
@@ -913,9 +1055,9 @@ impl Generator {
         text
     }
 
-    fn long_file_near_limit(&mut self) -> Vec<u8> {
+    fn long_file_near_limit(&mut self, kind: Kind) -> Vec<u8> {
         let length = channel_file::MAX_BYTES + self.below(4) - 1;
-        self.long_file(length)
+        self.long_file_of(kind, length)
     }
 
     fn loose_number(&mut self) -> usize {
@@ -927,42 +1069,63 @@ impl Generator {
     }
 
     /// These items with one or two of them removed, inserted or set anew, and at times too many behind them.
-    fn loose_items(&mut self, items: &str) -> String {
+    fn loose_items(&mut self, kind: Kind, items: &str) -> String {
         let mut items: Vec<String> = items.split(' ').map(str::to_string).collect();
         for _ in 0..self.between(1, 2) {
             let at = self.below(items.len());
             match self.below(4) {
                 0 if items.len() > 1 => drop(items.remove(at)),
-                1 => items.insert(at, self.loose_item()),
-                _ => items[at] = self.loose_item(),
+                1 => items.insert(at, self.loose_item(kind)),
+                _ => items[at] = self.loose_item(kind),
             }
         }
         if self.once_in(12) {
-            let item = self.loose_item();
+            let item = self.loose_item(kind);
             let more = self.between(250, 300);
             items.extend(std::iter::repeat_n(item, more));
         }
         items.join(" ")
     }
 
-    fn loose_item(&mut self) -> String {
+    fn loose_item(&mut self, kind: Kind) -> String {
         match self.below(6) {
             0 => "T".to_string(),
             1 => "A".to_string(),
             2 => "V".to_string(),
             3 => format!("X{}", if self.once_in(2) { self.below(3) } else { self.loose_number() }),
             4 => format!("G{}", if self.once_in(2) { 0 } else { self.loose_number() }),
-            _ => format!("O{}.{}", self.loose_number(), self.loose_number()),
+            _ => match kind {
+                Kind::Numbers => format!("O{}.{}", self.loose_number(), self.loose_number()),
+                Kind::Register => {
+                    let event = if self.once_in(2) { 0 } else { self.loose_number() };
+                    format!("O{event}.{}.{}", self.loose_mask(), self.loose_mask())
+                }
+            },
+        }
+    }
+
+    /// A number that a mask of a file may be: often a power of two or one less, often of no 16 bits.
+    fn loose_mask(&mut self) -> usize {
+        match self.below(4) {
+            0 => self.one_of(&LARGE_MASKS),
+            1 => (1 << self.below(MAX_LINES + 1)) - self.below(2),
+            2 => self.below(4),
+            _ => self.below(100_000),
         }
     }
 
     /// A text damaged in its bytes, so that mostly 4 arises.
     pub fn damaged_file(&mut self) -> Vec<u8> {
-        let mut text = if self.once_in(3) { self.loose_file() } else { self.file() };
+        self.damaged_file_of(Kind::Numbers)
+    }
+
+    /// The same for values of this kind.
+    pub fn damaged_file_of(&mut self, kind: Kind) -> Vec<u8> {
+        let mut text = if self.once_in(3) { self.loose_file_of(kind) } else { self.file_of(kind) };
         self.damage(&mut text);
         if self.once_in(30) {
             // Near the limit, in the form or with one byte set anew.
-            text = self.long_file_near_limit();
+            text = self.long_file_near_limit(kind);
             if self.once_in(2) {
                 let at = self.below(text.len());
                 text[at] = self.one_of(BYTES);
@@ -1006,43 +1169,44 @@ impl Generator {
     /// The tokens of a rule.
     pub fn good_tokens(&mut self, set_up: &SetUp) -> String {
         let rule = if self.once_in(4) { self.rule_of_loops(set_up) } else { self.rule(set_up) };
-        tokens_of(rule.nodes())
+        tokens_of(set_up.kind(), rule.nodes())
     }
 
     /// The tokens of a rule of one loop.
     pub fn tokens_of_one_loop(&mut self, set_up: &SetUp, event: usize) -> String {
-        tokens_of(self.rule_of_one_loop(set_up, event).nodes())
+        tokens_of(set_up.kind(), self.rule_of_one_loop(set_up, event).nodes())
     }
 
     /// The tokens of a rule of so many states.
     pub fn tokens_of_states(&mut self, set_up: &SetUp, event: usize, states: usize) -> String {
-        tokens_of(self.rule_of_states(set_up, event, states).nodes())
+        tokens_of(set_up.kind(), self.rule_of_states(set_up, event, states).nodes())
     }
 
     /// The tokens of two rules, often such that the first implies the second or nearly does.
     pub fn pair_of_tokens(&mut self, set_up: &SetUp) -> (String, String) {
         let (first, second) = self.pair_of_rules(set_up);
-        (tokens_of(first.nodes()), tokens_of(second.nodes()))
+        (tokens_of(set_up.kind(), first.nodes()), tokens_of(set_up.kind(), second.nodes()))
     }
 
     /// Tokens of any kind: good, in the form with 5 to 10 and 23 among them, or damaged in their bytes.
     pub fn tokens(&mut self, set_up: &SetUp) -> Vec<u8> {
+        let kind = set_up.kind();
         let mut tokens = match self.below(17) {
-            0..=3 => tokens_of(&self.misplaced_variables(set_up)),
+            0..=3 => tokens_of(kind, &self.misplaced_variables(set_up)),
             4..=8 => {
                 let good = self.good_tokens(set_up);
-                self.loose_items(&good)
+                self.loose_items(kind, &good)
             }
             // About 64 states; about 256 states or nodes.
             9 if self.once_in(2) => format!("{}T", "G0 ".repeat(self.between(61, 66))),
             9 => {
                 let event = self.below(set_up.events());
-                tokens_of(self.large_rule(set_up, event).nodes())
+                tokens_of(kind, self.large_rule(set_up, event).nodes())
             }
             10 if self.once_in(2) => format!("{}T", "G0 ".repeat(self.between(254, 262))),
             10 => format!("{}T", "T ".repeat(self.between(254, 258))),
-            11 | 12 => tokens_of(&self.about_most_binders(set_up)),
-            13 if !self.once_in(3) => tokens_of(self.rule_of_too_many_states(set_up).nodes()),
+            11 | 12 => tokens_of(kind, &self.about_most_binders(set_up)),
+            13 if !self.once_in(3) => tokens_of(kind, self.rule_of_too_many_states(set_up).nodes()),
             _ => self.good_tokens(set_up),
         }
         .into_bytes();
@@ -1056,12 +1220,8 @@ impl Generator {
 /// Bytes that a text has, and some that it has not.
 const BYTES: &[u8] = b"\n\r\t \0.=0123456789TXGOAVtxgoaveventsvaluestopmeetrule\x7f\x80\xff";
 
-fn bytes_of(nodes: &[Node]) -> Vec<u8> {
-    nodes.iter().flat_map(|node| node.to_bytes()).collect()
-}
-
-fn tokens_of(nodes: &[Node]) -> String {
+fn tokens_of(kind: Kind, nodes: &[Node]) -> String {
     let mut tokens = String::new();
-    channel_file::push_items(&mut tokens, nodes);
+    channel_file::push_items(&mut tokens, kind, nodes);
     tokens
 }

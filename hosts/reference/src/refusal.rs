@@ -5,7 +5,7 @@ use std::fmt;
 /// "Each returns its number (4 and 6 to 9 also a place)".
 #[derive(Clone, Copy, Debug, PartialEq, Eq, Hash)]
 pub struct Refusal {
-    /// The number in document 01's list; 18 and 19 (F-6), 23 (F-9) and 25 (F-12) are document 02's.
+    /// The number in document 01's list; 18 and 19 (F-6), 20 (F-7), 23 (F-9) and 25 (F-12) are document 02's.
     pub number: u8,
     /// A byte offset for 4, a node number for 6 to 9, nothing for the others.
     pub place: Option<usize>,

@@ -2,21 +2,19 @@
 
 use crate::formula::{Node, Rule};
 use crate::refusal::room;
-use crate::values::{RawSetUp, SetUp, MAX_EVENTS};
+use crate::values::{Kind, RawSetUp, SetUp, Value, MAX_EVENTS};
 use crate::Refusal;
 
 /// "A rule's table may have up to 256 states" (document 02, F-12), and so may every table handed in but a trial's device.
 pub const MAX_STATES: usize = 256;
 /// "Devices stay at 64" (document 02, F-12).
 pub const MAX_DEVICE_STATES: usize = 64;
-/// "A table entry is a value and a next state, one byte each where lent".
-pub const ENTRY_BYTES: usize = 2;
 
 /// "A table entry is a value and a next state".
 #[derive(Clone, Copy, Debug, PartialEq, Eq, Hash)]
 pub struct Entry {
     /// The value on the event.
-    pub value: u8,
+    pub value: Value,
     /// The state after it.
     pub next: u8,
 }
@@ -24,6 +22,8 @@ pub struct Entry {
 /// A table of 1 to 256 states whose values and next states are in range; "ordered by state, then event".
 #[derive(Clone, Debug, PartialEq, Eq, Hash)]
 pub struct Table {
+    /// The kind of its values.
+    kind: Kind,
     events: usize,
     entries: Vec<Entry>,
 }
@@ -67,12 +67,17 @@ impl Table {
             }
             done += 1;
         }
-        Ok(Table { events, entries })
+        Ok(Table { kind: set_up.kind(), events, entries })
     }
 
     /// How many states.
     pub fn states(&self) -> usize {
         self.entries.len() / self.events
+    }
+
+    /// The kind of its values.
+    pub fn kind(&self) -> Kind {
+        self.kind
     }
 
     /// How many events.
@@ -97,7 +102,7 @@ impl Table {
     }
 
     /// The values on an event sequence from a state, and the state reached.
-    pub fn run(&self, start: usize, word: &[u8]) -> (Vec<u8>, usize) {
+    pub fn run(&self, start: usize, word: &[u8]) -> (Vec<Value>, usize) {
         let mut state = start;
         let values = word
             .iter()
@@ -112,17 +117,27 @@ impl Table {
 
     /// The table in bytes.
     pub fn to_bytes(&self) -> Vec<u8> {
-        self.entries.iter().flat_map(|entry| [entry.value, entry.next]).collect()
+        in_bytes(self.kind, self.entries.iter().copied())
     }
 
-    /// Writes the table into lent memory and returns its number of states; 13, two bytes an entry.
+    /// Writes the table into lent memory and returns its number of states; 13, two bytes an entry, five for a register.
     pub fn write_bytes(&self, lent: &mut [u8]) -> Result<usize, Refusal> {
-        room(lent, self.entries.len() * ENTRY_BYTES)?;
-        for (bytes, entry) in lent.chunks_exact_mut(ENTRY_BYTES).zip(&self.entries) {
-            bytes.copy_from_slice(&[entry.value, entry.next]);
-        }
+        let bytes = self.to_bytes();
+        room(lent, bytes.len())?;
+        lent[..bytes.len()].copy_from_slice(&bytes);
         Ok(self.states())
     }
+}
+
+/// Entries in bytes, one behind another: a value, then a next state.
+pub fn in_bytes(kind: Kind, entries: impl IntoIterator<Item = Entry>) -> Vec<u8> {
+    let entries = entries.into_iter();
+    let mut bytes = Vec::with_capacity(entries.size_hint().0 * kind.entry_bytes());
+    for Entry { value, next } in entries {
+        kind.push_value(value, &mut bytes);
+        bytes.push(next);
+    }
+    bytes
 }
 
 /// A table handed in, with the number of its states and its start.
@@ -147,30 +162,34 @@ impl Lent<'_> {
         self.within(set_up, MAX_STATES)
     }
 
-    /// 11: "states not 1 to" so many, "entry count not states × events, start, value or next state too large".
+    /// 11: "states not 1 to" so many, "entry count not states × events, start, value or next state too large". "A mask bit at or
+    /// above the line count is refusal ... 11 in a table" (document 02, F-7).
     fn within(&self, set_up: &SetUp, most: usize) -> Result<Table, Refusal> {
         let refusal = Refusal::new(11);
-        let events = set_up.events();
-        if self.states > most || self.start >= self.states || self.bytes.len() != self.states * events * ENTRY_BYTES {
+        let (events, kind) = (set_up.events(), set_up.kind());
+        if self.states > most || self.start >= self.states || self.bytes.len() != self.states * events * kind.entry_bytes() {
             return Err(refusal);
         }
-        let entries: Vec<Entry> =
-            self.bytes.chunks_exact(ENTRY_BYTES).map(|bytes| Entry { value: bytes[0], next: bytes[1] }).collect();
-        if !within_limits(events, set_up.values(), self.states, &entries) {
+        let of_bytes = |bytes: &[u8]| {
+            let (value, next) = bytes.split_at(kind.value_bytes());
+            Entry { value: kind.value_from(value), next: next[0] }
+        };
+        let entries: Vec<Entry> = self.bytes.chunks_exact(kind.entry_bytes()).map(of_bytes).collect();
+        if !within_limits(set_up.raw(), self.states, &entries) {
             return Err(refusal);
         }
-        Ok(Table { events, entries })
+        Ok(Table { kind: set_up.kind(), events, entries })
     }
 }
 
-/// The limits of 11, without the start, for a table that is no device.
-pub(crate) fn within_limits(events: usize, values: usize, states: usize, entries: &[Entry]) -> bool {
+/// The limits of 11, without the start, for a table that is no device, of a set-up that 1 to 3 and 20 do not refuse.
+pub(crate) fn within_limits(set_up: &RawSetUp, states: usize, entries: &[Entry]) -> bool {
     (1..=MAX_STATES).contains(&states)
-        && entries.len() == states * events
-        && entries.iter().all(|entry| usize::from(entry.value) < values && usize::from(entry.next) < states)
+        && entries.len() == states * set_up.events
+        && entries.iter().all(|entry| set_up.has(entry.value) && usize::from(entry.next) < states)
 }
 
-/// Compiles a rule into lent memory and returns the number of states: refusals 1 to 3, 5 to 8, 23, 9, 10, 13.
+/// Compiles a rule into lent memory and returns the number of states: refusals 1 to 3 (or 1, 20), 5 to 8, 23, 9, 10, 13.
 pub fn compile(set_up: &RawSetUp, rule: &[u8], lent: &mut [u8]) -> Result<usize, Refusal> {
     let set_up = SetUp::new(set_up.clone())?;
     let rule = Rule::from_bytes(&set_up, rule)?;

@@ -4,7 +4,7 @@
 use crate::formula::{Node, Rule};
 use crate::refusal::room;
 use crate::table::{Lent, Table, MAX_DEVICE_STATES};
-use crate::values::{Comparison, RawSetUp, SetUp};
+use crate::values::{Comparison, RawSetUp, SetUp, Value};
 use crate::Refusal;
 
 /// "a failing word may have up to 16,384 events, its buffer at least 16,384 bytes" (document 02, F-12).
@@ -106,7 +106,7 @@ fn word_to(pairs: &[Pair], mut pair: usize, last: u8) -> Vec<u8> {
 /// failure. The same word as `failing_word`, found from the other end.
 pub fn first_word(set_up: &SetUp, device: (&Table, usize), table: (&Table, usize)) -> Option<Vec<u8>> {
     let ((device, mut s), (table, mut t)) = (device, table);
-    let fails = |b: u8, c: u8| !set_up.at_or_below(b, c);
+    let fails = |b: Value, c: Value| !set_up.at_or_below(b, c);
     let away = distances(device, table, fails);
     let mut word = Vec::new();
     for left in (0..away[pair_number(table, s, t)]?).rev() {
@@ -130,7 +130,7 @@ pub fn same_values(set_up: &SetUp, device: (&Table, usize), table: (&Table, usiz
 
 /// For each pair of states the length of the shortest word from there whose last values are apart, where there is one: 1 where they are
 /// apart on some event, and one more than the least of its successors otherwise. Found backwards, from the pairs where they are apart.
-fn distances(device: &Table, table: &Table, apart: impl Fn(u8, u8) -> bool) -> Vec<Option<usize>> {
+fn distances(device: &Table, table: &Table, apart: impl Fn(Value, Value) -> bool) -> Vec<Option<usize>> {
     let events = device.events();
     let pairs: Vec<(usize, usize)> = (0..device.states()).flat_map(|s| (0..table.states()).map(move |t| (s, t))).collect();
     // The pairs before each pair, one behind another: the last of them, and for each pair and event the one before it.
@@ -173,7 +173,8 @@ fn pair_after(device: &Table, table: &Table, (s, t): (usize, usize), event: usiz
     pair_number(table, device.entry(s, event).next.into(), table.entry(t, event).next.into())
 }
 
-/// Trial against a rule's table that is handed in too, its states and its entries; it starts at state 0: refusals 1 to 3, 11, 13.
+/// Trial against a rule's table that is handed in too, its states and its entries; it starts at state 0: refusals 1 to 3 (or
+/// 1, 20), 11, 13.
 pub fn trial_of_table(
     set_up: &RawSetUp,
     device: Lent<'_>,
@@ -187,7 +188,7 @@ pub fn trial_of_table(
     judge(&set_up, (&of_device, device.start), &of_rule, word)
 }
 
-/// Trial against a rule in bytes: refusals 1 to 3, 5 to 8, 23, 9, 10, 11, 13.
+/// Trial against a rule in bytes: refusals 1 to 3 (or 1, 20), 5 to 8, 23, 9, 10, 11, 13.
 pub fn trial_of_rule(set_up: &RawSetUp, device: Lent<'_>, rule: &[u8], word: &mut [u8]) -> Result<Outcome, Refusal> {
     let set_up = SetUp::new(set_up.clone())?;
     let of_rule = Table::of_rule(&set_up, &Rule::from_bytes(&set_up, rule)?)?;
@@ -211,8 +212,8 @@ fn judge(set_up: &SetUp, device: (&Table, usize), table: &Table, lent: &mut [u8]
 /// Whether the first rule implies the second: "every finite device satisfying the first satisfies the second, also one larger than a
 /// trial takes" (document 02, F-14). Nothing where it does, else the first failing word of its table against the second's.
 ///
-/// Refusals 1 to 3, 5 to 8, 23, 9, 10 of the first rule, the same of the second, then 11 where the first's table has more states than a
-/// device may have.
+/// Refusals 1 to 3 (or 1, 20), 5 to 8, 23, 9, 10 of the first rule, the same of the second, then 11 where the first's table has more states
+/// than a device may have.
 pub fn covers(set_up: &RawSetUp, first: &[u8], second: &[u8]) -> Result<Option<Vec<u8>>, Refusal> {
     let set_up = SetUp::new(set_up.clone())?;
     let first = Table::of_rule(&set_up, &Rule::from_bytes(&set_up, first)?)?;

@@ -7,14 +7,14 @@ use std::thread::spawn;
 use std::time::Duration;
 
 use common::{bytes, file, four, joined_loops, reading, rule, seeds, table, WHEEL};
-use gurvazze_reference::formula::{Formulas, Node, Rule};
+use gurvazze_reference::formula::{in_bytes, Formulas, Node, Rule};
 use gurvazze_reference::generate::{
     has_most_binders, has_variable_under_inner_binder, inner_binders, under, Generator, RawTable,
 };
 use gurvazze_reference::table::{compile, Lent, Table};
 use gurvazze_reference::tool::{Call, Log, Tool};
 use gurvazze_reference::trial::{covers, satisfying, trial, trial_of_rule, Grade, Outcome, Verdict, WORD_BYTES};
-use gurvazze_reference::values::RawSetUp;
+use gurvazze_reference::values::{RawSetUp, FOUR_VALUES};
 use gurvazze_reference::{channel_file, characteristic, render, Refusal};
 
 /// The paths from the root to each node without parts, that included, by their node numbers; lower ones first.
@@ -186,10 +186,9 @@ fn rules_are_judged_by_their_paths() {
     let mut counts = Counts::default();
     for seed in seeds(20_000) {
         let mut g = Generator::new(seed);
-        let set_up = g.set_up();
+        let set_up = g.any_set_up();
         let nodes = if g.once_in(3) { g.rule(&set_up).nodes().to_vec() } else { g.misplaced_variables(&set_up) };
-        let in_bytes: Vec<u8> = nodes.iter().flat_map(|node| node.to_bytes()).collect();
-        let answer = Rule::from_bytes(&set_up, &in_bytes);
+        let answer = Rule::from_bytes(&set_up, &in_bytes(set_up.kind(), &nodes));
         assert_eq!(answer.as_ref().map(|_| ()).map_err(|&refusal| refusal), judged(&nodes), "seed {seed}: {nodes:?}");
         // Every rule that document 01 alone accepts is accepted, if no path has more than twelve binders.
         let variables = paths_to_variables(&nodes);
@@ -322,7 +321,7 @@ fn calls_with_thirteen_binders() {
     let refusal = Refusal::new(23);
     assert_eq!(compile(&raw, &thirteen, &mut []), Err(refusal));
     assert_eq!(compile(&raw, &twelve, &mut []), Err(Refusal::new(13)));
-    assert_eq!(compile(&RawSetUp { top: 4, ..raw.clone() }, &thirteen, &mut []), Err(Refusal::new(2)));
+    assert_eq!(compile(&RawSetUp::numbers(2, 4, 4, FOUR_VALUES.to_vec()), &thirteen, &mut []), Err(Refusal::new(2)));
 
     assert_eq!(channel_file::write(&raw, &thirteen, &mut []), Err(refusal));
     assert_eq!(channel_file::write(&raw, &twelve, &mut []), Err(Refusal::new(13)));

@@ -7,7 +7,7 @@ use gurvazze_reference::formula::{joined, Formulas, Rule};
 use gurvazze_reference::generate::{under, Generator, RawTable};
 use gurvazze_reference::table::{Lent, Table};
 use gurvazze_reference::trial::{covers, same_values, satisfies, trial, Grade, Verdict};
-use gurvazze_reference::values::RawSetUp;
+use gurvazze_reference::values::{Kind, RawSetUp, FOUR_VALUES};
 use gurvazze_reference::{channel_file, characteristic, render, Refusal};
 
 const PRINTED: &str = "events=2\nstates=3\nrow=0 0 3 1\nrow=0 1 1 2\nrow=1 0 3 1\nrow=1 1 3 1\nrow=2 0 3 1\nrow=2 1 3 2\n";
@@ -202,7 +202,7 @@ fn refusals_of_covering() {
         (&large, &large, Refusal::new(11)),
     ] {
         assert_eq!(covers(set_up.raw(), &bytes(first), &bytes(second)), Err(refusal), "{first} / {second}");
-        let damaged = RawSetUp { top: 4, ..set_up.raw().clone() };
+        let damaged = RawSetUp::numbers(2, 4, 4, FOUR_VALUES.to_vec());
         assert_eq!(covers(&damaged, &bytes(first), &bytes(second)), Err(Refusal::new(2)));
     }
     for second in [63, 64, 255] {
@@ -214,7 +214,7 @@ fn refusals_of_covering() {
 #[test]
 fn two_rules_joined() {
     let set_up = four(2);
-    let both = joined(&bytes("O0.1"), &bytes("V A O0.2 G1 X0"));
+    let both = joined(Kind::Numbers, &bytes("O0.1"), &bytes("V A O0.2 G1 X0"));
     assert_eq!(both, bytes("A O0.1 V A O0.2 G1 X0"));
     let table = Table::of_rule(&set_up, &Rule::from_bytes(&set_up, &both).unwrap()).unwrap();
     assert_eq!(table.run(0, &[0, 0]).0, [0, 3]);

@@ -11,7 +11,7 @@ use gurvazze_reference::formula::Rule;
 use gurvazze_reference::generate::Generator;
 use gurvazze_reference::table::{Entry, Table};
 use gurvazze_reference::tool::{Answer, Call, Channel, Reading, Tool, Wheel, CHANNELS, MAX_TOTAL};
-use gurvazze_reference::values::{RawSetUp, SetUp};
+use gurvazze_reference::values::{Kind, RawSetUp, SetUp};
 use gurvazze_reference::Refusal;
 
 /// 512 rows of 16 events.
@@ -68,7 +68,7 @@ impl Cells {
 
     fn is_spoilt(&self, channel: usize) -> bool {
         let states = usize::from(self.counts[channel]);
-        let is_bad = |entry: Entry| usize::from(entry.value) >= self.set_up.values || usize::from(entry.next) >= states;
+        let is_bad = |entry: Entry| !self.set_up.has(entry.value) || usize::from(entry.next) >= states;
         let bad_cell = || (self.start(channel)..self.start(channel + 1)).any(|at| is_bad(self.cell(at)));
         let bad_numbers = states > 256 || usize::from(self.currents[channel]) >= states || self.totals[channel] > MAX_TOTAL;
         states > 0 && (bad_numbers || bad_cell())
@@ -164,7 +164,7 @@ fn flat_arrays_are_the_tool() {
     let mut numbers = [0; 26];
     for seed in seeds(60) {
         let mut g = Generator::new(seed);
-        let (set_up, wheel) = (g.set_up(), g.wheel());
+        let (set_up, wheel) = (g.any_set_up(), g.wheel());
         let mut cells = Cells::new(&set_up, wheel);
         let calls = if g.once_in(3) { g.calls(&set_up, 100) } else { g.calls_about_rows(&set_up, 200) };
         for call in &calls {
@@ -201,21 +201,22 @@ fn handed_in_arrays() {
     let mut numbers = [0; 26];
     for seed in seeds(150) {
         let mut g = Generator::new(seed);
-        let set_up = g.set_up();
+        let set_up = g.any_set_up();
         let mut cells = Cells { counts: counts(&mut g), ..Cells::new(&set_up, WHEEL) };
         // Cells within the limits of the smallest table, at times of any table or of none.
-        let (values, states) = (set_up.values(), cells.counts.iter().filter(|&&count| count > 0).min().copied().unwrap_or(1));
+        let states = cells.counts.iter().filter(|&&count| count > 0).min().copied().unwrap_or(1);
         let most = if g.once_in(4) { 256 } else { usize::from(states).min(256) };
-        cells.entries.fill_with(|| Entry { value: g.below(values) as u8, next: g.below(most) as u8 });
+        cells.entries.fill_with(|| Entry { value: g.value(&set_up), next: g.below(most) as u8 });
         if g.once_in(4) {
             let at = g.below(CELLS);
-            cells.entries[at].value = 16;
+            // No number below 16, and no mask of fewer than 16 lines.
+            cells.entries[at].value = if set_up.kind() == Kind::Register { 1 << 31 } else { 16 };
         }
         let number = g.below(CHANNELS);
         match g.below(8) {
             0 => cells.currents[number] = g.bits() as u8,
             1 => cells.totals[number] = g.one_of(&[1, MAX_TOTAL - 1, MAX_TOTAL, MAX_TOTAL + 1, u64::MAX]),
-            2 if g.once_in(2) => cells.set_up = g.damaged_set_up(),
+            2 if g.once_in(2) => cells.set_up = g.damaged_set_up_of(set_up.kind()),
             _ => {}
         }
         // A set-up with other events has its rows elsewhere; the tool has them by itself only for as many as there may be.

@@ -56,14 +56,19 @@ fn wheels_at_their_limits() {
 #[test]
 fn a_wheel_is_judged_after_the_set_up() {
     let bad = Wheel { pulses: 0, millimetres: 65_536 };
-    let good = RawSetUp::four_values(2);
     for (raw, number) in [
-        (RawSetUp { events: 17, values: 17, ..good.clone() }, 1),
-        (RawSetUp { top: 4, meet: Vec::new(), ..good.clone() }, 2),
-        (RawSetUp { meet: vec![0; 15], ..good.clone() }, 3),
-        (RawSetUp { meet: vec![4; 16], ..good.clone() }, 3),
-        (RawSetUp { meet: vec![0; 16], ..good.clone() }, 3),
-        (good, 18),
+        (RawSetUp::numbers(17, 17, 3, Vec::new()), 1),
+        (RawSetUp::numbers(2, 4, 4, Vec::new()), 2),
+        (RawSetUp::numbers(2, 4, 3, vec![0; 15]), 3),
+        (RawSetUp::numbers(2, 4, 3, vec![4; 16]), 3),
+        (RawSetUp::numbers(2, 4, 3, vec![0; 16]), 3),
+        (RawSetUp::four_values(2), 18),
+        // "18 after 3 (after 20 for a register)".
+        (RawSetUp::register(0, 0), 1),
+        (RawSetUp::register(17, 17), 1),
+        (RawSetUp::register(2, 0), 20),
+        (RawSetUp::register(2, 17), 20),
+        (RawSetUp::register(2, 16), 18),
     ] {
         assert_eq!(Tool::new(raw.clone(), bad), refused(number));
         assert_eq!(Log::new(raw.clone(), bad).map(drop), refused(number));

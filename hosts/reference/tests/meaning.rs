@@ -5,12 +5,12 @@ mod common;
 use std::collections::{BTreeSet, HashMap};
 use std::rc::Rc;
 
-use common::{bytes, four, seeds};
+use common::{bytes, bytes_of, four, seeds};
 use gurvazze_reference::formula::{joined, Formulas, Id, Node, Rule};
 use gurvazze_reference::generate::{has_most_binders, has_variable_under_inner_binder, Generator};
 use gurvazze_reference::table::Table;
 use gurvazze_reference::trial::{covers, first_word, same_values, satisfies, satisfying, trial, Grade, Verdict};
-use gurvazze_reference::values::{Comparison, SetUp};
+use gurvazze_reference::values::{Comparison, Kind, RawValues, SetUp, Value};
 use gurvazze_reference::{characteristic, Refusal};
 
 /// All words up to a length, shorter ones first, then the smaller at the first difference.
@@ -47,7 +47,7 @@ enum Plain {
     True,
     Variable(usize),
     After(u8, Rc<Plain>),
-    Output(u8, u8),
+    Output(u8, Value),
     Both(Rc<Plain>, Rc<Plain>),
     Greatest(usize, Rc<Plain>),
 }
@@ -78,7 +78,7 @@ impl Plain {
         }
     }
 
-    fn value(&self, set_up: &SetUp, on: u8) -> u8 {
+    fn value(&self, set_up: &SetUp, on: u8) -> Value {
         match self {
             Plain::True | Plain::After(..) => set_up.top(),
             Plain::Output(event, value) if *event == on => *value,
@@ -105,7 +105,7 @@ fn the_formula_semantics_are_the_plain_equations() {
     let mut wide = 0;
     for seed in seeds(600) {
         let mut g = Generator::new(seed);
-        let set_up = g.set_up();
+        let set_up = g.any_set_up();
         let rule = small_rule(&mut g, &set_up, 14);
         wide += usize::from(has_variable_under_inner_binder(&rule));
         let mut formulas = Formulas::new(set_up.clone());
@@ -139,7 +139,7 @@ fn small_rule(g: &mut Generator, set_up: &SetUp, most: usize) -> Rule {
 }
 
 /// The values on a word by the equations alone.
-fn untidied(formulas: &mut Formulas, root: Id, word: &[u8]) -> Vec<u8> {
+fn untidied(formulas: &mut Formulas, root: Id, word: &[u8]) -> Vec<Value> {
     let mut now = root;
     let mut values = Vec::new();
     for &event in word {
@@ -153,7 +153,7 @@ fn untidied(formulas: &mut Formulas, root: Id, word: &[u8]) -> Vec<u8> {
 fn tidying_changes_no_value() {
     for seed in seeds(300) {
         let mut g = Generator::new(seed);
-        let set_up = g.set_up();
+        let set_up = g.any_set_up();
         let rule = g.rule(&set_up);
         let mut formulas = Formulas::new(set_up.clone());
         let root = formulas.of_rule(&rule);
@@ -183,7 +183,7 @@ fn a_rule_is_its_formula_and_so_is_each_follower() {
     let mut written = 0;
     for seed in seeds(400) {
         let mut g = Generator::new(seed);
-        let set_up = g.set_up();
+        let set_up = g.any_set_up();
         let rule = g.rule(&set_up);
         let mut formulas = Formulas::new(set_up.clone());
         let root = formulas.of_rule(&rule);
@@ -209,7 +209,7 @@ fn a_table_has_the_values_of_its_rule() {
     let (mut tables, mut wide, mut deep, mut large, mut over) = (0, 0, 0, 0, 0);
     for seed in seeds(1500) {
         let mut g = Generator::new(seed);
-        let set_up = g.set_up();
+        let set_up = g.any_set_up();
         let event = g.below(set_up.events());
         let rule = match g.below(8) {
             0 => g.large_rule(&set_up, event),
@@ -261,7 +261,7 @@ fn states_are_the_reached_sets_numbered_by_their_first_word() {
     let mut wide = 0;
     for seed in seeds(300) {
         let mut g = Generator::new(seed);
-        let set_up = g.set_up();
+        let set_up = g.any_set_up();
         let rule = if g.once_in(3) { g.rule_of_loops(&set_up) } else { g.rule(&set_up) };
         let Ok(table) = Table::of_rule(&set_up, &rule) else { continue };
         wide += usize::from(has_variable_under_inner_binder(&rule));
@@ -292,6 +292,14 @@ fn states_are_the_reached_sets_numbered_by_their_first_word() {
     assert!(wide > 20, "{wide}");
 }
 
+/// A number, or may-be-low and may-be-high with a dot between.
+fn written_value(kind: Kind, value: Value) -> String {
+    match kind {
+        Kind::Numbers => value.to_string(),
+        Kind::Register => format!("{}.{}", value % 65_536, value / 65_536),
+    }
+}
+
 /// Document 01's form of the rule of a table, as nested lists.
 fn written(table: &Table, state: usize, path: &mut Vec<usize>) -> Vec<String> {
     if let Some(between) = path.iter().rev().position(|&open| open == state) {
@@ -304,7 +312,7 @@ fn written(table: &Table, state: usize, path: &mut Vec<usize>) -> Vec<String> {
         let mut after = vec![format!("G{event}")];
         after.extend(written(table, entry.next.into(), path));
         items.push(after);
-        items.push(vec![format!("O{event}.{}", entry.value)]);
+        items.push(vec![format!("O{event}.{}", written_value(table.kind(), entry.value))]);
     }
     path.pop();
     let mut joined = items.pop().unwrap();
@@ -351,9 +359,9 @@ fn a_written_rule_has_the_values_of_its_state() {
     let (mut rules, mut twelve, mut over, mut deep, mut not_on_event_0, mut large) = (0, 0, 0, 0, 0, 0);
     for seed in seeds(800) {
         let mut g = Generator::new(seed);
-        let mut set_up = g.set_up();
+        let mut set_up = g.any_set_up();
         while set_up.events() > 3 {
-            set_up = g.set_up();
+            set_up = g.any_set_up();
         }
         let raw = if g.once_in(2) { g.chain(&set_up) } else { g.table(&set_up) };
         let table = raw.lent().table(&set_up).unwrap();
@@ -373,7 +381,7 @@ fn a_written_rule_has_the_values_of_its_state() {
             continue;
         }
         let rule = result.unwrap();
-        assert_eq!(rule.to_bytes(), bytes(&items.join(" ")), "seed {seed}");
+        assert_eq!(rule.to_bytes(), bytes_of(set_up.kind(), &items.join(" ")), "seed {seed}");
         rules += 1;
         twelve += usize::from(longest == 12);
         assert_eq!(Rule::from_bytes(&set_up, &rule.to_bytes()).as_ref(), Ok(&rule));
@@ -432,7 +440,7 @@ fn trial_is_simulation_and_satisfaction() {
     let (mut passes, mut fails, mut longest, mut wide, mut deep, mut large) = (0, 0, 0, [0; 2], [0; 2], [0; 2]);
     for seed in seeds(1500) {
         let mut g = Generator::new(seed);
-        let set_up = g.set_up();
+        let set_up = g.any_set_up();
         let event = g.below(set_up.events());
         let rule = match g.below(10) {
             0 => g.large_rule(&set_up, event),
@@ -487,12 +495,21 @@ fn trial_is_simulation_and_satisfaction() {
     assert!(large.iter().all(|&count| count > 20), "of rules of more than 64 states fail and pass: {large:?}");
 }
 
+/// All pairs of numbers, or some of a register's values, top and its least value among them.
+fn pairs_of_values(g: &mut Generator, set_up: &SetUp) -> Vec<(Value, Value)> {
+    let values: Vec<Value> = match &set_up.raw().values {
+        RawValues::Numbers(numbers) => (0..numbers.values as Value).collect(),
+        RawValues::Register { .. } => (0..16).map(|_| g.value(set_up)).chain([0, set_up.top()]).collect(),
+    };
+    values.iter().flat_map(|&b| values.iter().map(move |&c| (b, c))).collect()
+}
+
 #[test]
 fn comparing_values_is_by_meet_and_equality() {
     for seed in seeds(300) {
-        let set_up = Generator::new(seed).set_up();
-        let values = 0..set_up.values() as u8;
-        for (b, c) in values.clone().flat_map(|b| values.clone().map(move |c| (b, c))) {
+        let mut g = Generator::new(seed);
+        let set_up = g.any_set_up();
+        for (b, c) in pairs_of_values(&mut g, &set_up) {
             let comparison = set_up.compare(b, c);
             assert_eq!(comparison == Comparison::NotBelow, set_up.meet(b, c) != b, "seed {seed}");
             assert_eq!(comparison == Comparison::Equal, b == c, "seed {seed}");
@@ -521,7 +538,7 @@ fn same_is_given_exactly_for_equal_values() {
     let (mut same, mut stricter, mut fails, mut decided) = (0, 0, 0, 0);
     for seed in seeds(3000) {
         let mut g = Generator::new(seed);
-        let set_up = g.set_up();
+        let set_up = g.any_set_up();
         let Some(table) = some_table(&mut g, &set_up) else { continue };
         let raw = if g.once_in(6) { g.device(&set_up) } else { g.device_near(&set_up, &table) };
         let device = raw.lent().device(&set_up).unwrap();
@@ -588,7 +605,7 @@ fn falling_sets_are_the_set_definition() {
     let (mut judged, mut wide) = (0, 0);
     for seed in seeds(2000) {
         let mut g = Generator::new(seed);
-        let set_up = g.set_up();
+        let set_up = g.any_set_up();
         let rule = small_rule(&mut g, &set_up, 16);
         let raw = g.device(&set_up);
         let binders = rule.nodes().iter().filter(|&&node| node == Node::Greatest).count();
@@ -620,15 +637,14 @@ fn conflict_is_no_refusal_and_trial_is_no_equality() {
 /// A device with any number of states, by state, then event: value and next state.
 struct Device {
     events: usize,
-    entries: Vec<(u8, usize)>,
+    entries: Vec<(Value, usize)>,
 }
 
 impl Device {
     /// Any device.
     fn any(g: &mut Generator, set_up: &SetUp, states: usize) -> Device {
-        let (events, values) = (set_up.events(), set_up.values());
-        let entries = (0..states * events).map(|_| (g.below(values) as u8, g.below(states))).collect();
-        Device { events, entries }
+        let entries = (0..states * set_up.events()).map(|_| (g.value(set_up), g.below(states))).collect();
+        Device { events: set_up.events(), entries }
     }
 
     /// At least so many states: copies of a table, where each next state is that of the table in any of the copies.
@@ -644,7 +660,7 @@ impl Device {
     fn lower(&mut self, g: &mut Generator, set_up: &SetUp, times: usize) {
         for entry in &mut self.entries {
             if g.once_in(times) {
-                entry.0 = set_up.meet(entry.0, g.below(set_up.values()) as u8);
+                entry.0 = set_up.meet(entry.0, g.value(set_up));
             }
         }
     }
@@ -680,7 +696,7 @@ impl Device {
 
 /// Two rules and their tables, the first of at most 64 states.
 fn pair(g: &mut Generator) -> Option<(SetUp, [(Rule, Table); 2])> {
-    let set_up = g.set_up();
+    let set_up = g.any_set_up();
     let (first, second) = g.pair_of_rules(&set_up);
     let tables = (Table::of_rule(&set_up, &first).ok()?, Table::of_rule(&set_up, &second).ok()?);
     if tables.0.states() > 64 {
@@ -733,7 +749,7 @@ fn a_rule_that_covers_another_binds_every_device() {
             }
             if g.once_in(2) {
                 let at = g.below(device.entries.len());
-                device.entries[at].0 = g.below(set_up.values()) as u8;
+                device.entries[at].0 = g.value(&set_up);
             }
             let (by_first, by_second) = (device.satisfying(&set_up, &first), device.satisfying(&set_up, &second));
             let binds = |state: usize| by_second[state] || !by_first[state];
@@ -769,7 +785,7 @@ fn a_rule_that_covers_no_other_has_a_device_that_shows_it() {
 }
 
 /// The meets of the values of two tables on a word.
-fn meets(set_up: &SetUp, [first, second]: [&[u8]; 2]) -> Vec<u8> {
+fn meets(set_up: &SetUp, [first, second]: [&[Value]; 2]) -> Vec<Value> {
     first.iter().zip(second).map(|(&b, &c)| set_up.meet(b, c)).collect()
 }
 
@@ -781,8 +797,9 @@ fn joined_rules_have_the_meet_of_both_values() {
     for seed in seeds(2500) {
         let mut g = Generator::new(seed);
         let Some((set_up, [(first, table), (second, other)])) = pair(&mut g) else { continue };
-        let both = joined(&first.to_bytes(), &second.to_bytes());
-        assert_eq!(both.len(), 3 + 3 * first.nodes().len() + 3 * second.nodes().len());
+        let both = joined(set_up.kind(), &first.to_bytes(), &second.to_bytes());
+        let node_bytes = if set_up.kind() == Kind::Register { 6 } else { 3 };
+        assert_eq!(both.len(), node_bytes * (1 + first.nodes().len() + second.nodes().len()));
         let Ok(both) = Rule::from_bytes(&set_up, &both) else { continue };
         let mut formulas = Formulas::new(set_up.clone());
         let roots = [&both, &first, &second].map(|rule| formulas.of_rule(rule));

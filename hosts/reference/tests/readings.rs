@@ -9,7 +9,7 @@ use gurvazze_reference::generate::{inner_binders, under, RawTable};
 use gurvazze_reference::table::{compile, Entry, Lent, Table};
 use gurvazze_reference::tool::{Call, Channel, Log, Tool, Wheel, MAX_TOTAL};
 use gurvazze_reference::trial::{satisfying, trial, trial_of_rule, trial_of_table, Grade, Outcome, Verdict, WORD_BYTES};
-use gurvazze_reference::values::{Comparison, RawSetUp, SetUp};
+use gurvazze_reference::values::{Comparison, RawSetUp, SetUp, Value, FOUR_VALUES};
 use gurvazze_reference::{characteristic, render, Refusal};
 
 fn refused(number: u8) -> Refusal {
@@ -125,7 +125,7 @@ fn most_binders() {
 
 #[test]
 fn set_ups() {
-    let raw = |events, values, top, meet: &[u8]| RawSetUp { events, values, top, meet: meet.to_vec() };
+    let raw = |events, values, top, meet: &[u8]| RawSetUp::numbers(events, values, top, meet.to_vec());
     assert_eq!(raw(1, 1, 0, &[0]).check(), Ok(()));
     assert_eq!(raw(16, 1, 0, &[0]).check(), Ok(()));
     assert_eq!(raw(0, 0, 0, &[]).check(), Err(refused(1)));
@@ -151,7 +151,7 @@ fn set_ups() {
 #[test]
 fn the_four_value_set() {
     let set_up = four(2);
-    let compared = |wanted: Comparison| -> Vec<(u8, u8)> {
+    let compared = |wanted: Comparison| -> Vec<(Value, Value)> {
         (0..4).flat_map(|b| (0..4).map(move |c| (b, c))).filter(|&(b, c)| set_up.compare(b, c) == wanted).collect()
     };
     assert_eq!(compared(Comparison::Equal), [(0, 0), (1, 1), (2, 2), (3, 3)]);
@@ -325,7 +325,7 @@ fn files_in_lent_memory() {
     let (mut meet, mut nodes) = ([7; 17], [7; 16]);
     let sizes = channel_file::read_into(&text, &mut meet, &mut nodes).unwrap();
     assert_eq!((sizes.events, sizes.values, sizes.top, sizes.nodes), (2, 4, 3, 5));
-    assert_eq!((&meet[..16], meet[16]), (&raw.meet[..], 7));
+    assert_eq!((&meet[..16], meet[16]), (&FOUR_VALUES[..], 7));
     assert_eq!((&nodes[..15], nodes[15]), (&items[..], 7));
     // 13 is tested on both buffers before either is written.
     let (mut meet, mut nodes) = ([7; 16], [7; 14]);

@@ -5,12 +5,12 @@ mod common;
 use std::collections::BTreeMap;
 
 use common::seeds;
-use gurvazze_reference::channel_file::{self, lines, read, tokens};
+use gurvazze_reference::channel_file::{self, lines_of, read, read_of, tokens_of};
 use gurvazze_reference::formula::Rule;
 use gurvazze_reference::generate::Generator;
 use gurvazze_reference::table::{compile, Entry, Lent, Table};
 use gurvazze_reference::trial::{covers, trial, trial_of_rule, trial_of_table, Outcome, Verdict, WORD_BYTES};
-use gurvazze_reference::values::{RawSetUp, SetUp};
+use gurvazze_reference::values::{Kind, RawNumbers, RawSetUp, RawValues, SetUp, Value};
 use gurvazze_reference::{characteristic, render, Refusal};
 
 /// How often each refusal arose, 0 for acceptance.
@@ -26,6 +26,17 @@ impl Tally {
         for number in numbers {
             assert!(self.0.get(number).is_some_and(|&count| count >= 5), "{number} hardly arose: {:?}", self.0);
         }
+    }
+}
+
+const KINDS: [Kind; 2] = [Kind::Numbers, Kind::Register];
+
+/// Refusals 1 and 20, with numbers of any size.
+fn register_refusal(events: usize, lines: usize) -> Result<(), Refusal> {
+    match (events, lines) {
+        (1..=16, 1..=16) => Ok(()),
+        (1..=16, _) => Err(Refusal::new(20)),
+        _ => Err(Refusal::new(1)),
     }
 }
 
@@ -64,17 +75,44 @@ fn set_ups_are_refused_by_the_list() {
     let mut tally = Tally::default();
     for seed in seeds(3000) {
         let mut g = Generator::new(seed);
-        let raw = if g.once_in(5) { g.set_up().raw().clone() } else { g.damaged_set_up() };
-        let meet: Vec<usize> = raw.meet.iter().map(|&entry| entry.into()).collect();
-        let expected = set_up_refusal(raw.events, raw.values, raw.top, &meet);
+        let kind = g.one_of(&KINDS);
+        let raw = if g.once_in(5) { g.set_up_of(kind).raw().clone() } else { g.damaged_set_up_of(kind) };
+        let expected = match &raw.values {
+            RawValues::Numbers(numbers) => {
+                let meet: Vec<usize> = numbers.meet.iter().map(|&entry| entry.into()).collect();
+                set_up_refusal(raw.events, numbers.values, numbers.top, &meet)
+            }
+            RawValues::Register { lines } => register_refusal(raw.events, *lines),
+        };
         assert_eq!(raw.check(), expected, "seed {seed}: {raw:?}");
         tally.add(&expected);
     }
-    tally.has(&[0, 1, 2, 3]);
+    tally.has(&[0, 1, 2, 3, 20]);
+}
+
+/// A node with fields of any size: kind, first, and the value's numbers, of which document 01's has one and a 0.
+type RawNode = (u8, usize, [usize; 2]);
+
+/// The number that all numbers of a value are below.
+fn limit_of(raw: &RawSetUp) -> usize {
+    match &raw.values {
+        RawValues::Numbers(numbers) => numbers.values,
+        RawValues::Register { lines } => 1 << lines,
+    }
+}
+
+/// The node in so many bytes.
+fn raw_node(kind: Kind, bytes: &[u8]) -> RawNode {
+    let mask = |at: usize| usize::from(bytes[at]) + 256 * usize::from(bytes[at + 1]);
+    let value = match kind {
+        Kind::Numbers => [bytes[2].into(), 0],
+        Kind::Register => [mask(2), mask(4)],
+    };
+    (bytes[0], bytes[1].into(), value)
 }
 
 /// Refusals 5 to 8, 23 and 9 on nodes with fields of any size.
-fn rule_refusal(events: usize, values: usize, nodes: &[(u8, usize, usize)]) -> Result<(), Refusal> {
+fn rule_refusal(events: usize, limit: usize, nodes: &[RawNode]) -> Result<(), Refusal> {
     if nodes.is_empty() || nodes.len() > 256 {
         return Err(Refusal::new(5));
     }
@@ -83,10 +121,10 @@ fn rule_refusal(events: usize, values: usize, nodes: &[(u8, usize, usize)]) -> R
         None => Ok(()),
     };
     lowest(6, &|node| match nodes[node] {
-        (0 | 4 | 5, first, second) => first != 0 || second != 0,
-        (1, _, second) => second != 0,
-        (2, first, second) => first >= events || second != 0,
-        (3, first, second) => first >= events || second >= values,
+        (0 | 4 | 5, first, value) => first != 0 || value != [0, 0],
+        (1, _, value) => value != [0, 0],
+        (2, first, value) => first >= events || value != [0, 0],
+        (3, first, value) => first >= events || value.iter().any(|&number| number >= limit),
         _ => true,
     })?;
     // Each node's parent, found by reading whole parts.
@@ -111,7 +149,7 @@ fn rule_refusal(events: usize, values: usize, nodes: &[(u8, usize, usize)]) -> R
 }
 
 /// Where the part that begins at a node ends, or nothing when nodes run out.
-fn whole(nodes: &[(u8, usize, usize)], node: usize, parents: &mut [Option<usize>]) -> Option<usize> {
+fn whole(nodes: &[RawNode], node: usize, parents: &mut [Option<usize>]) -> Option<usize> {
     let parts = match nodes.get(node)?.0 {
         4 => 2,
         2 | 5 => 1,
@@ -132,12 +170,12 @@ fn rules_are_refused_by_the_list() {
     let mut tally = Tally::default();
     for seed in seeds(5000) {
         let mut g = Generator::new(seed);
-        let set_up = g.set_up();
+        let set_up = g.any_set_up();
         let bytes = if g.once_in(6) { g.rule(&set_up).to_bytes() } else { g.damaged_rule(&set_up) };
-        let expected = if bytes.len() % 3 == 0 {
-            let nodes: Vec<(u8, usize, usize)> =
-                bytes.chunks(3).map(|node| (node[0], node[1].into(), node[2].into())).collect();
-            rule_refusal(set_up.events(), set_up.values(), &nodes)
+        let (kind, each) = (set_up.kind(), if set_up.kind() == Kind::Register { 6 } else { 3 });
+        let expected = if bytes.len() % each == 0 {
+            let nodes: Vec<RawNode> = bytes.chunks(each).map(|node| raw_node(kind, node)).collect();
+            rule_refusal(set_up.events(), limit_of(set_up.raw()), &nodes)
         } else {
             Err(Refusal::new(5))
         };
@@ -159,7 +197,7 @@ fn tables_are_refused_by_the_list() {
     let (mut large, mut only_no_device) = (0, 0);
     for seed in seeds(1000) {
         let mut g = Generator::new(seed);
-        let set_up = g.set_up();
+        let set_up = g.any_set_up();
         let good = g.table(&set_up);
         assert_eq!(good.lent().table(&set_up).map(|table| table.to_bytes()), Ok(good.bytes.clone()), "seed {seed}");
         large += usize::from(good.states > 64);
@@ -179,55 +217,77 @@ fn tables_are_refused_by_the_list() {
 }
 
 fn is_number(text: &str) -> bool {
-    text == "0" || (1..=3).contains(&text.len()) && text.bytes().all(|b| b.is_ascii_digit()) && !text.starts_with('0')
+    is_of_digits(text, 3)
 }
 
-fn is_item(text: &str) -> bool {
+/// One digit to so many, no leading zero.
+fn is_of_digits(text: &str, most: usize) -> bool {
+    text == "0" || (1..=most).contains(&text.len()) && text.bytes().all(|b| b.is_ascii_digit()) && !text.starts_with('0')
+}
+
+fn is_item(kind: Kind, text: &str) -> bool {
     match text.split_at_checked(1) {
         Some(("T" | "A" | "V", rest)) => rest.is_empty(),
         Some(("X" | "G", rest)) => is_number(rest),
-        Some(("O", rest)) => rest.split_once('.').is_some_and(|(event, value)| is_number(event) && is_number(value)),
+        Some(("O", rest)) => match (kind, &rest.split('.').collect::<Vec<&str>>()[..]) {
+            (Kind::Numbers, [event, value]) => is_number(event) && is_number(value),
+            // "a mask has up to five digits ...; other numbers keep three digits".
+            (Kind::Register, [event, low, high]) => is_number(event) && is_of_digits(low, 5) && is_of_digits(high, 5),
+            _ => false,
+        },
         _ => false,
     }
 }
 
 /// Whether a text is in the form, its length apart.
-fn in_form(text: &[u8]) -> bool {
+fn in_form(kind: Kind, text: &[u8]) -> bool {
     let Some(text) = std::str::from_utf8(text).ok().and_then(|text| text.strip_suffix('\n')) else { return false };
     let lines: Vec<&str> = text.split('\n').collect();
-    let [events, values, top, meet, rule] = lines[..] else { return false };
     let after = |line: &str, name: &str, is: &dyn Fn(&str) -> bool| line.strip_prefix(name).is_some_and(is);
-    after(events, "events=", &is_number)
-        && after(values, "values=", &is_number)
-        && after(top, "top=", &is_number)
-        && after(meet, "meet=", &|items| items.split(' ').all(is_number))
-        && after(rule, "rule=", &|items| items.split(' ').all(is_item))
+    let is_rule = |rule: &str| after(rule, "rule=", &|items| items.split(' ').all(|item| is_item(kind, item)));
+    match (kind, &lines[..]) {
+        (Kind::Numbers, [events, values, top, meet, rule]) => {
+            after(events, "events=", &is_number)
+                && after(values, "values=", &is_number)
+                && after(top, "top=", &is_number)
+                && after(meet, "meet=", &|items| items.split(' ').all(is_number))
+                && is_rule(rule)
+        }
+        (Kind::Register, [events, lines, rule]) => {
+            after(events, "events=", &is_number) && after(lines, "lines=", &is_number) && is_rule(rule)
+        }
+        _ => false,
+    }
 }
 
 /// Whether some text of the form begins so. Any beginning that can be completed can be so by an end of this text.
-fn begins_a_text(start: &[u8]) -> bool {
-    const WHOLE: &[u8] = b"events=0\nvalues=0\ntop=0\nmeet=0\nrule=O0.0\n";
-    (0..=WHOLE.len()).any(|from| in_form(&[start, &WHOLE[from..]].concat()))
+fn begins_a_text(kind: Kind, start: &[u8]) -> bool {
+    let whole: &[u8] = match kind {
+        Kind::Numbers => b"events=0\nvalues=0\ntop=0\nmeet=0\nrule=O0.0\n",
+        Kind::Register => b"events=0\nlines=0\nrule=O0.0.0\n",
+    };
+    (0..=whole.len()).any(|from| in_form(kind, &[start, &whole[from..]].concat()))
 }
 
 #[test]
 fn places_of_4_are_by_the_sentence() {
     let mut tally = Tally::default();
-    for seed in seeds(800) {
+    for seed in seeds(1200) {
         let mut g = Generator::new(seed);
-        let text = if g.once_in(6) { g.loose_file() } else { g.damaged_file() };
-        let result = lines(&text);
+        let kind = g.one_of(&KINDS);
+        let text = if g.once_in(6) { g.loose_file_of(kind) } else { g.damaged_file_of(kind) };
+        let result = lines_of(kind, &text);
         tally.add(&result);
         if text.len() > 4096 {
             assert_eq!(result, Err(Refusal::at(4, 4096)));
             continue;
         }
         match result {
-            Ok(_) => assert!(in_form(&text), "seed {seed}"),
+            Ok(_) => assert!(in_form(kind, &text), "seed {seed}"),
             Err(Refusal { number: 4, place: Some(place) }) => {
-                assert!(!in_form(&text), "seed {seed}");
-                assert!(begins_a_text(&text[..place]), "seed {seed}, place {place}");
-                assert!(place == text.len() || !begins_a_text(&text[..=place]), "seed {seed}, place {place}");
+                assert!(!in_form(kind, &text), "seed {seed}");
+                assert!(begins_a_text(kind, &text[..place]), "seed {seed}, place {place}");
+                assert!(place == text.len() || !begins_a_text(kind, &text[..=place]), "seed {seed}, place {place}");
             }
             other => panic!("seed {seed}: {other:?}"),
         }
@@ -238,72 +298,94 @@ fn places_of_4_are_by_the_sentence() {
 /// Every cut of a file ends early.
 #[test]
 fn cut_files_end_early() {
-    for seed in seeds(20) {
-        let text = Generator::new(seed).file();
+    for (seed, kind) in seeds(20).flat_map(|seed| KINDS.map(|kind| (seed, kind))) {
+        let text = Generator::new(seed).file_of(kind);
         for length in 0..text.len() {
-            assert_eq!(lines(&text[..length]), Err(Refusal::at(4, length)), "seed {seed}");
+            assert_eq!(lines_of(kind, &text[..length]), Err(Refusal::at(4, length)), "seed {seed}");
         }
     }
 }
 
 /// What reading a text in the form should say, from its pieces as whole numbers.
-fn file_refusal(text: &[u8]) -> Result<(), Refusal> {
+fn file_refusal(kind: Kind, text: &[u8]) -> Result<(), Refusal> {
     let text = std::str::from_utf8(text).unwrap();
     let rest: Vec<&str> = text.lines().map(|line| line.split_once('=').unwrap().1).collect();
     let number = |text: &str| text.parse::<usize>().unwrap();
     let (events, values) = (number(rest[0]), number(rest[1]));
-    let meet: Vec<usize> = rest[3].split(' ').map(number).collect();
-    set_up_refusal(events, values, number(rest[2]), &meet)?;
-    let nodes: Vec<(u8, usize, usize)> = rest[4]
+    let limit = match kind {
+        Kind::Numbers => {
+            let meet: Vec<usize> = rest[3].split(' ').map(number).collect();
+            set_up_refusal(events, values, number(rest[2]), &meet)?;
+            values
+        }
+        Kind::Register => {
+            register_refusal(events, values)?;
+            1 << values
+        }
+    };
+    let nodes: Vec<RawNode> = rest[rest.len() - 1]
         .split(' ')
         .map(|item| {
             let (letter, numbers) = item.split_at(1);
-            let (first, second) = numbers.split_once('.').unwrap_or((numbers, ""));
-            let or_0 = |text: &str| if text.is_empty() { 0 } else { number(text) };
-            ("TXGOAV".find(letter).unwrap() as u8, or_0(first), or_0(second))
+            let mut numbers = numbers.split('.').map(|text| if text.is_empty() { 0 } else { number(text) });
+            let mut next = || numbers.next().unwrap_or(0);
+            ("TXGOAV".find(letter).unwrap() as u8, next(), [next(), next()])
         })
         .collect();
-    rule_refusal(events, values, &nodes)
+    rule_refusal(events, limit, &nodes)
 }
 
 #[test]
 fn files_are_refused_by_the_list() {
+    judge_files(Kind::Numbers).has(&[0, 1, 2, 3, 4, 5, 6, 7, 8, 9, 10, 23]);
+}
+
+/// "It has a reader of its own" (document 02, F-7).
+#[test]
+fn files_of_registers_are_refused_by_the_list() {
+    judge_files(Kind::Register).has(&[0, 1, 20, 4, 5, 6, 7, 8, 9, 10, 23]);
+}
+
+fn judge_files(kind: Kind) -> Tally {
     let mut tally = Tally::default();
     for seed in seeds(2000) {
         let mut g = Generator::new(seed);
         let text = match g.below(8) {
-            0 => g.file(),
-            1 => g.damaged_file(),
-            _ => g.loose_file(),
+            0 => g.file_of(kind),
+            1 => g.damaged_file_of(kind),
+            _ => g.loose_file_of(kind),
         };
-        let result = read(&text);
-        let in_form = text.len() <= 4096 && in_form(&text);
+        let result = read_of(kind, &text);
+        let in_form = text.len() <= 4096 && in_form(kind, &text);
         if in_form {
-            assert_eq!(result.as_ref().map(|_| ()).map_err(|&refusal| refusal), file_refusal(&text), "seed {seed}");
+            assert_eq!(result.as_ref().map(|_| ()).map_err(|&refusal| refusal), file_refusal(kind, &text), "seed {seed}");
             let rule_line = text.iter().rposition(|&byte| byte == b'=').unwrap() + 1;
-            assert_eq!(tokens(&text), &text[rule_line..text.len() - 1]);
+            assert_eq!(tokens_of(kind, &text), &text[rule_line..text.len() - 1]);
         } else {
             assert_eq!(result.as_ref().map_err(|refusal| refusal.number), Err(4), "seed {seed}");
-            assert!(tokens(&text).is_empty());
+            assert!(tokens_of(kind, &text).is_empty());
         }
+        // No text is in both forms.
+        let other = if kind == Kind::Numbers { Kind::Register } else { Kind::Numbers };
+        assert_eq!(read_of(other, &text).map_err(|refusal| refusal.number), Err(4), "seed {seed}");
         let made = result.and_then(|file| {
             // The form leaves one way to write a file.
             assert_eq!(channel_file::to_text(&file.set_up, &file.rule).as_bytes(), &text[..], "seed {seed}");
             Table::of_rule(&file.set_up, &file.rule)
         });
         tally.add(&made);
-        let printed = render::program(&text);
+        let printed = render::program_of(kind, &text);
         match made {
-            Ok(table) => assert_eq!(parse_rows(&printed), (table.events(), table.states(), table.entries().to_vec())),
+            Ok(table) => assert_eq!(parse_rows(kind, &printed), (table.events(), table.states(), table.entries().to_vec())),
             Err(Refusal { number, place: Some(place) }) => assert_eq!(printed, format!("refused={number} {place}\n")),
             Err(Refusal { number, place: None }) => assert_eq!(printed, format!("refused={number}\n")),
         }
     }
-    tally.has(&[0, 1, 2, 3, 4, 5, 6, 7, 8, 9, 10, 23]);
+    tally
 }
 
 /// Reads a printed table back.
-fn parse_rows(printed: &str) -> (usize, usize, Vec<Entry>) {
+fn parse_rows(kind: Kind, printed: &str) -> (usize, usize, Vec<Entry>) {
     let mut lines = printed.strip_suffix('\n').unwrap().split('\n');
     let mut count = |name: &str| lines.next().unwrap().strip_prefix(name).unwrap().parse::<usize>().unwrap();
     let (events, states) = (count("events="), count("states="));
@@ -311,8 +393,12 @@ fn parse_rows(printed: &str) -> (usize, usize, Vec<Entry>) {
         .enumerate()
         .map(|(index, line)| {
             let row: Vec<usize> = line.strip_prefix("row=").unwrap().split(' ').map(|n| n.parse().unwrap()).collect();
-            assert_eq!((row.len(), row[0], row[1]), (4, index / events, index % events));
-            Entry { value: row[2] as u8, next: row[3] as u8 }
+            assert_eq!((row[0], row[1]), (index / events, index % events));
+            match (kind, &row[2..]) {
+                (Kind::Numbers, &[value, next]) => Entry { value: value as Value, next: next as u8 },
+                (Kind::Register, &[low, high, next]) => Entry { value: (low + 65_536 * high) as Value, next: next as u8 },
+                _ => panic!("{line}"),
+            }
         })
         .collect();
     assert_eq!(entries.len(), events * states);
@@ -321,13 +407,13 @@ fn parse_rows(printed: &str) -> (usize, usize, Vec<Entry>) {
 
 #[test]
 fn reading_undoes_writing() {
-    for seed in seeds(600) {
+    for seed in seeds(900) {
         let mut g = Generator::new(seed);
-        let set_up = g.set_up();
+        let set_up = g.any_set_up();
         let rule = g.rule(&set_up);
         let mut lent = vec![7; 4096];
         let length = channel_file::write(set_up.raw(), &rule.to_bytes(), &mut lent).unwrap();
-        let file = read(&lent[..length]).unwrap();
+        let file = read_of(set_up.kind(), &lent[..length]).unwrap();
         assert_eq!((file.set_up, file.rule), (set_up, rule), "seed {seed}");
         assert!(lent[length..].iter().all(|&byte| byte == 7));
     }
@@ -335,8 +421,8 @@ fn reading_undoes_writing() {
 
 /// A set-up, a rule in bytes, each often good.
 fn inputs(g: &mut Generator) -> (RawSetUp, SetUp, Vec<u8>) {
-    let good = g.set_up();
-    let raw = if g.once_in(5) { g.damaged_set_up() } else { good.raw().clone() };
+    let good = g.any_set_up();
+    let raw = if g.once_in(5) { g.damaged_set_up_of(good.kind()) } else { good.raw().clone() };
     let rule = match g.below(4) {
         0 => g.damaged_rule(&good),
         1 if g.once_in(2) => {
@@ -390,7 +476,7 @@ fn on_lent(
 #[test]
 fn refusals_leave_lent_memory() {
     let mut tallies: [Tally; 5] = Default::default();
-    for seed in seeds(1500) {
+    for seed in seeds(2000) {
         let mut g = Generator::new(seed);
         let (raw, good, rule) = inputs(&mut g);
         let set_up = SetUp::new(raw.clone());
@@ -424,7 +510,8 @@ fn refusals_leave_lent_memory() {
         let needed = expected.as_ref().map_or(9, Vec::len);
         let lent = buffer(&mut g, needed);
         tallies[2].add(&on_lent(lent, expected, needed, |lent| {
-            characteristic::write_rule(&raw, table.lent(), lent).map(|nodes| assert_eq!(3 * nodes, needed))
+            let node_bytes = if raw.kind() == Kind::Register { 6 } else { 3 };
+            characteristic::write_rule(&raw, table.lent(), lent).map(|nodes| assert_eq!(node_bytes * nodes, needed))
         }));
 
         let device = if g.once_in(4) { g.damaged_device(&good) } else { g.device(&good) };
@@ -459,11 +546,11 @@ fn refusals_leave_lent_memory() {
             trial_of_table(&raw, device.lent(), other.states, &other.bytes, lent).map(|found| assert_eq!(Ok(found), outcome))
         }));
     }
-    tallies[0].has(&[0, 1, 2, 3, 5, 6, 7, 8, 9, 10, 13, 23]);
-    tallies[1].has(&[0, 1, 2, 3, 5, 6, 7, 8, 9, 13, 23]);
-    tallies[2].has(&[0, 1, 2, 3, 11, 12, 13, 23]);
-    tallies[3].has(&[0, 1, 2, 3, 5, 6, 7, 8, 9, 10, 11, 13, 23]);
-    tallies[4].has(&[0, 1, 2, 3, 11, 13]);
+    tallies[0].has(&[0, 1, 2, 3, 20, 5, 6, 7, 8, 9, 10, 13, 23]);
+    tallies[1].has(&[0, 1, 2, 3, 20, 5, 6, 7, 8, 9, 13, 23]);
+    tallies[2].has(&[0, 1, 2, 3, 20, 11, 12, 13, 23]);
+    tallies[3].has(&[0, 1, 2, 3, 20, 5, 6, 7, 8, 9, 10, 11, 13, 23]);
+    tallies[4].has(&[0, 1, 2, 3, 20, 11, 13]);
 }
 
 /// Document 02, F-14: covering meets what compiling the first rule meets, then what compiling the second meets.
@@ -478,7 +565,7 @@ fn covering_is_refused_by_the_first_rule_then_by_the_second() {
             1 => g.rule_of_loops(&good).to_bytes(),
             _ => g.damaged_rule(&good),
         };
-        let compiled = |rule: &[u8]| compile(&raw, rule, &mut [0; 8192]);
+        let compiled = |rule: &[u8]| compile(&raw, rule, &mut [0; 20_480]);
         let answer = covers(&raw, &first, &second);
         let expected = compiled(&first).and_then(|states| {
             compiled(&second)?;
@@ -491,8 +578,37 @@ fn covering_is_refused_by_the_first_rule_then_by_the_second() {
         assert_eq!(answer.as_ref().err(), expected.as_ref().err(), "seed {seed}");
         if compiled(&first).is_err() { &mut of_first } else { &mut of_second }.add(&answer);
     }
-    of_first.has(&[1, 2, 3, 5, 6, 7, 8, 9, 10, 23]);
+    of_first.has(&[1, 2, 3, 20, 5, 6, 7, 8, 9, 10, 23]);
     of_second.has(&[0, 5, 6, 7, 8, 9, 10, 11, 23]);
+}
+
+/// The values of a set-up of numbers.
+fn numbers_of(set_up: &SetUp) -> &RawNumbers {
+    match &set_up.raw().values {
+        RawValues::Numbers(numbers) => numbers,
+        RawValues::Register { .. } => panic!("the set-up is one of numbers"),
+    }
+}
+
+#[test]
+fn reading_registers_into_lent_memory() {
+    let mut tally = Tally::default();
+    for seed in seeds(1500) {
+        let mut g = Generator::new(seed);
+        let text = if g.once_in(2) { g.file_of(Kind::Register) } else { g.loose_file_of(Kind::Register) };
+        let result = read_of(Kind::Register, &text);
+        let expected = result.clone().map(|file| file.rule.to_bytes());
+        let needed = expected.as_ref().map_or(9, Vec::len);
+        let lent = buffer(&mut g, needed);
+        tally.add(&on_lent(lent, expected, needed, |lent| {
+            let sizes = channel_file::read_register_into(&text, lent)?;
+            let file = result.as_ref().unwrap();
+            assert_eq!(RawSetUp::register(sizes.events, sizes.lines), *file.set_up.raw());
+            assert_eq!(6 * sizes.nodes, needed);
+            Ok(())
+        }));
+    }
+    tally.has(&[0, 1, 20, 5, 6, 7, 8, 9, 13, 23]);
 }
 
 #[test]
@@ -503,7 +619,7 @@ fn reading_into_lent_memory() {
         let text = if g.once_in(2) { g.file() } else { g.loose_file() };
         let result = read(&text);
         let (meet_bytes, rule_bytes) = match &result {
-            Ok(file) => (file.set_up.raw().meet.clone(), file.rule.to_bytes()),
+            Ok(file) => (numbers_of(&file.set_up).meet.clone(), file.rule.to_bytes()),
             Err(_) => (vec![0; 4], vec![0; 9]),
         };
         let (mut meet, mut rule) = (buffer(&mut g, meet_bytes.len()), buffer(&mut g, rule_bytes.len()));
@@ -512,8 +628,8 @@ fn reading_into_lent_memory() {
         tally.add(&sizes);
         match (result, sizes) {
             (Ok(file), Ok(sizes)) => {
-                let raw = file.set_up.raw();
-                assert_eq!((sizes.events, sizes.values, sizes.top), (raw.events, raw.values, raw.top));
+                let numbers = numbers_of(&file.set_up);
+                assert_eq!((sizes.events, sizes.values, sizes.top), (file.set_up.events(), numbers.values, numbers.top));
                 assert_eq!(3 * sizes.nodes, rule_bytes.len());
                 assert_eq!(meet, [&meet_bytes, &meet_before[meet_bytes.len()..]].concat());
                 assert_eq!(rule, [&rule_bytes, &rule_before[rule_bytes.len()..]].concat());
@@ -531,17 +647,21 @@ fn reading_into_lent_memory() {
 /// Set-ups of every size are drawn, orders that are no chain among them.
 #[test]
 fn set_ups_of_every_size_are_drawn() {
-    let (mut events, mut values, mut apart) = ([0; 17], [0; 17], 0);
+    let (mut events, mut values, mut lines, mut apart) = ([0; 17], [0; 17], [0; 17], 0);
     for seed in 0..1500 {
+        let register = Generator::new(seed).register();
+        events[register.events()] += 1;
+        lines[register.top().count_ones() as usize / 2] += 1;
         let set_up = Generator::new(seed).set_up();
         events[set_up.events()] += 1;
-        values[set_up.values()] += 1;
-        let all = 0..set_up.values() as u8;
+        values[numbers_of(&set_up).values] += 1;
+        let all = 0..numbers_of(&set_up).values as Value;
         let is_chain = all.clone().all(|b| all.clone().all(|c| set_up.at_or_below(b, c) || set_up.at_or_below(c, b)));
         apart += usize::from(!is_chain);
     }
     assert!(events[1..].iter().all(|&count| count > 2), "{events:?}");
     assert!(values[1..].iter().all(|&count| count > 2), "{values:?}");
+    assert!(lines[1..].iter().all(|&count| count > 2), "{lines:?}");
     assert!(apart > 500, "{apart}");
 }
 
@@ -550,12 +670,18 @@ fn equal_seeds_give_equal_inputs() {
     let draw = |seed: u64| {
         let mut g = Generator::new(seed);
         let set_up = g.set_up();
-        (g.rule(&set_up).to_bytes(), g.table(&set_up), g.calls(&set_up, 20), g.file(), g.damaged_file(), g.loose_file())
+        let of_numbers =
+            (g.rule(&set_up).to_bytes(), g.table(&set_up), g.calls(&set_up, 20), g.file(), g.damaged_file(), g.loose_file());
+        let register = g.register();
+        let of_register = (g.rule(&register).to_bytes(), g.table(&register), g.calls(&register, 20));
+        (of_numbers, of_register, KINDS.map(|kind| (g.file_of(kind), g.damaged_file_of(kind), g.loose_file_of(kind))))
     };
     assert!((0..50).all(|seed| draw(seed) == draw(seed)));
     assert!((0..50).all(|seed| draw(seed) != draw(seed + 1)));
     for length in 100..200 {
-        let text = Generator::new(length as u64).long_file(length);
-        assert!(text.len() == length && in_form(&text));
+        for kind in KINDS {
+            let text = Generator::new(length as u64).long_file_of(kind, length);
+            assert!(text.len() == length && in_form(kind, &text));
+        }
     }
 }

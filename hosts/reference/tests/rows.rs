@@ -5,7 +5,7 @@ mod common;
 use common::{bytes, joined_loops, reading, steps, table, Both, WHEEL};
 use gurvazze_reference::table::Entry;
 use gurvazze_reference::tool::{Answer, Call, Channel, Tool, CHANNELS};
-use gurvazze_reference::values::SetUp;
+use gurvazze_reference::values::{SetUp, Value};
 use gurvazze_reference::Refusal;
 
 fn refused<T>(number: u8) -> Result<T, Refusal> {
@@ -13,17 +13,17 @@ fn refused<T>(number: u8) -> Result<T, Refusal> {
 }
 
 /// Event 0 so many times less one, then a value: so many states and one more. The value is that of the last of them.
-fn value_after(count: usize, value: u8) -> String {
+fn value_after(count: usize, value: Value) -> String {
     "G0 ".repeat(count - 1) + &format!("O0.{value}")
 }
 
 /// The values of a channel on its next events.
-fn values(both: &mut Both, channel: usize, count: usize) -> Vec<u8> {
+fn values(both: &mut Both, channel: usize, count: usize) -> Vec<Value> {
     (0..count).map(|_| both.event(channel, 0, 0).unwrap().value).collect()
 }
 
 /// Top, but for one event.
-fn top_but(count: usize, at: usize, value: u8) -> Vec<u8> {
+fn top_but(count: usize, at: usize, value: Value) -> Vec<Value> {
     (0..count).map(|index| if index + 1 == at { value } else { 3 }).collect()
 }
 
@@ -111,12 +111,12 @@ fn replace_and_replay(events: usize, long: usize) {
     let others: Vec<usize> = (0..CHANNELS).filter(|&channel| channel != long).collect();
     // Each has 30 and some states, and a value of its own at its end; together with the long one 512 rows or nearly.
     let length = |channel: usize| 30 + channel;
-    let value = |channel: usize| (channel % 3) as u8;
+    let value = |channel: usize| (channel % 3) as Value;
     for &channel in &others {
         both.load(channel, &value_after(length(channel) - 1, value(channel))).unwrap();
     }
     // Half of their events come before the long rule, the rest while it comes and goes.
-    let mut met: Vec<Vec<u8>> = vec![Vec::new(); CHANNELS];
+    let mut met: Vec<Vec<Value>> = vec![Vec::new(); CHANNELS];
     let mut replay = |both: &mut Both, count: usize| {
         for &channel in &others {
             met[channel].extend(values(both, channel, count));
@@ -149,7 +149,7 @@ fn replace_and_replay(events: usize, long: usize) {
 fn clearing_in_the_middle_frees_rows() {
     let mut both = Both::new(2, WHEEL);
     for (channel, states) in [(1, 100), (3, 200), (5, 212)] {
-        both.load(channel, &value_after(states - 1, channel as u8 % 3)).unwrap();
+        both.load(channel, &value_after(states - 1, channel as Value % 3)).unwrap();
     }
     assert_eq!(both.load(0, "T"), refused(25));
     both.event(5, 0, 9).unwrap();

@@ -6,7 +6,7 @@ use common::seeds;
 use gurvazze_reference::generate::Generator;
 use gurvazze_reference::table::{Entry, Table};
 use gurvazze_reference::tool::{Answer, Call, Channel, Log, Tool, CHANNELS, MAX_ROWS, MAX_TOTAL};
-use gurvazze_reference::values::SetUp;
+use gurvazze_reference::values::{RawValues, SetUp, Value};
 use gurvazze_reference::Refusal;
 
 fn run(tool: &mut Tool, calls: &[Call]) -> Vec<Answer> {
@@ -49,7 +49,7 @@ fn the_tool_equals_the_log() {
     let (mut readings, mut rests, mut full, mut all_rows, mut large) = (0, 0, 0, 0, 0);
     for seed in seeds(150) {
         let mut g = Generator::new(seed);
-        let (set_up, wheel) = (g.set_up(), g.wheel());
+        let (set_up, wheel) = (g.any_set_up(), g.wheel());
         let length = if g.once_in(20) { 0 } else { g.between(1, 150) };
         let calls = calls(&mut g, &set_up, length);
         let mut tool = Tool::new(set_up.raw().clone(), wheel).unwrap();
@@ -107,7 +107,7 @@ fn other_channels_do_not_matter_to_accepted_loads_and_calls() {
     let mut struck = 0;
     for seed in seeds(60) {
         let mut g = Generator::new(seed);
-        let (set_up, wheel) = (g.set_up(), g.wheel());
+        let (set_up, wheel) = (g.any_set_up(), g.wheel());
         let calls = calls(&mut g, &set_up, 80);
         let mut whole = Tool::new(set_up.raw().clone(), wheel).unwrap();
         let answers = run(&mut whole, &calls);
@@ -135,7 +135,7 @@ fn a_load_depends_on_the_row_total_of_the_others_alone() {
     let (mut accepted, mut refused) = (0, 0);
     for seed in seeds(150) {
         let mut g = Generator::new(seed);
-        let (set_up, event) = (g.set_up(), 0);
+        let (set_up, event) = (g.any_set_up(), 0);
         let named = g.below(CHANNELS);
         let others: Vec<usize> = (0..CHANNELS).filter(|&channel| channel != named).collect();
         let total = g.between(200, MAX_ROWS);
@@ -166,13 +166,21 @@ fn a_load_depends_on_the_row_total_of_the_others_alone() {
     assert!(accepted > 100 && refused > 100, "{accepted} accepted, {refused} refused");
 }
 
+/// Whether a value is one of the set-up's, to the letter: a number below that of its values, or two numbers below 2^lines.
+fn is_value(tool: &Tool, value: Value) -> bool {
+    match &tool.set_up.values {
+        RawValues::Numbers(numbers) => (value as usize) < numbers.values,
+        RawValues::Register { lines } => (value % 65_536) < 1 << lines && (value / 65_536) < 1 << lines,
+    }
+}
+
 /// Whether 11's limits, and those of the current state and of the total, hold of a channel, to the letter.
 fn is_sound(tool: &Tool, channel: &Channel) -> bool {
     let states = channel.states;
     states == 0
         || states <= 256
             && channel.entries.len() == states * tool.set_up.events
-            && channel.entries.iter().all(|entry| usize::from(entry.value) < tool.set_up.values)
+            && channel.entries.iter().all(|entry| is_value(tool, entry.value))
             && channel.entries.iter().all(|entry| usize::from(entry.next) < states)
             && channel.current < states
             && channel.total <= 1_099_511_627_776
@@ -190,7 +198,7 @@ fn spoilt_tools_are_17_or_25() {
     let (mut refused, mut accepted, mut too_many) = (0, 0, 0);
     for seed in seeds(300) {
         let mut g = Generator::new(seed);
-        let set_up = g.set_up();
+        let set_up = g.any_set_up();
         let mut tool = Tool::new(set_up.raw().clone(), g.wheel()).unwrap();
         let calls = if g.once_in(2) { g.calls_about_rows(&set_up, 80) } else { g.calls(&set_up, 40) };
         run(&mut tool, &calls);
@@ -204,7 +212,7 @@ fn spoilt_tools_are_17_or_25() {
         let number = g.below(2);
         let channel = &mut tool.channels[number];
         match g.below(10) {
-            0 => tool.set_up = g.damaged_set_up(),
+            0 => tool.set_up = g.damaged_set_up_of(set_up.kind()),
             7 => tool.wheel = g.damaged_wheel(),
             8 | 9 => channel.total = g.one_of(&[0, MAX_TOTAL - 1, MAX_TOTAL, MAX_TOTAL + 1, u64::MAX]),
             1 => channel.current = g.below(channel.states.max(1) + 2),
@@ -212,7 +220,8 @@ fn spoilt_tools_are_17_or_25() {
             3 => drop(channel.entries.pop()),
             4 if !channel.entries.is_empty() => {
                 let at = g.below(channel.entries.len());
-                channel.entries[at].value = g.bits() as u8;
+                // Often a number of no byte, or a bit above the lines.
+                channel.entries[at].value = g.bits() as Value >> g.one_of(&[0, 16, 24, 28]);
             }
             5 if !channel.entries.is_empty() => {
                 let at = g.below(channel.entries.len());

@@ -1,4 +1,9 @@
-//! Channel rule tables by the proved library: the table of a channel file's rule, replay, trial, and the rule of a table.
+//! Channel rule tables by the proved library: the table of a channel file's rule or of a rule in bytes, replay, trial, and the rule of a
+//! table. Values are numbers with a meet table; what takes tables and rules in bytes is there a second time for a register's values.
+//!
+//! In bytes a node of a rule is its kind (0 T, 1 X, 2 G, 3 O, 4 A, 5 V), a first number, and the value of an O node; an entry of a table is a
+//! value and a next state. A number as value is one byte, so that a node has three bytes and an entry two. A register's value is four bytes,
+//! [`Masks`], so that a node has six and an entry five. What a node does not use is 0.
 //!
 //! Every function lends its slices for the time of the call. A refused call leaves them as they were, and what lies behind an
 //! output keeps its contents.
@@ -13,6 +18,12 @@ pub const TABLE_BYTES: usize = 8192;
 
 /// The bytes that every rule has room in: 256 nodes, three bytes each.
 pub const RULE_BYTES: usize = 768;
+
+/// The bytes that every table of a register has room in: 256 states, 16 events, five bytes an entry.
+pub const REGISTER_TABLE_BYTES: usize = 20_480;
+
+/// The bytes that every rule of a register has room in: 256 nodes, six bytes each.
+pub const REGISTER_RULE_BYTES: usize = 1536;
 
 /// A refusal of the lists of documents 01 and 02.
 #[derive(Clone, Copy, Debug, PartialEq, Eq, Hash)]
@@ -79,7 +90,61 @@ pub struct SetUp<'a> {
     pub meet: &'a [u8],
 }
 
-/// A table handed in: value and next state, one byte each, by state and then event.
+/// The set-up of a register.
+#[derive(Clone, Copy, Debug, PartialEq, Eq)]
+pub struct Register {
+    /// How many events.
+    pub events: usize,
+    /// How many lines: 1 to 16. Refusal 20 is given where it is not.
+    pub lines: usize,
+}
+
+/// A value of a register: the lines that may be low and those that may be high, bit 0 for line 0. A line is open where it is in both masks
+/// and in conflict where it is in none. A bit at or above the line count is refusal 6 in a rule and 11 in a table.
+///
+/// ```
+/// use gurvazze::Masks;
+///
+/// let value = Masks { low: 0x0102, high: 0xff03 };
+/// assert_eq!(value.to_bytes(), [0x02, 0x01, 0x03, 0xff]);
+/// assert_eq!(Masks::from_bytes(value.to_bytes()), value);
+/// assert_eq!(Masks { low: 1, high: 2 }.node(5), [3, 5, 1, 0, 2, 0]);
+/// assert_eq!(Masks { low: 1, high: 2 }.entry(7), [1, 0, 2, 0, 7]);
+/// ```
+#[derive(Clone, Copy, Debug, PartialEq, Eq, Hash)]
+pub struct Masks {
+    /// The lines that may be low.
+    pub low: u16,
+    /// The lines that may be high.
+    pub high: u16,
+}
+
+impl Masks {
+    /// The value in bytes: the low mask, then the high mask, each mask's low byte first.
+    pub const fn to_bytes(self) -> [u8; 4] {
+        let ([a, b], [c, d]) = (self.low.to_le_bytes(), self.high.to_le_bytes());
+        [a, b, c, d]
+    }
+
+    /// The value in these bytes.
+    pub const fn from_bytes([a, b, c, d]: [u8; 4]) -> Masks {
+        Masks { low: u16::from_le_bytes([a, b]), high: u16::from_le_bytes([c, d]) }
+    }
+
+    /// The O node that asks for this value on an event.
+    pub const fn node(self, event: u8) -> [u8; 6] {
+        let [a, b, c, d] = self.to_bytes();
+        [3, event, a, b, c, d]
+    }
+
+    /// The entry of a table with this value and a next state.
+    pub const fn entry(self, next: u8) -> [u8; 5] {
+        let [a, b, c, d] = self.to_bytes();
+        [a, b, c, d, next]
+    }
+}
+
+/// A table handed in: value and next state by state and then event; the value is one byte, or a register's four, [`Masks`].
 #[derive(Clone, Copy, Debug)]
 pub struct Table<'a> {
     /// How many states: 1 to 64 of a trial's device, 1 to 256 of any other table. Refusal 11 is given where it is not.
@@ -229,6 +294,73 @@ pub fn trial(text: &[u8], device: Table<'_>, word: &mut [u8]) -> Result<Verdict,
     verdict(code)
 }
 
+/// The table of a rule in bytes goes into `to`; returns its number of states. Refusals 1 to 3, 5 to 8, 23, 9, 10, 13.
+///
+/// ```
+/// use gurvazze::SetUp;
+///
+/// let set_up = SetUp { events: 2, values: 4, top: 3, meet: &[0, 0, 0, 0, 0, 1, 0, 1, 0, 0, 2, 2, 0, 1, 2, 3] };
+/// // A O1.1 V G1 X0
+/// let rule = [4, 0, 0, 3, 1, 1, 5, 0, 0, 2, 1, 0, 1, 0, 0];
+/// let mut to = [0; gurvazze::TABLE_BYTES];
+/// assert_eq!(gurvazze::compile(set_up, &rule, &mut to)?, 3);
+/// assert_eq!(to[..12], [3, 1, 1, 2, 3, 1, 3, 1, 3, 1, 3, 2]);
+/// let refusal = gurvazze::compile(set_up, &rule[..12], &mut to).unwrap_err();
+/// assert_eq!((refusal.number, refusal.place), (7, Some(4)));
+/// # Ok::<(), gurvazze::Refusal>(())
+/// ```
+pub fn compile(set_up: SetUp<'_>, rule: &[u8], to: &mut [u8]) -> Result<usize, Refusal> {
+    // SAFETY: as in `table`.
+    let code = unsafe {
+        library::gurvazze_compile(
+            set_up.events,
+            set_up.values,
+            set_up.top,
+            set_up.meet.as_ptr(),
+            set_up.meet.len(),
+            rule.as_ptr(),
+            rule.len(),
+            to.as_mut_ptr(),
+            to.len(),
+        )
+    };
+    count(code)
+}
+
+/// The table of a register's rule in bytes goes into `to`, five bytes an entry; returns its number of states. Refusals 1, 20, 5 to 8, 23, 9,
+/// 10, 13.
+///
+/// ```
+/// use gurvazze::{Masks, Register};
+///
+/// let register = Register { events: 2, lines: 9 };
+/// let (low, top) = (Masks { low: 0x1ff, high: 0xff }, Masks { low: 0x1ff, high: 0x1ff });
+/// // O1 with line 8 low, the others open
+/// let mut to = [0; gurvazze::REGISTER_TABLE_BYTES];
+/// assert_eq!(gurvazze::register_compile(register, &low.node(1), &mut to)?, 2);
+/// assert_eq!(to[..20], [top.entry(1), low.entry(1), top.entry(1), top.entry(1)].concat());
+/// // Line 8 is one too many for eight lines.
+/// let refusal = gurvazze::register_compile(Register { lines: 8, ..register }, &low.node(1), &mut to).unwrap_err();
+/// assert_eq!((refusal.number, refusal.place), (6, Some(0)));
+/// let refusal = gurvazze::register_compile(Register { lines: 17, ..register }, &low.node(1), &mut to).unwrap_err();
+/// assert_eq!((refusal.number, refusal.place), (20, None));
+/// # Ok::<(), gurvazze::Refusal>(())
+/// ```
+pub fn register_compile(register: Register, rule: &[u8], to: &mut [u8]) -> Result<usize, Refusal> {
+    // SAFETY: as in `table`.
+    let code = unsafe {
+        library::gurvazze_register_compile(
+            register.events,
+            register.lines,
+            rule.as_ptr(),
+            rule.len(),
+            to.as_mut_ptr(),
+            to.len(),
+        )
+    };
+    count(code)
+}
+
 /// Trial of a device, of up to 64 states, against a rule's table, of up to 256. Refusals 1 to 3, 11, 13.
 ///
 /// ```
@@ -294,6 +426,51 @@ pub fn trial_of_table(
     verdict(code)
 }
 
+/// Trial of a register's device, of up to 64 states, against a rule's table, of up to 256, both with five bytes an entry. Refusals 1, 20, 11,
+/// 13.
+///
+/// ```
+/// use gurvazze::{Grade, Masks, Register, Table, Verdict};
+///
+/// let register = Register { events: 1, lines: 2 };
+/// let (open, low) = (Masks { low: 3, high: 3 }, Masks { low: 3, high: 0 });
+/// let mut word = [0; gurvazze::WORD_BYTES];
+/// // Both lines are low on the first event, and open on each later one.
+/// let device = [low.entry(1), open.entry(1)].concat();
+/// let device = Table { states: 2, start: 0, bytes: &device };
+/// assert_eq!(gurvazze::register_trial_of_table(register, 1, &low.entry(0), device, &mut word)?, Verdict::Fail(2));
+/// let passes = gurvazze::register_trial_of_table(register, 1, &open.entry(0), device, &mut word)?;
+/// assert_eq!(passes, Verdict::Pass(Grade::Stricter));
+/// let passes = gurvazze::register_trial_of_table(register, 2, device.bytes, device, &mut word)?;
+/// assert_eq!(passes, Verdict::Pass(Grade::Same));
+/// # Ok::<(), gurvazze::Refusal>(())
+/// ```
+pub fn register_trial_of_table(
+    register: Register,
+    states: usize,
+    table: &[u8],
+    device: Table<'_>,
+    word: &mut [u8],
+) -> Result<Verdict, Refusal> {
+    // SAFETY: as in `table`.
+    let code = unsafe {
+        library::gurvazze_register_trial_table(
+            register.events,
+            register.lines,
+            states,
+            table.as_ptr(),
+            table.len(),
+            device.states,
+            device.start,
+            device.bytes.as_ptr(),
+            device.bytes.len(),
+            word.as_mut_ptr(),
+            word.len(),
+        )
+    };
+    verdict(code)
+}
+
 /// The rule of a table, of up to 256 states, goes into `to`, three bytes a node; returns its number of nodes. Refusals 1 to 3, 11, 12, 23, 13.
 ///
 /// ```
@@ -338,6 +515,44 @@ pub fn rule(set_up: SetUp<'_>, table: Table<'_>, to: &mut [u8]) -> Result<usize,
             to.len(),
         )
     };
+    count(code)
+}
+
+/// The rule of a register's table, of up to 256 states with five bytes an entry, goes into `to`, six bytes a node; returns its number of nodes.
+/// Refusals 1, 20, 11, 12, 23, 13. What is written is always a rule that [`register_compile`] takes.
+///
+/// ```
+/// use gurvazze::{Masks, Register, Table};
+///
+/// let register = Register { events: 1, lines: 1 };
+/// let low = Masks { low: 1, high: 0 };
+/// let mut to = [0; gurvazze::REGISTER_RULE_BYTES];
+/// let nodes = gurvazze::register_rule(register, Table { states: 1, start: 0, bytes: &low.entry(0) }, &mut to)?;
+/// assert_eq!(nodes, 5);
+/// // V A G0 X0, then O0 with line 0 low
+/// assert_eq!(to[..24], [5, 0, 0, 0, 0, 0, 4, 0, 0, 0, 0, 0, 2, 0, 0, 0, 0, 0, 1, 0, 0, 0, 0, 0]);
+/// assert_eq!(to[24..30], low.node(0));
+/// # Ok::<(), gurvazze::Refusal>(())
+/// ```
+pub fn register_rule(register: Register, table: Table<'_>, to: &mut [u8]) -> Result<usize, Refusal> {
+    // SAFETY: as in `table`.
+    let code = unsafe {
+        library::gurvazze_register_rule(
+            register.events,
+            register.lines,
+            table.states,
+            table.start,
+            table.bytes.as_ptr(),
+            table.bytes.len(),
+            to.as_mut_ptr(),
+            to.len(),
+        )
+    };
+    count(code)
+}
+
+/// A call that makes something yields its count.
+fn count(code: u64) -> Result<usize, Refusal> {
     yielded(code).map(|count| count as usize)
 }
 
@@ -385,6 +600,27 @@ mod library {
             word_length: usize,
         ) -> u64;
 
+        pub fn gurvazze_compile(
+            events: usize,
+            values: usize,
+            top: usize,
+            meet: *const u8,
+            meet_length: usize,
+            rule: *const u8,
+            rule_length: usize,
+            to: *mut u8,
+            to_length: usize,
+        ) -> u64;
+
+        pub fn gurvazze_register_compile(
+            events: usize,
+            lines: usize,
+            rule: *const u8,
+            rule_length: usize,
+            to: *mut u8,
+            to_length: usize,
+        ) -> u64;
+
         pub fn gurvazze_trial_table(
             events: usize,
             values: usize,
@@ -402,12 +638,37 @@ mod library {
             word_length: usize,
         ) -> u64;
 
+        pub fn gurvazze_register_trial_table(
+            events: usize,
+            lines: usize,
+            states: usize,
+            table: *const u8,
+            table_length: usize,
+            device_states: usize,
+            device_start: usize,
+            device: *const u8,
+            device_length: usize,
+            word: *mut u8,
+            word_length: usize,
+        ) -> u64;
+
         pub fn gurvazze_rule(
             events: usize,
             values: usize,
             top: usize,
             meet: *const u8,
             meet_length: usize,
+            states: usize,
+            start: usize,
+            table: *const u8,
+            table_length: usize,
+            to: *mut u8,
+            to_length: usize,
+        ) -> u64;
+
+        pub fn gurvazze_register_rule(
+            events: usize,
+            lines: usize,
             states: usize,
             start: usize,
             table: *const u8,

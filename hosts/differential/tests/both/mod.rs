@@ -4,9 +4,9 @@
 
 use gurvazze_reference::channel_file::{self, ChannelFile};
 use gurvazze_reference::generate::RawTable;
-use gurvazze_reference::table::Table;
+use gurvazze_reference::table::{self as reference_table, Table};
 use gurvazze_reference::trial::{trial_of_rule, trial_of_table, Grade, Outcome};
-use gurvazze_reference::values::RawSetUp;
+use gurvazze_reference::values::{RawNumbers, RawSetUp, RawValues};
 use gurvazze_reference::{characteristic, Refusal};
 
 /// An answer, or the refusal's number and place; and the lent buffer afterwards.
@@ -23,8 +23,28 @@ fn proved<T>(result: Result<T, gurvazze::Refusal>) -> Result<T, (u8, Option<usiz
     result.map_err(|refusal| (refusal.number, refusal.place))
 }
 
-fn set_up(raw: &RawSetUp) -> gurvazze::SetUp<'_> {
-    gurvazze::SetUp { events: raw.events, values: raw.values, top: raw.top, meet: &raw.meet }
+/// The values of a set-up of numbers.
+fn numbers(raw: &RawSetUp) -> &RawNumbers {
+    match &raw.values {
+        RawValues::Numbers(numbers) => numbers,
+        RawValues::Register { .. } => panic!("the set-up is one of numbers"),
+    }
+}
+
+/// A set-up of either kind as the library takes it.
+enum Lent<'a> {
+    Numbers(gurvazze::SetUp<'a>),
+    Register(gurvazze::Register),
+}
+
+fn set_up(raw: &RawSetUp) -> Lent<'_> {
+    let events = raw.events;
+    match raw.values {
+        RawValues::Numbers(RawNumbers { values, top, ref meet }) => {
+            Lent::Numbers(gurvazze::SetUp { events, values, top, meet })
+        }
+        RawValues::Register { lines } => Lent::Register(gurvazze::Register { events, lines }),
+    }
 }
 
 fn lent(table: &RawTable) -> gurvazze::Table<'_> {
@@ -62,8 +82,8 @@ pub mod table {
         let mut to = old.to_vec();
         let answer = compiled(text).and_then(|(file, table)| {
             let states = table.write_bytes(&mut to)?;
-            let raw = file.set_up.raw();
-            Ok((states, raw.events, raw.values, raw.top))
+            let RawNumbers { values, top, .. } = *numbers(file.set_up.raw());
+            Ok((states, file.set_up.events(), values, top))
         });
         (plain(answer), to)
     }
@@ -89,7 +109,9 @@ pub mod replay {
             if to.len() < word.len() {
                 return Err(Refusal::new(13));
             }
-            to[..word.len()].copy_from_slice(&table.run(0, word).0);
+            for (to, value) in to.iter_mut().zip(table.run(0, word).0) {
+                *to = value as u8;
+            }
             Ok(())
         });
         (plain(answer), to)
@@ -115,6 +137,27 @@ pub mod trial {
     }
 }
 
+/// The table of a rule in bytes.
+pub mod compile {
+    use super::*;
+
+    /// By the proved library.
+    pub fn library(raw: &RawSetUp, rule: &[u8], old: &[u8]) -> Called<usize> {
+        let mut to = old.to_vec();
+        let answer = match set_up(raw) {
+            Lent::Numbers(set_up) => gurvazze::compile(set_up, rule, &mut to),
+            Lent::Register(register) => gurvazze::register_compile(register, rule, &mut to),
+        };
+        (proved(answer), to)
+    }
+
+    /// By the reference.
+    pub fn reference(raw: &RawSetUp, rule: &[u8], old: &[u8]) -> Called<usize> {
+        let mut to = old.to_vec();
+        (plain(reference_table::compile(raw, rule, &mut to)), to)
+    }
+}
+
 /// Trial of a device against a rule's table.
 pub mod trial_table {
     use super::*;
@@ -122,7 +165,11 @@ pub mod trial_table {
     /// By the proved library.
     pub fn library(raw: &RawSetUp, table: &RawTable, device: &RawTable, old: &[u8]) -> Called<Outcome> {
         let mut word = old.to_vec();
-        let answer = gurvazze::trial_of_table(set_up(raw), table.states, &table.bytes, lent(device), &mut word);
+        let (states, bytes, device) = (table.states, &table.bytes, lent(device));
+        let answer = match set_up(raw) {
+            Lent::Numbers(set_up) => gurvazze::trial_of_table(set_up, states, bytes, device, &mut word),
+            Lent::Register(register) => gurvazze::register_trial_of_table(register, states, bytes, device, &mut word),
+        };
         (proved(answer.map(outcome)), word)
     }
 
@@ -171,7 +218,11 @@ pub mod rule {
     /// By the proved library.
     pub fn library(raw: &RawSetUp, table: &RawTable, old: &[u8]) -> Called<usize> {
         let mut to = old.to_vec();
-        (proved(gurvazze::rule(set_up(raw), lent(table), &mut to)), to)
+        let answer = match set_up(raw) {
+            Lent::Numbers(set_up) => gurvazze::rule(set_up, lent(table), &mut to),
+            Lent::Register(register) => gurvazze::register_rule(register, lent(table), &mut to),
+        };
+        (proved(answer), to)
     }
 
     /// By the reference.

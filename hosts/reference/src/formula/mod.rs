@@ -5,16 +5,13 @@ mod semantics;
 pub use semantics::{Formulas, Id};
 
 use crate::refusal::room;
-use crate::values::SetUp;
+use crate::values::{Kind, SetUp, Value};
 use crate::Refusal;
 
 /// "1 to 256 nodes."
 pub const MAX_NODES: usize = 256;
 /// "twelve binders along one path. Make that the limit" (document 02, F-9).
 pub const MAX_BINDERS: usize = 12;
-/// "A node is three bytes: kind, first, second".
-pub const NODE_BYTES: usize = 3;
-
 /// A node, by document 01's letters.
 #[derive(Clone, Copy, Debug, PartialEq, Eq, Hash)]
 pub enum Node {
@@ -24,8 +21,8 @@ pub enum Node {
     Variable(u8),
     /// "2 G: first = event; one part, the rule after that event."
     After(u8),
-    /// "3 O: first = event, second = value; the value on that event is at or below it."
-    Output(u8, u8),
+    /// "3 O: first = event, second = value; the value on that event is at or below it." A register's value is two masks (document 02, F-7).
+    Output(u8, Value),
     /// "4 A: both of two parts."
     Both,
     /// "5 V: binder, greatest fixed point; one part."
@@ -33,31 +30,39 @@ pub enum Node {
 }
 
 impl Node {
-    /// The node of three bytes, or nothing where 6 refuses it: "unknown kind, event or value too large, unused field not 0".
-    pub fn from_bytes(set_up: &SetUp, kind: u8, first: u8, second: u8) -> Option<Node> {
-        let event = usize::from(first) < set_up.events();
-        let value = usize::from(second) < set_up.values();
-        match (kind, first, second) {
+    /// The node of so many bytes, or nothing where 6 refuses it: "unknown kind, event or value too large, unused field not 0". "A mask bit
+    /// at or above the line count is refusal 6 in a rule" (document 02, F-7), and the masks of a node that has no value are unused.
+    pub fn from_bytes(set_up: &SetUp, bytes: &[u8]) -> Option<Node> {
+        let (kind, first, value) = (bytes[0], bytes[1], set_up.kind().value_from(&bytes[2..]));
+        let is_event = usize::from(first) < set_up.events();
+        match (kind, first, value) {
             (0, 0, 0) => Some(Node::True),
             (1, index, 0) => Some(Node::Variable(index)),
-            (2, _, 0) if event => Some(Node::After(first)),
-            (3, _, _) if event && value => Some(Node::Output(first, second)),
+            (2, _, 0) if is_event => Some(Node::After(first)),
+            (3, _, _) if is_event && set_up.has(value) => Some(Node::Output(first, value)),
             (4, 0, 0) => Some(Node::Both),
             (5, 0, 0) => Some(Node::Greatest),
             _ => None,
         }
     }
 
-    /// "kind, first, second; an unused field is 0".
-    pub fn to_bytes(self) -> [u8; NODE_BYTES] {
-        match self {
-            Node::True => [0, 0, 0],
-            Node::Variable(index) => [1, index, 0],
-            Node::After(event) => [2, event, 0],
-            Node::Output(event, value) => [3, event, value],
-            Node::Both => [4, 0, 0],
-            Node::Greatest => [5, 0, 0],
-        }
+    /// "kind, first, second; an unused field is 0"; for a register "kind, first, low mask, high mask" (document 02, F-7).
+    pub fn to_bytes(self, kind: Kind) -> Vec<u8> {
+        in_bytes(kind, &[self])
+    }
+
+    /// Adds the node in bytes.
+    pub(crate) fn push_bytes(self, kind: Kind, bytes: &mut Vec<u8>) {
+        let (letter, first, value) = match self {
+            Node::True => (0, 0, 0),
+            Node::Variable(index) => (1, index, 0),
+            Node::After(event) => (2, event, 0),
+            Node::Output(event, value) => (3, event, value),
+            Node::Both => (4, 0, 0),
+            Node::Greatest => (5, 0, 0),
+        };
+        bytes.extend([letter, first]);
+        kind.push_value(value, bytes);
     }
 
     /// How many parts follow the node.
@@ -73,6 +78,8 @@ impl Node {
 /// A rule that 5 to 9 and 23 do not refuse: "a node, then its parts".
 #[derive(Clone, Debug, PartialEq, Eq)]
 pub struct Rule {
+    /// The kind of its values.
+    kind: Kind,
     nodes: Vec<Node>,
     /// For A the number of its second part, for X the number of its binder, 0 for the others.
     links: Vec<u16>,
@@ -93,24 +100,30 @@ struct Position {
 impl Rule {
     /// Checks a rule in bytes: refusals 5 to 8, 23, 9.
     pub fn from_bytes(set_up: &SetUp, bytes: &[u8]) -> Result<Rule, Refusal> {
+        let node_bytes = set_up.kind().node_bytes();
         // 5: "no nodes, over 256, or bytes left over after the last whole node".
-        if bytes.is_empty() || bytes.len() > MAX_NODES * NODE_BYTES || !bytes.len().is_multiple_of(NODE_BYTES) {
+        if bytes.is_empty() || bytes.len() > MAX_NODES * node_bytes || !bytes.len().is_multiple_of(node_bytes) {
             return Err(Refusal::new(5));
         }
         // 6: "place = lowest such node".
         let nodes = bytes
-            .chunks_exact(NODE_BYTES)
+            .chunks_exact(node_bytes)
             .enumerate()
-            .map(|(place, node)| Node::from_bytes(set_up, node[0], node[1], node[2]).ok_or(Refusal::at(6, place)))
+            .map(|(place, node)| Node::from_bytes(set_up, node).ok_or(Refusal::at(6, place)))
             .collect::<Result<Vec<Node>, Refusal>>()?;
-        Rule::from_nodes(nodes)
+        Rule::from_nodes(set_up.kind(), nodes)
     }
 
-    /// Refusals 7, 8, 23, 9 on 1 to 256 nodes that 6 does not refuse.
-    pub(crate) fn from_nodes(nodes: Vec<Node>) -> Result<Rule, Refusal> {
+    /// Refusals 7, 8, 23, 9 on 1 to 256 nodes that 6 does not refuse, with values of this kind.
+    pub(crate) fn from_nodes(kind: Kind, nodes: Vec<Node>) -> Result<Rule, Refusal> {
         check_count(&nodes)?;
         let links = link(&nodes)?;
-        Ok(Rule { nodes, links })
+        Ok(Rule { kind, nodes, links })
+    }
+
+    /// The kind of its values.
+    pub fn kind(&self) -> Kind {
+        self.kind
     }
 
     /// The nodes in prefix order.
@@ -132,22 +145,30 @@ impl Rule {
 
     /// The rule in bytes.
     pub fn to_bytes(&self) -> Vec<u8> {
-        self.nodes.iter().flat_map(|node| node.to_bytes()).collect()
+        in_bytes(self.kind, &self.nodes)
     }
 
-    /// Writes the rule into lent memory and returns its size in nodes; 13, three bytes a node.
+    /// Writes the rule into lent memory and returns its size in nodes; 13, three bytes a node, six for a register.
     pub fn write_bytes(&self, lent: &mut [u8]) -> Result<usize, Refusal> {
-        room(lent, self.nodes.len() * NODE_BYTES)?;
-        for (bytes, node) in lent.chunks_exact_mut(NODE_BYTES).zip(&self.nodes) {
-            bytes.copy_from_slice(&node.to_bytes());
-        }
+        let bytes = self.to_bytes();
+        room(lent, bytes.len())?;
+        lent[..bytes.len()].copy_from_slice(&bytes);
         Ok(self.nodes.len())
     }
 }
 
+/// Nodes in bytes, one behind another.
+pub fn in_bytes(kind: Kind, nodes: &[Node]) -> Vec<u8> {
+    let mut bytes = Vec::with_capacity(nodes.len() * kind.node_bytes());
+    for node in nodes {
+        node.push_bytes(kind, &mut bytes);
+    }
+    bytes
+}
+
 /// "joining two rules by A" (document 02, F-14), in bytes: an A node, then its two parts. It may have over 256 nodes.
-pub fn joined(first: &[u8], second: &[u8]) -> Vec<u8> {
-    [&Node::Both.to_bytes(), first, second].concat()
+pub fn joined(kind: Kind, first: &[u8], second: &[u8]) -> Vec<u8> {
+    [&Node::Both.to_bytes(kind), first, second].concat()
 }
 
 /// 7: "nodes run out (place = node count) or are left over (place = first of them)".

@@ -5,7 +5,7 @@
 use std::collections::{BTreeSet, HashMap, HashSet};
 
 use super::{Node, Rule, MAX_NODES};
-use crate::values::SetUp;
+use crate::values::{SetUp, Value};
 use crate::Refusal;
 
 /// A formula kept in [`Formulas`].
@@ -18,7 +18,7 @@ enum Formula {
     True,
     Variable(u8),
     After(u8, Id),
-    Output(u8, u8),
+    Output(u8, Value),
     Both(Id, Id),
     Greatest(Id),
 }
@@ -33,7 +33,7 @@ struct Kept {
 /// Value and follower on one event.
 #[derive(Clone, Copy)]
 struct Step {
-    value: u8,
+    value: Value,
     follower: Id,
 }
 
@@ -101,14 +101,14 @@ impl Formulas {
                 }
             });
         }
-        match Rule::from_nodes(nodes) {
+        match Rule::from_nodes(self.set_up.kind(), nodes) {
             Err(Refusal { number: 23, .. }) => None,
             rule => Some(rule.expect("rules and their followers are closed and guarded")),
         }
     }
 
     /// The value of a closed guarded formula on an event.
-    pub fn value(&mut self, id: Id, event: u8) -> u8 {
+    pub fn value(&mut self, id: Id, event: u8) -> Value {
         self.step(id, event).value
     }
 
@@ -118,7 +118,7 @@ impl Formulas {
     }
 
     /// The values on an event sequence, the follower being taken on each event in turn, and tidied.
-    pub fn values(&mut self, id: Id, word: &[u8]) -> Vec<u8> {
+    pub fn values(&mut self, id: Id, word: &[u8]) -> Vec<Value> {
         let mut now = id;
         word.iter()
             .map(|&event| {

@@ -1,5 +1,6 @@
 //! "Distance with every event" (document 02, F-6): the wheel with its refusal 18, totals of pulses, and what an event returns.
 
+use crate::values::Value;
 use crate::Refusal;
 
 /// P and C are "each 1 to 65,535".
@@ -47,7 +48,7 @@ pub struct Distance {
 #[derive(Clone, Copy, Debug, PartialEq, Eq, Hash)]
 pub struct Reading {
     /// The value.
-    pub value: u8,
+    pub value: Value,
     /// The distance.
     pub distance: Distance,
 }

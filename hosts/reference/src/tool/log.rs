@@ -64,7 +64,7 @@ pub struct Log {
 }
 
 impl Log {
-    /// "It is fed the set-up and the calls with their inputs": refusals 1 to 3, 18.
+    /// "It is fed the set-up and the calls with their inputs": refusals 1 to 3, 18; for a register 1, 20, 18.
     pub fn new(set_up: RawSetUp, wheel: Wheel) -> Result<Log, Refusal> {
         let set_up = SetUp::new(set_up)?;
         wheel.check()?;

@@ -105,7 +105,7 @@ impl Call {
 pub type Answer = Result<Option<Reading>, Refusal>;
 
 impl Tool {
-    /// "set up (takes no earlier tool; all empty)": refusals 1 to 3, 18.
+    /// "set up (takes no earlier tool; all empty)": refusals 1 to 3, 18; for a register 1, 20, 18.
     pub fn new(set_up: RawSetUp, wheel: Wheel) -> Result<Tool, Refusal> {
         set_up.check()?;
         wheel.check()?;
@@ -201,7 +201,7 @@ impl Tool {
         check_rows(self.channels.iter().map(|channel| channel.states))
     }
 
-    /// 18 is "also part of 17's test" (document 02, F-6).
+    /// 18 is "also part of 17's test" (document 02, F-6), and so is 20 (F-7).
     fn check_set_up(&self) -> Result<(), Refusal> {
         self.set_up.check().and_then(|()| self.wheel.check()).map_err(|_| Refusal::new(17))
     }
@@ -209,9 +209,8 @@ impl Tool {
     /// "a loaded channel already holding such a total counts in 17 as one with a bad table does" (document 02, F-6). An empty channel's
     /// total is not looked at.
     fn check_loaded(&self, channel: &Channel) -> Result<(), Refusal> {
-        let RawSetUp { events, values, .. } = self.set_up;
         let sound = channel.is_empty()
-            || within_limits(events, values, channel.states, &channel.entries)
+            || within_limits(&self.set_up, channel.states, &channel.entries)
                 && channel.current < channel.states
                 && channel.total <= MAX_TOTAL;
         if sound {

@@ -4,7 +4,7 @@
 use gurvazze_reference::formula::Rule;
 use gurvazze_reference::table::Table;
 use gurvazze_reference::tool::{Answer, Call, Distance, Log, Reading, Tool, Wheel};
-use gurvazze_reference::values::{RawSetUp, SetUp};
+use gurvazze_reference::values::{Kind, RawSetUp, SetUp, Value};
 use gurvazze_reference::Refusal;
 
 /// The four-value set with so many events.
@@ -12,11 +12,16 @@ pub fn four(events: usize) -> SetUp {
     SetUp::new(RawSetUp::four_values(events)).unwrap()
 }
 
+/// A register of so many lines.
+pub fn register(events: usize, lines: usize) -> SetUp {
+    SetUp::new(RawSetUp::register(events, lines)).unwrap()
+}
+
 /// A wheel of one pulse and one millimetre per turn: a total of pulses is as many whole millimetres.
 pub const WHEEL: Wheel = Wheel { pulses: 1, millimetres: 1 };
 
 /// What an event returns at that distance.
-pub fn reading(value: u8, millimetres: u64, rest: u64) -> Reading {
+pub fn reading(value: Value, millimetres: u64, rest: u64) -> Reading {
     Reading { value, distance: Distance { millimetres, rest } }
 }
 
@@ -31,7 +36,11 @@ pub struct Both {
 impl Both {
     /// The four-value set with so many events; every channel is empty.
     pub fn new(events: usize, wheel: Wheel) -> Both {
-        let raw = RawSetUp::four_values(events);
+        Both::of(RawSetUp::four_values(events), wheel)
+    }
+
+    /// This set-up; every channel is empty.
+    pub fn of(raw: RawSetUp, wheel: Wheel) -> Both {
         Both { tool: Tool::new(raw.clone(), wheel).unwrap(), log: Log::new(raw, wheel).unwrap() }
     }
 
@@ -52,7 +61,8 @@ impl Both {
 
     /// A load of a rule in items.
     pub fn load(&mut self, channel: usize, items: &str) -> Answer {
-        self.call(Call::Load { channel, rule: bytes(items) })
+        let rule = bytes_of(self.tool.set_up.kind(), items);
+        self.call(Call::Load { channel, rule })
     }
 
     /// An event.
@@ -74,15 +84,27 @@ pub fn seeds(count: u64) -> std::ops::Range<u64> {
 
 /// A rule in bytes from its items.
 pub fn bytes(items: &str) -> Vec<u8> {
-    items.split(' ').filter(|item| !item.is_empty()).flat_map(item).collect()
+    bytes_of(Kind::Numbers, items)
 }
 
-fn item(item: &str) -> [u8; 3] {
+/// A rule in bytes from its items, for values of this kind.
+pub fn bytes_of(kind: Kind, items: &str) -> Vec<u8> {
+    items.split(' ').filter(|item| !item.is_empty()).flat_map(|text| item(kind, text)).collect()
+}
+
+/// "kind, first, second", or "kind, first, low mask, high mask, each mask's low byte first".
+fn item(kind: Kind, item: &str) -> Vec<u8> {
     let (letter, rest) = item.split_at(1);
-    let mut numbers = rest.split('.').map(|number| number.parse::<u8>().unwrap_or(0));
-    let (first, second) = (numbers.next().unwrap_or(0), numbers.next().unwrap_or(0));
-    let kind = "TXGOAV".find(letter).unwrap() as u8;
-    [kind, first, second]
+    let mut numbers = rest.split('.').map(|number| number.parse::<u16>().unwrap_or(0));
+    let mut number = || numbers.next().unwrap_or(0);
+    let mut bytes = vec!["TXGOAV".find(letter).unwrap() as u8, number() as u8];
+    match kind {
+        Kind::Numbers => bytes.push(number() as u8),
+        Kind::Register => {
+            bytes.extend([number(), number()].iter().flat_map(|mask| [mask % 256, mask / 256]).map(|byte| byte as u8))
+        }
+    }
+    bytes
 }
 
 /// Event 0 so many times, then T.
@@ -98,12 +120,17 @@ pub fn joined_loops(first: usize, second: usize) -> String {
 
 /// A checked rule from its items.
 pub fn rule(set_up: &SetUp, items: &str) -> Result<Rule, Refusal> {
-    Rule::from_bytes(set_up, &bytes(items))
+    Rule::from_bytes(set_up, &bytes_of(set_up.kind(), items))
 }
 
 /// The table of a rule from its items.
 pub fn table(set_up: &SetUp, items: &str) -> Result<Table, Refusal> {
     Table::of_rule(set_up, &rule(set_up, items)?)
+}
+
+/// A file of a register with two events, four lines and these items.
+pub fn register_file(items: &str) -> Vec<u8> {
+    format!("events=2\nlines=4\nrule={items}\n").into_bytes()
 }
 
 /// A file of the four-value set with two events and these items.
