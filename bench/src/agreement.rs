@@ -6,7 +6,7 @@ use gurvazze_reference::generate::Generator;
 use gurvazze_reference::values::SetUp;
 use gurvazze_reference::Refusal;
 
-use crate::rules::{file, file_of_tokens, joined, ring};
+use crate::rules::{file, file_of_tokens, joined, numbers, ring};
 
 /// The table of a channel file, or its refusal.
 pub type TableOfFile = fn(&[u8], &mut [u8]) -> Result<usize, Refusal>;
@@ -80,7 +80,7 @@ fn any_items(generator: &mut Generator, set_up: &SetUp) -> String {
     while wanted > 0 && items.len() < most {
         let letter = char::from(generator.one_of(letters));
         let mut number = |limit| if generator.once_in(100) { limit } else { generator.below(limit) };
-        let (event, value) = (number(set_up.events()), number(set_up.values()));
+        let (event, value) = (number(set_up.events()), number(numbers(set_up.raw()).values));
         let binders = if generator.once_in(4) { most } else { 4 };
         items.push(match letter {
             'X' => format!("X{}", generator.below(binders)),

@@ -7,9 +7,10 @@ use std::io::Write;
 use std::path::Path;
 use std::process::{Command, Stdio};
 
+use gurvazze_reference::formula::in_bytes;
 use gurvazze_reference::generate::Generator;
 use gurvazze_reference::tool::{Tool, Wheel};
-use gurvazze_reference::values::RawSetUp;
+use gurvazze_reference::values::{Kind, RawSetUp};
 
 use crate::plain;
 use crate::rules::{chain, four};
@@ -107,7 +108,7 @@ fn empty(events: usize) -> Tool {
 
 /// A chain of so many G nodes, in bytes.
 fn chain_bytes(count: usize, events: usize) -> Vec<u8> {
-    chain(count, events).iter().flat_map(|node| node.to_bytes()).collect()
+    in_bytes(Kind::Numbers, &chain(count, events))
 }
 
 /// A tool with the program's rule of 256 states.

@@ -104,7 +104,7 @@ impl<'a> Walk<'a> {
                 if number == states.len() {
                     states.push(next);
                 }
-                bytes.extend([value, number as u8]);
+                bytes.extend([value as u8, number as u8]);
             }
             done += 1;
         }

@@ -6,6 +6,7 @@ mod calls;
 mod fast;
 mod inside;
 mod plain;
+mod registers;
 mod rules;
 mod timing;
 
@@ -14,13 +15,13 @@ use std::hint::black_box;
 use gurvazze::{RULE_BYTES, TABLE_BYTES, WORD_BYTES};
 use gurvazze_reference::formula::Node;
 use gurvazze_reference::generate::{inner_binders, under, Generator, RawTable};
-use gurvazze_reference::table::Table;
+use gurvazze_reference::table::{Entry, Table};
 use gurvazze_reference::trial::{trial_of_rule, trial_of_table, Grade, Outcome};
-use gurvazze_reference::values::SetUp;
+use gurvazze_reference::values::{RawNumbers, SetUp};
 use gurvazze_reference::{channel_file, characteristic, Refusal};
 
 use rules::{branching, chain, file, file_of_tokens, four, loop_table, nested, ring, side_by_side, sixteen, wide_rule};
-use rules::{full_states, full_states_of_events, joined, thin_states};
+use rules::{full_states, full_states_of_events, joined, numbers, table_of, thin_states};
 use timing::Report;
 
 fn main() {
@@ -32,6 +33,7 @@ fn main() {
     replays(&mut report);
     trials(&mut report);
     rules_of_tables(&mut report);
+    registers::registers(&mut report);
     worst(&mut report);
     calls::calls(&mut report);
 }
@@ -239,8 +241,8 @@ fn lent(table: &RawTable) -> gurvazze::Table<'_> {
 }
 
 fn raw(set_up: &SetUp) -> gurvazze::SetUp<'_> {
-    let raw = set_up.raw();
-    gurvazze::SetUp { events: raw.events, values: raw.values, top: raw.top, meet: &raw.meet }
+    let RawNumbers { values, top, meet } = numbers(set_up.raw());
+    gurvazze::SetUp { events: set_up.events(), values: *values, top: *top, meet }
 }
 
 fn library_trial_of_table(
@@ -350,7 +352,7 @@ fn rules_of_tables(report: &mut Report) {
         let table = loop_table(&set_up, 12, |_| 1);
         line_rule(report, &format!("loop of 12, {events} events"), &set_up, &table, Ok(()));
     }
-    line_rule(report, "6 states, branching, 2 events", &four(2), &branching(6), Ok(()));
+    line_rule(report, "6 states, branching, 2 events", &four(2), &branching(&four(2), 6), Ok(()));
     for events in [1, 4, 16] {
         let set_up = four(events);
         let table = loop_table(&set_up, 1, |_| 1);
@@ -373,8 +375,8 @@ fn worst(report: &mut Report) {
     line("table: loops of 16 and 17", &joined(&[ring(16), ring(17)]), Err(10));
     line("table: A nested to the left", &side_by_side(&[Node::True], 128), Ok(()));
     let full = four(16);
-    let bytes = (0..64 * 16).flat_map(|entry: usize| [1, ((entry * 7 + entry / 16) % 64) as u8]).collect();
-    let all = RawTable { states: 64, start: 0, bytes };
+    let next = |state: usize, event: usize| ((state * 16 + event) * 7 + state) % 64;
+    let all = table_of(&full, 64, |state, event| Entry { value: 1, next: next(state, event) as u8 });
     line_rule(report, "rule: 64 states, 16 events, all joined", &full, &all, Err(12));
     line_rule(report, "rule: chain of 63, 1 event", &set_up, &RawTable::chain(63, 3), Err(23));
     // The device is low but for its last state, and the rule is low in its last state alone.

@@ -52,7 +52,7 @@ pub fn replay(text: &[u8], events: &[u8], to: &mut [u8]) -> Result<(), Refusal> 
     let mut state = 0;
     for (to, &event) in to.iter_mut().zip(events) {
         let Entry { value, next } = table.entry(state, event.into());
-        *to = value;
+        *to = value as u8;
         state = next.into();
     }
     Ok(())
@@ -87,7 +87,7 @@ pub fn replay_on_tool(
     let mut last = None;
     for (to, &event) in to.iter_mut().zip(events) {
         let Entry { value, next } = channel.entries[channel.current * width + usize::from(event)];
-        *to = value;
+        *to = value as u8;
         last = Some(value);
         channel.current = next.into();
     }
@@ -105,7 +105,7 @@ pub unsafe fn unchecked_loop(table: &[Entry], width: usize, events: &[u8], to: &
         // SAFETY: the caller's.
         unsafe {
             let entry = *table.get_unchecked(state * width + usize::from(*events.get_unchecked(i)));
-            *to.get_unchecked_mut(i) = entry.value;
+            *to.get_unchecked_mut(i) = entry.value as u8;
             state = usize::from(entry.next);
         }
     }

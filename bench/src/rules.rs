@@ -1,9 +1,10 @@
 //! The set-ups, rules, files and tables that are timed. All are built at run time.
 
 use gurvazze_reference::channel_file;
-use gurvazze_reference::formula::{Node, Rule};
+use gurvazze_reference::formula::{self, Node, Rule};
 use gurvazze_reference::generate::RawTable;
-use gurvazze_reference::values::{RawSetUp, SetUp};
+use gurvazze_reference::table::{self, Entry};
+use gurvazze_reference::values::{of_masks, Kind, RawNumbers, RawSetUp, RawValues, SetUp, Value, MAX_LINES};
 
 /// The four-value set.
 pub fn four(events: usize) -> SetUp {
@@ -13,19 +14,52 @@ pub fn four(events: usize) -> SetUp {
 /// The largest value set: sixteen values, the sets of four things.
 pub fn sixteen(events: usize) -> SetUp {
     let meet = (0..16).flat_map(|b| (0..16).map(move |c| b & c)).collect();
-    SetUp::new(RawSetUp { events, values: 16, top: 15, meet }).expect("intersections obey the laws")
+    SetUp::new(RawSetUp::numbers(events, 16, 15, meet)).expect("intersections obey the laws")
+}
+
+/// Registers of sixteen lines.
+pub fn lines(events: usize) -> SetUp {
+    SetUp::new(RawSetUp::register(events, MAX_LINES)).expect("there may be so many lines")
+}
+
+/// A value of the four-value set as one of this set-up: itself, or the value of a register all of whose lines show it.
+pub fn shown(set_up: &SetUp, value: Value) -> Value {
+    match set_up.kind() {
+        Kind::Numbers => value,
+        Kind::Register => {
+            let [low, high] = [value % 2, value / 2].map(|shows| u16::MAX * shows as u16);
+            of_masks(low, high)
+        }
+    }
+}
+
+/// A rule over the four-value set in bytes, with values of this set-up.
+pub fn bytes_of(set_up: &SetUp, nodes: &[Node]) -> Vec<u8> {
+    let of_set_up = |node: &Node| match *node {
+        Node::Output(event, value) => Node::Output(event, shown(set_up, value)),
+        other => other,
+    };
+    formula::in_bytes(set_up.kind(), &nodes.iter().map(of_set_up).collect::<Vec<_>>())
+}
+
+/// The values of a set-up whose values are numbers.
+pub fn numbers(set_up: &RawSetUp) -> &RawNumbers {
+    match &set_up.values {
+        RawValues::Numbers(numbers) => numbers,
+        RawValues::Register { .. } => unreachable!("the values are numbers"),
+    }
 }
 
 /// The channel file of a rule.
 pub fn file(set_up: &SetUp, nodes: &[Node]) -> Vec<u8> {
-    let bytes: Vec<u8> = nodes.iter().flat_map(|node| node.to_bytes()).collect();
+    let bytes = formula::in_bytes(set_up.kind(), nodes);
     let rule = Rule::from_bytes(set_up, &bytes).expect("the rule is accepted");
     channel_file::to_text(set_up, &rule).into_bytes()
 }
 
 /// A file of this set-up with these tokens, whatever they are.
 pub fn file_of_tokens(set_up: &RawSetUp, tokens: &[u8]) -> Vec<u8> {
-    let RawSetUp { events, values, top, meet } = set_up;
+    let (events, RawNumbers { values, top, meet }) = (set_up.events, numbers(set_up));
     let entries: Vec<String> = meet.iter().map(u8::to_string).collect();
     let lines = format!("events={events}\nvalues={values}\ntop={top}\nmeet={}\nrule=", entries.join(" "));
     [lines.as_bytes(), tokens, b"\n"].concat()
@@ -55,7 +89,7 @@ pub fn wide_rule(set_up: &SetUp, size: usize) -> Vec<Node> {
 }
 
 /// A loop of so many states on an event; these nodes stand before each G.
-fn ring_with(event: u8, states: usize, before: impl Fn(usize) -> Vec<Node>) -> Vec<Node> {
+pub fn ring_with(event: u8, states: usize, before: impl Fn(usize) -> Vec<Node>) -> Vec<Node> {
     let mut nodes = vec![Node::Greatest];
     for state in 0..states {
         nodes.extend(before(state));
@@ -133,17 +167,19 @@ pub fn thin_states() -> Vec<Node> {
 }
 
 /// A loop of states on event 0, to which other events return; with these values.
-pub fn loop_table(set_up: &SetUp, states: usize, value: impl Fn(usize) -> u8) -> RawTable {
-    let bytes = (0..states)
-        .flat_map(|state| (0..set_up.events()).map(move |event| (state, event)))
-        .flat_map(|(state, event)| [value(state), if event == 0 { (state + 1) % states } else { state } as u8])
-        .collect();
-    RawTable { states, start: 0, bytes }
+pub fn loop_table(set_up: &SetUp, states: usize, value: impl Fn(usize) -> Value) -> RawTable {
+    let next = |state: usize, event: usize| if event == 0 { (state + 1) % states } else { state };
+    table_of(set_up, states, |state, event| Entry { value: value(state), next: next(state, event) as u8 })
 }
 
-/// Each state goes to the next one on event 0, and past it on event 1; the last goes to itself.
-pub fn branching(states: usize) -> RawTable {
-    let next = |state: usize, on: usize| (state + on).min(states - 1) as u8;
-    let bytes = (0..states).flat_map(|state| [3, next(state, 1), 3, next(state, 2)]).collect();
-    RawTable { states, start: 0, bytes }
+/// The table with these entries, which starts at 0.
+pub fn table_of(set_up: &SetUp, states: usize, entry: impl Fn(usize, usize) -> Entry) -> RawTable {
+    let entries = (0..states * set_up.events()).map(|at| entry(at / set_up.events(), at % set_up.events()));
+    RawTable { states, start: 0, bytes: table::in_bytes(set_up.kind(), entries) }
+}
+
+/// Each state goes to the next one on event 0, and past it on event 1; the last goes to itself. All values are top.
+pub fn branching(set_up: &SetUp, states: usize) -> RawTable {
+    let next = |state: usize, event: usize| (state + event + 1).min(states - 1) as u8;
+    table_of(set_up, states, |state, event| Entry { value: set_up.top(), next: next(state, event) })
 }

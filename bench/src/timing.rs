@@ -32,41 +32,37 @@ impl Report {
     }
 
     /// Times the library and Rust in turn and prints a line.
-    pub fn compare<A, B>(&mut self, case: &str, library: impl FnMut() -> A, rust: impl FnMut() -> B) {
-        self.time(case, library, rust, None::<fn()>);
+    pub fn compare<A, B>(&mut self, case: &str, mut library: impl FnMut() -> A, mut rust: impl FnMut() -> B) {
+        if self.wants(case) {
+            let [library, rust] = best([&mut || drop(black_box(library())), &mut || drop(black_box(rust()))]);
+            self.line(case, library, rust, None);
+        }
     }
 
     /// Times the library, Rust and the fast version in turn and prints a line.
     pub fn compare_fast<A, B, C>(
         &mut self,
         case: &str,
-        library: impl FnMut() -> A,
-        rust: impl FnMut() -> B,
-        fast: impl FnMut() -> C,
-    ) {
-        self.time(case, library, rust, Some(fast));
-    }
-
-    fn time<A, B, C>(
-        &mut self,
-        case: &str,
         mut library: impl FnMut() -> A,
         mut rust: impl FnMut() -> B,
-        mut fast: Option<impl FnMut() -> C>,
+        mut fast: impl FnMut() -> C,
     ) {
-        if !self.wants(case) {
-            return;
+        if self.wants(case) {
+            let [library, rust, fast] =
+                best([&mut || drop(black_box(library())), &mut || drop(black_box(rust())), &mut || drop(black_box(fast()))]);
+            self.line(case, library, rust, Some(fast));
         }
-        let rounds = [rounds(&mut library), rounds(&mut rust), fast.as_mut().map_or(0, rounds)];
-        let mut best = [f64::INFINITY; 3];
-        for _ in 0..SAMPLES {
-            best[0] = best[0].min(sample(&mut library, rounds[0]));
-            best[1] = best[1].min(sample(&mut rust, rounds[1]));
-            if let Some(fast) = &mut fast {
-                best[2] = best[2].min(sample(fast, rounds[2]));
-            }
+    }
+
+    /// Times the library and Rust on the same case in two forms, all four in turn, and prints a line for each. The library's time on the first
+    /// form stands beside the second in the columns of the fast version.
+    pub fn compare_forms(&mut self, cases: [&str; 2], calls: [[Call<'_>; 2]; 2]) {
+        if cases.iter().any(|case| self.wants(case)) {
+            let [[first, first_rust], [second, second_rust]] = calls;
+            let [first, first_rust, second, second_rust] = best([first, first_rust, second, second_rust]);
+            self.line(cases[0], first, first_rust, None);
+            self.line(cases[1], second, second_rust, Some(first));
         }
-        self.line(case, best[0], best[1], fast.map(|_| best[2]));
     }
 
     /// Prints a line of nanoseconds and ratios.
@@ -95,10 +91,25 @@ fn hundredths(number: f64) -> String {
 }
 
 fn print_line(case: &str, [library, rust, fast, to_rust, to_fast]: &[String; 5]) {
-    println!("{case:56} {library:>12} {rust:>12} {fast:>12} {to_rust:>9} {to_fast:>9}");
+    println!("{case:60} {library:>12} {rust:>12} {fast:>12} {to_rust:>9} {to_fast:>9}");
 }
 
-fn rounds<T>(call: &mut impl FnMut() -> T) -> u32 {
+/// A call that is timed; what it answers is dropped.
+pub type Call<'a> = &'a mut dyn FnMut();
+
+/// Nanoseconds of each call, taken in turn: the fastest sample counts.
+fn best<const N: usize>(mut calls: [Call<'_>; N]) -> [f64; N] {
+    let rounds = calls.each_mut().map(|call| rounds(call));
+    let mut best = [f64::INFINITY; N];
+    for _ in 0..SAMPLES {
+        for (index, call) in calls.iter_mut().enumerate() {
+            best[index] = best[index].min(sample(call, rounds[index]));
+        }
+    }
+    best
+}
+
+fn rounds(call: &mut dyn FnMut()) -> u32 {
     let mut rounds = 1;
     while sample(call, rounds) * f64::from(rounds) < SAMPLE {
         rounds *= 2;
@@ -107,10 +118,10 @@ fn rounds<T>(call: &mut impl FnMut() -> T) -> u32 {
 }
 
 /// Nanoseconds a call.
-fn sample<T>(call: &mut impl FnMut() -> T, rounds: u32) -> f64 {
+fn sample(call: &mut dyn FnMut(), rounds: u32) -> f64 {
     let start = processor_time();
     for _ in 0..rounds {
-        black_box(call());
+        call();
     }
     (processor_time() - start) / f64::from(rounds)
 }
