@@ -1,4 +1,5 @@
--- Document 01, "Trial", refusals 1 to 3, 11 and 13: a device judged against a rule's table, both in bytes, over a set-up of either kind.
+-- Document 01, "Trial", refusals 1 to 3, or 1 and 20, then 11 and 13: a device judged against a rule's table, both in bytes, over a set-up of
+-- either kind.
 use mathlib.Core.{Path.{_≡_}, Logic.{_⊎_}, Option.{Option, none, some}, List.{List, [], _∷_, _++_}}
 use Prim.Native.Nat.{ℕ, zero, _*_, _≤_, _<_}
 use lib.ListN.{length, take, drop}

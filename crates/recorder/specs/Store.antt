@@ -31,7 +31,7 @@ pub record ToolSetup : Type 0 where
 abbrev pub tool-setup : Setup → Wheel → ToolSetup
 tool-setup s wheel = record { values = s; wheel = wheel }
 
--- 1 to 3, then 18.
+-- 1 to 3, or 1 and 20, then 18.
 unfoldable pub tool-setup-conditions : ToolSetup → List Condition
 tool-setup-conditions s = setup-conditions (s .values) ++ (plain 18 (WheelFault (s .wheel)) ∷ [])
 

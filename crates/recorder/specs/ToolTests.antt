@@ -15,7 +15,7 @@ abbrev pub passed : Option Refusal → Bool
 passed none = true
 passed (some r) = false
 
--- 18, and 1 to 3 before it.
+-- 18, and 1 to 3, or 1 and 20, before it.
 unfoldable pub turn-test : ℕ → Bool
 turn-test n = leb 1 n && leb n turn-limit
 

@@ -67,7 +67,7 @@ pub const CHANNEL_NUMBER: u8 = 14;
 pub const CHANNEL_EMPTY: u8 = 15;
 // 16: event too large.
 pub const EVENT_NUMBER: u8 = 16;
-// 17: a tool whose set-up fails 1 to 3 or 18, or whose channel fails 11's limits or has a total above 19's.
+// 17: a tool whose set-up fails 1 to 3, 20 or 18, or whose channel fails 11's limits or has a total above 19's.
 pub const TOOL_CONTENTS: u8 = 17;
 // 19: the pulses of a channel above 1,099,511,627,776 in all (document 02, F-6).
 pub const PULSE_TOTAL: u8 = 19;

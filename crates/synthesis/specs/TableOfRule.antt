@@ -32,7 +32,7 @@ compile-conditions limit s rule old = setup-conditions s ++ (byte-conditions (s 
     ∷ buffer-condition (setup-meet s) (setup-top s) (s .events) (s .kind) rule old
     ∷ []))
 
--- Of a rule whose table is made: 5 to 9, then 10; of a set-up and a rule: 1 to 3, then 5 to 9, and 10 where the table is made.
+-- Of a rule whose table is made: 5 to 9, then 10; of a set-up and a rule: those of the set-up, then 5 to 9, and 10 where the table is made.
 abbrev pub rule-conditions-of : Setup → List ℕ → List Condition
 rule-conditions-of s rule =
     byte-conditions (s .events) (s .kind) rule ++ (states-condition (setup-meet s) (setup-top s) (s .events) (s .kind) rule state-limit ∷ [])
