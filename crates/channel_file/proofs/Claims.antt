@@ -19,7 +19,7 @@ use Rattle.channel_file.specs.Claims.{AnswerClaim, OneAnswerClaim, FormR
 use Rattle.channel_file.specs.Claims.{TokensClaim, SomeTokensClaim, TokenListClaim, OneLineClaim, ClampClaim}
 use Rattle.channel_file.specs.declared.Number.{Number}
 use Rattle.channel_file.proofs.FileFormat.{tokens-laws, tokens-text, tokens-fit, tokens-of-fit, file-laws, file-renders}
-use Rattle.channel_file.proofs.Forms.{FileForm, answer, one-answer, read-as, shown as shown-by, form-judged, stretch-is}
+use Rattle.channel_file.proofs.Forms.{FormLaws, answer, one-answer, read-as, shown as shown-by, form-judged, stretch-is}
 use Rattle.channel_file.proofs.Forms.{items-read, items-shown, not-empty}
 
 -- ---- the answer
@@ -35,7 +35,7 @@ pub rule-starts : (c : Contents) → length (front c) + 5 ≡ rule-start c
 unfolding front
 rule-starts c = ap (λ (n : ℕ). n + 5) (length-append (head-text c) (meet-text c))
 
-abbrev pub channel-form : FileForm Contents
+abbrev pub channel-form : FormLaws Contents
 channel-form =
     record {
       format = file;

@@ -17,7 +17,7 @@ use Rattle.channel_file.specs.Reading.{AnswersBy, read-limited, read-clo
 use Rattle.channel_file.specs.{Claims.{ShowsItems, AnswerOf, OneAnswerOf, conditions-by}, Steps.{SpansTokens}}
 
 -- A form of files: its format and the texts that it shows; and of a text the lines in front of the rule's, the rule's, and where that starts.
-pub record FileForm (A : Type 0) : Type 1 where
+pub record FormLaws (A : Type 0) : Type 1 where
   pub format : Format A
   pub Shows : A → List ℕ → Type 0
   pub laws : Laws format
@@ -30,7 +30,7 @@ pub record FileForm (A : Type 0) : Type 1 where
   pub start : A → ℕ
   pub starts : (c : A) → length (front c) + 5 ≡ start c
 
-module _ {A : Type 0} (K : FileForm A) where
+module _ {A : Type 0} (K : FormLaws A) where
   abbrev F : Format A
   F = K .format
 

@@ -13,7 +13,7 @@ use Rattle.channel_file.specs.RegisterReading.{refusal-stored}
 use Rattle.channel_file.specs.Claims.{StretchOf, RegisterClaim}
 use Rattle.channel_file.proofs.RegisterFormat.{tokens-laws, tokens-text, tokens-fit, tokens-of-fit, file-laws, file-renders}
 use Rattle.channel_file.proofs.Claims.{some-byte}
-use Rattle.channel_file.proofs.Forms.{FileForm, answer, one-answer, read-as, shown as shown-by, form-judged, stretch-is}
+use Rattle.channel_file.proofs.Forms.{FormLaws, answer, one-answer, read-as, shown as shown-by, form-judged, stretch-is}
 use Rattle.channel_file.proofs.Forms.{items-read, items-shown, not-empty}
 use Rattle.channel_file.proofs.Forms.{one-contents as one-contents-of, shows-or-not as shows-or-not-by, to-tokens}
 
@@ -21,7 +21,7 @@ pub rule-last : (c : Contents) → text c ≡ head-text c ++ (ascii "rule=" ++ (
 rule-last c =
     sym (append-assoc (line (ascii "events=") (number (c .events))) (line (ascii "lines=") (number (c .lines))) (line (ascii "rule=") (rule-text c)))
 
-abbrev pub register-form : FileForm Contents
+abbrev pub register-form : FormLaws Contents
 register-form =
     record {
       format = file;

@@ -1,60 +1,133 @@
--- What a caller of `compile_file` knows whose meet buffer has room for the entries of every set-up.
+-- What a caller of `compile_file` knows, of either form of files.
 use Prim.Native.Nat.{ℕ, _*_, _≤_, _<_}
-use mathlib.Core.{Path.{_≡_, refl, sym, ap, ap₂, _∙_, subst}, List.{List}, Bool.{Bool, true, _&&_}, Option.{Option, none, some}}
+use mathlib.Core.{Path.{_≡_, refl, sym, ap, ap₂, _∙_, subst}, List.{List, []}, Bool.{Bool, true, _&&_}, Option.{Option, none, some}}
 use native.Mathlib.Omega.{arith}
 use lib.{Dec.{leb}, ListN.{length, take, drop, length-append}, Seq.{take-at, length-take-le}}
 use borrow.Author.Tests.{le-leb}
-use Rattle.refusal.specs.declared.Refusal.{Refusal}
-use Rattle.refusal.specs.declared.Refusal.the-variants.{At}
-use Rattle.refusal.specs.RefusalAnswers.{or-else, plain-unless}
-use Rattle.refusal.specs.Refusal.{put}
-use Rattle.refusal.specs.RefusalAnswers.{put-unless}
+use Rattle.limits.specs.Limits.{event-limit, value-limit, line-limit, meet-limit, state-limit}
+use Rattle.refusal.specs.{declared.Refusal.{Refusal}, declared.Refusal.the-variants.{At}, Refusal.{put}, RefusalAnswers.{or-else, plain-unless, put-unless}}
 use Rattle.refusal.proofs.Refusals.{or-else-none}
-use Rattle.limits.specs.Limits.{event-limit, value-limit, meet-limit, state-limit}
-use Rattle.channel_io.specs.Claims.{table-bytes-limit}
+use Rattle.values.specs.Setup.{Setup}
+use Rattle.values.proofs.Setups.{square-small}
+use Rattle.machines.specs.TableBytes.{entry-width}
 use Rattle.text_format.specs.Format.{Outcome, contents, refused}
-use Rattle.channel_file.specs.{ChannelFile.{Contents}, Reading.{read-file}}
-use Rattle.channel_io.specs.declared.{FileNumbers.{FileNumbers}, FileTable.{FileTable}}
-use Rattle.channel_io.specs.FileConditions.{file-setup}
-use Rattle.channel_file.specs.ChannelFile.{rule-numbers}
-use Rattle.channel_io.specs.FileReading.{numbers}
-use Rattle.channel_io.specs.FileConditions.{file-numbers}
-use Rattle.channel_io.specs.FileRefusals.{has-table-room, pair-compile-refusal, file-states, file-table, contents-table-refusal, file-refusal}
+use Rattle.channel_file.specs.{ChannelFile.{Contents, rule-numbers}, Reading.{read-file}}
+use Rattle.channel_file.specs.RegisterReading.{read-file as read-register-file}
+use Rattle.channel_io.specs.{FileConditions.{FileForm, file-setup, file-numbers, number-file}, Claims.{table-room}}
+use Rattle.channel_io.specs.{RegisterFiles.{register-file}, FileReading.{numbers}}
+use Rattle.channel_io.specs.FileRefusals.{pair-states, pair-table, pair-table-refusal, has-table-room, pair-compile-refusal}
+use Rattle.channel_io.specs.FileRefusals.{file-states, file-table, contents-table-refusal, file-refusal}
 use Rattle.channel_io.specs.FileCompilation.{made-or, file-table-answer, entries-after, table-after, CompilesFile}
-use Rattle.channel_io.specs.declared.FileTable.the-variants.{Made, Refused}
+use Rattle.channel_io.specs.declared.{FileNumbers.{FileNumbers}, FileTable.{FileTable}, FileTable.the-variants.{Made, Refused}}
+use Rattle.channel_io.specs.declared.registers.{FileNumbers.{FileNumbers as RegisterNumbers}, FileTable.{FileTable as RegisterTable}}
+use Rattle.channel_io.specs.RegisterAnswers as register
 use Rattle.channel_io.proofs.{TablePairs.{rows-length, setup-passed}, Claims.{file-table-made}}
 
-module _ (c : Contents) (meet to : List ℕ) (wide : meet-limit ≤ length meet) where
+-- ---- where the meet entries have room
+module _ (s : Setup) (nodes meet to : List ℕ) (wide : pair-table-refusal s nodes ≡ none → length (s .meet) ≤ length meet) where
+  abbrev P : Option Refusal
+  P = pair-table-refusal s nodes
+
+  abbrev fits : Bool
+  fits = leb (length (pair-table s nodes)) (length to)
+
   abbrev later : Bool → Option Refusal
-  later b = plain-unless (b && leb (length (file-table c)) (length to)) 13
+  later b = plain-unless (b && fits) 13
 
   -- 13 is decided by the table's buffer
-  pub meet-fits : file-refusal c meet to ≡ or-else (contents-table-refusal c) (plain-unless (leb (length (file-table c)) (length to)) 13)
+  pub meet-fits : pair-compile-refusal s nodes meet to ≡ or-else P (plain-unless fits 13)
   unfolding pair-compile-refusal has-table-room or-else
-  meet-fits = go (contents-table-refusal c) refl
+  meet-fits = go P refl
     where
-      go : (o : Option Refusal) → contents-table-refusal c ≡ o
-          → or-else (contents-table-refusal c) (later (leb (length (c .meet)) (length meet))) ≡ or-else (contents-table-refusal c) (later true)
-      go none e =
-          ap (λ (b : Bool). or-else (contents-table-refusal c) (later b))
-          (le-leb (length (c .meet)) (length meet) (let k = file-table-made c e .few-entries in omega arith))
+      go : (o : Option Refusal) → P ≡ o → or-else P (later (leb (length (s .meet)) (length meet))) ≡ or-else P (later true)
+      go none e = ap (λ (b : Bool). or-else P (later b)) (le-leb (length (s .meet)) (length meet) (wide e))
       go (some r) e =
-          ap (λ (o : Option Refusal). or-else o (later (leb (length (c .meet)) (length meet)))) e
-          ∙ sym (ap (λ (o : Option Refusal). or-else o (later true)) e)
+          ap (λ (o : Option Refusal). or-else o (later (leb (length (s .meet)) (length meet)))) e ∙ sym (ap (λ (o : Option Refusal). or-else o (later true)) e)
 
   -- and is never met where that has room for every table
-  pub table-fits : table-bytes-limit ≤ length to → file-refusal c meet to ≡ contents-table-refusal c
+  pub table-fits : table-room (s .kind) ≤ length to → pair-compile-refusal s nodes meet to ≡ P
   unfolding or-else plain-unless
-  table-fits h = meet-fits ∙ go (contents-table-refusal c) refl
+  table-fits h = meet-fits ∙ go P refl
     where
-      go : (o : Option Refusal) → contents-table-refusal c ≡ o
-          → or-else (contents-table-refusal c) (plain-unless (leb (length (file-table c)) (length to)) 13) ≡ contents-table-refusal c
+      go : (o : Option Refusal) → P ≡ o → or-else P (plain-unless fits 13) ≡ P
       go none e =
-          ap (λ (o : Option Refusal). or-else o (plain-unless (leb (length (file-table c)) (length to)) 13)) e
+          ap (λ (o : Option Refusal). or-else o (plain-unless fits 13)) e
           ∙ ap (λ (b : Bool). plain-unless b 13)
-          (le-leb (length (file-table c)) (length to) (let k = file-table-made c e .few-bytes in omega arith))
+          (le-leb (length (pair-table s nodes)) (length to) (let k = file-table-made s nodes e .few-bytes in omega arith))
           ∙ sym e
-      go (some r) e = ap (λ (o : Option Refusal). or-else o (plain-unless (leb (length (file-table c)) (length to)) 13)) e ∙ sym e
+      go (some r) e = ap (λ (o : Option Refusal). or-else o (plain-unless fits 13)) e ∙ sym e
+
+-- an output at the front of a buffer
+pub front-in : (output old new : List ℕ) (n : ℕ) → n ≡ length output → new ≡ put output old → n ≤ length new
+unfolding put
+front-in output old new n e h = omega (arith, ap length h, length-append output (drop (length output) old))
+
+pub front-taken : (output old new : List ℕ) (n : ℕ) → n ≡ length output → new ≡ put output old → take n new ≡ output
+unfolding put
+front-taken output old new n e h = ap (take n) h ∙ take-at output (drop (length output) old) n (sym e)
+
+-- ---- what was made, and what was not
+module _ (F : FileForm) (read : List ℕ → Outcome (F .Inside)) where
+  -- The table was not made: 4, or what the file's set-up and rule meet.
+  pub data Unmade (t meet to : List ℕ) : Refusal → Type 0 where
+    off-form : (p : ℕ) → read t ≡ refused p → Unmade t meet to (At 4 p)
+    turned-away : (c : F .Inside) (r : Refusal) → read t ≡ contents c → pair-compile-refusal (F .setup-of c) (F .nodes-of c) meet to ≡ some r
+        → Unmade t meet to r
+
+  -- It was made: what stands in the buffers.
+  pub record MadeOf (t meet to meet′ to′ : List ℕ) (n : F .Numbers) (k : ℕ) : Type 0 where
+    pub inside : F .Inside
+    pub reads : read t ≡ contents inside
+    pub accepted : pair-compile-refusal (F .setup-of inside) (F .nodes-of inside) meet to ≡ none
+    pub passed : pair-table-refusal (F .setup-of inside) (F .nodes-of inside) ≡ none
+    pub numbers-are : n ≡ F .numbers-of inside
+    pub states-are : k ≡ pair-states (F .setup-of inside) (F .nodes-of inside)
+    pub entries-put : meet′ ≡ put (F .setup-of inside .meet) meet
+    pub table-put : to′ ≡ put (pair-table (F .setup-of inside) (F .nodes-of inside)) to
+    pub some-events : 1 ≤ F .setup-of inside .events
+    pub few-events : F .setup-of inside .events ≤ event-limit
+    pub few-states : k ≤ state-limit
+    pub few-bytes : k * F .setup-of inside .events * entry-width (F .setup-of inside .kind) ≤ table-room (F .setup-of inside .kind)
+    pub table-in : k * F .setup-of inside .events * entry-width (F .setup-of inside .kind) ≤ length to′
+    pub table-taken :
+        take (k * F .setup-of inside .events * entry-width (F .setup-of inside .kind)) to′ ≡ pair-table (F .setup-of inside) (F .nodes-of inside)
+
+  made-by : {t meet to meet′ to′ : List ℕ} {n : F .Numbers} {k : ℕ} (c : F .Inside) → read t ≡ contents c
+      → pair-compile-refusal (F .setup-of c) (F .nodes-of c) meet to ≡ none → n ≡ F .numbers-of c → k ≡ pair-states (F .setup-of c) (F .nodes-of c)
+      → meet′ ≡ put (F .setup-of c .meet) meet → to′ ≡ put (pair-table (F .setup-of c) (F .nodes-of c)) to → MadeOf t meet to meet′ to′ n k
+  unfolding pair-compile-refusal
+  made-by {to = to} {to′ = to′} {k = k} c e ok n j m b =
+      let s = F .setup-of c in
+      let nodes = F .nodes-of c in
+      let passed = or-else-none (pair-table-refusal s nodes) _ ok .0 in
+      let w = setup-passed s nodes passed in
+      let made = file-table-made s nodes passed in
+      let size : k * s .events * entry-width (s .kind) ≡ length (pair-table s nodes) =
+      ap (λ (i : ℕ). i * s .events * entry-width (s .kind)) j ∙ sym (rows-length s nodes) in
+      record {
+        inside = c;
+        reads = e;
+        accepted = ok;
+        passed = passed;
+        numbers-are = n;
+        states-are = j;
+        entries-put = m;
+        table-put = b;
+        some-events = w .some-events;
+        few-events = w .few-events;
+        few-states = omega (arith, made .few-states);
+        few-bytes = omega (arith, made .few-bytes, size);
+        table-in = front-in (pair-table s nodes) to to′ (k * s .events * entry-width (s .kind)) size b;
+        table-taken = front-taken (pair-table s nodes) to to′ (k * s .events * entry-width (s .kind)) size b;
+      }
+
+-- ---- document 01's file
+
+-- an accepted set-up has no more meet entries than the limit
+pub few-entries : (c : Contents) → contents-table-refusal c ≡ none → length (c .meet) ≤ meet-limit
+few-entries c ok =
+    let w = setup-passed (file-setup c) (rule-numbers c) ok in
+    omega (arith, w .of-kind .whole, square-small (w .of-kind .few-values))
 
 made-none : (o : Option Refusal) (n m : FileNumbers) (j k : ℕ) → Made n j ≡ made-or o m k → (o ≡ none) × (n ≡ m) × (j ≡ k)
 unfolding made-or
@@ -66,103 +139,136 @@ unfolding made-or
 made-some none r m k e = let z : _≡_ {A = ℕ} 0 1 = cc in absurd (omega arith)
 made-some (some q) r m k e = let z : q ≡ r = cc in ap some z
 
--- The table was not made: 4, or what the file's contents meet.
-pub data Unmade (t meet to : List ℕ) : Refusal → Type 0 where
-  off-form : (p : ℕ) → read-file t ≡ refused p → Unmade t meet to (At 4 p)
-  turned-away : (c : Contents) (r : Refusal) → read-file t ≡ contents c → file-refusal c meet to ≡ some r → Unmade t meet to r
-
--- It was made: what stands in the buffers.
-pub record MadeOf (t meet to meet′ to′ : List ℕ) (n : FileNumbers) (k : ℕ) : Type 0 where
-  pub inside : Contents
-  pub reads : read-file t ≡ contents inside
-  pub accepted : file-refusal inside meet to ≡ none
-  pub passed : contents-table-refusal inside ≡ none
-  pub numbers-are : n ≡ file-numbers inside
-  pub states-are : k ≡ file-states inside
-  pub entries-put : meet′ ≡ put (inside .meet) meet
-  pub table-put : to′ ≡ put (file-table inside) to
-  pub entries-in : n .entries ≤ length meet′
-  pub entries-taken : take (n .entries) meet′ ≡ inside .meet
-  pub table-in : k * n .events * 2 ≤ length to′
-  pub table-taken : take (k * n .events * 2) to′ ≡ file-table inside
-
--- an output at the front of a buffer
-front-in : (output old new : List ℕ) (n : ℕ) → n ≡ length output → new ≡ put output old → n ≤ length new
-unfolding put
-front-in output old new n e h = omega (arith, ap length h, length-append output (drop (length output) old))
-
-pub front-taken : (output old new : List ℕ) (n : ℕ) → n ≡ length output → new ≡ put output old → take n new ≡ output
-unfolding put
-front-taken output old new n e h = ap (take n) h ∙ take-at output (drop (length output) old) n (sym e)
-
 module _ {t meet to meet′ to′ : List ℕ} {x : FileTable} (k : CompilesFile t meet to meet′ to′ x) where
-  pub unmade : {r : Refusal} → x ≡ Refused r → Unmade t meet to r × (to′ ≡ to)
+  pub unmade : {r : Refusal} → x ≡ Refused r → Unmade number-file read-file t meet to r × (to′ ≡ to)
   unfolding file-table-answer table-after put-unless
   unmade {r} is = go (read-file t) refl (sym is ∙ k .answer) (k .table-is)
     where
       go : (x : Outcome Contents) → read-file t ≡ x → Refused r ≡ file-table-answer x meet to → to′ ≡ table-after x meet to
-          → Unmade t meet to r × (to′ ≡ to)
-      go (refused p) e f g = let z : At 4 p ≡ r = cc in (subst (Unmade t meet to) z (off-form p e), g)
+          → Unmade number-file read-file t meet to r × (to′ ≡ to)
+      go (refused p) e f g = let z : At 4 p ≡ r = cc in (subst (Unmade number-file read-file t meet to) z (off-form p e), g)
       go (contents c) e f g =
           let a = made-some (file-refusal c meet to) r (file-numbers c) (file-states c) f in
           (turned-away c r e a, g ∙ ap (λ (o : Option Refusal). put-unless o (file-table c) to) a)
 
-  pub made-of : {n : FileNumbers} {j : ℕ} → x ≡ Made n j → MadeOf t meet to meet′ to′ n j
-  unfolding file-table-answer entries-after table-after put-unless pair-compile-refusal numbers
+  pub made-of : {n : FileNumbers} {j : ℕ} → x ≡ Made n j → MadeOf number-file read-file t meet to meet′ to′ n j
+  unfolding file-table-answer entries-after table-after put-unless
   made-of {n} {j} is = go (read-file t) refl (sym is ∙ k .answer) (k .meet-is) (k .table-is)
     where
       go : (x : Outcome Contents) → read-file t ≡ x → Made n j ≡ file-table-answer x meet to → meet′ ≡ entries-after x meet to
-          → to′ ≡ table-after x meet to → MadeOf t meet to meet′ to′ n j
+          → to′ ≡ table-after x meet to → MadeOf number-file read-file t meet to meet′ to′ n j
       go (refused p) e f g h = let z : _≡_ {A = ℕ} 0 1 = cc in absurd (omega arith)
       go (contents c) e f g h =
           let a = made-none (file-refusal c meet to) n (file-numbers c) j (file-states c) f in
-          let m : meet′ ≡ put (c .meet) meet = g ∙ ap (λ (o : Option Refusal). put-unless o (c .meet) meet) (a .0) in
-          let b : to′ ≡ put (file-table c) to = h ∙ ap (λ (o : Option Refusal). put-unless o (file-table c) to) (a .0) in
-          let en : n .entries ≡ length (c .meet) = ap (λ (z : FileNumbers). z .entries) (a .1) in
-          let size : j * n .events * 2 ≡ length (file-table c) =
-          ap₂ (λ (i : ℕ) (z : FileNumbers). i * z .events * 2) (a .2) (a .1)
-          ∙ sym (rows-length (file-setup c) (rule-numbers c)) in
-          record {
-            inside = c;
-            reads = e;
-            accepted = a .0;
-            passed = or-else-none (contents-table-refusal c) _ (a .0) .0;
-            numbers-are = a .1;
-            states-are = a .2;
-            entries-put = m;
-            table-put = b;
-            entries-in = front-in (c .meet) meet meet′ (n .entries) en m;
-            entries-taken = front-taken (c .meet) meet meet′ (n .entries) en m;
-            table-in = front-in (file-table c) to to′ (j * n .events * 2) size b;
-            table-taken = front-taken (file-table c) to to′ (j * n .events * 2) size b;
-          }
+          made-by number-file read-file c e (a .0) (a .1) (a .2) (g ∙ ap (λ (o : Option Refusal). put-unless o (c .meet) meet) (a .0))
+          (h ∙ ap (λ (o : Option Refusal). put-unless o (file-table c) to) (a .0))
 
--- its numbers are within the limits
-module _ {t meet to meet′ to′ : List ℕ} {n : FileNumbers} {k : ℕ} (w : MadeOf t meet to meet′ to′ n k) where
+-- by the numbers that were answered
+module _ {t meet to meet′ to′ : List ℕ} {n : FileNumbers} {k : ℕ} (w : MadeOf number-file read-file t meet to meet′ to′ n k) where
   pub record Limits : Type 0 where
     pub some-events : 1 ≤ n .events
     pub few-events : n .events ≤ event-limit
     pub few-values : n .values ≤ value-limit
     pub top-in : n .top < n .values
     pub few-states : k ≤ state-limit
-    pub few-bytes : k * n .events * 2 ≤ table-bytes-limit
+    pub few-bytes : k * n .events * 2 ≤ table-room (file-setup (w .inside) .kind)
+    pub table-in : k * n .events * 2 ≤ length to′
+    pub table-taken : take (k * n .events * 2) to′ ≡ file-table (w .inside)
+    pub entries-in : n .entries ≤ length meet′
+    pub entries-taken : take (n .entries) meet′ ≡ w .inside .meet
 
   pub events-are : n .events ≡ w .inside .events
-  unfolding numbers
   events-are = ap (λ (z : FileNumbers). z .events) (w .numbers-are)
 
   pub limits : Limits
-  unfolding numbers
   limits =
       let s = setup-passed (file-setup (w .inside)) (rule-numbers (w .inside)) (w .passed) in
-      let made = file-table-made (w .inside) (w .passed) in
       let values-are : n .values ≡ w .inside .values = ap (λ (z : FileNumbers). z .values) (w .numbers-are) in
       let top-is : n .top ≡ w .inside .top = ap (λ (z : FileNumbers). z .top) (w .numbers-are) in
+      let size : k * n .events * 2 ≡ k * w .inside .events * 2 = ap (λ (e : ℕ). k * e * 2) events-are in
+      let entries-are : n .entries ≡ length (w .inside .meet) = ap (λ (z : FileNumbers). z .entries) (w .numbers-are) in
       record {
-        some-events = omega (arith, s .some-events, events-are);
-        few-events = omega (arith, s .few-events, events-are);
+        some-events = omega (arith, w .some-events, events-are);
+        few-events = omega (arith, w .few-events, events-are);
         few-values = omega (arith, s .of-kind .few-values);
         top-in = omega (arith, s .laws .top-in);
-        few-states = omega (arith, made .few-states, w .states-are);
-        few-bytes = omega (arith, made .few-bytes, ap length (w .table-taken), length-take-le (k * n .events * 2) to′ (w .table-in));
+        few-states = w .few-states;
+        few-bytes = omega (arith, w .few-bytes, size);
+        table-in = omega (arith, w .table-in, size);
+        table-taken = ap (λ (i : ℕ). take i to′) size ∙ w .table-taken;
+        entries-in = front-in (w .inside .meet) meet meet′ (n .entries) entries-are (w .entries-put);
+        entries-taken = front-taken (w .inside .meet) meet meet′ (n .entries) entries-are (w .entries-put);
+      }
+
+-- ---- a register's file
+
+register-made-none : (o : Option Refusal) (n m : RegisterNumbers) (j k : ℕ) → RegisterTable.Made n j ≡ register.made-or o m k
+    → (o ≡ none) × (n ≡ m) × (j ≡ k)
+unfolding register.made-or
+register-made-none none n m j k e = (refl, cc, cc)
+register-made-none (some q) n m j k e = let z : _≡_ {A = ℕ} 0 1 = cc in absurd (omega arith)
+
+register-made-some : (o : Option Refusal) (r : Refusal) (m : RegisterNumbers) (k : ℕ) → RegisterTable.Refused r ≡ register.made-or o m k → o ≡ some r
+unfolding register.made-or
+register-made-some none r m k e = let z : _≡_ {A = ℕ} 0 1 = cc in absurd (omega arith)
+register-made-some (some q) r m k e = let z : q ≡ r = cc in ap some z
+
+module _ {t to to′ : List ℕ} {x : RegisterTable} (k : register.CompilesFile t to to′ x) where
+  abbrev Inside : Type 0
+  Inside = register-file .Inside
+
+  pub register-unmade : {r : Refusal} → x ≡ RegisterTable.Refused r → Unmade register-file read-register-file t [] to r × (to′ ≡ to)
+  unfolding register.file-table-answer register.table-after put-unless
+  register-unmade {r} is = go (read-register-file t) refl (sym is ∙ k .answer) (k .table-is)
+    where
+      go : (x : Outcome Inside) → read-register-file t ≡ x → RegisterTable.Refused r ≡ register.file-table-answer x to → to′ ≡ register.table-after x to
+          → Unmade register-file read-register-file t [] to r × (to′ ≡ to)
+      go (refused p) e f g = let z : At 4 p ≡ r = cc in (subst (Unmade register-file read-register-file t [] to) z (off-form p e), g)
+      go (contents c) e f g =
+          let a = register-made-some (register.file-refusal c to) r (register-file .numbers-of c) (pair-states (register-file .setup-of c) (register-file .nodes-of c)) f in
+          (turned-away c r e a, g ∙ ap (λ (o : Option Refusal). put-unless o (pair-table (register-file .setup-of c) (register-file .nodes-of c)) to) a)
+
+  pub register-made-of : {n : RegisterNumbers} {j : ℕ} → x ≡ RegisterTable.Made n j → MadeOf register-file read-register-file t [] to [] to′ n j
+  unfolding register.file-table-answer register.table-after put-unless put
+  register-made-of {n} {j} is = go (read-register-file t) refl (sym is ∙ k .answer) (k .table-is)
+    where
+      go : (x : Outcome Inside) → read-register-file t ≡ x → RegisterTable.Made n j ≡ register.file-table-answer x to → to′ ≡ register.table-after x to
+          → MadeOf register-file read-register-file t [] to [] to′ n j
+      go (refused p) e f h = let z : _≡_ {A = ℕ} 0 1 = cc in absurd (omega arith)
+      go (contents c) e f h =
+          let a = register-made-none (register.file-refusal c to) n (register-file .numbers-of c) j (pair-states (register-file .setup-of c) (register-file .nodes-of c)) f in
+          made-by register-file read-register-file c e (a .0) (a .1) (a .2) refl
+          (h ∙ ap (λ (o : Option Refusal). put-unless o (pair-table (register-file .setup-of c) (register-file .nodes-of c)) to) (a .0))
+
+-- by the numbers that were answered
+module _ {t to to′ : List ℕ} {n : RegisterNumbers} {k : ℕ} (w : MadeOf register-file read-register-file t [] to [] to′ n k) where
+  pub record RegisterLimits : Type 0 where
+    pub some-events : 1 ≤ n .events
+    pub few-events : n .events ≤ event-limit
+    pub some-lines : 1 ≤ n .lines
+    pub few-lines : n .lines ≤ line-limit
+    pub few-states : k ≤ state-limit
+    pub few-bytes : k * n .events * 5 ≤ table-room (register-file .setup-of (w .inside) .kind)
+    pub table-in : k * n .events * 5 ≤ length to′
+    pub table-taken : take (k * n .events * 5) to′ ≡ pair-table (register-file .setup-of (w .inside)) (register-file .nodes-of (w .inside))
+
+  pub register-events : n .events ≡ w .inside .events
+  register-events = ap (λ (z : RegisterNumbers). z .events) (w .numbers-are)
+
+  pub register-lines : n .lines ≡ w .inside .lines
+  register-lines = ap (λ (z : RegisterNumbers). z .lines) (w .numbers-are)
+
+  pub register-limits : RegisterLimits
+  register-limits =
+      let s = setup-passed (register-file .setup-of (w .inside)) (register-file .nodes-of (w .inside)) (w .passed) in
+      let size : k * n .events * 5 ≡ k * w .inside .events * 5 = ap (λ (e : ℕ). k * e * 5) register-events in
+      record {
+        some-events = omega (arith, w .some-events, register-events);
+        few-events = omega (arith, w .few-events, register-events);
+        some-lines = omega (arith, s .of-kind .some-lines, register-lines);
+        few-lines = omega (arith, s .of-kind .few-lines, register-lines);
+        few-states = w .few-states;
+        few-bytes = omega (arith, w .few-bytes, size);
+        table-in = omega (arith, w .table-in, size);
+        table-taken = ap (λ (i : ℕ). take i to′) size ∙ w .table-taken;
       }

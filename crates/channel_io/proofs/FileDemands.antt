@@ -5,48 +5,32 @@ use mathlib.Core.Option.{Option, none, some, Option·some-ne-none}
 use native.Mathlib.Omega.{arith}
 use lib.{Dec.{leb}, ListN.{length, take}}
 use borrow.Author.Tests.{le-leb, leb-true, leb-false}
-use Rattle.limits.specs.Limits.{table-limit}
 use Rattle.refusal.specs.{declared.Refusal.{Refusal}, declared.Counted.{Counted}, RefusalAnswers.{or-else, plain-unless, counted}}
 use Rattle.refusal.specs.Refusal.{put}
 use Rattle.refusal.specs.RefusalAnswers.{put-unless}
 use Rattle.refusal.specs.Refusal.{Condition, plain, First, has-place, part-of, order, condition-numbers, right-places, JudgedCall, counted-refusal, count-of}
 use Rattle.refusal.proofs.{Refusals.{plain-first, judged, first-then, or-else-none}, Answers.{counted-judged, counted-put}}
 use Rattle.values.specs.{declared.ValueKind.the-variants.{Numbered}, Setup.{Setup, setup, setup-conditions, kind-conditions}}
-use Rattle.machines.specs.TableBytes.{table-bytes, entry-bytes, machine-of}
-use Rattle.machines.proofs.TableRefusals.{accepted-table}
-use Rattle.synthesis.specs.TableOfRule.{pair-conditions, IsRuleTable}
-use Rattle.synthesis.proofs.CompileClaims.{printed-table}
+use Rattle.machines.specs.TableBytes.{machine-of}
+use Rattle.synthesis.specs.TableOfRule.{pair-conditions}
 use Rattle.text_format.specs.Format.{Outcome, contents, refused}
 use Rattle.channel_file.specs.{ChannelFile.{Token, Contents, text, encoded, node-numbers, rule-numbers}, Reading.{read-file}}
-use Rattle.channel_file.proofs.Claims.{shown}
+use Rattle.channel_file.proofs.Claims.{channel-form, shown}
 use Rattle.channel_writer.specs.Writing.{with-token, node-tokens}
 use Rattle.channel_writer.proofs.Claims.{node-claim}
 use Rattle.channel_io.specs.{declared.FileNumbers.{FileNumbers}, declared.FileRead.{FileRead}, declared.FileTable.{FileTable}}
 use Rattle.channel_io.specs.declared.FileTable.the-variants.{Made, Refused as Unmade}
-use Rattle.channel_io.specs.FileConditions.{file-setup, read-conditions}
-use Rattle.channel_io.specs.FileTables.{file-conditions}
-use Rattle.channel_io.specs.FileConditions.{JudgedText, refusal-read, numbers-read, file-numbers, ReadsAs}
+use Rattle.channel_io.specs.FileConditions.{file-setup, file-numbers, number-file, refusal-read, numbers-read}
+use Rattle.channel_io.specs.FileConditions.{JudgedText, read-conditions, ReadsAs, IsFileOf, write-file-conditions, WritesAs}
+use Rattle.channel_io.specs.FileTables.{file-conditions, refusal-made, table-made, MakesTableOf}
 use Rattle.channel_io.specs.FileReading.{numbers}
-use Rattle.channel_io.specs.FileTables.{refusal-made, table-made}
-use Rattle.channel_io.specs.FileTables.{MakesTableOf}
-use Rattle.channel_io.specs.FileConditions.{IsFileOf, write-file-conditions, WritesAs}
 use Rattle.channel_io.specs.FileRefusals.{file-text}
 use Rattle.channel_io.specs.FileRefusals.{pair-refusal, stored-refusal, contents-refusal, contents-read-refusal, file-states, file-table, file-refusal}
 use Rattle.channel_io.specs.FileRefusals.{text-refusal, file-write-refusal}
 use Rattle.channel_io.specs.FileReading.{accepted-or, read-answer, meet-after, rule-after, ReadsFile}
 use Rattle.channel_io.specs.{FileCompilation.{made-or, file-table-answer, entries-after, table-after, CompilesFile}, FileWriting.{WritesFile}}
-use Rattle.channel_io.proofs.{TextCalls.{text-call}, Claims.{pair-first, read-first, file-first, file-table-made, file-table-accepted}}
+use Rattle.channel_io.proofs.{TextCalls.{judged-by}, Claims.{pair-first, read-first, file-first, table-as}}
 use Rattle.channel_io.proofs.{ShownBytes.{numbers-length}, Callers.{front-taken, made-of}, WriteAnswers.{textual}, WriteClaims.{written, write-claim}}
-
--- ---- a call on a text is judged by what the text shows
-
-judged-text :
-    (conditions : Contents → List Condition) (refusal : Contents → Option Refusal) → ((c : Contents) → First (conditions c) (refusal c)) →
-    ((c : Contents) → part-of (4 ∷ condition-numbers (conditions c)) order ≡ true) → ((c : Contents) → right-places (conditions c) ≡ true) →
-    (t : List ℕ) {M : Type 0} {before after : M} {answer : Option Refusal} → answer ≡ text-refusal refusal (read-file t) →
-    ((q : Refusal) → text-refusal refusal (read-file t) ≡ some q → after ≡ before) → JudgedText t conditions answer before after
-judged-text conditions refusal first ordered placed t {M} {before} {after} is kept =
-    subst⁻¹ (λ (a : Option Refusal). JudgedText t conditions a before after) is (text-call conditions t refusal first before after ordered placed kept)
 
 -- ---- a file is read
 
@@ -78,10 +62,11 @@ module _ (meet rule : List ℕ) where
 
 pub reading-a-file :
     (t meet rule meet′ rule′ : List ℕ) (r : FileRead) → ReadsFile t meet rule meet′ rule′ r →
-    JudgedText {M = List ℕ × List ℕ} t (λ c. read-conditions c meet rule) (refusal-read r) (meet, rule) (meet′, rule′)
+    JudgedText {M = List ℕ × List ℕ} number-file t (read-conditions meet rule) (refusal-read r) (meet, rule) (meet′, rule′)
 unfolding setup-conditions kind-conditions condition-numbers right-places has-place part-of order
 reading-a-file t meet rule meet′ rule′ r k =
-    judged-text (λ c. read-conditions c meet rule) (reading meet rule) (λ c. read-first c meet rule) (λ c. refl) (λ c. refl) t
+    judged-by channel-form (λ c. read-conditions meet rule (file-setup c) (rule-numbers c)) t (reading meet rule)
+    (λ c. read-first (file-setup c) (rule-numbers c) meet rule) (λ c. refl) (λ c. refl)
     (ap refusal-read (k .answer) ∙ read-refused meet rule (read-file t))
     (λ q e. ap₂ (λ (m n : List ℕ). (m, n)) (k .meet-is) (k .rule-is) ∙ read-kept meet rule (read-file t) q e)
 
@@ -115,7 +100,7 @@ read-of {t} {meet} {rule} {meet′} {rule′} {found = found} k is = go (read-fi
 
 pub file-to-rule :
     (t meet rule meet′ rule′ : List ℕ) (r : FileRead) → ReadsFile t meet rule meet′ rule′ r →
-    (found : FileNumbers) → numbers-read r ≡ some found → ReadsAs t meet rule meet′ rule′ found
+    (found : FileNumbers) → numbers-read r ≡ some found → ReadsAs number-file t meet rule meet′ rule′ found
 file-to-rule t meet rule meet′ rule′ r k found is =
     let w = read-of k is in
     record {
@@ -155,35 +140,29 @@ module _ (meet to : List ℕ) where
 
 pub compiling-a-file :
     (t meet to meet′ to′ : List ℕ) (r : FileTable) → CompilesFile t meet to meet′ to′ r →
-    JudgedText {M = List ℕ × List ℕ} t (λ c. file-conditions c meet to) (refusal-made r) (meet, to) (meet′, to′)
+    JudgedText {M = List ℕ × List ℕ} number-file t (file-conditions meet to) (refusal-made r) (meet, to) (meet′, to′)
 unfolding setup-conditions kind-conditions condition-numbers right-places has-place part-of order
 compiling-a-file t meet to meet′ to′ r k =
-    judged-text (λ c. file-conditions c meet to) (making meet to) (λ c. file-first c meet to) (λ c. refl) (λ c. refl) t
+    judged-by channel-form (λ c. file-conditions meet to (file-setup c) (rule-numbers c)) t (making meet to)
+    (λ c. file-first (file-setup c) (rule-numbers c) meet to) (λ c. refl) (λ c. refl)
     (ap refusal-made (k .answer) ∙ made-refused meet to (read-file t))
     (λ q e. ap₂ (λ (m n : List ℕ). (m, n)) (k .meet-is) (k .table-is) ∙ made-kept meet to (read-file t) q e)
 
 pub file-to-table :
     (t meet to meet′ to′ : List ℕ) (r : FileTable) → CompilesFile t meet to meet′ to′ r →
-    (found : FileNumbers) (n : ℕ) → table-made r ≡ some (found, n) → MakesTableOf t meet to meet′ to′ found n
+    (found : FileNumbers) (n : ℕ) → table-made r ≡ some (found, n) → MakesTableOf number-file t meet to meet′ to′ found n
 file-to-table t meet to meet′ to′ r k found n is =
     let w = made-of k (made-from r found n is) in
     let c = w .inside in
-    let m = machine-of (file-setup c .kind) (c .events) (file-table c) in
-    let whole : table-bytes (entry-bytes (file-setup c .kind)) (c .events) m (file-states c) ≡ file-table c =
-    accepted-table table-limit (c .events) (file-setup c .kind) (file-states c) 0 (file-table c) (file-table-accepted c (w .passed)) .bytes-of in
+    let a = table-as (file-setup c) (rule-numbers c) (w .passed) n (w .states-are) in
     record {
       contents = c;
       shown = shown t c (w .reads) .1;
       numbers-are = w .numbers-are;
       meet-put = w .entries-put;
-      table = m;
-      is-table =
-          subst (λ (j : ℕ). IsRuleTable (file-setup c) (rule-numbers c) j m) (sym (w .states-are))
-          (printed-table (file-setup c) (rule-numbers c) (file-states c) m (file-table-made c (w .passed) .table));
-      table-put =
-          w .table-put
-          ∙ ap (λ (b : List ℕ). put b to)
-          (sym whole ∙ ap (table-bytes (entry-bytes (file-setup c .kind)) (c .events) m) (sym (w .states-are)));
+      table = machine-of (file-setup c .kind) (c .events) (file-table c);
+      is-table = a .0;
+      table-put = w .table-put ∙ ap (λ (b : List ℕ). put b to) (sym (a .1));
     }
 
 -- ---- a file is written
@@ -194,7 +173,7 @@ numbered [] = refl
 numbered (x ∷ xs) = ap₂ with-token (node-claim .its-token x) (numbered xs)
 
 -- so a set-up and a rule have no two contents
-one-file : (s : Setup) (rule : List ℕ) (c d : Contents) → IsFileOf s rule c → IsFileOf s rule d → c ≡ d
+one-file : (s : Setup) (rule : List ℕ) (c d : Contents) → IsFileOf number-file s rule c → IsFileOf number-file s rule d → c ≡ d
 one-file s rule c d x y =
     let e : file-setup c ≡ file-setup d = x .0 ∙ sym (y .0) in
     let kinds : Numbered (c .values) ≡ Numbered (d .values) = ap (λ (z : Setup). z .kind) e in
@@ -215,17 +194,17 @@ module _ (events values top : ℕ) (meet rule : List ℕ) where
     abbrev inside : Contents
     inside = textual events values top meet rule ok .inside
 
-    of-these : IsFileOf s rule inside
+    of-these : IsFileOf number-file s rule inside
     of-these =
         let w = textual events values top meet rule ok in
         (λ i. setup (w .events-is i) (w .values-is i) (w .top-is i) (w .meet-is i), w .rule-is)
 
-    text-of : (c : Contents) → IsFileOf s rule c → T ≡ text c
+    text-of : (c : Contents) → IsFileOf number-file s rule c → T ≡ text c
     text-of c x = written events values top meet rule ok ∙ ap text (one-file s rule inside c of-these x)
 
   module _ (old : List ℕ) where
     abbrev Short : Type 0
-    Short = (c : Contents) × IsFileOf s rule c × (length old < length (text c))
+    Short = (c : Contents) × IsFileOf number-file s rule c × (length old < length (text c))
 
     abbrev room : Bool
     room = leb (length T) (length old)
@@ -236,7 +215,7 @@ module _ (events values top : ℕ) (meet rule : List ℕ) where
     text-room : pair-refusal s rule ≡ none → room ≡ true → ¬ Short
     text-room ok e (c, x, h) = let l = leb-true (length T) (length old) e in omega (arith, ap length (text-of ok c x))
 
-    write-first : First (write-file-conditions s rule old) (file-write-refusal events values top meet rule old)
+    write-first : First (write-file-conditions number-file s rule old) (file-write-refusal events values top meet rule old)
     unfolding file-write-refusal
     write-first =
         first-then (pair-conditions s rule) (plain 13 Short ∷ []) (pair-refusal s rule) _ (pair-first s rule)
@@ -244,18 +223,18 @@ module _ (events values top : ℕ) (meet rule : List ℕ) where
 
 pub writing-a-file :
     (events values top : ℕ) (meet rule old new : List ℕ) (r : Counted) → WritesFile events values top meet rule old new r →
-    JudgedCall (write-file-conditions (setup events values top meet) rule old) (counted-refusal r) old new
+    JudgedCall (write-file-conditions number-file (setup events values top meet) rule old) (counted-refusal r) old new
 unfolding setup-conditions kind-conditions condition-numbers right-places has-place part-of order
 writing-a-file events values top meet rule old new r k =
     counted-judged (file-write-refusal events values top meet rule old) (length (file-text events values top meet rule))
     (file-text events values top meet rule) old
     (k .answer) (k .buffer)
-    (judged (write-file-conditions (setup events values top meet) rule old) (file-write-refusal events values top meet rule old)
+    (judged (write-file-conditions number-file (setup events values top meet) rule old) (file-write-refusal events values top meet rule old)
     (write-first events values top meet rule old) refl refl)
 
 pub rule-to-file :
     (events values top : ℕ) (meet rule old new : List ℕ) (r : Counted) → WritesFile events values top meet rule old new r →
-    (n : ℕ) → count-of r ≡ some n → WritesAs (setup events values top meet) rule old new n
+    (n : ℕ) → count-of r ≡ some n → WritesAs number-file (setup events values top meet) rule old new n
 unfolding file-write-refusal
 rule-to-file events values top meet rule old new r k n is =
     let a = counted-put (file-write-refusal events values top meet rule old) (length (file-text events values top meet rule))

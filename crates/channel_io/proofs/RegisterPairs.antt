@@ -20,12 +20,12 @@ use Rattle.channel_file.specs.{Bytes.{put-front}, RegisterFile.{Contents, rule-
 use Rattle.channel_file.specs.RegisterReading.{read-file, rule-bytes, stored-reply, arrays-of}
 use Rattle.channel_file.specs.declared.registers.ReadArrays.{ReadArrays}
 use Rattle.channel_file.proofs.Buffers.{front-length}
-use Rattle.channel_io.specs.FileRefusals.{pair-refusal, has-room, stored-refusal}
+use Rattle.channel_io.specs.FileRefusals.{pair-refusal, has-room, stored-refusal, has-table-room, pair-compile-refusal}
 use Rattle.channel_io.specs.{RegisterFiles.{file-setup, file-numbers}, RegisterSteps.{shown-nodes, held-by, held-setup, Keeps}}
 use Rattle.channel_io.specs.RegisterAnswers.{contents-refusal, file-refusal, accepted-or, read-answer, rule-after, ReadsFile}
 use Rattle.channel_io.specs.RegisterAnswers.{made-or, file-table-answer, table-after, CompilesFile}
 use Rattle.channel_io.specs.declared.registers.{FileNumbers.{FileNumbers}, FileRead.{FileRead}, FileTable.{FileTable}, Held.{Held}}
-use Rattle.channel_io.proofs.{ShownBytes.{front, shown-few}, RegisterBytes.{bytes-length, file-shown, all-shown}}
+use Rattle.channel_io.proofs.{TablePairs.{compile-as, contents-as}, ShownBytes.{front, shown-few}, RegisterBytes.{bytes-length, file-shown, all-shown}}
 
 -- ---- nodes put into a buffer
 module _ (n : FileNumbers) (nodes rule : List ℕ) where
@@ -91,16 +91,22 @@ module _ (c : Contents) (to : List ℕ) where
   abbrev compiled : List ℕ → Option Refusal
   compiled nodes = compile-refusal state-limit (file-setup c) nodes to
 
+  -- without meet entries 13 is decided by the table's buffer
+  made-as : compiled (rule-numbers c) ≡ file-refusal c to
+  unfolding pair-compile-refusal has-table-room
+  made-as = compile-as (file-setup c) (rule-numbers c) to
+
   refusal-same : compiled (shown-nodes c) ≡ file-refusal c to
-  refusal-same = go (contents-refusal c) refl
+  refusal-same = go (contents-refusal c) refl ∙ made-as
     where
       go : (o : Option Refusal) → contents-refusal c ≡ o → compiled (shown-nodes c) ≡ compiled (rule-numbers c)
       go none e = ap compiled (all-shown c e)
       go (some q) e =
           compile-sooner (file-setup c) (shown-nodes c) to q (file-shown c ∙ e) ∙ sym (compile-sooner (file-setup c) (rule-numbers c) to q e)
 
-  contents-same : compile-contents state-limit (file-setup c) (shown-nodes c) to ≡ compile-contents state-limit (file-setup c) (rule-numbers c) to
-  contents-same = go (contents-refusal c) refl
+  contents-same : compile-contents state-limit (file-setup c) (shown-nodes c) to ≡ table-after (contents c) to
+  unfolding table-after
+  contents-same = go (contents-refusal c) refl ∙ contents-as (file-setup c) (rule-numbers c) to (file-refusal c to) made-as
     where
       go : (o : Option Refusal) → contents-refusal c ≡ o
           → compile-contents state-limit (file-setup c) (shown-nodes c) to ≡ compile-contents state-limit (file-setup c) (rule-numbers c) to
@@ -119,7 +125,7 @@ module _ (c : Contents) (to : List ℕ) where
           → setup-states state-limit (file-setup c) (shown-nodes c) ≡ setup-states state-limit (file-setup c) (rule-numbers c)
       go none e = ap (setup-states state-limit (file-setup c)) (all-shown c e)
       go (some q) e =
-          let f = sym ok ∙ compile-sooner (file-setup c) (rule-numbers c) to q e in
+          let f = sym ok ∙ sym made-as ∙ compile-sooner (file-setup c) (rule-numbers c) to q e in
           let z : _≡_ {A = ℕ} 0 1 = cc in
           absurd (omega arith)
 
@@ -224,7 +230,6 @@ module _ {t nodes : List ℕ} {n : FileNumbers} {k : ℕ} (to to′ : List ℕ) 
       ∙ ap (λ (x : List ℕ). compile-refusal state-limit (file-setup c) x to) (h .nodes-are) ∙ refusal-same c to
 
   table-same : to′ ≡ table-after (contents c) to
-  unfolding table-after
   table-same =
       is ∙ ap (λ (x : FileNumbers). compile-contents state-limit (held-setup x) (take k nodes) to) (h .numbers-are)
       ∙ ap (λ (x : List ℕ). compile-contents state-limit (file-setup c) x to) (h .nodes-are) ∙ contents-same c to

@@ -1,19 +1,19 @@
 -- A call on a text is judged by 4, then by what the text's contents meet, whatever the text shows.
 use Prim.Native.Nat.{ℕ}
-use mathlib.Core.{Path.{_≡_, refl, subst}, Logic.{_⊎_, inl, inr}, List.{List, [], _∷_}, Bool.{true}, Option.{Option, some}}
+use mathlib.Core.{Path.{_≡_, refl, subst, subst⁻¹}, Logic.{_⊎_, inl, inr}, List.{List, [], _∷_}, Bool.{true}, Option.{Option, some}}
 use Rattle.refusal.specs.declared.Refusal.{Refusal}
 use Rattle.refusal.specs.Refusal.{Condition, at-lowest, First, has-place, part-of, order, condition-numbers, right-places}
 use Rattle.refusal.proofs.Refusals.{judged}
 use Rattle.text_format.specs.Format.{Outcome, contents, refused}
-use Rattle.channel_file.specs.{ChannelFile.{Contents, RefusedBy}, Reading.{AnswersBy, read-file}}
-use Rattle.channel_file.proofs.{Claims.{channel-form}, Forms.{FileForm, answer-to, answer, one-answer, shows-or-not, form-met, form-unmet}}
-use Rattle.channel_io.specs.FileConditions.{ConditionsBy, JudgedBy, TextConditions, of-contents, no-contents, JudgedText}
+use Rattle.channel_file.specs.{ChannelFile.{RefusedBy}, Reading.{AnswersBy}}
+use Rattle.channel_file.proofs.Forms.{FormLaws, answer-to, answer, one-answer, shows-or-not, form-met, form-unmet}
+use Rattle.channel_io.specs.FileConditions.{ConditionsBy, JudgedBy, of-contents, no-contents}
 use Rattle.channel_io.specs.FileRefusals.{text-refusal}
 
 -- ---- for any form of files
-module _ {A : Type 0} (K : FileForm A) (conditions : A → List Condition) (t : List ℕ) where
+module _ {A : Type 0} (K : FormLaws A) (conditions : A → List Condition) (t : List ℕ) where
   -- There is a list for every text: the reader without its limit says what the text shows.
-  listed-by : (cs : List Condition) × ConditionsBy (K .Shows) t conditions cs
+  pub listed-by : (cs : List Condition) × ConditionsBy (K .Shows) t conditions cs
   listed-by = go (shows-or-not K t)
     where
       go : ((c : A) × K .Shows c t) ⊎ ((c : A) → ¬ K .Shows c t) → (cs : List Condition) × ConditionsBy (K .Shows) t conditions cs
@@ -22,7 +22,7 @@ module _ {A : Type 0} (K : FileForm A) (conditions : A → List Condition) (t : 
 
   module _ (refusal : A → Option Refusal) (first : (c : A) → First (conditions c) (refusal c)) where
     -- Every such list gives the answer that the reader's answer yields.
-    call-first-by : (cs : List Condition) → ConditionsBy (K .Shows) t conditions cs → First cs (text-refusal refusal (answer-to K t))
+    pub call-first-by : (cs : List Condition) → ConditionsBy (K .Shows) t conditions cs → First cs (text-refusal refusal (answer-to K t))
     unfolding text-refusal
     call-first-by cs (of-contents c s) = go (answer-to K t) (answer K t)
       where
@@ -58,18 +58,10 @@ module _ {A : Type 0} (K : FileForm A) (conditions : A → List Condition) (t : 
         in-place cs (of-contents c s) = placed c
         in-place cs (no-contents none-shown) = refl
 
--- ---- document 01's file
-module _ (conditions : Contents → List Condition) (t : List ℕ) where
-  pub text-listed : (cs : List Condition) × TextConditions t conditions cs
-  text-listed = listed-by channel-form conditions t
-
-  module _ (refusal : Contents → Option Refusal) (first : (c : Contents) → First (conditions c) (refusal c)) where
-    pub text-call-first : (cs : List Condition) → TextConditions t conditions cs → First cs (text-refusal refusal (read-file t))
-    text-call-first = call-first-by channel-form conditions t refusal first
-
-    pub text-call :
-        {M : Type 0} (before after : M) → ((c : Contents) → part-of (4 ∷ condition-numbers (conditions c)) order ≡ true)
-        → ((c : Contents) → right-places (conditions c) ≡ true)
-        → ((r : Refusal) → text-refusal refusal (read-file t) ≡ some r → after ≡ before)
-        → JudgedText t conditions (text-refusal refusal (read-file t)) before after
-    text-call = call-by channel-form conditions t refusal first
+    -- the same for an answer that is this
+    pub judged-by :
+        {M : Type 0} {before after : M} {answer : Option Refusal} → ((c : A) → part-of (4 ∷ condition-numbers (conditions c)) order ≡ true)
+        → ((c : A) → right-places (conditions c) ≡ true) → answer ≡ text-refusal refusal (answer-to K t)
+        → ((r : Refusal) → text-refusal refusal (answer-to K t) ≡ some r → after ≡ before) → JudgedBy (K .Shows) t conditions answer before after
+    judged-by {M} {before} {after} ordered placed is kept =
+        subst⁻¹ (λ (a : Option Refusal). JudgedBy (K .Shows) t conditions a before after) is (call-by before after ordered placed kept)

@@ -1,31 +1,39 @@
--- The table of a channel file's rule by one call: its conditions, and what an accepted call yields.
+-- The table of a channel file's rule by one call: its conditions, and what an accepted call yields. For any form of files.
 use Prim.Native.Nat.{ℕ, _<_}
 use mathlib.Core.{List.{List, [], _∷_, _++_}, Path.{_≡_}, Option.{Option, none, some}}
 use lib.ListN.{length}
 use Rattle.refusal.specs.{Refusal.{Condition, plain, put}, declared.Refusal.{Refusal}}
-use Rattle.values.specs.Setup.{setup-meet, setup-top}
+use Rattle.values.specs.Setup.{Setup, setup-meet, setup-top}
 use Rattle.formulas.specs.RuleConditions.{node-bytes, OfFormula}
-use Rattle.synthesis.specs.TableOfRule.{TableShort, IsRuleTable}
-use Rattle.channel_file.specs.ChannelFile.{Contents, rule-numbers, Shows}
+use Rattle.synthesis.specs.TableOfRule.{pair-table-conditions, TableShort, IsRuleTable}
 use Rattle.theory.specs.MealyMachine.{Machine}
 use Rattle.machines.specs.TableBytes.{table-bytes, entry-bytes}
 use Rattle.channel_io.specs.{declared.FileNumbers.{FileNumbers}, declared.FileTable.{FileTable}}
+use Rattle.channel_io.specs.declared.registers.{FileNumbers.{FileNumbers as RegisterNumbers}, FileTable.{FileTable as RegisterTable}}
 use Rattle.channel_io.specs.declared.FileTable.the-variants.{Made, Refused as Unmade}
-use Rattle.channel_io.specs.FileConditions.{contents-table-conditions, file-numbers, file-setup}
+use Rattle.channel_io.specs.FileConditions.{FileForm}
 
--- 13: a lent buffer shorter than the output, for either buffer.
-pub data CompileShort (c : Contents) (meet to : List ℕ) : Type 0 where
-  short-entries : length meet < length (c .meet) → CompileShort c meet to
+-- 13: a lent buffer shorter than the output, that for the meet entries, of which a register has none, or that for the table.
+pub data CompileShort (s : Setup) (nodes meet to : List ℕ) : Type 0 where
+  short-entries : length meet < length (s .meet) → CompileShort s nodes meet to
   short-table :
-      OfFormula (node-bytes (file-setup c .kind)) (rule-numbers c)
-      (λ φ. TableShort (setup-meet (file-setup c)) (setup-top (file-setup c)) (c .events) (file-setup c .kind) φ to)
-      → CompileShort c meet to
+      OfFormula (node-bytes (s .kind)) nodes (λ φ. TableShort (setup-meet s) (setup-top s) (s .events) (s .kind) φ to) → CompileShort s nodes meet to
 
--- The conditions of making the table of a text with these contents.
-abbrev pub file-conditions : Contents → List ℕ → List ℕ → List Condition
-file-conditions c meet to = contents-table-conditions c ++ (plain 13 (CompileShort c meet to) ∷ [])
+-- The conditions of making the table of a text with this set-up and these nodes.
+abbrev pub file-conditions : List ℕ → List ℕ → Setup → List ℕ → List Condition
+file-conditions meet to s nodes = pair-table-conditions s nodes ++ (plain 13 (CompileShort s nodes meet to) ∷ [])
 
--- Document 01's answer for each case of the enum: the refusal, the numbers of the file, and the states of its table.
+-- An accepted call yields the numbers of the file, its meet entries, and the table of its rule.
+pub record MakesTableOf (F : FileForm) (t meet to meet′ to′ : List ℕ) (found : F .Numbers) (states : ℕ) : Type 0 where
+  pub contents : F .Inside
+  pub shown : F .Shown contents t
+  pub numbers-are : found ≡ F .numbers-of contents
+  pub meet-put : meet′ ≡ put (F .setup-of contents .meet) meet
+  pub table : Machine ℕ ℕ
+  pub is-table : IsRuleTable (F .setup-of contents) (F .nodes-of contents) states table
+  pub table-put : to′ ≡ put (table-bytes (entry-bytes (F .setup-of contents .kind)) (F .setup-of contents .events) table states) to
+
+-- Document 01's answer for each case of the enums: the refusal, the numbers of the file, and the states of its table.
 abbrev pub refusal-made : FileTable → Option Refusal
 refusal-made (Made numbers states) = none
 refusal-made (Unmade refusal) = some refusal
@@ -34,12 +42,10 @@ abbrev pub table-made : FileTable → Option (FileNumbers × ℕ)
 table-made (Made numbers states) = some (numbers, states)
 table-made (Unmade refusal) = none
 
--- An accepted call yields the numbers of the file, its meet entries, and the table of its rule.
-pub record MakesTableOf (t meet to meet′ to′ : List ℕ) (found : FileNumbers) (states : ℕ) : Type 0 where
-  pub contents : Contents
-  pub shown : Shows contents t
-  pub numbers-are : found ≡ file-numbers contents
-  pub meet-put : meet′ ≡ put (contents .meet) meet
-  pub table : Machine ℕ ℕ
-  pub is-table : IsRuleTable (file-setup contents) (rule-numbers contents) states table
-  pub table-put : to′ ≡ put (table-bytes (entry-bytes (file-setup contents .kind)) (contents .events) table states) to
+abbrev pub register-refusal-made : RegisterTable → Option Refusal
+register-refusal-made (RegisterTable.Made numbers states) = none
+register-refusal-made (RegisterTable.Refused refusal) = some refusal
+
+abbrev pub register-table-made : RegisterTable → Option (RegisterNumbers × ℕ)
+register-table-made (RegisterTable.Made numbers states) = some (numbers, states)
+register-table-made (RegisterTable.Refused refusal) = none

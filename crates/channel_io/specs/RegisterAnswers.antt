@@ -1,17 +1,15 @@
--- Twin of RegisterFiles, pinned by channel_io RegisterFileClaim.
+-- Twin of RegisterFiles, pinned by product_claims DemandTwo.
 -- What reading, compiling and writing a register's file answer, and what the lent buffer holds afterwards.
 use Prim.Native.Nat.{ℕ}
 use mathlib.Core.{Path.{_≡_}, List.{List, []}, Option.{Option, none, some}}
 use lib.{Dec.{leb}, ListN.{length}}
-use Rattle.limits.specs.Limits.{state-limit}
 use Rattle.refusal.specs.{declared.Refusal.{Refusal}, declared.Refusal.the-variants.{At}, declared.Counted.{Counted}}
 use Rattle.refusal.specs.RefusalAnswers.{or-else, plain-unless, counted, put-unless}
 use Rattle.values.specs.Setup.{register-setup}
-use Rattle.synthesis.specs.Compilation.{setup-states, compile-refusal, compile-contents}
 use Rattle.text_format.specs.Format.{Outcome, contents, refused}
 use Rattle.channel_file.specs.{RegisterFile.{Contents, rule-numbers, text}, RegisterReading.{read-file}}
 use Rattle.channel_writer.specs.RegisterWriting.{contents-of, node-tokens}
-use Rattle.channel_io.specs.{FileRefusals.{pair-refusal, stored-refusal}, RegisterFiles.{file-setup, file-numbers}}
+use Rattle.channel_io.specs.{FileRefusals.{pair-refusal, stored-refusal, pair-states, pair-table, pair-compile-refusal}, RegisterFiles.{file-setup, file-numbers}}
 use Rattle.channel_io.specs.declared.registers.{FileNumbers.{FileNumbers}, FileRead.{FileRead}, FileTable.{FileTable}}
 
 -- ---- reading: 1, 20, 5 to 9, then 13. A register has no meet entries, and there is no buffer for them.
@@ -24,7 +22,7 @@ module _ (c : Contents) where
 
   -- 1, 20, 5 to 10, 13.
   abbrev pub file-refusal : List ℕ → Option Refusal
-  file-refusal to = compile-refusal state-limit (file-setup c) (rule-numbers c) to
+  file-refusal to = pair-compile-refusal (file-setup c) (rule-numbers c) [] to
 
 unfoldable pub accepted-or : Option Refusal → FileNumbers → FileRead
 accepted-or none n = FileRead.Accepted n
@@ -51,11 +49,11 @@ made-or (some refusal) n states = FileTable.Refused refusal
 
 unfoldable pub file-table-answer : Outcome Contents → List ℕ → FileTable
 file-table-answer (refused p) to = FileTable.Refused (At 4 p)
-file-table-answer (contents c) to = made-or (file-refusal c to) (file-numbers c) (setup-states state-limit (file-setup c) (rule-numbers c))
+file-table-answer (contents c) to = made-or (file-refusal c to) (file-numbers c) (pair-states (file-setup c) (rule-numbers c))
 
 unfoldable pub table-after : Outcome Contents → List ℕ → List ℕ
 table-after (refused p) to = to
-table-after (contents c) to = compile-contents state-limit (file-setup c) (rule-numbers c) to
+table-after (contents c) to = put-unless (file-refusal c to) (pair-table (file-setup c) (rule-numbers c)) to
 
 pub record CompilesFile (t to to′ : List ℕ) (r : FileTable) : Type 0 where
   pub answer : r ≡ file-table-answer (read-file t) to
