@@ -1,26 +1,17 @@
--- What is claimed of the program's output; inhabited in proofs/ReportClaims.
+-- What is claimed of the program's output, for both forms of files; inhabited in proofs/ReportClaims.
 use Prim.Native.Nat.{ℕ, _≤_}
-use mathlib.Core.{Path.{_≡_}, List.{List}, Option.{none, some}}
+use mathlib.Core.{Path.{_≡_}, List.{List}}
 use lib.ListN.{length}
-use Rattle.theory.specs.MealyMachine.{Machine}
-use Rattle.refusal.specs.{declared.Refusal.{Refusal}, declared.Refusal.the-variants.{At}, Refusal.{First}}
-use Rattle.text_format.specs.Format.{contents}
-use Rattle.channel_file.specs.{ChannelFile.{Contents, Refused4, rule-numbers}, Reading.{AnswersFile}}
-use Rattle.values.specs.Setup.{setup-meet, setup-top}
-use Rattle.synthesis.specs.Claims.{RuleTable}
-use Rattle.channel_io.specs.FileConditions.{file-setup, contents-table-conditions}
-use Rattle.table_rows.specs.TableText.{table-text}
-use Rattle.table_report.specs.PrintedTable.{refusal-text, Prints}
-use Rattle.table_report.specs.Report.{report-text, report-limit}
+use Rattle.channel_io.specs.{FileConditions.{FileForm, number-file}, RegisterFiles.{register-file}}
+use Rattle.table_report.specs.PrintedTable.{Prints}
+use Rattle.table_report.specs.Report.{report-text, report-limit, register-report-text, register-report-limit}
 
--- What is printed for a text is the refusal, or the table of its rule.
-abbrev pub ReportClaim : Type 0
-ReportClaim = (t : List ℕ) → Prints t (report-text t)
+-- What is printed for a text is the refusal, or the table of its rule; nothing else is printed for it; and it has room in so many bytes.
+pub record ReportsAs (F : FileForm) (printed-for : List ℕ → List ℕ) (limit : ℕ) : Type 0 where
+  pub prints : (t : List ℕ) → Prints F t (printed-for t)
+  pub only : (t s : List ℕ) → Prints F t s → s ≡ printed-for t
+  pub within : (t : List ℕ) → length (printed-for t) ≤ limit
 
--- Nothing else is printed for it.
-abbrev pub OneReportClaim : Type 0
-OneReportClaim = (t s : List ℕ) → Prints t s → s ≡ report-text t
-
--- Every output has room in a buffer of the limit's length.
-abbrev pub ReportLengthClaim : Type 0
-ReportLengthClaim = (t : List ℕ) → length (report-text t) ≤ report-limit
+pub record OneReportClaim : Type 0 where
+  pub numbers : ReportsAs number-file report-text report-limit
+  pub registers : ReportsAs register-file register-report-text register-report-limit
