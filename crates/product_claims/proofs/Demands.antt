@@ -10,10 +10,8 @@ use Rattle.recorder.proofs.Tools.{one-store}
 use Rattle.recorder_claims.proofs.Calls.{calls-judged, replay-judged, replay-events, set-up-judged, refused-set-up, record-of-calls, own-calls}
 use Rattle.recorder_claims.proofs.Calls.{other-rows-decide}
 use Rattle.recorder_claims.proofs.Loading.{load-claim}
-use Rattle.channel_file.proofs.TextDemands.{file-to-tokens}
-use Rattle.channel_io.proofs.FileDemands.{reading-a-file, file-to-rule, writing-a-file, rule-to-file, file-to-rule-to-file}
-use Rattle.table_report.proofs.ReportDemands.{reporting, file-to-report}
 use Rattle.product_claims.specs.Demands.{DemandOne, DemandTwo, DemandThree}
+use Rattle.product_claims.proofs.Files.{number-files-judged, register-files-judged, number-files-agree, register-files-agree}
 use Rattle.product_claims.proofs.Compiled.{rule-trial, rule-judged, table-to-rule, table-to-rule-to-table, compile-judged, rule-to-table}
 
 pub demand-one : DemandOne
@@ -31,9 +29,8 @@ demand-one =
       setting-up = set-up-judged;
       calling = calls-judged;
       replaying = replay-judged;
-      reading-a-file = reading-a-file;
-      writing-a-file = writing-a-file;
-      reporting = reporting;
+      files = number-files-judged;
+      register-files = register-files-judged;
     }
 
 pub demand-two : DemandTwo
@@ -42,11 +39,8 @@ demand-two =
       rule-to-table = rule-to-table;
       table-to-rule = table-to-rule;
       table-to-rule-to-table = table-to-rule-to-table;
-      file-to-rule = file-to-rule;
-      rule-to-file = rule-to-file;
-      file-to-rule-to-file = file-to-rule-to-file;
-      file-to-report = file-to-report;
-      file-to-tokens = file-to-tokens;
+      files = number-files-agree;
+      register-files = register-files-agree;
     }
 
 pub demand-three : DemandThree

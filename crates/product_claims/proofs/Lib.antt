@@ -1,4 +1,5 @@
 pub mod Compiled
+pub mod Files
 pub mod InnerBinders
 pub mod TwelveBinders
 pub mod GatheredDemands

@@ -1,12 +1,12 @@
 -- The user's three demands, each as one record over document 01's definitions and the functions that contracts state; proved in proofs/Demands.
-use mathlib.Core.{Path.{_≡_}, Logic.{_↔_}, List.{List, map}, Option.{none, some}}
+use mathlib.Core.{Path.{_≡_}, Logic.{_↔_}, List.{List, map}, Option.{Option, none, some}}
 use Prim.Native.Nat.{ℕ, zero, _*_, _≤_, _<_}
 use lib.ListN.{length, take}
 use Rattle.limits.specs.Limits.{node-limit, state-limit, device-limit, table-limit, word-limit}
 use Rattle.theory.specs.{Formula.{Formula, size}, MealyMachine.{Machine, Word, after, States, Satisfies}}
 use Rattle.refusal.specs.{declared.Refusal.the-variants.{Plain}, declared.Refusal.{Refusal}, declared.Counted.{Counted}}
 use Rattle.refusal.specs.{Refusal.{Judged, JudgedCall, judgement-refusal, counted-refusal, count-of, put}, RefusalAnswers.{judgement}}
-use Rattle.values.specs.{Setup.{Setup, setup, setup-meet, setup-conditions}, SetupTests.{setup-refusal}}
+use Rattle.values.specs.{Setup.{Setup, setup, register-setup, setup-meet, setup-conditions}, SetupTests.{setup-refusal}}
 use Rattle.machines.specs.TableBytes.{table-bytes, entry-width, entry-bytes, machine-of}
 use Rattle.formulas.specs.RuleConditions.{encode-formula, node-bytes}
 use Rattle.synthesis.specs.TableOfRule.{compile-conditions, IsRuleTable}
@@ -20,11 +20,74 @@ use Rattle.channel_log.specs.{Calls.{accepted-on, replies-on}, Rows.{other-rows
 use Rattle.recorder.specs.Store.{Store, AllCells, ToolSetup, tool-setup-conditions, setup-of, tool-setup-of, channels, rows, StoreClaim}
 use Rattle.recorder.specs.{Store.{call-conditions, replay-conditions}, Called.{called, set-up-called}, Replay.{replayed}}
 use Rattle.recorder_claims.specs.ChannelLog.{AsLogged, LoadedAs}
-use Rattle.channel_file.specs.{ChannelFile.{TokensOf}, Reading.{read-file, tokens-stretch}}
-use Rattle.channel_io.specs.{declared.FileRead.{FileRead}, declared.FileNumbers.{FileNumbers}}
-use Rattle.channel_io.specs.FileConditions.{read-conditions, JudgedText, refusal-read, numbers-read, ReadsAs, write-file-conditions, WritesAs}
-use Rattle.channel_io.specs.{FileReading.{ReadsFile}, FileWriting.{WritesFile}}
-use Rattle.table_report.specs.{PrintedTable.{Prints, report-conditions}, Report.{Reports}}
+use Rattle.channel_file.specs.{ChannelFile.{TokensBy}, Reading.{read-file, tokens-stretch}}
+use Rattle.channel_file.specs.RegisterReading.{read-file as read-register-file, tokens-stretch as register-tokens}
+use Rattle.channel_io.specs.FileConditions.{FileForm, JudgedText, read-conditions, ReadsAs, write-file-conditions, WritesAs}
+use Rattle.channel_io.specs.{FileConditions.{number-file, refusal-read, numbers-read}, FileReading.{ReadsFile}, FileWriting.{WritesFile}}
+use Rattle.channel_io.specs.RegisterFiles.{register-file, refusal-read as register-refusal, numbers-read as register-numbers}
+use Rattle.channel_io.specs.RegisterAnswers.{ReadsFile as ReadsRegisterFile, WritesFile as WritesRegisterFile}
+use Rattle.channel_io.specs.{declared.FileRead.{FileRead}, declared.registers.FileRead.{FileRead as RegisterRead}}
+use Rattle.table_report.specs.{PrintedTable.{Prints, report-conditions}, Report.{Reports, RegisterReports}}
+
+-- The calls on files of a form, by what their contracts state: channel_io `read_file`, with the refusal and the numbers in its answer, and the set-up
+-- and the nodes that these say are in its two buffers; `write_file`, by the set-up handed in; table_report `report`; channel_file `tokens`.
+pub record FileCalls : Type 1 where
+  pub form : FileForm
+  pub Answer : Type 0
+  pub refusal-in : Answer → Option Refusal
+  pub numbers-in : Answer → Option (form .Numbers)
+  pub Reads : (t meet rule meet′ rule′ : List ℕ) → Answer → Type 0
+  pub setup-from : form .Numbers → List ℕ → Setup
+  pub nodes-from : form .Numbers → List ℕ → List ℕ
+  pub Writes : Setup → (rule old new : List ℕ) → Counted → Type 0
+  pub Prints-to : (t old new : List ℕ) → Counted → Type 0
+  pub tokens : List ℕ → List ℕ
+
+-- Those of document 01's file.
+pub data WritesNumbers (rule old new : List ℕ) (r : Counted) : Setup → Type 0 where
+  writes : (events values top : ℕ) (meet : List ℕ) → WritesFile events values top meet rule old new r → WritesNumbers rule old new r (setup events values top meet)
+
+abbrev pub number-calls : FileCalls
+number-calls =
+    record {
+      form = number-file;
+      Answer = FileRead;
+      refusal-in = refusal-read;
+      numbers-in = numbers-read;
+      Reads = ReadsFile;
+      setup-from = λ n meet. setup (n .events) (n .values) (n .top) (take (n .entries) meet);
+      nodes-from = λ n rule. take (3 * n .nodes) rule;
+      Writes = λ s rule old new r. WritesNumbers rule old new r s;
+      Prints-to = Reports;
+      tokens = λ t. tokens-stretch t (read-file t);
+    }
+
+-- Those of a register's, of the modules `registers` (document 02, F-7). There are no meet entries, and a buffer for them would be as before.
+pub data WritesRegister (rule old new : List ℕ) (r : Counted) : Setup → Type 0 where
+  writes : (events lines : ℕ) → WritesRegisterFile events lines rule old new r → WritesRegister rule old new r (register-setup events lines)
+
+abbrev pub register-calls : FileCalls
+register-calls =
+    record {
+      form = register-file;
+      Answer = RegisterRead;
+      refusal-in = register-refusal;
+      numbers-in = register-numbers;
+      Reads = λ t meet rule meet′ rule′ r. (meet′ ≡ meet) × ReadsRegisterFile t rule rule′ r;
+      setup-from = λ n meet. register-setup (n .events) (n .lines);
+      nodes-from = λ n rule. take (6 * n .nodes) rule;
+      Writes = λ s rule old new r. WritesRegister rule old new r s;
+      Prints-to = RegisterReports;
+      tokens = λ t. register-tokens t (read-register-file t);
+    }
+
+-- Demand 1 of the calls on files.
+pub record FilesJudged (C : FileCalls) : Type 1 where
+  pub reading : (t meet rule meet′ rule′ : List ℕ) (r : C .Answer) → C .Reads t meet rule meet′ rule′ r →
+      JudgedText {M = List ℕ × List ℕ} (C .form) t (read-conditions meet rule) (C .refusal-in r) (meet, rule) (meet′, rule′)
+  pub writing : (s : Setup) (rule old new : List ℕ) (r : Counted) → C .Writes s rule old new r →
+      JudgedCall (write-file-conditions (C .form) s rule old) (counted-refusal r) old new
+  pub reporting : (t old new : List ℕ) (r : Counted) → C .Prints-to t old new r → JudgedCall (report-conditions (C .form) t old) (counted-refusal r) old new
 
 -- Demand 1: "any public entry takes any input of its type: the call .. accepts or refuses by document 01's list, and a refusal changes no
 -- lent memory." That calls end and do nothing undefined is what a proved crate is; no public function has a requires.
@@ -49,13 +112,9 @@ pub record DemandOne : Type 1 where
   pub replaying : (t : Store) (c : ℕ) (word : List Occurrence) (old : List ℕ) →
       JudgedCall {M = Store × List ℕ} (replay-conditions t c word old) (reply-refusal (replayed t c word old .0 .0)) (t, old)
       (replayed t c word old .0 .1, replayed t c word old .1)
-  -- channel_io `read_file` and `write_file`
-  pub reading-a-file : (t meet rule meet′ rule′ : List ℕ) (r : FileRead) → ReadsFile t meet rule meet′ rule′ r →
-      JudgedText {M = List ℕ × List ℕ} t (λ c. read-conditions c meet rule) (refusal-read r) (meet, rule) (meet′, rule′)
-  pub writing-a-file : (events values top : ℕ) (meet rule old new : List ℕ) (r : Counted) → WritesFile events values top meet rule old new r →
-      JudgedCall (write-file-conditions (setup events values top meet) rule old) (counted-refusal r) old new
-  -- table_report `report`
-  pub reporting : (t old new : List ℕ) (r : Counted) → Reports t old new r → JudgedCall (report-conditions t old) (counted-refusal r) old new
+  -- channel_io `read_file` and `write_file`, table_report `report`; and those of their modules `registers`
+  pub files : FilesJudged number-calls
+  pub register-files : FilesJudged register-calls
 
 -- The rule of a table, handed to `compile`: nothing but 13 refuses it, and its table has the start's values on every event sequence.
 pub record Recompiled (s : Setup) (start : ℕ) (table rule to : List ℕ) : Type 0 where
@@ -64,6 +123,22 @@ pub record Recompiled (s : Setup) (start : ℕ) (table rule to : List ℕ) : Typ
       machine-of (s .kind) (s .events) (compile-contents state-limit s rule to) .value
       (after (machine-of (s .kind) (s .events) (compile-contents state-limit s rule to)) zero w) e
       ≡ machine-of (s .kind) (s .events) table .value (after (machine-of (s .kind) (s .events) table) start w) e
+
+-- Demand 2 of the calls on files: what a file says is read; what is read is written as that file: "an accepted file written out again is the same
+-- bytes"; what the program prints, and the tokens of a file.
+pub record FilesAgree (C : FileCalls) : Type 0 where
+  pub file-to-rule : (t meet rule meet′ rule′ : List ℕ) (r : C .Answer) → C .Reads t meet rule meet′ rule′ r →
+      (found : C .form .Numbers) → C .numbers-in r ≡ some found → ReadsAs (C .form) t meet rule meet′ rule′ found
+  pub rule-to-file : (s : Setup) (rule old new : List ℕ) (r : Counted) → C .Writes s rule old new r →
+      (n : ℕ) → count-of r ≡ some n → WritesAs (C .form) s rule old new n
+  pub file-to-rule-to-file : (t meet rule meet′ rule′ : List ℕ) (r : C .Answer) → C .Reads t meet rule meet′ rule′ r →
+      (found : C .form .Numbers) → C .numbers-in r ≡ some found → (old new : List ℕ) (w : Counted) →
+      C .Writes (C .setup-from found meet′) (C .nodes-from found rule′) old new w →
+      length t ≤ length old → (count-of w ≡ some (length t)) × (new ≡ put t old)
+  pub file-to-report : (t old new : List ℕ) (r : Counted) → C .Prints-to t old new r → (n : ℕ) → count-of r ≡ some n →
+      (s : List ℕ) × Prints (C .form) t s × ((other : List ℕ) → Prints (C .form) t other → other ≡ s) × (n ≡ length s) × (new ≡ put s old)
+  pub file-to-tokens : (t : List ℕ) → TokensBy (C .form .Shown) (C .form .tokens-of) t (C .tokens t)
+      × ((other : List ℕ) → TokensBy (C .form .Shown) (C .form .tokens-of) t other → other ≡ C .tokens t)
 
 -- Demand 2: "rule to table, table to rule, file to rule agree with source 000 and document 01".
 pub record DemandTwo : Type 0 where
@@ -78,20 +153,9 @@ pub record DemandTwo : Type 0 where
   pub table-to-rule-to-table : (s : Setup) (states start : ℕ) (table old : List ℕ) (n : ℕ) →
       count-of (write-answer table-limit node-limit s states start table old) ≡ some n →
       (φ : Formula ℕ) → IsWritten s start table φ → (to : List ℕ) → Recompiled s start table (encode-formula (node-bytes (s .kind)) φ) to
-  -- what a file says is read; what is read is written as that file: "an accepted file written out again is the same bytes"
-  pub file-to-rule : (t meet rule meet′ rule′ : List ℕ) (r : FileRead) → ReadsFile t meet rule meet′ rule′ r →
-      (found : FileNumbers) → numbers-read r ≡ some found → ReadsAs t meet rule meet′ rule′ found
-  pub rule-to-file : (events values top : ℕ) (meet rule old new : List ℕ) (r : Counted) → WritesFile events values top meet rule old new r →
-      (n : ℕ) → count-of r ≡ some n → WritesAs (setup events values top meet) rule old new n
-  pub file-to-rule-to-file : (t meet rule meet′ rule′ : List ℕ) (r : FileRead) → ReadsFile t meet rule meet′ rule′ r →
-      (found : FileNumbers) → numbers-read r ≡ some found → (old new : List ℕ) (w : Counted) →
-      WritesFile (found .events) (found .values) (found .top) (take (found .entries) meet′) (take (3 * found .nodes) rule′) old new w →
-      length t ≤ length old → (count-of w ≡ some (length t)) × (new ≡ put t old)
-  -- what the program prints, and the tokens of a file
-  pub file-to-report : (t old new : List ℕ) (r : Counted) → Reports t old new r → (n : ℕ) → count-of r ≡ some n →
-      (s : List ℕ) × Prints t s × ((other : List ℕ) → Prints t other → other ≡ s) × (n ≡ length s) × (new ≡ put s old)
-  pub file-to-tokens : (t : List ℕ) →
-      TokensOf t (tokens-stretch t (read-file t)) × ((other : List ℕ) → TokensOf t other → other ≡ tokens-stretch t (read-file t))
+  -- "file to rule", of both forms of files
+  pub files : FilesAgree number-calls
+  pub register-files : FilesAgree register-calls
 
 -- A device's trial against the table of n states that `compile` stored for a rule.
 abbrev pub rule-trial-input : Setup → List ℕ → List ℕ → ℕ → ℕ → ℕ → List ℕ → TrialInput
