@@ -5,8 +5,8 @@ use lib.ListN.{length}
 use Rattle.limits.specs.Limits.{file-limit}
 use Rattle.refusal.specs.declared.Refusal.{Refusal}
 use Rattle.text_format.specs.{Format.{Outcome, contents, refused}, Texts.{ascii}}
-use Rattle.channel_file.specs.ChannelFile.{line, number}
-use Rattle.channel_file.specs.RegisterFile.{Contents, masks-text, token-text, SmallToken, rule-text, text, Shows, TokensOf}
+use Rattle.channel_file.specs.ChannelFile.{line, number, TokensBy}
+use Rattle.channel_file.specs.RegisterFile.{Contents, masks-text, token-text, SmallToken, rule-text, text, Shows}
 use Rattle.channel_file.specs.RegisterFormat.{tokens, file}
 use Rattle.channel_file.specs.RegisterReading.{read-file, head-text, rule-start, tokens-stretch, checked, refusal-checked, stored-reply, stored-rule}
 use Rattle.channel_file.specs.RegisterReading.{refusal-stored}
@@ -84,5 +84,5 @@ shows-or-not = shows-or-not-by register-form
 
 pub file-to-tokens :
     (t : List ℕ) →
-    TokensOf t (tokens-stretch t (read-file t)) × ((other : List ℕ) → TokensOf t other → other ≡ tokens-stretch t (read-file t))
+    TokensBy Shows rule-text t (tokens-stretch t (read-file t)) × ((other : List ℕ) → TokensBy Shows rule-text t other → other ≡ tokens-stretch t (read-file t))
 file-to-tokens = to-tokens register-form

@@ -9,7 +9,8 @@ use Rattle.text_format.specs.Claims.{FormatRenders}
 use Rattle.text_format.proofs.Combinators.{sequence-laws, mapped-laws, keyed-fits, keyed-of-fits}
 use Rattle.text_format.proofs.{Decimal.{numbered-laws}, Series.{number-item-laws}}
 use Rattle.channel_file.specs.{ChannelFile.{number, line}, FileFormat.{field}}
-use Rattle.channel_file.specs.RegisterFile.{Masks, no-masks, Token, Contents, mask, SmallMasks, masks-text, token-text, SmallToken, rule-text, text}
+use Rattle.theory.specs.ValueSets.{Masks}
+use Rattle.channel_file.specs.RegisterFile.{no-masks, Token, Contents, mask, SmallMasks, masks-text, token-text, SmallToken, rule-text, text}
 use Rattle.channel_file.specs.RegisterFile.{SmallContents, Shows}
 use Rattle.channel_file.specs.RegisterFormat.{mask-dot, masks-item, tokens, rule-line, head, file}
 use Rattle.channel_file.proofs.RuleItems.{dot-all, items-laws, keyed-items-laws, items-text, items-fit, items-of-fit}

@@ -8,7 +8,7 @@ use Rattle.text_format.specs.Decimal.{is-digit, more, numeral-parse, numbered-p
 use Rattle.text_format.specs.Series.{Separator, separator, number-item}
 use Rattle.channel_file.specs.ChannelFile.{RuleItem, token-O}
 use Rattle.channel_file.specs.FileFormat.{Letter, letter-T, letter-O, letter-byte, letters, body}
-use Rattle.channel_file.specs.RegisterFile.{Masks}
+use Rattle.theory.specs.ValueSets.{Masks}
 use Rattle.channel_file.specs.Steps.{value-format, unused, item-format, value-of, token-of, left, with-separator}
 use Rattle.channel_file.specs.Steps.{SawNumber, SawEnded, SawValue, SawToken}
 use Rattle.channel_file.specs.declared.{Values.{Values}, Item.{Item}, Number.{Number}, Value.{Value}, Taken.{Taken}}

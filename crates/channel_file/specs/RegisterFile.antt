@@ -2,14 +2,11 @@
 -- neither judged nor cut.
 use Prim.Native.Nat.{ℕ, _/_, _%_, _<_}
 use mathlib.Core.{Path.{_≡_}, List.{List, [], _∷_, _++_, map}}
-use Rattle.text_format.specs.Texts.{ascii, decimal, separated, OneOrMore, FormOf}
-use Rattle.channel_file.specs.ChannelFile.{RuleItem, number, Small, item-text, SmallItem, line, RefusedBy, TokensBy, item-fields, encoded}
+use Rattle.theory.specs.ValueSets.{Masks}
+use Rattle.text_format.specs.Texts.{ascii, decimal, separated, OneOrMore}
+use Rattle.channel_file.specs.ChannelFile.{RuleItem, number, Small, item-text, SmallItem, line, item-fields, encoded}
 
--- "A value is two 16-bit masks, may-be-low and may-be-high."
-pub record Masks : Type 0 where
-  pub low : ℕ
-  pub high : ℕ
-
+-- "A value is two 16-bit masks, may-be-low and may-be-high"; both 0, where an item has none.
 abbrev pub no-masks : Masks
 no-masks = record { low = 0; high = 0 }
 
@@ -58,17 +55,6 @@ pub record SmallContents (c : Contents) : Type 0 where
 pub record Shows (c : Contents) (t : List ℕ) : Type 0 where
   pub small : SmallContents c
   pub printed : text c ≡ t
-
--- t is a text of the form.
-abbrev pub Form : List ℕ → Type 0
-Form = FormOf Shows
-
--- Refusal 4 at a place, and the stretch of the rule line's tokens, by this form.
-abbrev pub Refused4 : List ℕ → ℕ → Type 0
-Refused4 = RefusedBy Shows
-
-abbrev pub TokensOf : List ℕ → List ℕ → Type 0
-TokensOf = TokensBy Shows rule-text
 
 -- "A node is six bytes: kind, first, low mask, high mask, each mask's low byte first." The numbers are the text's: of a mask that 16 bits do
 -- not hold the second is no byte.

@@ -6,7 +6,8 @@ use mathlib.Core.List.{List, []}
 use Rattle.text_format.specs.{Format.{Format}, Texts.{ascii}, Combinators.{sequence, mapped, the}, Decimal.{numbered}}
 use Rattle.text_format.specs.Series.{Separator, number-item}
 use Rattle.channel_file.specs.FileFormat.{rule-item, rule-items, keyed-items, field}
-use Rattle.channel_file.specs.RegisterFile.{Masks, no-masks, Token, Contents}
+use Rattle.theory.specs.ValueSets.{Masks}
+use Rattle.channel_file.specs.RegisterFile.{no-masks, Token, Contents}
 
 abbrev pub mask-dot : Format (ℕ × Unit {0})
 mask-dot = numbered 4 (the 46) tt []

@@ -4,10 +4,11 @@ use Prim.Native.Nat.{ℕ, _+_, _*_, _/_, _%_}
 use mathlib.Core.{List.{List, [], _∷_, _++_}, Bool.{_&&_, cond}, Option.{Option, none, some}}
 use lib.{Dec.{leb}, ListN.{length, replicate}}
 use Rattle.limits.specs.Limits.{node-limit}
+use Rattle.theory.specs.ValueSets.{Masks}
 use Rattle.refusal.specs.{declared.Refusal.{Refusal}, declared.Refusal.the-variants.{At}}
 use Rattle.text_format.specs.{Format.{Outcome, contents, refused}, Texts.{ascii}}
 use Rattle.channel_file.specs.{ChannelFile.{number, line, item-fields, encoded}, Reading.{read-limited, read-closed, stretch-by, AnswersBy}}
-use Rattle.channel_file.specs.{RegisterFile.{Masks, no-masks, Token, Contents, Shows}, RegisterFormat.{tokens, file}, Bytes.{clamp, put-front}}
+use Rattle.channel_file.specs.{RegisterFile.{no-masks, Token, Contents, Shows}, RegisterFormat.{tokens, file}, Bytes.{clamp, put-front}}
 use Rattle.channel_file.specs.declared.registers.{Checked.{Checked}, Stored.{Stored}, ReadArrays.{ReadArrays}}
 
 abbrev pub AnswersFile : List ℕ → Outcome Contents → Type 0

@@ -9,7 +9,8 @@ use Rattle.channel_file.specs.ChannelFile.{RuleItem, token-T, token-A, t
 use Rattle.channel_file.specs.FileFormat.{rule-item, rule-items, keyed-items, field, head, meet-line}
 use Rattle.channel_file.specs.Reading.{stretch, checked}
 use Rattle.channel_file.specs.Bytes.{node, entry, meet-bytes, rule-bytes, put-front, token-reply}
-use Rattle.channel_file.specs.{RegisterFile.{Masks, no-masks}, RegisterFormat.{masks-item}}
+use Rattle.theory.specs.ValueSets.{Masks}
+use Rattle.channel_file.specs.{RegisterFile.{no-masks}, RegisterFormat.{masks-item}}
 use Rattle.channel_file.specs.RegisterReading as register
 use Rattle.channel_file.specs.{declared.Item.{Item}, declared.Behind.{Behind}, declared.Number.{Number}, declared.Ended.{Ended}, declared.Entry.{Entry}}
 use Rattle.channel_file.specs.{declared.Values.{Values}, declared.Value.{Value}}

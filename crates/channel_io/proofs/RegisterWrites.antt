@@ -3,7 +3,7 @@ use Prim.Native.Nat.{ℕ, suc, _+_, _*_, _/_, _%_, _^_, _≤_, _<_}
 use mathlib.Core.{Path.{_≡_, refl, sym, ap, ap₂, _∙_}, List.{List, [], _∷_, _++_, map}, Option.{Option, none, some}}
 use native.Mathlib.Omega.{arith}
 use lib.{Dec.{leb}, ListN.{length, length-append}}
-use Rattle.theory.specs.ValueSets.{unpack}
+use Rattle.theory.specs.ValueSets.{Masks, unpack}
 use Rattle.theory.specs.Formula.{Formula, truth, variable, transition, output, conjunction, greatest, size}
 use Rattle.theory.specs.Formula.{Node, truth-node, variable-node, transition-node, output-node, conjunction-node, greatest-node, nodes}
 use Rattle.theory.specs.FormulaClasses.{FreeBelow, Fits}
@@ -21,7 +21,7 @@ use Rattle.formulas.proofs.RuleClaims.{accepted-formula-of}
 use Rattle.text_format.specs.{Texts.{separated}, Decimal.{Numeral}}
 use Rattle.text_format.proofs.Decimal.{decimal-numeral}
 use Rattle.channel_file.specs.ChannelFile.{token-T, token-A, token-V, token-X, token-G, token-O, number, encoded}
-use Rattle.channel_file.specs.RegisterFile.{Masks, Token, Contents, mask, SmallMasks, token-text, SmallToken, text, SmallContents, node-numbers}
+use Rattle.channel_file.specs.RegisterFile.{Token, Contents, mask, SmallMasks, token-text, SmallToken, text, SmallContents, node-numbers}
 use Rattle.channel_file.specs.RegisterFile.{rule-numbers}
 use Rattle.channel_writer.specs.Writing.{with-token, reply-by, buffer-by}
 use Rattle.channel_writer.specs.RegisterWriting.{mask-of, masks-of, node-tokens, contents-of, WritesContents}

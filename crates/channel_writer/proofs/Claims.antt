@@ -14,7 +14,8 @@ use Rattle.text_format.specs.Format.{contents}
 use Rattle.text_format.specs.Texts.{OneOrMore}
 use Rattle.channel_file.specs.ChannelFile.{RuleItem, token-T, token-A, token-V, token-X, token-G, token-O, Token, Contents, Small, SmallItem, SmallToken}
 use Rattle.channel_file.specs.{ChannelFile.{SmallContents, item-fields, encoded}, FileFormat.{first, second, kind}}
-use Rattle.channel_file.specs.RegisterFile.{Masks, no-masks, SmallMasks, Token as RegisterToken, Contents as RegisterContents}
+use Rattle.theory.specs.ValueSets.{Masks}
+use Rattle.channel_file.specs.RegisterFile.{no-masks, SmallMasks, Token as RegisterToken, Contents as RegisterContents}
 use Rattle.channel_file.specs.RegisterFile.{SmallToken as SmallRegisterToken, SmallContents as SmallRegisterContents}
 use Rattle.channel_file.specs.RegisterReading.{narrow-kind, kind as register-kind, first as register-first, masks as register-masks, node as register-node}
 use Rattle.channel_file.proofs.RegisterClaims.{register-claim, shown as register-shown}

@@ -2,6 +2,7 @@
 use Prim.Native.Nat.{ℕ, _≤_, _<_, min}
 use mathlib.Core.{Path.{_≡_}, List.{List, [], _∷_}, Option.{Option, none, some}}
 use lib.ListN.{length}
+use Rattle.theory.specs.ValueSets.{Masks}
 use Rattle.limits.specs.Limits.{file-limit}
 use Rattle.refusal.specs.Refusal.{Condition, plain, JudgedCall, counted-refusal}
 use Rattle.text_format.specs.Format.{contents}
@@ -71,7 +72,7 @@ pub record FittingToken (x : register.Token) : Type 0 where
 -- A node's token is the one that has its kind, its first field and its masks.
 pub record RegisterNodeClaim : Type 0 where
   pub its-fields :
-      (k a : ℕ) (m : register.Masks) (x : register.Token) → register-writing.node-token k a m ≡ some x
+      (k a : ℕ) (m : Masks) (x : register.Token) → register-writing.node-token k a m ≡ some x
       → (register-reading.kind x ≡ k) × ((register-reading.first x ≡ a) × (register-reading.masks x ≡ m))
   pub its-token :
       (x : register.Token) → register-writing.node-token (register-reading.kind x) (register-reading.first x) (register-reading.masks x) ≡ some x

@@ -4,7 +4,8 @@ use Prim.Native.Nat.{ℕ, _+_, _*_}
 use mathlib.Core.{List.{List, [], _∷_}, Bool.{Bool, _&&_}, Option.{Option, some, none}}
 use lib.Dec.{eqb}
 use Rattle.refusal.specs.declared.Counted.{Counted}
-use Rattle.channel_file.specs.RegisterFile.{Masks, Token, Contents, text}
+use Rattle.theory.specs.ValueSets.{Masks}
+use Rattle.channel_file.specs.RegisterFile.{Token, Contents, text}
 use Rattle.channel_writer.specs.Writing.{token-with, with-token, WritesBy}
 
 -- A mask of two bytes, its low byte first.
