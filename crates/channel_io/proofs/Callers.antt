@@ -1,8 +1,9 @@
--- What a caller of `compile_file` knows, of either form of files.
+-- What a caller of `compile_file` knows, of any form of files, and of both.
 use Prim.Native.Nat.{ℕ, _*_, _≤_, _<_}
-use mathlib.Core.{Path.{_≡_, refl, sym, ap, ap₂, _∙_, subst}, List.{List, []}, Bool.{Bool, true, _&&_}, Option.{Option, none, some}}
+use mathlib.Core.{Path.{_≡_, refl, sym, ap, _∙_, subst}, List.{List, []}, Bool.{Bool, true, _&&_}}
+use mathlib.Core.Option.{Option, none, some, Option·some-ne-none}
 use native.Mathlib.Omega.{arith}
-use lib.{Dec.{leb}, ListN.{length, take, drop, length-append}, Seq.{take-at, length-take-le}}
+use lib.{Dec.{leb}, ListN.{length, take, drop, length-append}, Seq.{take-at}}
 use borrow.Author.Tests.{le-leb}
 use Rattle.limits.specs.Limits.{event-limit, value-limit, line-limit, meet-limit, state-limit}
 use Rattle.refusal.specs.{declared.Refusal.{Refusal}, declared.Refusal.the-variants.{At}, Refusal.{put}, RefusalAnswers.{or-else, plain-unless, put-unless}}
@@ -13,15 +14,34 @@ use Rattle.machines.specs.TableBytes.{entry-width}
 use Rattle.text_format.specs.Format.{Outcome, contents, refused}
 use Rattle.channel_file.specs.{ChannelFile.{Contents, rule-numbers}, Reading.{read-file}}
 use Rattle.channel_file.specs.RegisterReading.{read-file as read-register-file}
-use Rattle.channel_io.specs.{FileConditions.{FileForm, file-setup, file-numbers, number-file}, Claims.{table-room}}
-use Rattle.channel_io.specs.{RegisterFiles.{register-file}, FileReading.{numbers}}
+use Rattle.channel_io.specs.{FileConditions.{FileForm, file-setup, number-file}, RegisterFiles.{register-file}, Claims.{table-room}}
+use Rattle.channel_io.specs.{FileTables.{refusal-made, table-made, register-refusal-made, register-table-made}, FileReading.{answer-or}}
 use Rattle.channel_io.specs.FileRefusals.{pair-states, pair-table, pair-table-refusal, has-table-room, pair-compile-refusal}
-use Rattle.channel_io.specs.FileRefusals.{file-states, file-table, contents-table-refusal, file-refusal}
-use Rattle.channel_io.specs.FileCompilation.{made-or, file-table-answer, entries-after, table-after, CompilesFile}
+use Rattle.channel_io.specs.FileRefusals.{file-table, contents-table-refusal}
+use Rattle.channel_io.specs.FileCompilation.{file-table-answer, entries-after, table-after, CompilesBy, makes-numbers, CompilesFile, makes-register}
+use Rattle.channel_io.specs.FileCompilation.{CompilesRegisterFile}
 use Rattle.channel_io.specs.declared.{FileNumbers.{FileNumbers}, FileTable.{FileTable}, FileTable.the-variants.{Made, Refused}}
 use Rattle.channel_io.specs.declared.registers.{FileNumbers.{FileNumbers as RegisterNumbers}, FileTable.{FileTable as RegisterTable}}
-use Rattle.channel_io.specs.RegisterAnswers as register
 use Rattle.channel_io.proofs.{TablePairs.{rows-length, setup-passed}, Claims.{file-table-made}}
+
+-- ---- the two cases of an enum's answer
+
+-- What is found in an answer: the refusal, or what an accepted call answers.
+pub record Cases {N R : Type 0} (accepts : N → R) (refuses : Refusal → R) (refusal-in : R → Option Refusal) (found-in : R → Option N) : Type 0 where
+  pub of-accepted : (n : N) → (refusal-in (accepts n) ≡ none) × (found-in (accepts n) ≡ some n)
+  pub of-refused : (q : Refusal) → (refusal-in (refuses q) ≡ some q) × (found-in (refuses q) ≡ none)
+
+module _ {N R : Type 0} {accepts : N → R} {refuses : Refusal → R} {refusal-in : R → Option Refusal} {found-in : R → Option N}
+    (cases : Cases accepts refuses refusal-in found-in) where
+  pub answer-refusal : (o : Option Refusal) (n : N) → refusal-in (answer-or accepts refuses o n) ≡ o
+  unfolding answer-or
+  answer-refusal none n = cases .of-accepted n .0
+  answer-refusal (some q) n = cases .of-refused q .0
+
+  pub answer-found : (o : Option Refusal) (n m : N) → found-in (answer-or accepts refuses o n) ≡ some m → (o ≡ none) × (m ≡ n)
+  unfolding answer-or
+  answer-found none n m e = let z : some n ≡ some m = sym (cases .of-accepted n .1) ∙ e in (refl, cc)
+  answer-found (some q) n m e = absurd (Option·some-ne-none m (sym e ∙ cases .of-refused q .1))
 
 -- ---- where the meet entries have room
 module _ (s : Setup) (nodes meet to : List ℕ) (wide : pair-table-refusal s nodes ≡ none → length (s .meet) ≤ length meet) where
@@ -121,6 +141,41 @@ module _ (F : FileForm) (read : List ℕ → Outcome (F .Inside)) where
         table-taken = front-taken (pair-table s nodes) to to′ (k * s .events * entry-width (s .kind)) size b;
       }
 
+  -- from the answer of a call that makes the table
+  module _ {R : Type 0} {makes : F .Numbers × ℕ → R} {refuses : Refusal → R} {refusal-in : R → Option Refusal} {table-in : R → Option (F .Numbers × ℕ)}
+      (cases : Cases makes refuses refusal-in table-in) {t meet to meet′ to′ : List ℕ} {x : R} (k : CompilesBy F makes refuses (read t) meet to meet′ to′ x)
+      where
+    pub unmade-by : {r : Refusal} → refusal-in x ≡ some r → Unmade t meet to r × (to′ ≡ to)
+    unfolding file-table-answer table-after put-unless
+    unmade-by {r} is = go (read t) refl (sym is ∙ ap refusal-in (k .answer)) (k .table-is)
+      where
+        go : (y : Outcome (F .Inside)) → read t ≡ y → some r ≡ refusal-in (file-table-answer F makes refuses y meet to) → to′ ≡ table-after F y meet to
+            → Unmade t meet to r × (to′ ≡ to)
+        go (refused p) e f g =
+            let h : some r ≡ some (At 4 p) = f ∙ cases .of-refused (At 4 p) .0 in
+            let z : At 4 p ≡ r = cc in
+            (subst (Unmade t meet to) z (off-form p e), g)
+        go (contents c) e f g =
+            let a : pair-compile-refusal (F .setup-of c) (F .nodes-of c) meet to ≡ some r =
+            sym (answer-refusal cases (pair-compile-refusal (F .setup-of c) (F .nodes-of c) meet to)
+            (F .numbers-of c, pair-states (F .setup-of c) (F .nodes-of c))) ∙ sym f in
+            (turned-away c r e a, g ∙ ap (λ (o : Option Refusal). put-unless o (pair-table (F .setup-of c) (F .nodes-of c)) to) a)
+
+    pub made-of-by : {n : F .Numbers} {j : ℕ} → table-in x ≡ some (n, j) → MadeOf t meet to meet′ to′ n j
+    unfolding file-table-answer entries-after table-after put-unless
+    made-of-by {n} {j} is = go (read t) refl (sym (ap table-in (k .answer)) ∙ is) (k .meet-is) (k .table-is)
+      where
+        go : (y : Outcome (F .Inside)) → read t ≡ y → table-in (file-table-answer F makes refuses y meet to) ≡ some (n, j) → meet′ ≡ entries-after F y meet to
+            → to′ ≡ table-after F y meet to → MadeOf t meet to meet′ to′ n j
+        go (refused p) e f g h = absurd (Option·some-ne-none {A = F .Numbers × ℕ} (n, j) (sym f ∙ cases .of-refused (At 4 p) .1))
+        go (contents c) e f g h =
+            let s = F .setup-of c in
+            let nodes = F .nodes-of c in
+            let a = answer-found cases (pair-compile-refusal s nodes meet to) (F .numbers-of c, pair-states s nodes) (n, j) f in
+            made-by c e (a .0) (ap (λ (p : F .Numbers × ℕ). p .0) (a .1)) (ap (λ (p : F .Numbers × ℕ). p .1) (a .1))
+            (g ∙ ap (λ (o : Option Refusal). put-unless o (s .meet) meet) (a .0))
+            (h ∙ ap (λ (o : Option Refusal). put-unless o (pair-table s nodes) to) (a .0))
+
 -- ---- document 01's file
 
 -- an accepted set-up has no more meet entries than the limit
@@ -129,39 +184,15 @@ few-entries c ok =
     let w = setup-passed (file-setup c) (rule-numbers c) ok in
     omega (arith, w .of-kind .whole, square-small (w .of-kind .few-values))
 
-made-none : (o : Option Refusal) (n m : FileNumbers) (j k : ℕ) → Made n j ≡ made-or o m k → (o ≡ none) × (n ≡ m) × (j ≡ k)
-unfolding made-or
-made-none none n m j k e = (refl, cc, cc)
-made-none (some q) n m j k e = let z : _≡_ {A = ℕ} 0 1 = cc in absurd (omega arith)
-
-made-some : (o : Option Refusal) (r : Refusal) (m : FileNumbers) (k : ℕ) → Refused r ≡ made-or o m k → o ≡ some r
-unfolding made-or
-made-some none r m k e = let z : _≡_ {A = ℕ} 0 1 = cc in absurd (omega arith)
-made-some (some q) r m k e = let z : q ≡ r = cc in ap some z
+pub number-tables : Cases makes-numbers Refused refusal-made table-made
+number-tables = record { of-accepted = λ n. (refl, refl); of-refused = λ q. (refl, refl) }
 
 module _ {t meet to meet′ to′ : List ℕ} {x : FileTable} (k : CompilesFile t meet to meet′ to′ x) where
   pub unmade : {r : Refusal} → x ≡ Refused r → Unmade number-file read-file t meet to r × (to′ ≡ to)
-  unfolding file-table-answer table-after put-unless
-  unmade {r} is = go (read-file t) refl (sym is ∙ k .answer) (k .table-is)
-    where
-      go : (x : Outcome Contents) → read-file t ≡ x → Refused r ≡ file-table-answer x meet to → to′ ≡ table-after x meet to
-          → Unmade number-file read-file t meet to r × (to′ ≡ to)
-      go (refused p) e f g = let z : At 4 p ≡ r = cc in (subst (Unmade number-file read-file t meet to) z (off-form p e), g)
-      go (contents c) e f g =
-          let a = made-some (file-refusal c meet to) r (file-numbers c) (file-states c) f in
-          (turned-away c r e a, g ∙ ap (λ (o : Option Refusal). put-unless o (file-table c) to) a)
+  unmade is = unmade-by number-file read-file number-tables k (ap refusal-made is)
 
   pub made-of : {n : FileNumbers} {j : ℕ} → x ≡ Made n j → MadeOf number-file read-file t meet to meet′ to′ n j
-  unfolding file-table-answer entries-after table-after put-unless
-  made-of {n} {j} is = go (read-file t) refl (sym is ∙ k .answer) (k .meet-is) (k .table-is)
-    where
-      go : (x : Outcome Contents) → read-file t ≡ x → Made n j ≡ file-table-answer x meet to → meet′ ≡ entries-after x meet to
-          → to′ ≡ table-after x meet to → MadeOf number-file read-file t meet to meet′ to′ n j
-      go (refused p) e f g h = let z : _≡_ {A = ℕ} 0 1 = cc in absurd (omega arith)
-      go (contents c) e f g h =
-          let a = made-none (file-refusal c meet to) n (file-numbers c) j (file-states c) f in
-          made-by number-file read-file c e (a .0) (a .1) (a .2) (g ∙ ap (λ (o : Option Refusal). put-unless o (c .meet) meet) (a .0))
-          (h ∙ ap (λ (o : Option Refusal). put-unless o (file-table c) to) (a .0))
+  made-of is = made-of-by number-file read-file number-tables k (ap table-made is)
 
 -- by the numbers that were answered
 module _ {t meet to meet′ to′ : List ℕ} {n : FileNumbers} {k : ℕ} (w : MadeOf number-file read-file t meet to meet′ to′ n k) where
@@ -202,43 +233,15 @@ module _ {t meet to meet′ to′ : List ℕ} {n : FileNumbers} {k : ℕ} (w : M
 
 -- ---- a register's file
 
-register-made-none : (o : Option Refusal) (n m : RegisterNumbers) (j k : ℕ) → RegisterTable.Made n j ≡ register.made-or o m k
-    → (o ≡ none) × (n ≡ m) × (j ≡ k)
-unfolding register.made-or
-register-made-none none n m j k e = (refl, cc, cc)
-register-made-none (some q) n m j k e = let z : _≡_ {A = ℕ} 0 1 = cc in absurd (omega arith)
+pub register-tables : Cases makes-register (λ q. RegisterTable.Refused q) register-refusal-made register-table-made
+register-tables = record { of-accepted = λ n. (refl, refl); of-refused = λ q. (refl, refl) }
 
-register-made-some : (o : Option Refusal) (r : Refusal) (m : RegisterNumbers) (k : ℕ) → RegisterTable.Refused r ≡ register.made-or o m k → o ≡ some r
-unfolding register.made-or
-register-made-some none r m k e = let z : _≡_ {A = ℕ} 0 1 = cc in absurd (omega arith)
-register-made-some (some q) r m k e = let z : q ≡ r = cc in ap some z
-
-module _ {t to to′ : List ℕ} {x : RegisterTable} (k : register.CompilesFile t to to′ x) where
-  abbrev Inside : Type 0
-  Inside = register-file .Inside
-
+module _ {t to to′ : List ℕ} {x : RegisterTable} (k : CompilesRegisterFile t [] to [] to′ x) where
   pub register-unmade : {r : Refusal} → x ≡ RegisterTable.Refused r → Unmade register-file read-register-file t [] to r × (to′ ≡ to)
-  unfolding register.file-table-answer register.table-after put-unless
-  register-unmade {r} is = go (read-register-file t) refl (sym is ∙ k .answer) (k .table-is)
-    where
-      go : (x : Outcome Inside) → read-register-file t ≡ x → RegisterTable.Refused r ≡ register.file-table-answer x to → to′ ≡ register.table-after x to
-          → Unmade register-file read-register-file t [] to r × (to′ ≡ to)
-      go (refused p) e f g = let z : At 4 p ≡ r = cc in (subst (Unmade register-file read-register-file t [] to) z (off-form p e), g)
-      go (contents c) e f g =
-          let a = register-made-some (register.file-refusal c to) r (register-file .numbers-of c) (pair-states (register-file .setup-of c) (register-file .nodes-of c)) f in
-          (turned-away c r e a, g ∙ ap (λ (o : Option Refusal). put-unless o (pair-table (register-file .setup-of c) (register-file .nodes-of c)) to) a)
+  register-unmade is = unmade-by register-file read-register-file register-tables k (ap register-refusal-made is)
 
   pub register-made-of : {n : RegisterNumbers} {j : ℕ} → x ≡ RegisterTable.Made n j → MadeOf register-file read-register-file t [] to [] to′ n j
-  unfolding register.file-table-answer register.table-after put-unless put
-  register-made-of {n} {j} is = go (read-register-file t) refl (sym is ∙ k .answer) (k .table-is)
-    where
-      go : (x : Outcome Inside) → read-register-file t ≡ x → RegisterTable.Made n j ≡ register.file-table-answer x to → to′ ≡ register.table-after x to
-          → MadeOf register-file read-register-file t [] to [] to′ n j
-      go (refused p) e f h = let z : _≡_ {A = ℕ} 0 1 = cc in absurd (omega arith)
-      go (contents c) e f h =
-          let a = register-made-none (register.file-refusal c to) n (register-file .numbers-of c) j (pair-states (register-file .setup-of c) (register-file .nodes-of c)) f in
-          made-by register-file read-register-file c e (a .0) (a .1) (a .2) refl
-          (h ∙ ap (λ (o : Option Refusal). put-unless o (pair-table (register-file .setup-of c) (register-file .nodes-of c)) to) (a .0))
+  register-made-of is = made-of-by register-file read-register-file register-tables k (ap register-table-made is)
 
 -- by the numbers that were answered
 module _ {t to to′ : List ℕ} {n : RegisterNumbers} {k : ℕ} (w : MadeOf register-file read-register-file t [] to [] to′ n k) where

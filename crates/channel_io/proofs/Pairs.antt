@@ -1,29 +1,20 @@
--- The answers of the functions that judge and keep a set-up and a rule, and of the reading that they serve, case by case.
+-- The answers of the functions that judge and keep a set-up and a rule, and of the calls on a text that they serve, case by case. For either form.
 use Prim.Native.Nat.{ℕ, _≤_, _<_}
-use mathlib.Core.{Path.{_≡_, refl, ap, _∙_, subst}, Logic.{_⊎_, inl, inr}, List.{List}, Bool.{Bool, true, false}, Option.{Option, none, some}}
-use lib.{Dec.{leb}, ListN.{length, take}}
+use mathlib.Core.{Path.{_≡_, refl, sym, ap, _∙_, subst}, Logic.{_⊎_, inl, inr}, List.{List}, Bool.{Bool, true, false}, Option.{Option, none, some}}
+use native.Mathlib.Omega.{arith}
+use lib.{Dec.{leb}, ListN.{length}}
 use borrow.Author.Tests.{le-leb, lt-leb}
 use Rattle.theory.proofs.ValueSets.{and-both, and-failed, and-false-right}
-use Rattle.refusal.specs.declared.Refusal.{Refusal}
-use Rattle.refusal.specs.declared.Refusal.the-variants.{Plain}
-use Rattle.refusal.specs.declared.Judgement.the-variants.{Accepted, Refused}
-use Rattle.refusal.specs.RefusalAnswers.{or-else, plain-unless, judgement}
-use Rattle.refusal.specs.Refusal.{put}
-use Rattle.refusal.specs.RefusalAnswers.{put-unless}
+use Rattle.refusal.specs.declared.{Refusal.{Refusal}, Refusal.the-variants.{Plain, At}, Judgement.the-variants.{Accepted, Refused}}
+use Rattle.refusal.specs.{RefusalAnswers.{or-else, plain-unless, judgement, put-unless}, Refusal.{put}}
 use Rattle.refusal.proofs.Refusals.{judgement-accepted, judgement-refused}
 use Rattle.values.specs.{Setup.{Setup}, SetupTests.{setup-refusal}}
 use Rattle.formulas.specs.RuleRefusal.{rule-refusal}
-use Rattle.channel_file.specs.ChannelFile.{Contents}
-use Rattle.channel_io.specs.declared.{FileNumbers.{FileNumbers}, FileRead.{FileRead}}
-use Rattle.channel_io.specs.declared.FileRead.the-variants.{Accepted as Read, Refused as Unread}
-use Rattle.channel_io.specs.FileConditions.{file-setup}
-use Rattle.channel_file.specs.ChannelFile.{rule-numbers}
-use Rattle.channel_io.specs.FileRefusals.{pair-refusal, contents-refusal, has-room, stored-refusal}
-use Rattle.channel_io.specs.FileReading.{numbers}
-use Rattle.channel_io.specs.FileConditions.{file-numbers}
-use Rattle.channel_io.specs.FileReading.{accepted-or, read-answer, meet-after, rule-after, ReadsFile}
-use Rattle.channel_io.specs.Steps.{held-setup, shown-entries, shown-nodes, Keeps}
-use Rattle.channel_io.proofs.ShownBytes.{file-shown, all-shown, Holding, OffForm}
+use Rattle.synthesis.specs.Compilation.{rule-table-refusal}
+use Rattle.text_format.specs.Format.{Outcome, contents, refused}
+use Rattle.channel_io.specs.FileRefusals.{pair-refusal, has-room, stored-refusal, pair-states, pair-table, pair-table-refusal, pair-compile-refusal}
+use Rattle.channel_io.specs.{FileConditions.{FileForm}, FileReading.{answer-or, meet-after, rule-after, read-answer, ReadsBy}}
+use Rattle.channel_io.specs.{FileCompilation.{entries-after, table-after, file-table-answer, CompilesBy}, Steps.{KeepsBy, MakesBy}}
 
 -- ---- 1 to 3, then 5 to 9
 module _ (s : Setup) (rule : List ℕ) where
@@ -36,84 +27,148 @@ module _ (s : Setup) (rule : List ℕ) where
   pair-rule e = let f = judgement-accepted (setup-refusal s) e in rw f
 
 -- ---- entries and nodes put into two buffers
-module _ (n : FileNumbers) (entries nodes meet rule : List ℕ) where
-  abbrev S : Setup
-  S = held-setup n entries
+module _ {N R : Type 0} (refuses : Refusal → R) (s : Setup) (nodes : List ℕ) (accepts : N → R) (n : N) (meet rule : List ℕ) where
+  abbrev K : (meet′ rule′ : List ℕ) → R → Type 0
+  K = KeepsBy refuses s nodes accepts n meet rule
 
-  pub keeps :
-      (o : Option Refusal) (meet′ rule′ : List ℕ) (r : FileRead) → stored-refusal S nodes meet rule ≡ o → r ≡ accepted-or o n
-      → meet′ ≡ put-unless o entries meet → rule′ ≡ put-unless o nodes rule → Keeps n entries nodes meet rule meet′ rule′ r
+  pub keeps : (o : Option Refusal) (meet′ rule′ : List ℕ) (r : R) → stored-refusal s nodes meet rule ≡ o → r ≡ answer-or accepts refuses o n
+      → meet′ ≡ put-unless o (s .meet) meet → rule′ ≡ put-unless o nodes rule → K meet′ rule′ r
   keeps o meet′ rule′ r e a m k = record { answer = rw e a; meet-is = rw e m; rule-is = rw e k }
 
-  pub keeps-refused : (r : Refusal) → judgement (pair-refusal S nodes) ≡ Refused r → Keeps n entries nodes meet rule meet rule (Unread r)
-  unfolding stored-refusal or-else accepted-or put-unless
+  pub keeps-refused : (r : Refusal) → judgement (pair-refusal s nodes) ≡ Refused r → K meet rule (refuses r)
+  unfolding stored-refusal or-else answer-or put-unless
   keeps-refused r e =
-      let f = judgement-refused (pair-refusal S nodes) r e in
-      keeps (some r) meet rule (Unread r) (rw f) refl refl refl
+      let f = judgement-refused (pair-refusal s nodes) r e in
+      keeps (some r) meet rule (refuses r) (rw f) refl refl refl
 
-  room-answer : judgement (pair-refusal S nodes) ≡ Accepted → (b : Bool) → has-room S nodes meet rule ≡ b → stored-refusal S nodes meet rule ≡ plain-unless b 13
+  room-answer : judgement (pair-refusal s nodes) ≡ Accepted → (b : Bool) → has-room s nodes meet rule ≡ b → stored-refusal s nodes meet rule ≡ plain-unless b 13
   unfolding stored-refusal or-else
-  room-answer e b h = let f = judgement-accepted (pair-refusal S nodes) e in rw (f, h)
+  room-answer e b h = let f = judgement-accepted (pair-refusal s nodes) e in rw (f, h)
 
-  no-room : (length meet < length entries) ⊎ (length rule < length nodes) → has-room S nodes meet rule ≡ false
+  no-room : (length meet < length (s .meet)) ⊎ (length rule < length nodes) → has-room s nodes meet rule ≡ false
   unfolding has-room
-  no-room (inl h) = and-failed (leb (length nodes) (length rule)) (lt-leb (length entries) (length meet) h)
-  no-room (inr h) = and-false-right (leb (length entries) (length meet)) (lt-leb (length nodes) (length rule) h)
+  no-room (inl h) = and-failed (leb (length nodes) (length rule)) (lt-leb (length (s .meet)) (length meet) h)
+  no-room (inr h) = and-false-right (leb (length (s .meet)) (length meet)) (lt-leb (length nodes) (length rule) h)
 
-  pub keeps-short :
-      judgement (pair-refusal S nodes) ≡ Accepted → (length meet < length entries) ⊎ (length rule < length nodes)
-      → Keeps n entries nodes meet rule meet rule (Unread (Plain 13))
-  unfolding plain-unless accepted-or put-unless
-  keeps-short e h = keeps (some (Plain 13)) meet rule (Unread (Plain 13)) (room-answer e false (no-room h)) refl refl refl
+  pub keeps-short : judgement (pair-refusal s nodes) ≡ Accepted → (length meet < length (s .meet)) ⊎ (length rule < length nodes)
+      → K meet rule (refuses (Plain 13))
+  unfolding plain-unless answer-or put-unless
+  keeps-short e h = keeps (some (Plain 13)) meet rule (refuses (Plain 13)) (room-answer e false (no-room h)) refl refl refl
 
-  pub keeps-all :
-      (meet′ rule′ : List ℕ) → judgement (pair-refusal S nodes) ≡ Accepted → length entries ≤ length meet → length nodes ≤ length rule
-      → meet′ ≡ put entries meet → rule′ ≡ put nodes rule → Keeps n entries nodes meet rule meet′ rule′ (Read n)
-  unfolding plain-unless accepted-or put-unless has-room
+  pub keeps-all : (meet′ rule′ : List ℕ) → judgement (pair-refusal s nodes) ≡ Accepted → length (s .meet) ≤ length meet → length nodes ≤ length rule
+      → meet′ ≡ put (s .meet) meet → rule′ ≡ put nodes rule → K meet′ rule′ (accepts n)
+  unfolding plain-unless answer-or put-unless has-room
   keeps-all meet′ rule′ e h g m k =
-      keeps none meet′ rule′ (Read n)
-      (room-answer e true (and-both (le-leb (length entries) (length meet) h) (le-leb (length nodes) (length rule) g))) refl m k
+      keeps none meet′ rule′ (accepts n)
+      (room-answer e true (and-both (le-leb (length (s .meet)) (length meet) h) (le-leb (length nodes) (length rule) g))) refl m k
 
--- What is kept of the bytes is kept of the numbers: those that are refused are refused alike, and of others nothing was clamped.
-module _ (c : Contents) (meet rule meet′ rule′ : List ℕ) (r : FileRead) where
-  earlier : (s : Setup) (nodes : List ℕ) (q : Refusal) → pair-refusal s nodes ≡ some q → stored-refusal s nodes meet rule ≡ some q
+-- ---- what is judged in bytes is judged of the file's numbers
+
+-- Bytes are refused as the numbers are; and where these are accepted, nothing was changed.
+pub record SameJudged (s₁ s : Setup) (nodes₁ nodes : List ℕ) : Type 0 where
+  pub same : pair-refusal s₁ nodes₁ ≡ pair-refusal s nodes
+  pub setups : pair-refusal s nodes ≡ none → s₁ ≡ s
+  pub rules : pair-refusal s nodes ≡ none → nodes₁ ≡ nodes
+
+-- these come before 10 and 13
+sooner : (a b x y : Option Refusal) (r : Refusal) → or-else a b ≡ some r → or-else (or-else a (or-else b x)) y ≡ some r
+unfolding or-else
+sooner none none x y r e = let z : _≡_ {A = ℕ} 0 1 = cc in absurd (omega arith)
+sooner none (some q) x y r e = e
+sooner (some q) b x y r e = e
+
+module _ (s : Setup) (nodes : List ℕ) (q : Refusal) (e : pair-refusal s nodes ≡ some q) where
+  stored-sooner : (meet rule : List ℕ) → stored-refusal s nodes meet rule ≡ some q
   unfolding stored-refusal or-else
-  earlier s nodes q e = rw e
+  stored-sooner meet rule = rw e
 
-  kept-same : Keeps (file-numbers c) (shown-entries c) (shown-nodes c) meet rule meet′ rule′ r → Keeps (file-numbers c) (c .meet) (rule-numbers c) meet rule
-      meet′ rule′ r
-  unfolding accepted-or put-unless numbers
-  kept-same k = go (contents-refusal c) refl
+  compile-sooner : (meet to : List ℕ) → pair-compile-refusal s nodes meet to ≡ some q
+  unfolding pair-refusal pair-compile-refusal pair-table-refusal rule-table-refusal
+  compile-sooner meet to = sooner (setup-refusal s) (rule-refusal (s .events) (s .kind) nodes) _ _ q e
+
+module _ {N R : Type 0} {refuses : Refusal → R} {s₁ s : Setup} {nodes₁ nodes : List ℕ} (w : SameJudged s₁ s nodes₁ nodes) where
+  kept-same : {accepts : N → R} {n : N} {meet rule meet′ rule′ : List ℕ} {r : R} → KeepsBy refuses s₁ nodes₁ accepts n meet rule meet′ rule′ r
+      → KeepsBy refuses s nodes accepts n meet rule meet′ rule′ r
+  unfolding answer-or put-unless
+  kept-same {accepts} {n} {meet} {rule} {meet′} {rule′} {r} k = go (pair-refusal s nodes) refl
     where
-      go : (o : Option Refusal) → contents-refusal c ≡ o → Keeps (file-numbers c) (c .meet) (rule-numbers c) meet rule meet′ rule′ r
+      go : (o : Option Refusal) → pair-refusal s nodes ≡ o → KeepsBy refuses s nodes accepts n meet rule meet′ rule′ r
       go none e =
-          let same = all-shown c e in
-          subst (λ (x : List ℕ). Keeps (file-numbers c) x (rule-numbers c) meet rule meet′ rule′ r) (same .0)
-          (subst (λ (y : List ℕ). Keeps (file-numbers c) (shown-entries c) y meet rule meet′ rule′ r) (same .1) k)
+          subst (λ (x : Setup). KeepsBy refuses x nodes accepts n meet rule meet′ rule′ r) (w .setups e)
+          (subst (λ (y : List ℕ). KeepsBy refuses s₁ y accepts n meet rule meet′ rule′ r) (w .rules e) k)
       go (some q) e =
-          let a = earlier (held-setup (file-numbers c) (shown-entries c)) (shown-nodes c) q (file-shown c ∙ e) in
-          keeps (file-numbers c) (c .meet) (rule-numbers c) meet rule (some q) meet′ rule′ r (earlier (file-setup c) (rule-numbers c) q e)
-          (k .answer ∙ ap (λ (o : Option Refusal). accepted-or o (file-numbers c)) a)
-          (k .meet-is ∙ ap (λ (o : Option Refusal). put-unless o (shown-entries c) meet) a)
-          (k .rule-is ∙ ap (λ (o : Option Refusal). put-unless o (shown-nodes c) rule) a)
+          let a = stored-sooner s₁ nodes₁ q (w .same ∙ e) meet rule in
+          keeps refuses s nodes accepts n meet rule (some q) meet′ rule′ r (stored-sooner s nodes q e meet rule)
+          (k .answer ∙ ap (λ (o : Option Refusal). answer-or accepts refuses o n) a)
+          (k .meet-is ∙ ap (λ (o : Option Refusal). put-unless o (s₁ .meet) meet) a)
+          (k .rule-is ∙ ap (λ (o : Option Refusal). put-unless o nodes₁ rule) a)
+
+  made-same : {makes : N × ℕ → R} {n : N} {meet to meet′ to′ : List ℕ} {r : R} → MakesBy refuses s₁ nodes₁ makes n meet to meet′ to′ r
+      → MakesBy refuses s nodes makes n meet to meet′ to′ r
+  unfolding answer-or put-unless
+  made-same {makes} {n} {meet} {to} {meet′} {to′} {r} k = go (pair-refusal s nodes) refl
+    where
+      go : (o : Option Refusal) → pair-refusal s nodes ≡ o → MakesBy refuses s nodes makes n meet to meet′ to′ r
+      go none e =
+          subst (λ (x : Setup). MakesBy refuses x nodes makes n meet to meet′ to′ r) (w .setups e)
+          (subst (λ (y : List ℕ). MakesBy refuses s₁ y makes n meet to meet′ to′ r) (w .rules e) k)
+      go (some q) e =
+          let a = compile-sooner s₁ nodes₁ q (w .same ∙ e) meet to in
+          let b = compile-sooner s nodes q e meet to in
+          record {
+            answer =
+                k .answer ∙ ap (λ (o : Option Refusal). answer-or makes refuses o (n, pair-states s₁ nodes₁)) a
+                ∙ sym (ap (λ (o : Option Refusal). answer-or makes refuses o (n, pair-states s nodes)) b);
+            meet-is =
+                k .meet-is ∙ ap (λ (o : Option Refusal). put-unless o (s₁ .meet) meet) a ∙ sym (ap (λ (o : Option Refusal). put-unless o (s .meet) meet) b);
+            table-is =
+                k .table-is ∙ ap (λ (o : Option Refusal). put-unless o (pair-table s₁ nodes₁) to) a
+                ∙ sym (ap (λ (o : Option Refusal). put-unless o (pair-table s nodes) to) b);
+          }
 
 -- ---- a text
 
-pub reads-off-form : {t : List ℕ} {q : Refusal} (meet rule : List ℕ) → OffForm t q → ReadsFile t meet rule meet rule (Unread q)
-unfolding read-answer meet-after rule-after
-reads-off-form {t} {q} meet rule f =
-    let e = f .answer in
-    record { answer = ap Unread (f .is) ∙ rw e; meet-is = rw e; rule-is = rw e }
+-- It is refused, with 4 at a place.
+pub record OffForm {A : Type 0} (x : Outcome A) (r : Refusal) : Type 0 where
+  pub place : ℕ
+  pub answer : x ≡ refused place
+  pub is : r ≡ At 4 place
 
-pub reads-held :
-    {t entries nodes : List ℕ} {n : FileNumbers} {m k : ℕ} (meet rule meet′ rule′ : List ℕ) (r : FileRead) (h : Holding t entries nodes n m k)
-    → Keeps n (take m entries) (take k nodes) meet rule meet′ rule′ r → ReadsFile t meet rule meet′ rule′ r
-unfolding read-answer meet-after rule-after numbers
-reads-held {t} {entries} {nodes} {n} {m} {k} meet rule meet′ rule′ r h w =
-    let c = h .inside in
-    let e = h .answer in
-    let w₁ = subst (λ (x : FileNumbers). Keeps x (take m entries) (take k nodes) meet rule meet′ rule′ r) (h .numbers-are) w in
-    let w₂ = subst (λ (x : List ℕ). Keeps (file-numbers c) x (take k nodes) meet rule meet′ rule′ r) (h .entries-are) w₁ in
-    let w₃ = subst (λ (x : List ℕ). Keeps (file-numbers c) (shown-entries c) x meet rule meet′ rule′ r) (h .nodes-are) w₂ in
-    let k = kept-same c meet rule meet′ rule′ r w₃ in
-    record { answer = rw e (k .answer); meet-is = rw e (k .meet-is); rule-is = rw e (k .rule-is) }
+-- It is of the form, and this set-up and these nodes are judged of it.
+pub record Judging (F : FileForm) (x : Outcome (F .Inside)) (n : F .Numbers) (s₁ : Setup) (nodes₁ : List ℕ) : Type 0 where
+  pub inside : F .Inside
+  pub answer : x ≡ contents inside
+  pub numbers-are : n ≡ F .numbers-of inside
+  pub judged : SameJudged s₁ (F .setup-of inside) nodes₁ (F .nodes-of inside)
+
+module _ {F : FileForm} {x : Outcome (F .Inside)} {R : Type 0} (accepts : F .Numbers → R) (refuses : Refusal → R) (meet rule : List ℕ) where
+  pub reads-off-form : {q : Refusal} → OffForm x q → ReadsBy F accepts refuses x meet rule meet rule (refuses q)
+  unfolding read-answer meet-after rule-after
+  reads-off-form f =
+      let e = f .answer in
+      record { answer = ap refuses (f .is) ∙ rw e; meet-is = rw e; rule-is = rw e }
+
+  pub reads-held : {n : F .Numbers} {s₁ : Setup} {nodes₁ meet′ rule′ : List ℕ} {r : R} → Judging F x n s₁ nodes₁
+      → KeepsBy refuses s₁ nodes₁ accepts n meet rule meet′ rule′ r → ReadsBy F accepts refuses x meet rule meet′ rule′ r
+  unfolding read-answer meet-after rule-after
+  reads-held {s₁ = s₁} {nodes₁ = nodes₁} {meet′ = meet′} {rule′ = rule′} {r = r} h w =
+      let e = h .answer in
+      let k = kept-same (h .judged)
+      (subst (λ (z : F .Numbers). KeepsBy refuses s₁ nodes₁ accepts z meet rule meet′ rule′ r) (h .numbers-are) w) in
+      record { answer = rw e (k .answer); meet-is = rw e (k .meet-is); rule-is = rw e (k .rule-is) }
+
+module _ {F : FileForm} {x : Outcome (F .Inside)} {R : Type 0} (makes : F .Numbers × ℕ → R) (refuses : Refusal → R) (meet to : List ℕ) where
+  pub compiles-off-form : {q : Refusal} → OffForm x q → CompilesBy F makes refuses x meet to meet to (refuses q)
+  unfolding file-table-answer entries-after table-after
+  compiles-off-form f =
+      let e = f .answer in
+      record { answer = ap refuses (f .is) ∙ rw e; meet-is = rw e; table-is = rw e }
+
+  pub compiles-held : {n : F .Numbers} {s₁ : Setup} {nodes₁ meet′ to′ : List ℕ} {r : R} → Judging F x n s₁ nodes₁
+      → MakesBy refuses s₁ nodes₁ makes n meet to meet′ to′ r → CompilesBy F makes refuses x meet to meet′ to′ r
+  unfolding file-table-answer entries-after table-after
+  compiles-held {s₁ = s₁} {nodes₁ = nodes₁} {meet′ = meet′} {to′ = to′} {r = r} h w =
+      let e = h .answer in
+      let k = made-same (h .judged)
+      (subst (λ (z : F .Numbers). MakesBy refuses s₁ nodes₁ makes z meet to meet′ to′ r) (h .numbers-are) w) in
+      record { answer = rw e (k .answer); meet-is = rw e (k .meet-is); table-is = rw e (k .table-is) }

@@ -24,7 +24,7 @@ use Rattle.channel_file.specs.ChannelFile.{token-T, token-A, token-V, token-X, 
 use Rattle.channel_file.specs.RegisterFile.{Token, Contents, node-numbers, rule-numbers}
 use Rattle.channel_file.specs.{Bytes.{clamp}, RegisterReading.{kind, first, masks, narrow-kind, node, rule-bytes}}
 use Rattle.channel_file.proofs.Buffers.{encoded-length}
-use Rattle.channel_io.specs.{FileRefusals.{pair-refusal}, RegisterFiles.{file-setup}, RegisterAnswers.{contents-refusal}, RegisterSteps.{shown-nodes}}
+use Rattle.channel_io.specs.{FileRefusals.{pair-refusal}, RegisterFiles.{file-setup}, RegisterSteps.{shown-nodes}}
 use Rattle.channel_io.proofs.ShownBytes.{count-at-fault, many-nodes}
 use Rattle.channel_io.proofs.Clamping.{clamp-below, clamp-zero, unknown, clamp-formula, read-same, structure-same, formula-kept}
 
@@ -366,6 +366,9 @@ shown-rule c h = go (leb (length (c .rule)) node-limit) refl
         let long = leb-false (length (c .rule)) node-limit e in
         count-at-fault (c .events) (Register (c .lines)) [] (rule-numbers c) no-nodes
         (many-nodes 6 (length (rule-numbers c)) (omega (arith, numbers-length (c .events) (c .lines) (c .rule))))
+
+abbrev contents-refusal : Contents → Option Refusal
+contents-refusal c = pair-refusal (file-setup c) (rule-numbers c)
 
 -- a rule is judged where the set-up is accepted
 judged-as : (c : Contents) (rule : List ℕ)

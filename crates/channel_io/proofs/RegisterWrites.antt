@@ -28,8 +28,9 @@ use Rattle.channel_writer.specs.RegisterWriting.{mask-of, masks-of, node-tokens
 use Rattle.channel_writer.specs.Claims.{All, none-left, one-more}
 use Rattle.channel_file.proofs.Claims.{number-length}
 use Rattle.channel_writer.proofs.Claims.{one-or-more}
-use Rattle.channel_io.specs.{FileRefusals.{pair-refusal}, RegisterAnswers.{text-or-empty, file-text, file-write-refusal, WritesFile}}
-use Rattle.channel_io.proofs.{RegisterBytes.{limits}, WriteAnswers.{written-as}}
+use Rattle.channel_io.specs.FileRefusals.{pair-refusal}
+use Rattle.channel_io.specs.FileWriting.{text-or-empty, register-file-text, WritesRegisterFile}
+use Rattle.channel_io.proofs.{RegisterBytes.{limits}, WriteAnswers.{writes-judged}}
 
 -- ---- the tokens of a formula's nodes
 
@@ -202,39 +203,19 @@ textual events lines rule e =
 
 -- ---- the answer to a call
 
-module _ (events lines : ℕ) (rule old : List ℕ) where
-  abbrev T : List ℕ
-  T = file-text events lines rule
-
+module _ (events lines : ℕ) (rule : List ℕ) where
   abbrev P : Option Refusal
   P = pair-refusal (register-setup events lines) rule
-
-  writes : (o : Option Refusal) (new : List ℕ) (r : Counted) → file-write-refusal events lines rule old ≡ o → r ≡ counted o (length T)
-      → new ≡ put-unless o T old → WritesFile events lines rule old new r
-  writes o new r e a b =
-      record {
-        answer = a ∙ ap (λ (x : Option Refusal). counted x (length T)) (sym e);
-        buffer = b ∙ ap (λ (x : Option Refusal). put-unless x T old) (sym e);
-      }
-
-  pub writes-refused : (r : Refusal) → judgement P ≡ Judged r → WritesFile events lines rule old old (Refused r)
-  unfolding file-write-refusal or-else counted put-unless
-  writes-refused r e =
-      writes (some r) old (Refused r)
-      (ap (λ (o : Option Refusal). or-else o (plain-unless (leb (length T) (length old)) 13)) (judgement-refused P r e)) refl refl
 
   pub small-numbers : judgement P ≡ Passed → (events ≤ event-limit) × (lines ≤ line-limit)
   unfolding pair-refusal
   small-numbers e =
       limits events lines (or-else-none (setup-refusal (register-setup events lines)) (rule-refusal events (Register lines) rule) (judgement-accepted P e) .0)
 
-  pub writes-judged : (new : List ℕ) (r : Counted) → judgement P ≡ Passed → WritesContents (contents-of events lines (node-tokens rule)) old new r
-      → WritesFile events lines rule old new r
-  unfolding file-write-refusal file-text
-  writes-judged new r e w =
-      let p = judgement-accepted P e in
-      let c = textual events lines rule p in
-      let a =
-      written-as text (c .inside) P T old new r p (ap text-or-empty (c .is)) (c .short) (w .reply ∙ ap (reply-by text old) (c .is))
-      (w .buffer ∙ ap (buffer-by text old) (c .is)) in
-      record { answer = a .0; buffer = a .1 }
+  pub writes-contents : (old new : List ℕ) (r : Counted) → judgement P ≡ Passed → WritesContents (contents-of events lines (node-tokens rule)) old new r
+      → WritesRegisterFile events lines rule old new r
+  unfolding register-file-text
+  writes-contents old new r e w =
+      let c = textual events lines rule (judgement-accepted P e) in
+      writes-judged (register-setup events lines) rule (register-file-text events lines rule) old text (c .inside) _ new r (c .is) e
+      (ap (text-or-empty text) (c .is)) (c .short) w

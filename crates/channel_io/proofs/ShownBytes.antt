@@ -21,12 +21,13 @@ use Rattle.text_format.specs.Format.{Outcome, contents, refused}
 use Rattle.channel_file.specs.{ChannelFile.{Contents}, Reading.{read-file}}
 use Rattle.channel_file.specs.{Bytes.{entry, node, meet-bytes, rule-bytes, put-front, stored-reply, arrays-of}, declared.ReadArrays.{ReadArrays}}
 use Rattle.channel_file.proofs.Buffers.{encoded-length, front-whole, front-length}
-use Rattle.channel_io.specs.FileConditions.{file-setup, file-numbers}
+use Rattle.channel_io.specs.FileConditions.{file-setup, file-numbers, number-file}
 use Rattle.channel_file.specs.ChannelFile.{node-numbers, rule-numbers}
 use Rattle.channel_io.specs.FileRefusals.{pair-refusal, contents-refusal}
 use Rattle.channel_io.specs.FileReading.{numbers}
-use Rattle.channel_io.specs.Steps.{shown-entries, shown-nodes, held-by}
+use Rattle.channel_io.specs.Steps.{shown-entries, shown-nodes, held-by, held-setup}
 use Rattle.channel_io.specs.declared.{FileNumbers.{FileNumbers}, Held.{Held}, Held.the-variants.{File, Refused}}
+use Rattle.channel_io.proofs.Pairs.{OffForm, Judging}
 use Rattle.channel_io.proofs.Clamping.{meet-clamped, rule-clamped, setup-same, rule-same, limits, nothing-clamped}
 
 -- ---- lengths
@@ -140,21 +141,28 @@ all-shown c e =
 
 -- ---- what is held of a text
 
--- A text is refused, with 4 at a place.
-pub record OffForm (t : List ℕ) (r : Refusal) : Type 0 where
-  pub place : ℕ
-  pub answer : read-file t ≡ refused place
-  pub is : r ≡ At 4 place
-
 -- Two arrays hold what is judged of a text at their fronts, of m and k bytes.
 pub record Holding (t entries nodes : List ℕ) (n : FileNumbers) (m k : ℕ) : Type 0 where
-  pub inside : Contents
-  pub answer : read-file t ≡ contents inside
-  pub numbers-are : n ≡ file-numbers inside
   pub few-entries : m ≤ length entries
   pub few-nodes : k ≤ length nodes
-  pub entries-are : take m entries ≡ shown-entries inside
-  pub nodes-are : take k nodes ≡ shown-nodes inside
+  pub judging : Judging number-file (read-file t) n (held-setup n (take m entries)) (take k nodes)
+
+-- the set-up and the nodes that are judged of contents
+contents-judging : (t : List ℕ) (c : Contents) → read-file t ≡ contents c
+    → Judging number-file (read-file t) (file-numbers c) (held-setup (file-numbers c) (shown-entries c)) (shown-nodes c)
+unfolding numbers
+contents-judging t c e =
+    record {
+      inside = c;
+      answer = e;
+      numbers-are = refl;
+      judged =
+          record {
+            same = file-shown c;
+            setups = λ ok. ap (λ (l : List ℕ). held-setup (file-numbers c) l) (all-shown c ok .0);
+            rules = λ ok. all-shown c ok .1;
+          };
+    }
 
 -- the bytes that were stored stand at the front
 pub front : (s old : List ℕ) (n : ℕ) → length s ≤ length old → n ≡ length s → take n (put-front s old) ≡ s
@@ -194,10 +202,10 @@ shown-few count limit r e = go (leb count limit) refl e
     go false f d = omega arith
 
 -- what is held of a text that was read into arrays: 4
-pub off-form : (t : List ℕ) {a : ReadArrays} {h : Held} {q : Refusal} → a ≡ arrays-of (read-file t) → h ≡ held-by (a .reply) → h ≡ Refused q → OffForm t q
+pub off-form : (t : List ℕ) {a : ReadArrays} {h : Held} {q : Refusal} → a ≡ arrays-of (read-file t) → h ≡ held-by (a .reply) → h ≡ Refused q → OffForm (read-file t) q
 off-form t {q = q} e d f = go (read-file t) refl (sym f ∙ d ∙ ap (λ (z : ReadArrays). held-by (z .reply)) e)
   where
-    go : (x : Outcome Contents) → read-file t ≡ x → Refused q ≡ held-by (stored-reply x) → OffForm t q
+    go : (x : Outcome Contents) → read-file t ≡ x → Refused q ≡ held-by (stored-reply x) → OffForm (read-file t) q
     go (contents c) r g = let z : _≡_ {A = ℕ} 0 1 = cc in absurd (omega arith)
     go (refused p) r g = record { place = p; answer = r; is = cc }
 
@@ -216,15 +224,14 @@ holds t {a = a} {n = n} {m = m} {k = k} e d f = go (read-file t) refl e (sym f �
         let ln : length (a .rule) ≡ node-limit * 3 =
         ap (λ (z : ReadArrays). length (z .rule)) e ∙ front-length (rule-bytes c) (replicate (node-limit * 3) 0) ∙ length-replicate {A = ℕ}
         (node-limit * 3) 0 in
+        let ni : n ≡ file-numbers c = cc in
+        let entries-are : take m (a .meet) ≡ shown-entries c =
+        ap (λ (z : ReadArrays). take m (z .meet)) e ∙ ap (λ (i : ℕ). take i (put-front (meet-bytes c) (replicate meet-limit 0))) em ∙ held-entries c in
+        let nodes-are : take k (a .rule) ≡ shown-nodes c =
+        ap (λ (z : ReadArrays). take k (z .rule)) e ∙ ap (λ (i : ℕ). take i (put-front (rule-bytes c) (replicate (node-limit * 3) 0))) ek ∙ held-nodes c in
         record {
-          inside = c;
-          answer = r;
-          numbers-are = cc;
           few-entries = omega (arith, shown-few (length (c .meet)) meet-limit m em);
           few-nodes = omega (arith, shown-few (length (c .rule)) node-limit _ refl);
-          entries-are =
-              ap (λ (z : ReadArrays). take m (z .meet)) e ∙ ap (λ (i : ℕ). take i (put-front (meet-bytes c) (replicate meet-limit 0))) em ∙ held-entries c;
-          nodes-are =
-              ap (λ (z : ReadArrays). take k (z .rule)) e ∙ ap (λ (i : ℕ). take i (put-front (rule-bytes c) (replicate (node-limit * 3) 0))) ek ∙ held-nodes c;
+          judging = rw (ni, entries-are, nodes-are) (contents-judging t c r);
         }
     go (refused p) r e g = let z : _≡_ {A = ℕ} 0 1 = cc in absurd (omega arith)

@@ -17,23 +17,13 @@ use Rattle.values.specs.Setup.{Setup, setup-meet, setup-top}
 use Rattle.values.specs.SetupInOrder.{AcceptedSetup}
 use Rattle.values.specs.SetupTests.{setup-refusal}
 use Rattle.values.proofs.Setups.{setup-accepted}
-use Rattle.formulas.specs.RuleRefusal.{rule-refusal}
 use Rattle.machines.specs.TableBytes.{entry-width, entry-bytes, machine-of}
 use Rattle.machines.proofs.{EntryBytes.{table-length}, TableRoundTrip.{entry-length}}
 use Rattle.synthesis.specs.{Compilation.{rule-table, rule-table-refusal, setup-states, compile-refusal, compile-contents}, Claims.{RuleTable}}
 use Rattle.synthesis.proofs.CompileClaims.{compile-claim}
-use Rattle.channel_file.specs.ChannelFile.{Contents}
-use Rattle.channel_io.specs.declared.{FileNumbers.{FileNumbers}, FileTable.{FileTable}}
-use Rattle.channel_io.specs.declared.FileTable.the-variants.{Made, Refused}
-use Rattle.channel_io.specs.FileConditions.{file-setup}
-use Rattle.channel_file.specs.ChannelFile.{rule-numbers}
-use Rattle.channel_io.specs.FileRefusals.{pair-refusal, contents-refusal, pair-states, pair-table, pair-table-refusal, has-table-room}
-use Rattle.channel_io.specs.FileRefusals.{pair-compile-refusal}
-use Rattle.channel_io.specs.FileReading.{numbers}
-use Rattle.channel_io.specs.FileConditions.{file-numbers}
-use Rattle.channel_io.specs.FileCompilation.{made-or, file-table-answer, entries-after, table-after, CompilesFile}
-use Rattle.channel_io.specs.Steps.{held-setup, shown-entries, shown-nodes, CompilesPair}
-use Rattle.channel_io.proofs.ShownBytes.{file-shown, all-shown, Holding, OffForm}
+use Rattle.channel_io.specs.declared.{FileNumbers.{FileNumbers}, FileTable.{FileTable}, FileTable.the-variants.{Made, Refused}}
+use Rattle.channel_io.specs.FileRefusals.{pair-states, pair-table, pair-table-refusal, has-table-room, pair-compile-refusal}
+use Rattle.channel_io.specs.{FileReading.{answer-or}, FileCompilation.{makes-numbers}, Steps.{held-setup, CompilesPair}}
 
 -- ---- a set-up of either kind and a rule that are compiled
 module _ (s : Setup) (rule : List ℕ) where
@@ -107,7 +97,8 @@ module _ (n : FileNumbers) (meet rule entries to : List ℕ) where
   some-rows ok = omega (arith, rows-length S rule, mul-le-mul (some-states S rule ok) (setup-passed S rule ok .some-events))
 
   pub compiles :
-      (o : Option Refusal) (entries′ to′ : List ℕ) (r : FileTable) → pair-compile-refusal S rule entries to ≡ o → r ≡ made-or o n (pair-states S rule)
+      (o : Option Refusal) (entries′ to′ : List ℕ) (r : FileTable) → pair-compile-refusal S rule entries to ≡ o
+      → r ≡ answer-or makes-numbers Refused o (n, pair-states S rule)
       → entries′ ≡ put-unless o meet entries → to′ ≡ put-unless o (pair-table S rule) to → CompilesPair n meet rule entries to entries′ to′ r
   compiles o entries′ to′ r e a m k = record { answer = rw e a; meet-is = rw e m; table-is = rw e k }
 
@@ -203,7 +194,7 @@ module _ (n : FileNumbers) (meet rule entries to : List ℕ) where
       left-as o e = ap (λ (l : List ℕ). l ++ drop j to) is-front ∙ compiled j is .after o e
 
       pub pair-refused : (r : Refusal) → Uncounted r ≡ counted answered states → CompilesPair n meet rule entries to entries (front ++ drop j to) (Refused r)
-      unfolding made-or put-unless
+      unfolding answer-or put-unless
       pair-refused r e =
           let a : R ≡ some r = sym (compiled j is .same) ∙ counted-refused answered states r (sym e) in
           compiles (some r) entries (front ++ drop j to) (Refused r) a refl refl (left-as (some r) a)
@@ -211,62 +202,8 @@ module _ (n : FileNumbers) (meet rule entries to : List ℕ) where
       pub pair-made :
           (i : ℕ) (entries′ : List ℕ) → Count i ≡ counted answered states → entries′ ≡ put meet entries
           → CompilesPair n meet rule entries to entries′ (front ++ drop j to) (Made n i)
-      unfolding made-or put-unless
+      unfolding answer-or put-unless
       pair-made i entries′ e m =
           let c = counted-accepted answered states i (sym e) in
           let a : R ≡ none = sym (compiled j is .same) ∙ c .0 in
           compiles none entries′ (front ++ drop j to) (Made n i) a (ap (Made n) (sym (c .1))) m (left-as none a)
-
--- ---- a text
-
--- 1 to 3 and 5 to 9 come before 10 and 13
-earlier : (a b x y : Option Refusal) (r : Refusal) → or-else a b ≡ some r → or-else (or-else a (or-else b x)) y ≡ some r
-unfolding or-else
-earlier none none x y r e = let z : _≡_ {A = ℕ} 0 1 = cc in absurd (omega arith)
-earlier none (some q) x y r e = e
-earlier (some q) b x y r e = e
-
-pair-earlier :
-    (s : Setup) (rule entries to : List ℕ) (r : Refusal) → pair-refusal s rule ≡ some r → pair-compile-refusal s rule entries to ≡ some r
-unfolding pair-refusal pair-compile-refusal pair-table-refusal rule-table-refusal
-pair-earlier s rule entries to r e = earlier (setup-refusal s) (rule-refusal (s .events) (s .kind) rule) _ _ r e
-
--- What is made of the bytes is made of the numbers: those that are refused are refused alike, and of others nothing was clamped.
-module _ (c : Contents) (meet to meet′ to′ : List ℕ) (r : FileTable) where
-  pair-same :
-      CompilesPair (file-numbers c) (shown-entries c) (shown-nodes c) meet to meet′ to′ r
-      → CompilesPair (file-numbers c) (c .meet) (rule-numbers c) meet to meet′ to′ r
-  unfolding made-or put-unless numbers
-  pair-same k = go (contents-refusal c) refl
-    where
-      go : (o : Option Refusal) → contents-refusal c ≡ o → CompilesPair (file-numbers c) (c .meet) (rule-numbers c) meet to meet′ to′ r
-      go none e =
-          let same = all-shown c e in
-          subst (λ (x : List ℕ). CompilesPair (file-numbers c) x (rule-numbers c) meet to meet′ to′ r) (same .0)
-          (subst (λ (y : List ℕ). CompilesPair (file-numbers c) (shown-entries c) y meet to meet′ to′ r) (same .1) k)
-      go (some q) e =
-          let s = held-setup (file-numbers c) (shown-entries c) in
-          let a = pair-earlier s (shown-nodes c) meet to q (file-shown c ∙ e) in
-          compiles (file-numbers c) (c .meet) (rule-numbers c) meet to (some q) meet′ to′ r (pair-earlier (file-setup c) (rule-numbers c) meet to q e)
-          (k .answer ∙ ap (λ (o : Option Refusal). made-or o (file-numbers c) (pair-states s (shown-nodes c))) a)
-          (k .meet-is ∙ ap (λ (o : Option Refusal). put-unless o (shown-entries c) meet) a)
-          (k .table-is ∙ ap (λ (o : Option Refusal). put-unless o (pair-table s (shown-nodes c)) to) a)
-
-pub compiles-off-form : {t : List ℕ} {q : Refusal} (meet to : List ℕ) → OffForm t q → CompilesFile t meet to meet to (Refused q)
-unfolding file-table-answer entries-after table-after
-compiles-off-form {t} {q} meet to f =
-    let e = f .answer in
-    record { answer = ap Refused (f .is) ∙ rw e; meet-is = rw e; table-is = rw e }
-
-pub compiles-held :
-    {t entries nodes : List ℕ} {n : FileNumbers} {m k : ℕ} (meet to meet′ to′ : List ℕ) (r : FileTable) (h : Holding t entries nodes n m k)
-    → CompilesPair n (take m entries) (take k nodes) meet to meet′ to′ r → CompilesFile t meet to meet′ to′ r
-unfolding file-table-answer entries-after table-after numbers
-compiles-held {t} {entries} {nodes} {n} {m} {k} meet to meet′ to′ r h w =
-    let c = h .inside in
-    let e = h .answer in
-    let w₁ = subst (λ (x : FileNumbers). CompilesPair x (take m entries) (take k nodes) meet to meet′ to′ r) (h .numbers-are) w in
-    let w₂ = subst (λ (x : List ℕ). CompilesPair (file-numbers c) x (take k nodes) meet to meet′ to′ r) (h .entries-are) w₁ in
-    let w₃ = subst (λ (x : List ℕ). CompilesPair (file-numbers c) (shown-entries c) x meet to meet′ to′ r) (h .nodes-are) w₂ in
-    let k = pair-same c meet to meet′ to′ r w₃ in
-    record { answer = rw e (k .answer); meet-is = rw e (k .meet-is); table-is = rw e (k .table-is) }

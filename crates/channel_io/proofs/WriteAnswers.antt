@@ -16,7 +16,7 @@ use Rattle.refusal.specs.RefusalAnswers.{put-unless}
 use Rattle.refusal.proofs.Refusals.{judgement-accepted, judgement-refused, or-else-none}
 use Rattle.limits.specs.Limits.{event-limit, value-limit, node-limit, file-limit}
 use Rattle.values.specs.declared.ValueKind.the-variants.{Numbered}
-use Rattle.values.specs.Setup.{setup}
+use Rattle.values.specs.Setup.{Setup, setup}
 use Rattle.values.specs.SetupInOrder.{AcceptedSetup}
 use Rattle.values.specs.SetupTests.{setup-refusal}
 use Rattle.values.proofs.Setups.{setup-accepted, square-small}
@@ -28,13 +28,11 @@ use Rattle.channel_file.specs.ChannelFile.{Token, token-T, token-A, token-V, to
 use Rattle.channel_file.specs.Bytes.{clamp}
 use Rattle.channel_file.specs.ChannelFile.{encoded}
 use Rattle.channel_file.proofs.Claims.{length-claim}
-use Rattle.channel_writer.specs.Writing.{with-token, node-tokens, contents-of, reply-by, buffer-by, written-reply, written-buffer, WritesContents}
+use Rattle.channel_writer.specs.Writing.{with-token, node-tokens, contents-of, reply-by, buffer-by, WritesBy, WritesContents}
 use Rattle.channel_writer.specs.Claims.{All, none-left, one-more, Byte}
 use Rattle.channel_writer.proofs.Claims.{written-claim}
 use Rattle.channel_file.specs.ChannelFile.{node-numbers, rule-numbers}
-use Rattle.channel_io.specs.FileRefusals.{text-or-empty, file-text}
-use Rattle.channel_io.specs.FileRefusals.{pair-refusal, file-write-refusal}
-use Rattle.channel_io.specs.FileWriting.{WritesFile}
+use Rattle.channel_io.specs.{FileRefusals.{pair-refusal}, FileWriting.{text-or-empty, write-refusal, WritesText, file-text, WritesFile}}
 use Rattle.channel_io.proofs.Clamping.{limits, meet-kept, rule-kept}
 
 -- ---- the tokens of a formula's nodes
@@ -182,27 +180,24 @@ module _ {A : Type 0} (text : A → List ℕ) (c : A) (P : Option Refusal) (T ol
                 ∙ ap (λ (x : Option Refusal). put-unless x T old) (sym o),
           )
 
-module _ (events values top : ℕ) (meet rule old : List ℕ) where
-  abbrev T : List ℕ
-  T = file-text events values top meet rule
-
-  writes : (o : Option Refusal) (new : List ℕ) (r : Counted) → file-write-refusal events values top meet rule old ≡ o → r ≡ counted o (length T) → new
-      ≡ put-unless o T old
-      → WritesFile events values top meet rule old new r
-  writes o new r e a b =
-      record {
-        answer = a ∙ ap (λ (x : Option Refusal). counted x (length T)) (sym e);
-        buffer = b ∙ ap (λ (x : Option Refusal). put-unless x T old) (sym e);
-      }
-
-  pub writes-refused : (r : Refusal) → judgement (pair-refusal (setup events values top meet) rule) ≡ Judged r
-      → WritesFile events values top meet rule old old (Refused r)
-  unfolding file-write-refusal or-else counted put-unless
+-- The set-up and the rule are refused; or there are contents to write, whose text is this.
+module _ (s : Setup) (rule T old : List ℕ) where
+  pub writes-refused : (r : Refusal) → judgement (pair-refusal s rule) ≡ Judged r → WritesText s rule T old old (Refused r)
+  unfolding write-refusal or-else counted put-unless
   writes-refused r e =
-      writes (some r) old (Refused r)
-      (ap (λ (o : Option Refusal). or-else o (plain-unless (leb (length T) (length old)) 13))
-      (judgement-refused (pair-refusal (setup events values top meet) rule) r e)) refl refl
+      let f = judgement-refused (pair-refusal s rule) r e in
+      record { answer = rw f; buffer = rw f }
 
+  pub writes-judged : {A : Type 0} (text : A → List ℕ) (c : A) (o : Option A) (new : List ℕ) (r : Counted) → o ≡ some c
+      → judgement (pair-refusal s rule) ≡ Passed → T ≡ text c → length (text c) ≤ file-limit → WritesBy text o old new r → WritesText s rule T old new r
+  unfolding write-refusal
+  writes-judged text c o new r is e t short w =
+      let a = written-as text c (pair-refusal s rule) T old new r (judgement-accepted (pair-refusal s rule) e) t short (w .reply ∙ ap (reply-by text old) is)
+      (w .buffer ∙ ap (buffer-by text old) is) in
+      record { answer = a .0; buffer = a .1 }
+
+-- ---- document 01's file
+module _ (events values top : ℕ) (meet rule : List ℕ) where
   pub small-numbers : judgement (pair-refusal (setup events values top meet) rule) ≡ Passed → (events ≤ event-limit) × (values ≤ value-limit) × (top < values)
   unfolding pair-refusal
   small-numbers e =
@@ -211,14 +206,10 @@ module _ (events values top : ℕ) (meet rule old : List ℕ) where
       let w : AcceptedSetup (setup events values top meet) = setup-accepted (setup events values top meet) .0 (a .0) in
       (w .few-events, w .of-kind .few-values, w .laws .top-in)
 
-  pub writes-judged :
-      (new : List ℕ) (r : Counted) → judgement (pair-refusal (setup events values top meet) rule) ≡ Passed
+  pub writes-contents : (old new : List ℕ) (r : Counted) → judgement (pair-refusal (setup events values top meet) rule) ≡ Passed
       → WritesContents (contents-of events values top meet (node-tokens rule)) old new r → WritesFile events values top meet rule old new r
-  unfolding file-write-refusal file-text
-  writes-judged new r e w =
-      let p = judgement-accepted (pair-refusal (setup events values top meet) rule) e in
-      let c = textual events values top meet rule p in
-      let a =
-      written-as text (c .inside) (pair-refusal (setup events values top meet) rule) T old new r p (ap text-or-empty (c .is)) (c .short)
-      (w .reply ∙ ap (written-reply old) (c .is)) (w .buffer ∙ ap (written-buffer old) (c .is)) in
-      record { answer = a .0; buffer = a .1 }
+  unfolding file-text
+  writes-contents old new r e w =
+      let c = textual events values top meet rule (judgement-accepted (pair-refusal (setup events values top meet) rule) e) in
+      writes-judged (setup events values top meet) rule (file-text events values top meet rule) old text (c .inside) _ new r (c .is) e
+      (ap (text-or-empty text) (c .is)) (c .short) w

@@ -2,20 +2,18 @@
 use Prim.Native.Nat.{ℕ, _≤_, _*_}
 use mathlib.Core.{Path.{_≡_}, List.{List, map}, Option.{none}}
 use lib.ListN.{length}
-use Rattle.limits.specs.Limits.{state-limit, file-limit, entry-limit}
+use Rattle.limits.specs.Limits.{state-limit, entry-limit}
 use Rattle.refusal.specs.Refusal.{Judged}
 use Rattle.values.specs.{declared.ValueKind.{ValueKind}, declared.ValueKind.the-variants.{Numbered}}
 use Rattle.values.specs.{Setup.{Setup, setup, setup-meet, setup-top}, SetupTests.{setup-refusal}}
 use Rattle.formulas.specs.RuleRefusal.{rule-refusal}
 use Rattle.machines.specs.TableBytes.{entry-width, machine-of}
 use Rattle.synthesis.specs.{TableOfRule.{pair-table-conditions}, Claims.{RuleTable}}
-use Rattle.text_format.specs.Format.{contents}
-use Rattle.channel_file.specs.{ChannelFile.{Contents, Form, rule-numbers}, Reading.{read-file}, Bytes.{clamp, meet-bytes, rule-bytes}}
+use Rattle.channel_file.specs.{ChannelFile.{Contents, rule-numbers}, Bytes.{clamp, meet-bytes, rule-bytes}}
 use Rattle.channel_file.specs.RegisterFile as register
 use Rattle.channel_file.specs.RegisterReading as register-reading
 use Rattle.channel_io.specs.RegisterFiles as register-files
-use Rattle.channel_io.specs.RegisterAnswers as register-answers
-use Rattle.channel_io.specs.FileRefusals.{file-text, pair-refusal, pair-states, pair-table, pair-table-refusal, contents-refusal}
+use Rattle.channel_io.specs.FileRefusals.{pair-refusal, pair-states, pair-table, pair-table-refusal, contents-refusal}
 
 -- The bytes of the largest table, of numbers and of registers.
 abbrev pub table-bytes-limit : ℕ
@@ -54,33 +52,11 @@ pub record FileTableMade (s : Setup) (nodes : List ℕ) : Type 0 where
 abbrev pub FileTableMadeClaim : Type 0
 FileTableMadeClaim = (s : Setup) (nodes : List ℕ) → pair-table-refusal s nodes ≡ none → FileTableMade s nodes
 
--- What is written for a set-up and a rule that are accepted: a text of the form within the limit, which reads back as the same
--- set-up and rule.
-pub record ReadsBack (events values top : ℕ) (meet rule : List ℕ) : Type 0 where
-  pub inside : Contents
-  pub reads : read-file (file-text events values top meet rule) ≡ contents inside
-  pub events-is : inside .events ≡ events
-  pub values-is : inside .values ≡ values
-  pub top-is : inside .top ≡ top
-  pub meet-is : inside .meet ≡ meet
-  pub rule-is : rule-numbers inside ≡ rule
-
-pub record WriteClaim : Type 0 where
-  pub of-the-form :
-      (events values top : ℕ) (meet rule : List ℕ) → pair-refusal (setup events values top meet) rule ≡ none → Form (file-text events values top meet rule)
-  pub within-limit :
-      (events values top : ℕ) (meet rule : List ℕ) → pair-refusal (setup events values top meet) rule ≡ none
-      → length (file-text events values top meet rule) ≤ file-limit
-  pub reads-back :
-      (events values top : ℕ) (meet rule : List ℕ) → pair-refusal (setup events values top meet) rule ≡ none → ReadsBack events values top meet rule
-  -- an accepted file written out again is the same bytes
-  pub again :
-      (t : List ℕ) (c : Contents) → read-file t ≡ contents c → contents-refusal c ≡ none
-      → file-text (c .events) (c .values) (c .top) (c .meet) (rule-numbers c) ≡ t
-
 -- What is stored of a register's file is judged as its numbers are, and of an accepted file nothing is changed.
 pub record StoredRegisterClaim : Type 0 where
   pub stored-same :
-      (c : register.Contents) → pair-refusal (register-files.file-setup c) (register-reading.rule-bytes c) ≡ register-answers.contents-refusal c
+      (c : register.Contents) → pair-refusal (register-files.file-setup c) (register-reading.rule-bytes c)
+      ≡ pair-refusal (register-files.file-setup c) (register.rule-numbers c)
   pub nothing-changed :
-      (c : register.Contents) → register-answers.contents-refusal c ≡ none → register-reading.rule-bytes c ≡ register.rule-numbers c
+      (c : register.Contents) → pair-refusal (register-files.file-setup c) (register.rule-numbers c) ≡ none
+      → register-reading.rule-bytes c ≡ register.rule-numbers c

@@ -1,34 +1,51 @@
 -- Twin of FileConditions, pinned by product_claims DemandTwo.
--- The table of a channel file's rule (document 01, "Channel file" and "Table of a rule"; refusals 4, 1 to 3, 5 to 10 and 13): the
--- answer, and what two lent buffers hold afterwards.
+-- The table of a file's rule (refusals 4, those of a set-up, 5 to 10 and 13): the answer, and what two lent buffers hold afterwards. For any form of
+-- files.
 use Prim.Native.Nat.{ℕ}
-use mathlib.Core.{Path.{_≡_}, List.{List}, Option.{Option, none, some}}
+use mathlib.Core.{Path.{_≡_}, List.{List}}
 use Rattle.refusal.specs.{declared.Refusal.{Refusal}, declared.Refusal.the-variants.{At}, RefusalAnswers.{put-unless}}
 use Rattle.text_format.specs.Format.{Outcome, contents, refused}
-use Rattle.channel_file.specs.{ChannelFile.{Contents}, Reading.{read-file}}
+use Rattle.channel_file.specs.Reading.{read-file}
+use Rattle.channel_file.specs.RegisterReading.{read-file as read-register-file}
 use Rattle.channel_io.specs.{declared.FileNumbers.{FileNumbers}, declared.FileTable.{FileTable}, declared.FileTable.the-variants.{Made, Refused}}
-use Rattle.channel_io.specs.{FileConditions.{file-numbers}, FileRefusals.{file-states, file-table, file-refusal}}
+use Rattle.channel_io.specs.declared.registers.{FileNumbers.{FileNumbers as RegisterNumbers}, FileTable.{FileTable as RegisterTable}}
+use Rattle.channel_io.specs.{FileConditions.{FileForm, number-file}, RegisterFiles.{register-file}, FileReading.{answer-or}}
+use Rattle.channel_io.specs.FileRefusals.{pair-states, pair-table, pair-compile-refusal}
 
-unfoldable pub made-or : Option Refusal → FileNumbers → ℕ → FileTable
-made-or none n states = Made n states
-made-or (some refusal) n states = Refused refusal
+module _ (F : FileForm) where
+  -- The buffers afterwards: the meet entries, and the table.
+  unfoldable pub entries-after : Outcome (F .Inside) → List ℕ → List ℕ → List ℕ
+  entries-after (refused p) meet to = meet
+  entries-after (contents c) meet to = put-unless (pair-compile-refusal (F .setup-of c) (F .nodes-of c) meet to) (F .setup-of c .meet) meet
 
--- The answer to a text.
-unfoldable pub file-table-answer : Outcome Contents → List ℕ → List ℕ → FileTable
-file-table-answer (refused p) meet to = Refused (At 4 p)
-file-table-answer (contents c) meet to = made-or (file-refusal c meet to) (file-numbers c) (file-states c)
+  unfoldable pub table-after : Outcome (F .Inside) → List ℕ → List ℕ → List ℕ
+  table-after (refused p) meet to = to
+  table-after (contents c) meet to =
+      put-unless (pair-compile-refusal (F .setup-of c) (F .nodes-of c) meet to) (pair-table (F .setup-of c) (F .nodes-of c)) to
 
--- The buffers afterwards: the meet entries, and the table.
-unfoldable pub entries-after : Outcome Contents → List ℕ → List ℕ → List ℕ
-entries-after (refused p) meet to = meet
-entries-after (contents c) meet to = put-unless (file-refusal c meet to) (c .meet) meet
+  module _ {R : Type 0} (makes : F .Numbers × ℕ → R) (refuses : Refusal → R) where
+    -- The answer to a text: the numbers of the file and the states of its rule's table.
+    unfoldable pub file-table-answer : Outcome (F .Inside) → List ℕ → List ℕ → R
+    file-table-answer (refused p) meet to = refuses (At 4 p)
+    file-table-answer (contents c) meet to =
+        answer-or makes refuses (pair-compile-refusal (F .setup-of c) (F .nodes-of c) meet to)
+        (F .numbers-of c, pair-states (F .setup-of c) (F .nodes-of c))
 
-unfoldable pub table-after : Outcome Contents → List ℕ → List ℕ → List ℕ
-table-after (refused p) meet to = to
-table-after (contents c) meet to = put-unless (file-refusal c meet to) (file-table c) to
+    -- Answer and later contents of a call that makes the table of a text, by what the file reader says of it.
+    pub record CompilesBy (x : Outcome (F .Inside)) (meet to meet′ to′ : List ℕ) (r : R) : Type 0 where
+      pub answer : r ≡ file-table-answer x meet to
+      pub meet-is : meet′ ≡ entries-after x meet to
+      pub table-is : to′ ≡ table-after x meet to
 
--- Answer and later contents of a call that makes the table of the text t.
-pub record CompilesFile (t meet to meet′ to′ : List ℕ) (r : FileTable) : Type 0 where
-  pub answer : r ≡ file-table-answer (read-file t) meet to
-  pub meet-is : meet′ ≡ entries-after (read-file t) meet to
-  pub table-is : to′ ≡ table-after (read-file t) meet to
+-- Document 01's file, and a register's, of which `registers::compile_file` is this with [] for the meet entries.
+abbrev pub makes-numbers : FileNumbers × ℕ → FileTable
+makes-numbers p = Made (p .0) (p .1)
+
+abbrev pub CompilesFile : List ℕ → List ℕ → List ℕ → List ℕ → List ℕ → FileTable → Type 0
+CompilesFile t = CompilesBy number-file makes-numbers Refused (read-file t)
+
+abbrev pub makes-register : RegisterNumbers × ℕ → RegisterTable
+makes-register p = RegisterTable.Made (p .0) (p .1)
+
+abbrev pub CompilesRegisterFile : List ℕ → List ℕ → List ℕ → List ℕ → List ℕ → RegisterTable → Type 0
+CompilesRegisterFile t = CompilesBy register-file makes-register (λ q. RegisterTable.Refused q) (read-register-file t)

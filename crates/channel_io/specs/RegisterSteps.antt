@@ -1,12 +1,11 @@
 -- What the private functions of src/registers.rt say: what is held of a text, and what is answered of a rule that is held.
 use Prim.Native.Nat.{ℕ, _*_}
-use mathlib.Core.{Path.{_≡_}, List.{List, []}, Bool.{cond}}
+use mathlib.Core.{List.{List, []}, Bool.{cond}}
 use lib.{Dec.{leb}, ListN.{length}}
 use Rattle.limits.specs.Limits.{node-limit}
-use Rattle.refusal.specs.RefusalAnswers.{put-unless}
 use Rattle.values.specs.Setup.{Setup, register-setup}
 use Rattle.channel_file.specs.{RegisterFile.{Contents}, RegisterReading.{rule-bytes}, declared.registers.Stored.{Stored}}
-use Rattle.channel_io.specs.{FileRefusals.{stored-refusal}, RegisterAnswers.{accepted-or}}
+use Rattle.channel_io.specs.Steps.{KeepsBy}
 use Rattle.channel_io.specs.declared.registers.{FileNumbers.{FileNumbers}, FileRead.{FileRead}, Held.{Held}}
 
 -- The nodes that are judged: those of a file within the limit, and none above it.
@@ -24,7 +23,6 @@ held-by (Stored.Refused r) = Held.Refused r
 abbrev pub held-setup : FileNumbers → Setup
 held-setup n = register-setup (n .events) (n .lines)
 
--- Answer and later contents where nodes are put into a buffer.
-pub record Keeps (n : FileNumbers) (nodes rule rule′ : List ℕ) (r : FileRead) : Type 0 where
-  pub answer : r ≡ accepted-or (stored-refusal (held-setup n) nodes [] rule) n
-  pub rule-is : rule′ ≡ put-unless (stored-refusal (held-setup n) nodes [] rule) nodes rule
+-- Answer and later contents where nodes are put into a buffer; there is none for meet entries.
+abbrev pub Keeps : FileNumbers → (nodes rule rule′ : List ℕ) → FileRead → Type 0
+Keeps n nodes rule rule′ = KeepsBy (λ q. FileRead.Refused q) (held-setup n) nodes (λ m. FileRead.Accepted m) n [] rule [] rule′

@@ -14,10 +14,13 @@ use text_output::put_word;
 use values::ValueKind;
 use values::check_register;
 ghost use mathlib.Core.Path.{_≡_};
+ghost use mathlib.Core.List.{[]};
 ghost use Rattle.refusal.specs.RefusalAnswers.{judgement};
 ghost use Rattle.values.specs.Setup.{register-setup};
 ghost use Rattle.channel_io.specs.FileRefusals.{pair-refusal};
-ghost use Rattle.channel_io.specs.RegisterAnswers.{ReadsFile, CompilesFile, WritesFile};
+ghost use Rattle.channel_io.specs.FileReading.{ReadsRegisterFile};
+ghost use Rattle.channel_io.specs.FileCompilation.{CompilesRegisterFile};
+ghost use Rattle.channel_io.specs.FileWriting.{WritesRegisterFile};
 ghost use Rattle.channel_io.specs.RegisterSteps.{held-by, Keeps};
 
 // The numbers of a file: those of its set-up, and how many nodes it has.
@@ -94,7 +97,7 @@ fn keep_rule(numbers: FileNumbers, nodes: &[u8], rule: &mut [u8]) -> FileRead
 
 // Reads a channel file: its rule's nodes, six bytes each, into a buffer.
 pub fn read_file(text: &[u8], rule: &mut [u8]) -> FileRead
-    ensures { λ r. ⌜ ReadsFile (now (text .entry)) (now (rule .entry)) (now (rule .exit)) r ⌝ }
+    ensures { λ r. ⌜ ReadsRegisterFile (now (text .entry)) [] (now (rule .entry)) [] (now (rule .exit)) r ⌝ }
 {
     let arrays = read_arrays(text);
     let reply = arrays.reply;
@@ -109,7 +112,7 @@ pub fn read_file(text: &[u8], rule: &mut [u8]) -> FileRead
 
 // The table of a channel file's rule, five bytes an entry, into a buffer: 4, 1, 20, 5 to 10, 13.
 pub fn compile_file(text: &[u8], to: &mut [u8]) -> FileTable
-    ensures { λ r. ⌜ CompilesFile (now (text .entry)) (now (to .entry)) (now (to .exit)) r ⌝ }
+    ensures { λ r. ⌜ CompilesRegisterFile (now (text .entry)) [] (now (to .entry)) [] (now (to .exit)) r ⌝ }
 {
     let arrays = read_arrays(text);
     let reply = arrays.reply;
@@ -127,7 +130,7 @@ pub fn compile_file(text: &[u8], to: &mut [u8]) -> FileTable
 
 // Writes a channel file from a register's set-up and the nodes of a rule, six bytes each.
 pub fn write_file(events: usize, lines: usize, rule: &[u8], to: &mut [u8]) -> Counted
-    ensures { λ r. ⌜ WritesFile events lines (now (rule .entry)) (now (to .entry)) (now (to .exit)) r ⌝ }
+    ensures { λ r. ⌜ WritesRegisterFile events lines (now (rule .entry)) (now (to .entry)) (now (to .exit)) r ⌝ }
 {
     let judged = check_pair(events, lines, rule);
     if let Judgement::Refused(refusal) = judged {

@@ -1,19 +1,17 @@
 -- The demands on calls on files, of both forms.
 use Prim.Native.Nat.{ℕ}
-use mathlib.Core.{Path.{_≡_, subst⁻¹}, List.{List}, Option.{some}}
+use mathlib.Core.{Path.{_≡_}, List.{List}, Option.{some}}
 use Rattle.refusal.specs.{declared.Counted.{Counted}, Refusal.{JudgedCall, counted-refusal, count-of}}
 use Rattle.values.specs.Setup.{Setup, setup, register-setup}
 use Rattle.channel_file.proofs.TextDemands.{file-to-tokens}
 use Rattle.channel_file.proofs.RegisterClaims.{file-to-tokens as register-file-to-tokens}
-use Rattle.channel_io.specs.{FileConditions.{number-file, JudgedText, read-conditions, ReadsAs, write-file-conditions, WritesAs}}
-use Rattle.channel_io.specs.{RegisterFiles.{register-file, refusal-read as register-refusal}, FileWriting.{WritesFile}}
-use Rattle.channel_io.specs.RegisterAnswers.{WritesFile as WritesRegisterFile}
+use Rattle.channel_io.specs.{FileConditions.{number-file, write-file-conditions, WritesAs}, RegisterFiles.{register-file}}
+use Rattle.channel_io.specs.FileWriting.{WritesFile, WritesRegisterFile}
 use Rattle.channel_io.proofs.FileDemands as numbers
 use Rattle.channel_io.proofs.RegisterDemands as registers
 use Rattle.table_report.proofs.ReportClaims.{one-report-claim}
 use Rattle.table_report.proofs.ReportDemands.{reporting, file-to-report}
-use Rattle.product_claims.specs.Demands.{FilesJudged, FilesAgree, number-calls, register-calls}
-use Rattle.product_claims.specs.Demands.{WritesNumbers, WritesRegister}
+use Rattle.product_claims.specs.Demands.{FilesJudged, FilesAgree, number-calls, register-calls, WritesNumbers, WritesRegister}
 
 -- ---- document 01's file
 
@@ -57,24 +55,16 @@ register-written : (events lines : ℕ) (rule old new : List ℕ) (r : Counted) 
     → WritesRegisterFile events lines rule old new r
 register-written events lines rule old new r (WritesRegister.writes e l w) = w
 
--- the buffer for meet entries is as before
 pub register-files-judged : FilesJudged register-calls
-register-files-judged =
-    record {
-      reading = λ t meet rule meet′ rule′ r k. subst⁻¹ (λ (m : List ℕ). JudgedText {M = List ℕ × List ℕ} register-file t (read-conditions meet rule)
-          (register-refusal r) (meet, rule) (m, rule′)) (k .0) (registers.reading-a-file t meet rule rule′ r (k .1));
-      writing = register-writing;
-      reporting = reporting (one-report-claim .registers);
-    }
+register-files-judged = record { reading = registers.reading-a-file; writing = register-writing; reporting = reporting (one-report-claim .registers) }
 
 pub register-files-agree : FilesAgree register-calls
 register-files-agree =
     record {
-      file-to-rule = λ t meet rule meet′ rule′ r k found is. subst⁻¹ (λ (m : List ℕ). ReadsAs register-file t meet rule m rule′ found) (k .0)
-          (registers.file-to-rule t meet rule rule′ r (k .1) found is);
+      file-to-rule = registers.file-to-rule;
       rule-to-file = register-file-of;
       file-to-rule-to-file = λ t meet rule meet′ rule′ r k found is old new w x room.
-          registers.file-to-rule-to-file t rule rule′ r (k .1) found is old new w (register-written _ _ _ _ _ _ x) room;
+          registers.file-to-rule-to-file t meet rule meet′ rule′ r k found is old new w (register-written _ _ _ _ _ _ x) room;
       file-to-report = file-to-report (one-report-claim .registers);
       file-to-tokens = register-file-to-tokens;
     }

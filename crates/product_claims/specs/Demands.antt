@@ -23,9 +23,9 @@ use Rattle.recorder_claims.specs.ChannelLog.{AsLogged, LoadedAs}
 use Rattle.channel_file.specs.{ChannelFile.{TokensBy}, Reading.{read-file, tokens-stretch}}
 use Rattle.channel_file.specs.RegisterReading.{read-file as read-register-file, tokens-stretch as register-tokens}
 use Rattle.channel_io.specs.FileConditions.{FileForm, JudgedText, read-conditions, ReadsAs, write-file-conditions, WritesAs}
-use Rattle.channel_io.specs.{FileConditions.{number-file, refusal-read, numbers-read}, FileReading.{ReadsFile}, FileWriting.{WritesFile}}
-use Rattle.channel_io.specs.RegisterFiles.{register-file, refusal-read as register-refusal, numbers-read as register-numbers}
-use Rattle.channel_io.specs.RegisterAnswers.{ReadsFile as ReadsRegisterFile, WritesFile as WritesRegisterFile}
+use Rattle.channel_io.specs.{FileConditions.{number-file, refusal-read, numbers-read}, RegisterFiles.{register-file}}
+use Rattle.channel_io.specs.RegisterFiles.{refusal-read as register-refusal, numbers-read as register-numbers}
+use Rattle.channel_io.specs.{FileReading.{ReadsFile, ReadsRegisterFile}, FileWriting.{WritesFile, WritesRegisterFile}}
 use Rattle.channel_io.specs.{declared.FileRead.{FileRead}, declared.registers.FileRead.{FileRead as RegisterRead}}
 use Rattle.table_report.specs.{PrintedTable.{Prints, report-conditions}, Report.{Reports, RegisterReports}}
 
@@ -62,7 +62,8 @@ number-calls =
       tokens = λ t. tokens-stretch t (read-file t);
     }
 
--- Those of a register's, of the modules `registers` (document 02, F-7). There are no meet entries, and a buffer for them would be as before.
+-- Those of a register's, of the modules `registers` (document 02, F-7). There are no meet entries: what `read_file` states is this with an empty
+-- buffer for them.
 pub data WritesRegister (rule old new : List ℕ) (r : Counted) : Setup → Type 0 where
   writes : (events lines : ℕ) → WritesRegisterFile events lines rule old new r → WritesRegister rule old new r (register-setup events lines)
 
@@ -73,7 +74,7 @@ register-calls =
       Answer = RegisterRead;
       refusal-in = register-refusal;
       numbers-in = register-numbers;
-      Reads = λ t meet rule meet′ rule′ r. (meet′ ≡ meet) × ReadsRegisterFile t rule rule′ r;
+      Reads = ReadsRegisterFile;
       setup-from = λ n meet. register-setup (n .events) (n .lines);
       nodes-from = λ n rule. take (6 * n .nodes) rule;
       Writes = λ s rule old new r. WritesRegister rule old new r s;

@@ -9,7 +9,7 @@ use Rattle.channel_file.specs.Claims.{TokenListOf, TokenListClaim}
 use Rattle.channel_file.specs.{RegisterFile.{token-text, SmallToken}, RegisterReading.{read-file, read-tokens, tokens-stretch}}
 use Rattle.channel_io.specs.{FileConditions.{FileForm, JudgedText, number-file}, RegisterFiles.{register-file}}
 use Rattle.channel_io.specs.FileTables.{file-conditions, MakesTableOf, refusal-made, table-made, register-refusal-made, register-table-made}
-use Rattle.channel_io.specs.{FileCompilation.{CompilesFile}, RegisterAnswers.{CompilesFile as CompilesRegisterFile}}
+use Rattle.channel_io.specs.FileCompilation.{CompilesFile, CompilesRegisterFile}
 use Rattle.table_rows.specs.{TableConditions.{rendering-conditions}, Rows.{rows-text, PrintsRows}}
 use Rattle.table_graph.specs.Graph.{graph-conditions, Draws}
 use Rattle.gurvazze_host.specs.Claims.{HostClaim}
@@ -25,8 +25,7 @@ pub record TablesMade (F : FileForm) {R : Type 0} (refusal-in : R → Option Ref
 pub record Extras : Type 1 where
   -- channel_io `compile_file`; and that of its module `registers`, where there are no meet entries
   pub files : TablesMade number-file refusal-made table-made CompilesFile
-  pub register-files : TablesMade register-file register-refusal-made register-table-made
-      (λ t meet to meet′ to′ r. (meet′ ≡ meet) × CompilesRegisterFile t to to′ r)
+  pub register-files : TablesMade register-file register-refusal-made register-table-made CompilesRegisterFile
   -- table_rows `rows` and `register_rows`, table_graph `dot` and `register_dot`: for either kind of values
   pub printing-rows : (events : ℕ) (kind : ValueKind) (states : ℕ) (bytes old new : List ℕ) (r : Counted) → PrintsRows events kind states bytes old new r →
       JudgedCall (rendering-conditions events kind 0 states bytes (rows-text events kind states bytes) (length old)) (counted-refusal r) old new

@@ -23,7 +23,7 @@ slice-aggregate-keep-pair-2 c =
 returns : tie.Need-returns
 returns c =
     let a = c .before .before .before .before .before .before .before .before .args in
-    reads-off-form (a .meet .now) (a .rule .now)
+    reads-off-form _ _ (a .meet .now) (a .rule .now)
     (off-form (a .text .now) (c .before .before .before .before .read-arrays .ensures) (c .before .before .before .hold .ensures)
     (c .before .refusal .given .1))
 
@@ -31,8 +31,8 @@ returns-2 : tie.Need-returns-2
 returns-2 c =
     let d = c .before .before .before .before .before .before .before .before .before .before .before .before .before .before .before in
     let a = d .before .before .before .before .before .before .before .args in
-    reads-held (a .meet .now) (a .rule .now) _ _ _ (holds (a .text .now) (d .before .before .before .read-arrays .ensures) (d .before .before .hold .ensures)
-    (d .numbers .given .1)) (c .before .before .before .before .keep-pair .ensures)
+    reads-held _ _ (a .meet .now) (a .rule .now) (holds (a .text .now) (d .before .before .before .read-arrays .ensures) (d .before .before .hold .ensures)
+    (d .numbers .given .1) .judging) (c .before .before .before .before .keep-pair .ensures)
 
 pub read-file-spec : {M : Type 1} → statement M
 read-file-spec = tie.close (tie.spec (λ c κs. search needs) (λ c κs. search needs) (λ c. search needs) (λ c. search needs)
