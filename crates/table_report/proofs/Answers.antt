@@ -1,74 +1,67 @@
--- What is printed, from the answers of the compiler of a file.
-use Prim.Native.Nat.{ℕ, _*_, _≤_}
+-- What is printed, from the answers of the compiler of a file, of any form; and what a caller knows.
+use Prim.Native.Nat.{ℕ, _≤_}
 use mathlib.Core.{Path.{_≡_, refl, sym, ap, ap₂, _∙_}, List.{List}, Option.{Option, none}}
 use native.Mathlib.Omega.{arith}
-use lib.ListN.{length, take}
-use Rattle.limits.specs.Limits.{meet-limit}
-use Rattle.channel_io.specs.Claims.{table-bytes-limit}
+use lib.ListN.{length}
 use Rattle.refusal.specs.declared.{Refusal.{Refusal}, Counted.{Counted}}
 use Rattle.refusal.specs.declared.Counted.the-variants.{Count}
 use Rattle.refusal.proofs.Refusals.{counted-accepted}
-use Rattle.values.specs.declared.ValueKind.the-variants.{Numbered}
-use Rattle.channel_io.specs.declared.FileNumbers.{FileNumbers}
-use Rattle.channel_io.specs.FileReading.{numbers}
-use Rattle.channel_io.specs.FileRefusals.{file-states, file-table}
-use Rattle.channel_io.proofs.Callers.{table-fits, Unmade, off-form, turned-away, MadeOf, events-are}
+use Rattle.values.specs.declared.ValueKind.{ValueKind}
+use Rattle.values.specs.Setup.{Setup}
+use Rattle.text_format.specs.Format.{Outcome}
+use Rattle.channel_io.specs.{FileConditions.{FileForm}, Claims.{table-room}, FileRefusals.{pair-states, pair-table, pair-table-refusal}}
+use Rattle.channel_io.proofs.Callers.{table-fits, Unmade, off-form, turned-away, MadeOf}
 use Rattle.table_rows.specs.{Rendering.{handed-refusal, Renders}, Rows.{rows-text}}
 use Rattle.table_rows.proofs.Renderings.{renders-as}
-use Rattle.table_report.specs.PrintedTable.{refusal-text}
-use Rattle.table_report.specs.Report.{answer-text, outcome-text, report-text, report-limit, Reports}
-use Rattle.table_report.proofs.Tables.{handed-passed, report-length}
+use Rattle.table_report.specs.{PrintedTable.{refusal-text}, Report.{answer-text, outcome-text, ReportsText}, Claims.{ReportsAs}}
+use Rattle.table_report.proofs.Tables.{handed-passed}
 
--- ---- a file that was refused
+module _ {F : FileForm} {read : List ℕ → Outcome (F .Inside)} {limit : ℕ} (k : ReportsAs F (λ t. outcome-text F (read t)) limit) where
+  -- a file that was refused, where the meet entries and the table had room
+  module _ {t meet to : List ℕ}
+      (wide : (c : F .Inside) → pair-table-refusal (F .setup-of c) (F .nodes-of c) ≡ none → length (F .setup-of c .meet) ≤ length meet)
+      (room : (c : F .Inside) → table-room (F .setup-of c .kind) ≤ length to) where
+    refused-text : {r : Refusal} → Unmade F read t meet to r → refusal-text r ≡ outcome-text F (read t)
+    unfolding outcome-text answer-text
+    refused-text (off-form p e) = sym (ap (outcome-text F) e)
+    refused-text (turned-away c r e f) =
+        sym (ap (outcome-text F) e
+        ∙ ap (λ (o : Option Refusal). answer-text o (F .setup-of c) (F .nodes-of c))
+        (sym (table-fits (F .setup-of c) (F .nodes-of c) meet to (wide c) (room c)) ∙ f))
 
-refused-text : {t meet old : List ℕ} {r : Refusal} → meet-limit ≤ length meet → table-bytes-limit ≤ length old → Unmade t meet old r
-    → refusal-text r ≡ report-text t
-unfolding outcome-text answer-text
-refused-text wide room (off-form p e) = sym (ap outcome-text e)
-refused-text {t} {meet} {old} wide room (turned-away c r e f) =
-    sym (ap outcome-text e
-    ∙ ap (λ (o : Option Refusal). answer-text o (c .events) (c .values) (file-states c) (file-table c)) (sym (table-fits c meet old wide room) ∙ f))
+    pub refused-reports : {old new : List ℕ} {r : Refusal} {answer : Counted} → Unmade F read t meet to r → Renders none (refusal-text r) old new answer
+        → ReportsText (outcome-text F (read t)) limit old new answer
+    refused-reports w h = record { rendered = renders-as refl (refused-text w) h; within = k .within t }
 
-pub refused-reports : {t meet table old new : List ℕ} {r : Refusal} {answer : Counted} → meet-limit ≤ length meet → table-bytes-limit ≤ length table
-    → Unmade t meet table r → Renders none (refusal-text r) old new answer → Reports t old new answer
-refused-reports {t} wide room w h =
-    record { rendered = renders-as refl (refused-text wide room w) h; within = report-length t }
+  -- a file whose table was made, by its numbers and the table
+  module _ {t meet to meet′ to′ : List ℕ} {n : F .Numbers} {states : ℕ} (w : MadeOf F read t meet to meet′ to′ n states) where
+    abbrev s : Setup
+    s = F .setup-of (w .inside)
 
--- ---- a file whose table was made
-module _ {t meet table meet′ made : List ℕ} {n : FileNumbers} {k : ℕ} (w : MadeOf t meet table meet′ made n k) where
-  values-are : n .values ≡ w .inside .values
-  unfolding numbers
-  values-are = ap (λ (z : FileNumbers). z .values) (w .numbers-are)
+    abbrev nodes : List ℕ
+    nodes = F .nodes-of (w .inside)
 
-  -- by its numbers and its table
-  of-file : {A : Type 0} (f : ℕ → ℕ → ℕ → List ℕ → A)
-      → f (n .events) (n .values) k (take (k * n .events * 2) made)
-      ≡ f (w .inside .events) (w .inside .values) (file-states (w .inside)) (file-table (w .inside))
-  of-file f =
-      ap₂ (λ (e v : ℕ). f e v k (take (k * n .events * 2) made)) (events-are w) values-are
-      ∙ ap₂ (λ (j : ℕ) (b : List ℕ). f (w .inside .events) (w .inside .values) j b) (w .states-are) (w .table-taken)
-
-  abbrev bytes : List ℕ
-  bytes = take (k * n .events * 2) made
-
-  pub made-reports : {old new : List ℕ} {answer : Counted}
-      → Renders (handed-refusal (n .events) (Numbered (n .values)) 0 k bytes) (rows-text (n .events) (Numbered (n .values)) k bytes) old new answer
-      → Reports t old new answer
-  unfolding outcome-text answer-text
-  made-reports h =
-      record {
-        rendered =
-            renders-as (of-file (λ e v j b. handed-refusal e (Numbered v) 0 j b) ∙ handed-passed (w .inside) (w .passed))
-            (of-file (λ e v j b. rows-text e (Numbered v) j b)
-            ∙ sym (ap outcome-text (w .reads)
-            ∙ ap (λ (o : Option Refusal). answer-text o (w .inside .events) (w .inside .values) (file-states (w .inside)) (file-table (w .inside)))
-            (w .passed)))
-            h;
-        within = report-length t;
-      }
+    pub made-reports : {events : ℕ} {kind : ValueKind} {bytes old new : List ℕ} {answer : Counted}
+        → events ≡ s .events → kind ≡ s .kind → bytes ≡ pair-table s nodes
+        → Renders (handed-refusal events kind 0 states bytes) (rows-text events kind states bytes) old new answer
+        → ReportsText (outcome-text F (read t)) limit old new answer
+    unfolding outcome-text answer-text
+    made-reports {events} {kind} {bytes} events-are kind-is table-is h =
+        record {
+          rendered =
+              renders-as (same (λ e v j b. handed-refusal e v 0 j b) ∙ handed-passed s nodes (w .passed))
+              (same rows-text
+              ∙ sym (ap (outcome-text F) (w .reads) ∙ ap (λ (o : Option Refusal). answer-text o s nodes) (w .passed)))
+              h;
+          within = k .within t;
+        }
+      where
+        same : {A : Type 0} (f : ℕ → ValueKind → ℕ → List ℕ → A)
+            → f events kind states bytes ≡ f (s .events) (s .kind) (pair-states s nodes) (pair-table s nodes)
+        same f = ap₂ (λ (e : ℕ) (v : ValueKind). f e v states bytes) events-are kind-is ∙ ap₂ (f (s .events) (s .kind)) (w .states-are) table-is
 
 -- what a caller with a buffer of the limit's length knows
-pub count-within : {t old new : List ℕ} {r : Counted} {n : ℕ} → Reports t old new r → report-limit ≤ length old → r ≡ Count n → n ≤ length old
-count-within {t} {n = n} k h e =
-    let d = counted-accepted _ (length (report-text t)) n (sym (k .rendered .answer) ∙ e) .1 in
+pub count-within : {s old new : List ℕ} {limit : ℕ} {r : Counted} {n : ℕ} → ReportsText s limit old new r → limit ≤ length old → r ≡ Count n → n ≤ length old
+count-within {s} {n = n} k h e =
+    let d = counted-accepted _ (length s) n (sym (k .rendered .answer) ∙ e) .1 in
     omega (arith, k .within)

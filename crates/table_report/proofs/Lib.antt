@@ -1,4 +1,4 @@
--- The line of a refusal, the table of a file, the answers, and the claims; and last what document 01 alone says of a report.
+-- The line of a refusal, the table of a file, the answers, and the claims; and last what the documents alone say of a report.
 pub mod Texts
 pub mod Tables
 pub mod Answers

@@ -1,4 +1,4 @@
--- What is printed for a text is what document 01 asks for.
+-- What is printed for a text is what document 01 asks for, whatever the form of files.
 use Prim.Native.Nat.{ℕ, _*_, _/_, _%_, _≤_, _<_}
 use mathlib.Core.{Path.{_≡_, refl, sym, ap, ap₂, _∙_, subst}, List.{List, _++_}, Option.{Option, none, some}}
 use native.Mathlib.{Omega.{arith}, Nat.{mod-lt, div-lt-iff-lt-mul}}
@@ -7,51 +7,34 @@ use Rattle.theory.proofs.{Claims.{numbering}, SetMachine.{table-of-iff}}
 use Rattle.refusal.specs.declared.Refusal.{Refusal}
 use Rattle.refusal.specs.Refusal.{First}
 use Rattle.values.specs.declared.ValueKind.{ValueKind}
-use Rattle.values.specs.declared.ValueKind.the-variants.{Numbered}
-use Rattle.values.specs.Setup.{ValueIn, Setup, setup-meet, setup-top}
+use Rattle.values.specs.Setup.{Setup, ValueIn, setup-meet, setup-top}
 use Rattle.text_format.specs.Format.{Outcome, contents, refused}
 use Rattle.text_format.specs.Texts.{ascii}
 use Rattle.text_format.specs.Texts.{numeral}
 use Rattle.text_output.proofs.Outputs.{each-same}
-use Rattle.channel_file.specs.{ChannelFile.{Contents, line}, Reading.{AnswersFile, read-file}}
-use Rattle.channel_file.proofs.Claims.{answer-claim, one-answer-claim}
-use Rattle.synthesis.specs.{TableOfRule.{IsRuleTable}, Claims.{RuleTable}}
+use Rattle.channel_file.specs.{ChannelFile.{line}, Reading.{AnswersBy, read-file}, Claims.{AnswerOf, OneAnswerOf}}
+use Rattle.channel_file.specs.RegisterReading.{read-file as read-register-file}
+use Rattle.channel_file.proofs.{Claims.{answer-claim, one-answer-claim}, RegisterClaims.{register-claim}}
+use Rattle.machines.specs.TableBytes.{machine-of}
+use Rattle.synthesis.specs.TableOfRule.{pair-table-conditions, IsRuleTable}
 use Rattle.synthesis.proofs.CompileClaims.{printed-table}
-use Rattle.channel_io.specs.FileConditions.{file-setup, contents-table-conditions}
-use Rattle.channel_file.specs.ChannelFile.{rule-numbers}
-use Rattle.channel_io.specs.FileRefusals.{file-states, file-table, contents-table-refusal}
-use Rattle.channel_io.proofs.Claims.{contents-table-claim, file-table-made}
-use Rattle.table_rows.specs.{TableText.{row-line, entry-line, table-text}, Rows.{rows-text}}
-use Rattle.table_rows.proofs.Renderings.{few-entries}
-use Rattle.table_report.specs.PrintedTable.{refusal-text}
-use Rattle.table_report.specs.Report.{answer-text, outcome-text}
-use Rattle.table_report.proofs.Tables.{handed-passed}
+use Rattle.channel_io.specs.{FileConditions.{FileForm, number-file}, RegisterFiles.{register-file}}
+use Rattle.channel_io.specs.FileRefusals.{pair-states, pair-table, pair-table-refusal}
+use Rattle.channel_io.proofs.{Claims.{contents-table-claim, file-table-made}, TablePairs.{setup-passed}}
+use Rattle.table_rows.specs.{TableText.{row-line, entry-line, table-text}, Rows.{rows-text, rows-room}}
 use Rattle.table_report.specs.PrintedTable.{Prints, off-form, refused as was-refused, table}
-use Rattle.table_report.specs.Claims.{ReportClaim, OneReportClaim}
+use Rattle.table_report.specs.Report.{answer-text, outcome-text, report-limit, register-report-limit}
+use Rattle.table_report.specs.Claims.{ReportsAs, OneReportClaim}
+use Rattle.table_report.proofs.Tables.{outcome-length}
 
--- ---- a text
-module _ (t : List ℕ) where
-  table-printed : (c : Contents) → AnswersFile t (contents c) → contents-table-refusal c ≡ none
-      → Prints t (rows-text (c .events) (Numbered (c .values)) (file-states c) (file-table c))
-  table-printed c a e =
-      table c _ _ (a .0) (a .1) (subst (First (contents-table-conditions c)) e (contents-table-claim c .first))
-      (printed-table (file-setup c) (rule-numbers c) _ _ (file-table-made c e .table))
+-- ---- a set-up and the nodes of a rule
+module _ (s : Setup) (nodes : List ℕ) where
+  first-is : (x : Option Refusal) → pair-table-refusal s nodes ≡ x → First (pair-table-conditions s nodes) x
+  first-is x e = subst (First (pair-table-conditions s nodes)) e (contents-table-claim s nodes .first)
 
-  printed : (x : Outcome Contents) → AnswersFile t x → Prints t (outcome-text x)
-  unfolding outcome-text answer-text
-  printed (refused p) a = off-form p a
-  printed (contents c) a = go (contents-table-refusal c) refl
-    where
-      go : (o : Option Refusal) → contents-table-refusal c ≡ o → Prints t (answer-text o (c .events) (c .values) (file-states c) (file-table c))
-      go (some r) e = was-refused c r (a .0) (a .1) (subst (First (contents-table-conditions c)) e (contents-table-claim c .first))
-      go none e = table-printed c a e
+  refusal-is : (x : Option Refusal) → First (pair-table-conditions s nodes) x → pair-table-refusal s nodes ≡ x
+  refusal-is x f = sym (contents-table-claim s nodes .only x f)
 
-pub report-claim : ReportClaim
-report-claim t = printed t (read-file t) (answer-claim t)
-
--- ---- nothing else is printed
-
-module _ (s : Setup) (rule : List ℕ) where
   abbrev meet : ℕ → ℕ → ℕ
   meet = setup-meet s
 
@@ -64,11 +47,15 @@ module _ (s : Setup) (rule : List ℕ) where
   abbrev kind : ValueKind
   kind = s .kind
 
-  -- a rule has one table, and so one text of it
-  one-table : (n k : ℕ) (t u : Machine ℕ ℕ) → 1 ≤ events → RuleTable meet top events kind rule n t → IsRuleTable s rule k u
-      → table-text kind events n t ≡ table-text kind events k u
+  -- they have one table, and so one text of it
+  one-table : (k : ℕ) (u : Machine ℕ ℕ) → pair-table-refusal s nodes ≡ none → IsRuleTable s nodes k u
+      → rows-text events kind (pair-states s nodes) (pair-table s nodes) ≡ table-text kind events k u
   unfolding table-text
-  one-table n k t u some-events x y =
+  one-table k u passed y =
+      let n = pair-states s nodes in
+      let t = machine-of kind events (pair-table s nodes) in
+      let x = file-table-made s nodes passed .table in
+      let some-events = setup-passed s nodes passed .some-events in
       let φ = x .formula in
       let well = x .code .accepted .well-formed in
       let same = numbering (ValueIn kind) meet top events _ (set-machine meet top φ) (first-set φ) .1 n k t u
@@ -82,31 +69,46 @@ module _ (s : Setup) (rule : List ℕ) where
       ap₂ (row-line kind (i / events) (i % events)) (same .1 (i / events) (i % events) l e .0) (same .1 (i / events) (i % events) l e .1)))
       ∙ ap (λ (m : ℕ). table-text kind events m u) (same .0)
 
-some-events : (c : Contents) → contents-table-refusal c ≡ none → 1 ≤ c .events
-some-events c e = few-entries (c .events) (Numbered (c .values)) 0 (file-states c) (file-table c) (handed-passed c e) .some-events
+-- ---- a form of files, with the answer to a text
+module _ (F : FileForm) (read : List ℕ → Outcome (F .Inside)) (answer : AnswerOf (F .Shown) read) (one-answer : OneAnswerOf (F .Shown) read) where
+  module _ (t : List ℕ) where
+    printed : (x : Outcome (F .Inside)) → AnswersBy (F .Shown) t x → Prints F t (outcome-text F x)
+    unfolding outcome-text answer-text
+    printed (refused p) a = off-form p a
+    printed (contents c) a = go (pair-table-refusal (F .setup-of c) (F .nodes-of c)) refl
+      where
+        go : (o : Option Refusal) → pair-table-refusal (F .setup-of c) (F .nodes-of c) ≡ o → Prints F t (answer-text o (F .setup-of c) (F .nodes-of c))
+        go (some r) e = was-refused c r (a .0) (a .1) (first-is (F .setup-of c) (F .nodes-of c) (some r) e)
+        go none e =
+            table c _ _ (a .0) (a .1) (first-is (F .setup-of c) (F .nodes-of c) none e)
+            (printed-table (F .setup-of c) (F .nodes-of c) _ _ (file-table-made (F .setup-of c) (F .nodes-of c) e .table))
 
-module _ (t : List ℕ) (c : Contents) (a : AnswersFile t (contents c)) where
-  printed-as : (x : Option Refusal) → contents-table-refusal c ≡ x
-      → outcome-text (read-file t) ≡ answer-text x (c .events) (c .values) (file-states c) (file-table c)
-  unfolding outcome-text
-  printed-as x e =
-      ap outcome-text (one-answer-claim t (read-file t) (contents c) (answer-claim t) a)
-      ∙ ap (λ (z : Option Refusal). answer-text z (c .events) (c .values) (file-states c) (file-table c)) e
+    -- nothing else is printed
+    printed-as : (c : F .Inside) (x : Option Refusal) → AnswersBy (F .Shown) t (contents c) → pair-table-refusal (F .setup-of c) (F .nodes-of c) ≡ x
+        → answer-text x (F .setup-of c) (F .nodes-of c) ≡ outcome-text F (read t)
+    unfolding outcome-text
+    printed-as c x a e =
+        sym (ap (outcome-text F) (one-answer t (read t) (contents c) (answer t) a)
+        ∙ ap (λ (z : Option Refusal). answer-text z (F .setup-of c) (F .nodes-of c)) e)
 
-  one-refusal : (r : Refusal) → First (contents-table-conditions c) (some r) → refusal-text r ≡ outcome-text (read-file t)
-  unfolding answer-text
-  one-refusal r x = sym (printed-as (some r) (sym (contents-table-claim c .only (some r) x)))
+    only : (s : List ℕ) → Prints F t s → s ≡ outcome-text F (read t)
+    unfolding outcome-text answer-text
+    only s (off-form p h) = sym (ap (outcome-text F) (one-answer t (read t) (refused p) (answer t) h))
+    only s (was-refused c r l a x) = printed-as c (some r) (l, a) (refusal-is (F .setup-of c) (F .nodes-of c) (some r) x)
+    only s (table c n m l a x y) =
+        let e = refusal-is (F .setup-of c) (F .nodes-of c) none x in
+        sym (one-table (F .setup-of c) (F .nodes-of c) n m e y) ∙ printed-as c none (l, a) e
 
-  one-text : (n : ℕ) (m : Machine ℕ ℕ) → First (contents-table-conditions c) none
-      → IsRuleTable (file-setup c) (rule-numbers c) n m
-      → table-text (file-setup c .kind) (c .events) n m ≡ outcome-text (read-file t)
-  unfolding answer-text
-  one-text n m x y =
-      let e = sym (contents-table-claim c .only none x) in
-      sym (one-table (file-setup c) (rule-numbers c) _ n _ m (some-events c e) (file-table-made c e .table) y) ∙ sym (printed-as none e)
+  reports-as : (limit : ℕ) → 50 ≤ limit → ((c : F .Inside) → rows-room (F .setup-of c .kind) ≤ limit) → ReportsAs F (λ t. outcome-text F (read t)) limit
+  reports-as limit some-room room =
+      record { prints = λ t. printed t (read t) (answer t); only = only; within = λ t. outcome-length F limit some-room room (read t) }
 
-pub one-report : OneReportClaim
-unfolding outcome-text
-one-report t s (off-form p h) = sym (ap outcome-text (one-answer-claim t (read-file t) (refused p) (answer-claim t) h))
-one-report t s (was-refused c r l a x) = one-refusal t c (l, a) r x
-one-report t s (table c n m l a x y) = one-text t c (l, a) n m x y
+-- ---- document 01's file, and a register's
+pub one-report-claim : OneReportClaim
+one-report-claim =
+    record {
+      numbers = reports-as number-file read-file answer-claim one-answer-claim report-limit (omega arith) (λ c. omega arith);
+      registers =
+          reports-as register-file read-register-file (register-claim .answer) (register-claim .one-answer) register-report-limit (omega arith)
+          (λ c. omega arith);
+    }

@@ -11,7 +11,6 @@ use Rattle.text_output.proofs.Outputs.{numeral-length}
 use Rattle.channel_file.specs.ChannelFile.{line}
 use Rattle.table_rows.proofs.Texts.{line-length}
 use Rattle.table_report.specs.PrintedTable.{refusal-text}
-use Rattle.table_report.specs.Report.{report-limit}
 
 pub refusal-plain : (r : Refusal) (n x : ℕ) → r ≡ Plain n → x ≡ n → line (ascii "refused=") (numeral x) ≡ refusal-text r
 unfolding refusal-text
@@ -24,7 +23,7 @@ refusal-at r n p x e h =
     ∙ ap (λ (s : List ℕ). ascii "refused=" ++ s) (sym (append-assoc (numeral n) (32 ∷ numeral p) (10 ∷ [])))
     ∙ sym (ap refusal-text e)
 
-pub refusal-length : (r : Refusal) → length (refusal-text r) ≤ report-limit
+pub refusal-length : (r : Refusal) → length (refusal-text r) ≤ 50
 unfolding refusal-text
 refusal-length (Plain n) = omega (arith, line-length (ascii "refused=") (numeral n), numeral-length n)
 refusal-length (At n p) =

@@ -27,7 +27,7 @@ pub record ReportsText (s : List ℕ) (limit : ℕ) (old new : List ℕ) (r : Co
   pub rendered : Renders none s old new r
   pub within : length s ≤ limit
 
--- Document 01's file, and a register's. Every output has room in so many bytes (Claims, ReportLengthClaim).
+-- Document 01's file, and a register's. Every output has room in so many bytes (Claims, ReportsAs).
 abbrev pub report-text : List ℕ → List ℕ
 report-text t = outcome-text number-file (read-file t)
 

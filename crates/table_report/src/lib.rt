@@ -1,4 +1,6 @@
-// The whole output of the program for a channel file, rendered into a lent buffer.
+// The whole output of the program for a channel file, rendered into a lent buffer; for a register's file in registers.rt.
+pub mod registers;
+
 ghost use mathlib.Core.Path.{_≡_};
 ghost use mathlib.Core.Option.{none};
 ghost use Rattle.text_output.specs.Output.{Puts};

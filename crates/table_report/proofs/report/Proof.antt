@@ -1,12 +1,13 @@
 -- `report` meets its contract: the line of the refusal, or the rows of the table that was made.
 use Prim.Native.Nat.{ℕ}
-use mathlib.Core.Path.{sym}
+use mathlib.Core.Path.{sym, ap}
 use native.Mathlib.Omega.{arith}
 use lib.{ListN.{length-replicate}, Seq.{length-take-le}}
 use Rattle.limits.specs.Limits.{meet-limit}
-use Rattle.channel_io.specs.Claims.{table-bytes-limit}
-use Rattle.channel_io.proofs.Callers.{unmade, made-of}
-use Rattle.table_report.proofs.Answers.{refused-reports, made-reports}
+use Rattle.values.specs.declared.ValueKind.the-variants.{Numbered}
+use Rattle.channel_io.specs.{Claims.{table-bytes-limit}, declared.FileNumbers.{FileNumbers}}
+use Rattle.channel_io.proofs.Callers.{few-entries, unmade, made-of, events-are, limits}
+use Rattle.table_report.proofs.{ReportClaims.{one-report-claim}, Answers.{refused-reports, made-reports}}
 use borrow.Author.Needs.{needs}
 use Rattle.table_report.proofs.report.Statement.{statement}
 use Rattle.table_report.proofs.report.Tie as tie
@@ -14,35 +15,38 @@ use Rattle.table_report.proofs.report.Tie as tie
 mul-size : tie.Need-mul-size
 mul-size c =
     let compiled = c .before .before .before .before .before .compile-file in
-    omega (arith, made-of (compiled .ensures) (c .before .made2 .given .1) .table-in)
+    omega (arith, limits (made-of (compiled .ensures) (c .before .made2 .given .1)) .table-in)
 
 mul-size-2 : tie.Need-mul-size-2
 mul-size-2 c =
     let compiled = c .before .before .before .before .before .compile-file in
-    omega (arith, made-of (compiled .ensures) (c .before .made2 .given .1) .table-in)
+    omega (arith, limits (made-of (compiled .ensures) (c .before .made2 .given .1)) .table-in)
 
 array-share-prefix-table : tie.Need-array-share-prefix-table
 array-share-prefix-table c =
     let compiled = c .before .before .before .before .before .compile-file in
-    made-of (compiled .ensures) (c .before .made2 .given .1) .table-in
+    limits (made-of (compiled .ensures) (c .before .made2 .given .1)) .table-in
 
 slice-aggregate-rows : tie.Need-slice-aggregate-rows
 slice-aggregate-rows c =
     let compiled = c .before .before .before .before .before .before .compile-file in
-    sym (length-take-le _ _ (made-of (compiled .ensures) (c .before .before .made2 .given .1) .table-in))
+    sym (length-take-le _ _ (limits (made-of (compiled .ensures) (c .before .before .made2 .given .1)) .table-in))
 
 returns : tie.Need-returns
 returns c =
     let compiled = c .before .before .before .before .before .before .before .before .before .compile-file in
     let made = c .before .before .before .before .before .made in
-    refused-reports (omega (arith, length-replicate {A = ℕ} meet-limit 0)) (omega (arith, length-replicate {A = ℕ} table-bytes-limit 0))
+    refused-reports (one-report-claim .numbers) (λ i ok. omega (arith, length-replicate {A = ℕ} meet-limit 0, few-entries i ok))
+    (λ i. omega (arith, length-replicate {A = ℕ} table-bytes-limit 0))
     (unmade (compiled .ensures) (made .given .1) .0) (c .before .before .report-refusal .ensures)
 
 returns-2 : tie.Need-returns-2
 returns-2 c =
     let compiled = c .before .before .before .before .before .before .before .before .before .before .compile-file in
     let made2 = c .before .before .before .before .before .before .made2 in
-    made-reports (made-of (compiled .ensures) (made2 .given .1)) (c .before .before .rows .ensures)
+    let w = made-of (compiled .ensures) (made2 .given .1) in
+    made-reports (one-report-claim .numbers) w (events-are w) (ap (λ (n : FileNumbers). Numbered (n .values)) (w .numbers-are)) (limits w .table-taken)
+    (c .before .before .rows .ensures)
 
 pub report-spec : {M : Type 1} → statement M
 report-spec = tie.close (tie.spec (λ c. search needs) (λ c. search needs) (λ c κs. search needs) (λ c. search needs) (λ c κs. search needs)
