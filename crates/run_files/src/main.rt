@@ -1,4 +1,6 @@
-// Channel files, whole and damaged, through the report of the program, against stored output.
+// Channel files, whole and damaged, through the report of the program, against stored output; those of a register in registers.rt.
+mod registers;
+
 use limits::FILE_LIMIT;
 use refusal::Counted;
 use table_report::REPORT_LENGTH;
@@ -118,4 +120,9 @@ fn main() {
     forms();
     rules();
     at_limits();
+    registers::set_ups();
+    registers::masks();
+    registers::forms();
+    registers::rules();
+    registers::at_limits();
 }

@@ -24,12 +24,12 @@ mul-size-2 c =
 array-share-prefix-table : tie.Need-array-share-prefix-table
 array-share-prefix-table c =
     let compiled = c .before .before .before .before .compile-file in
-    register-limits (register-made-of (compiled .ensures) (c .before .made2 .given .1)) .table-in
+    omega (arith, register-limits (register-made-of (compiled .ensures) (c .before .made2 .given .1)) .table-in)
 
 slice-aggregate-register-rows : tie.Need-slice-aggregate-register-rows
 slice-aggregate-register-rows c =
     let compiled = c .before .before .before .before .before .compile-file in
-    sym (length-take-le _ _ (register-limits (register-made-of (compiled .ensures) (c .before .before .made2 .given .1)) .table-in))
+    sym (length-take-le _ _ (omega (arith, register-limits (register-made-of (compiled .ensures) (c .before .before .made2 .given .1)) .table-in)))
 
 returns : tie.Need-returns
 returns c =
