@@ -5,7 +5,7 @@ use gurvazze_reference::generate::RawTable;
 use gurvazze_reference::table::{Entry, Table};
 use gurvazze_reference::tool::{Reading, Tool, MAX_TOTAL};
 use gurvazze_reference::trial::{failing_word, WORD_BYTES};
-use gurvazze_reference::values::SetUp;
+use gurvazze_reference::values::{SetUp, Value};
 use gurvazze_reference::Refusal;
 
 /// The table of a channel file.
@@ -59,13 +59,14 @@ pub fn replay(text: &[u8], events: &[u8], to: &mut [u8]) -> Result<(), Refusal> 
 }
 
 /// Replay on a tool with the library's checks: 17, 14 to 16, 19 and 13. Events for which there are no more pulses have
-/// none. What the last event returns.
-pub fn replay_on_tool(
+/// none. The values are stored as one asks. What the last event returns.
+pub fn replay_on_tool<V>(
     tool: &mut Tool,
     channel: usize,
     events: &[u8],
     pulses: &[u32],
-    to: &mut [u8],
+    to: &mut [V],
+    stored: impl Fn(Value) -> V,
 ) -> Result<Option<Reading>, Refusal> {
     // 17, 14 and 15 are tested before 16, which refuses this event.
     let refused = tool.event(channel, usize::MAX, 0);
@@ -87,7 +88,7 @@ pub fn replay_on_tool(
     let mut last = None;
     for (to, &event) in to.iter_mut().zip(events) {
         let Entry { value, next } = channel.entries[channel.current * width + usize::from(event)];
-        *to = value as u8;
+        *to = stored(value);
         last = Some(value);
         channel.current = next.into();
     }
