@@ -143,7 +143,7 @@ module _ (F : FileForm) (read : List ℕ → Outcome (F .Inside)) where
 
   -- from the answer of a call that makes the table
   module _ {R : Type 0} {makes : F .Numbers × ℕ → R} {refuses : Refusal → R} {refusal-in : R → Option Refusal} {table-in : R → Option (F .Numbers × ℕ)}
-      (cases : Cases makes refuses refusal-in table-in) {t meet to meet′ to′ : List ℕ} {x : R} (k : CompilesBy F makes refuses (read t) meet to meet′ to′ x)
+      (cases : Cases makes refuses refusal-in table-in) {t meet to meet′ to′ : List ℕ} {x : R} (k : CompilesBy F makes refuses read t meet to meet′ to′ x)
       where
     pub unmade-by : {r : Refusal} → refusal-in x ≡ some r → Unmade t meet to r × (to′ ≡ to)
     unfolding file-table-answer table-after put-unless

@@ -105,7 +105,7 @@ pub file-to-rule-to-file :
     WritesFile (found .events) (found .values) (found .top) (take (found .entries) meet′) (take (3 * found .nodes) rule′) old new w →
     length t ≤ length old → (count-of w ≡ some (length t)) × (new ≡ put t old)
 file-to-rule-to-file t meet rule meet′ rule′ r k found is old new w x room =
-    let a = form.read-of number-file channel-form shows number-reads {t = t} k is in
+    let a = form.read-of number-file channel-form shows number-reads k is in
     let c = a .inside in
     let numbers = a .numbers-are in
     let entries = front-taken (c .meet) meet meet′ (found .entries) (ap (λ (z : FileNumbers). z .entries) numbers) (a .meet-put) in

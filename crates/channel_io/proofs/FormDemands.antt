@@ -43,7 +43,7 @@ module _ (F : FileForm) (K : FormLaws (F .Inside)) (shows : (t : List ℕ) (c : 
     pub reading-a-file :
         ((meet rule : List ℕ) (c : F .Inside) → part-of (4 ∷ condition-numbers (read-conditions meet rule (F .setup-of c) (F .nodes-of c))) order ≡ true)
         → ((meet rule : List ℕ) (c : F .Inside) → right-places (read-conditions meet rule (F .setup-of c) (F .nodes-of c)) ≡ true)
-        → (t meet rule meet′ rule′ : List ℕ) (r : R) → ReadsBy F accepts refuses (answer-to K t) meet rule meet′ rule′ r
+        → (t meet rule meet′ rule′ : List ℕ) (r : R) → ReadsBy F accepts refuses (answer-to K) t meet rule meet′ rule′ r
         → JudgedBy {M = List ℕ × List ℕ} (K .Shows) t (λ c. read-conditions meet rule (F .setup-of c) (F .nodes-of c)) (refusal-in r) (meet, rule) (meet′, rule′)
     reading-a-file ordered placed t meet rule meet′ rule′ r k =
         judged-by K (λ c. read-conditions meet rule (F .setup-of c) (F .nodes-of c)) t (reading meet rule)
@@ -60,7 +60,7 @@ module _ (F : FileForm) (K : FormLaws (F .Inside)) (shows : (t : List ℕ) (c : 
       pub meet-put : meet′ ≡ put (F .setup-of inside .meet) meet
       pub rule-put : rule′ ≡ put (F .nodes-of inside) rule
 
-    pub read-of : {t meet rule meet′ rule′ : List ℕ} {r : R} {found : F .Numbers} → ReadsBy F accepts refuses (answer-to K t) meet rule meet′ rule′ r
+    pub read-of : {t meet rule meet′ rule′ : List ℕ} {r : R} {found : F .Numbers} → ReadsBy F accepts refuses (answer-to K) t meet rule meet′ rule′ r
         → numbers-in r ≡ some found → ReadOf t meet rule meet′ rule′ found
     unfolding read-answer meet-after rule-after put-unless stored-refusal
     read-of {t} {meet} {rule} {meet′} {rule′} {found = found} k is =
@@ -80,10 +80,10 @@ module _ (F : FileForm) (K : FormLaws (F .Inside)) (shows : (t : List ℕ) (c : 
               rule-put = h ∙ ap (λ (o : Option Refusal). put-unless o (F .nodes-of c) rule) (a .0);
             }
 
-    pub file-to-rule : (t meet rule meet′ rule′ : List ℕ) (r : R) → ReadsBy F accepts refuses (answer-to K t) meet rule meet′ rule′ r
+    pub file-to-rule : (t meet rule meet′ rule′ : List ℕ) (r : R) → ReadsBy F accepts refuses (answer-to K) t meet rule meet′ rule′ r
         → (found : F .Numbers) → numbers-in r ≡ some found → ReadsAs F t meet rule meet′ rule′ found
     file-to-rule t meet rule meet′ rule′ r k found is =
-        let w = read-of {t = t} k is in
+        let w = read-of k is in
         record {
           contents = w .inside;
           shown = shows t (w .inside) (w .reads);
@@ -113,7 +113,7 @@ module _ (F : FileForm) (K : FormLaws (F .Inside)) (shows : (t : List ℕ) (c : 
     pub compiling-a-file :
         ((meet to : List ℕ) (c : F .Inside) → part-of (4 ∷ condition-numbers (file-conditions meet to (F .setup-of c) (F .nodes-of c))) order ≡ true)
         → ((meet to : List ℕ) (c : F .Inside) → right-places (file-conditions meet to (F .setup-of c) (F .nodes-of c)) ≡ true)
-        → (t meet to meet′ to′ : List ℕ) (r : R) → CompilesBy F makes refuses (answer-to K t) meet to meet′ to′ r
+        → (t meet to meet′ to′ : List ℕ) (r : R) → CompilesBy F makes refuses (answer-to K) t meet to meet′ to′ r
         → JudgedBy {M = List ℕ × List ℕ} (K .Shows) t (λ c. file-conditions meet to (F .setup-of c) (F .nodes-of c)) (refusal-in r) (meet, to) (meet′, to′)
     compiling-a-file ordered placed t meet to meet′ to′ r k =
         judged-by K (λ c. file-conditions meet to (F .setup-of c) (F .nodes-of c)) t (making meet to)
@@ -121,10 +121,10 @@ module _ (F : FileForm) (K : FormLaws (F .Inside)) (shows : (t : List ℕ) (c : 
         (ap refusal-in (k .answer) ∙ made-refused meet to (answer-to K t))
         (λ q e. ap₂ (λ (m n : List ℕ). (m, n)) (k .meet-is) (k .table-is) ∙ made-kept meet to (answer-to K t) q e)
 
-    pub file-to-table : (t meet to meet′ to′ : List ℕ) (r : R) → CompilesBy F makes refuses (answer-to K t) meet to meet′ to′ r
+    pub file-to-table : (t meet to meet′ to′ : List ℕ) (r : R) → CompilesBy F makes refuses (answer-to K) t meet to meet′ to′ r
         → (found : F .Numbers) (n : ℕ) → table-in r ≡ some (found, n) → MakesTableOf F t meet to meet′ to′ found n
     file-to-table t meet to meet′ to′ r k found n is =
-        let w = made-of-by F (answer-to K) cases {t = t} k is in
+        let w = made-of-by F (answer-to K) cases k is in
         let c = w .inside in
         let a = table-as (F .setup-of c) (F .nodes-of c) (w .passed) n (w .states-are) in
         record {

@@ -141,15 +141,15 @@ pub record Judging (F : FileForm) (x : Outcome (F .Inside)) (n : F .Numbers) (s�
   pub numbers-are : n ≡ F .numbers-of inside
   pub judged : SameJudged s₁ (F .setup-of inside) nodes₁ (F .nodes-of inside)
 
-module _ {F : FileForm} {x : Outcome (F .Inside)} {R : Type 0} (accepts : F .Numbers → R) (refuses : Refusal → R) (meet rule : List ℕ) where
-  pub reads-off-form : {q : Refusal} → OffForm x q → ReadsBy F accepts refuses x meet rule meet rule (refuses q)
+module _ {F : FileForm} {read : List ℕ → Outcome (F .Inside)} {t : List ℕ} {R : Type 0} (accepts : F .Numbers → R) (refuses : Refusal → R) (meet rule : List ℕ) where
+  pub reads-off-form : {q : Refusal} → OffForm (read t) q → ReadsBy F accepts refuses read t meet rule meet rule (refuses q)
   unfolding read-answer meet-after rule-after
   reads-off-form f =
       let e = f .answer in
       record { answer = ap refuses (f .is) ∙ rw e; meet-is = rw e; rule-is = rw e }
 
-  pub reads-held : {n : F .Numbers} {s₁ : Setup} {nodes₁ meet′ rule′ : List ℕ} {r : R} → Judging F x n s₁ nodes₁
-      → KeepsBy refuses s₁ nodes₁ accepts n meet rule meet′ rule′ r → ReadsBy F accepts refuses x meet rule meet′ rule′ r
+  pub reads-held : {n : F .Numbers} {s₁ : Setup} {nodes₁ meet′ rule′ : List ℕ} {r : R} → Judging F (read t) n s₁ nodes₁
+      → KeepsBy refuses s₁ nodes₁ accepts n meet rule meet′ rule′ r → ReadsBy F accepts refuses read t meet rule meet′ rule′ r
   unfolding read-answer meet-after rule-after
   reads-held {s₁ = s₁} {nodes₁ = nodes₁} {meet′ = meet′} {rule′ = rule′} {r = r} h w =
       let e = h .answer in
@@ -157,15 +157,15 @@ module _ {F : FileForm} {x : Outcome (F .Inside)} {R : Type 0} (accepts : F .Num
       (subst (λ (z : F .Numbers). KeepsBy refuses s₁ nodes₁ accepts z meet rule meet′ rule′ r) (h .numbers-are) w) in
       record { answer = rw e (k .answer); meet-is = rw e (k .meet-is); rule-is = rw e (k .rule-is) }
 
-module _ {F : FileForm} {x : Outcome (F .Inside)} {R : Type 0} (makes : F .Numbers × ℕ → R) (refuses : Refusal → R) (meet to : List ℕ) where
-  pub compiles-off-form : {q : Refusal} → OffForm x q → CompilesBy F makes refuses x meet to meet to (refuses q)
+module _ {F : FileForm} {read : List ℕ → Outcome (F .Inside)} {t : List ℕ} {R : Type 0} (makes : F .Numbers × ℕ → R) (refuses : Refusal → R) (meet to : List ℕ) where
+  pub compiles-off-form : {q : Refusal} → OffForm (read t) q → CompilesBy F makes refuses read t meet to meet to (refuses q)
   unfolding file-table-answer entries-after table-after
   compiles-off-form f =
       let e = f .answer in
       record { answer = ap refuses (f .is) ∙ rw e; meet-is = rw e; table-is = rw e }
 
-  pub compiles-held : {n : F .Numbers} {s₁ : Setup} {nodes₁ meet′ to′ : List ℕ} {r : R} → Judging F x n s₁ nodes₁
-      → MakesBy refuses s₁ nodes₁ makes n meet to meet′ to′ r → CompilesBy F makes refuses x meet to meet′ to′ r
+  pub compiles-held : {n : F .Numbers} {s₁ : Setup} {nodes₁ meet′ to′ : List ℕ} {r : R} → Judging F (read t) n s₁ nodes₁
+      → MakesBy refuses s₁ nodes₁ makes n meet to meet′ to′ r → CompilesBy F makes refuses read t meet to meet′ to′ r
   unfolding file-table-answer entries-after table-after
   compiles-held {s₁ = s₁} {nodes₁ = nodes₁} {meet′ = meet′} {to′ = to′} {r = r} h w =
       let e = h .answer in

@@ -96,7 +96,7 @@ pub file-to-rule-to-file :
     WritesRegisterFile (found .events) (found .lines) (take (6 * found .nodes) rule′) old new w →
     length t ≤ length old → (count-of w ≡ some (length t)) × (new ≡ put t old)
 file-to-rule-to-file t meet rule meet′ rule′ r k found is old new w x room =
-    let a = form.read-of register-file register-form shows register-reads {t = t} k is in
+    let a = form.read-of register-file register-form shows register-reads k is in
     let c = a .inside in
     let nodes = front-taken (rule-numbers c) rule rule′ (6 * found .nodes)
     (ap (λ (z : FileNumbers). 6 * z .nodes) (a .numbers-are) ∙ sym (numbers-length (c .events) (c .lines) (c .rule))) (a .rule-put) in

@@ -31,21 +31,21 @@ module _ (F : FileForm) where
         answer-or makes refuses (pair-compile-refusal (F .setup-of c) (F .nodes-of c) meet to)
         (F .numbers-of c, pair-states (F .setup-of c) (F .nodes-of c))
 
-    -- Answer and later contents of a call that makes the table of a text, by what the file reader says of it.
-    pub record CompilesBy (x : Outcome (F .Inside)) (meet to meet′ to′ : List ℕ) (r : R) : Type 0 where
-      pub answer : r ≡ file-table-answer x meet to
-      pub meet-is : meet′ ≡ entries-after x meet to
-      pub table-is : to′ ≡ table-after x meet to
+    -- Answer and later contents of a call that makes the table of the text t, by what the file reader says of it.
+    pub record CompilesBy (read : List ℕ → Outcome (F .Inside)) (t meet to meet′ to′ : List ℕ) (r : R) : Type 0 where
+      pub answer : r ≡ file-table-answer (read t) meet to
+      pub meet-is : meet′ ≡ entries-after (read t) meet to
+      pub table-is : to′ ≡ table-after (read t) meet to
 
 -- Document 01's file, and a register's, of which `registers::compile_file` is this with [] for the meet entries.
 abbrev pub makes-numbers : FileNumbers × ℕ → FileTable
 makes-numbers p = Made (p .0) (p .1)
 
 abbrev pub CompilesFile : List ℕ → List ℕ → List ℕ → List ℕ → List ℕ → FileTable → Type 0
-CompilesFile t = CompilesBy number-file makes-numbers Refused (read-file t)
+CompilesFile = CompilesBy number-file makes-numbers Refused read-file
 
 abbrev pub makes-register : RegisterNumbers × ℕ → RegisterTable
 makes-register p = RegisterTable.Made (p .0) (p .1)
 
 abbrev pub CompilesRegisterFile : List ℕ → List ℕ → List ℕ → List ℕ → List ℕ → RegisterTable → Type 0
-CompilesRegisterFile t = CompilesBy register-file makes-register (λ q. RegisterTable.Refused q) (read-register-file t)
+CompilesRegisterFile = CompilesBy register-file makes-register (λ q. RegisterTable.Refused q) read-register-file

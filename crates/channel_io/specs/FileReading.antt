@@ -36,15 +36,15 @@ module _ (F : FileForm) where
     read-answer (refused p) meet rule = refuses (At 4 p)
     read-answer (contents c) meet rule = answer-or accepts refuses (stored-refusal (F .setup-of c) (F .nodes-of c) meet rule) (F .numbers-of c)
 
-    -- Answer and later contents of a call that reads a text, by what the file reader says of it.
-    pub record ReadsBy (x : Outcome (F .Inside)) (meet rule meet′ rule′ : List ℕ) (r : R) : Type 0 where
-      pub answer : r ≡ read-answer x meet rule
-      pub meet-is : meet′ ≡ meet-after x meet rule
-      pub rule-is : rule′ ≡ rule-after x meet rule
+    -- Answer and later contents of a call that reads the text t, by what the file reader says of it.
+    pub record ReadsBy (read : List ℕ → Outcome (F .Inside)) (t meet rule meet′ rule′ : List ℕ) (r : R) : Type 0 where
+      pub answer : r ≡ read-answer (read t) meet rule
+      pub meet-is : meet′ ≡ meet-after (read t) meet rule
+      pub rule-is : rule′ ≡ rule-after (read t) meet rule
 
 -- Document 01's file, and a register's. A register has no meet entries; `registers::read_file` is lent no buffer for them, which is this with [].
 abbrev pub ReadsFile : List ℕ → List ℕ → List ℕ → List ℕ → List ℕ → FileRead → Type 0
-ReadsFile t = ReadsBy number-file Accepted Refused (read-file t)
+ReadsFile = ReadsBy number-file Accepted Refused read-file
 
 abbrev pub ReadsRegisterFile : List ℕ → List ℕ → List ℕ → List ℕ → List ℕ → RegisterRead → Type 0
-ReadsRegisterFile t = ReadsBy register-file (λ n. RegisterRead.Accepted n) (λ q. RegisterRead.Refused q) (read-register-file t)
+ReadsRegisterFile = ReadsBy register-file (λ n. RegisterRead.Accepted n) (λ q. RegisterRead.Refused q) read-register-file
