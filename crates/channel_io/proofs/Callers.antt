@@ -144,37 +144,37 @@ module _ (F : FileForm) (read : List ℕ → Outcome (F .Inside)) where
   -- from the answer of a call that makes the table
   module _ {R : Type 0} {makes : F .Numbers × ℕ → R} {refuses : Refusal → R} {refusal-in : R → Option Refusal} {table-in : R → Option (F .Numbers × ℕ)}
       (cases : Cases makes refuses refusal-in table-in) {t meet to meet′ to′ : List ℕ} {x : R} (k : CompilesBy F makes refuses read t meet to meet′ to′ x)
-      where
-    pub unmade-by : {r : Refusal} → refusal-in x ≡ some r → Unmade t meet to r × (to′ ≡ to)
-    unfolding file-table-answer table-after put-unless
-    unmade-by {r} is = go (read t) refl (sym is ∙ ap refusal-in (k .answer)) (k .table-is)
-      where
-        go : (y : Outcome (F .Inside)) → read t ≡ y → some r ≡ refusal-in (file-table-answer F makes refuses y meet to) → to′ ≡ table-after F y meet to
-            → Unmade t meet to r × (to′ ≡ to)
-        go (refused p) e f g =
-            let h : some r ≡ some (At 4 p) = f ∙ cases .of-refused (At 4 p) .0 in
-            let z : At 4 p ≡ r = cc in
-            (subst (Unmade t meet to) z (off-form p e), g)
-        go (contents c) e f g =
-            let a : pair-compile-refusal (F .setup-of c) (F .nodes-of c) meet to ≡ some r =
-            sym (answer-refusal cases (pair-compile-refusal (F .setup-of c) (F .nodes-of c) meet to)
-            (F .numbers-of c, pair-states (F .setup-of c) (F .nodes-of c))) ∙ sym f in
-            (turned-away c r e a, g ∙ ap (λ (o : Option Refusal). put-unless o (pair-table (F .setup-of c) (F .nodes-of c)) to) a)
+    where
+      pub unmade-by : {r : Refusal} → refusal-in x ≡ some r → Unmade t meet to r × (to′ ≡ to)
+      unfolding file-table-answer table-after put-unless
+      unmade-by {r} is = go (read t) refl (sym is ∙ ap refusal-in (k .answer)) (k .table-is)
+        where
+          go : (y : Outcome (F .Inside)) → read t ≡ y → some r ≡ refusal-in (file-table-answer F makes refuses y meet to) → to′ ≡ table-after F y meet to
+              → Unmade t meet to r × (to′ ≡ to)
+          go (refused p) e f g =
+              let h : some r ≡ some (At 4 p) = f ∙ cases .of-refused (At 4 p) .0 in
+              let z : At 4 p ≡ r = cc in
+              (subst (Unmade t meet to) z (off-form p e), g)
+          go (contents c) e f g =
+              let a : pair-compile-refusal (F .setup-of c) (F .nodes-of c) meet to ≡ some r =
+              sym (answer-refusal cases (pair-compile-refusal (F .setup-of c) (F .nodes-of c) meet to)
+              (F .numbers-of c, pair-states (F .setup-of c) (F .nodes-of c))) ∙ sym f in
+              (turned-away c r e a, g ∙ ap (λ (o : Option Refusal). put-unless o (pair-table (F .setup-of c) (F .nodes-of c)) to) a)
 
-    pub made-of-by : {n : F .Numbers} {j : ℕ} → table-in x ≡ some (n, j) → MadeOf t meet to meet′ to′ n j
-    unfolding file-table-answer entries-after table-after put-unless
-    made-of-by {n} {j} is = go (read t) refl (sym (ap table-in (k .answer)) ∙ is) (k .meet-is) (k .table-is)
-      where
-        go : (y : Outcome (F .Inside)) → read t ≡ y → table-in (file-table-answer F makes refuses y meet to) ≡ some (n, j) → meet′ ≡ entries-after F y meet to
-            → to′ ≡ table-after F y meet to → MadeOf t meet to meet′ to′ n j
-        go (refused p) e f g h = absurd (Option·some-ne-none {A = F .Numbers × ℕ} (n, j) (sym f ∙ cases .of-refused (At 4 p) .1))
-        go (contents c) e f g h =
-            let s = F .setup-of c in
-            let nodes = F .nodes-of c in
-            let a = answer-found cases (pair-compile-refusal s nodes meet to) (F .numbers-of c, pair-states s nodes) (n, j) f in
-            made-by c e (a .0) (ap (λ (p : F .Numbers × ℕ). p .0) (a .1)) (ap (λ (p : F .Numbers × ℕ). p .1) (a .1))
-            (g ∙ ap (λ (o : Option Refusal). put-unless o (s .meet) meet) (a .0))
-            (h ∙ ap (λ (o : Option Refusal). put-unless o (pair-table s nodes) to) (a .0))
+      pub made-of-by : {n : F .Numbers} {j : ℕ} → table-in x ≡ some (n, j) → MadeOf t meet to meet′ to′ n j
+      unfolding file-table-answer entries-after table-after put-unless
+      made-of-by {n} {j} is = go (read t) refl (sym (ap table-in (k .answer)) ∙ is) (k .meet-is) (k .table-is)
+        where
+          go : (y : Outcome (F .Inside)) → read t ≡ y → table-in (file-table-answer F makes refuses y meet to) ≡ some (n, j) → meet′ ≡ entries-after F y meet to
+              → to′ ≡ table-after F y meet to → MadeOf t meet to meet′ to′ n j
+          go (refused p) e f g h = absurd (Option·some-ne-none {A = F .Numbers × ℕ} (n, j) (sym f ∙ cases .of-refused (At 4 p) .1))
+          go (contents c) e f g h =
+              let s = F .setup-of c in
+              let nodes = F .nodes-of c in
+              let a = answer-found cases (pair-compile-refusal s nodes meet to) (F .numbers-of c, pair-states s nodes) (n, j) f in
+              made-by c e (a .0) (ap (λ (p : F .Numbers × ℕ). p .0) (a .1)) (ap (λ (p : F .Numbers × ℕ). p .1) (a .1))
+              (g ∙ ap (λ (o : Option Refusal). put-unless o (s .meet) meet) (a .0))
+              (h ∙ ap (λ (o : Option Refusal). put-unless o (pair-table s nodes) to) (a .0))
 
 -- ---- document 01's file
 

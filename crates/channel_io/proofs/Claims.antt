@@ -153,7 +153,8 @@ pub table-as : (s : Setup) (nodes : List ℕ) → pair-table-refusal s nodes ≡
     IsRuleTable s nodes n (machine-of (s .kind) (s .events) (pair-table s nodes))
     × (table-bytes (entry-bytes (s .kind)) (s .events) (machine-of (s .kind) (s .events) (pair-table s nodes)) n ≡ pair-table s nodes)
 table-as s nodes passed n is =
-    let m = machine-of (s .kind) (s .events) (pair-table s nodes) in
-    (subst (λ (j : ℕ). IsRuleTable s nodes j m) (sym is) (printed-table s nodes (pair-states s nodes) m (file-table-made s nodes passed .table)),
-    ap (table-bytes (entry-bytes (s .kind)) (s .events) m) is
-    ∙ accepted-table table-limit (s .events) (s .kind) (pair-states s nodes) 0 (pair-table s nodes) (file-table-accepted s nodes passed) .bytes-of)
+    let m = machine-of (s .kind) (s .events) (pair-table s nodes) in (
+      subst (λ (j : ℕ). IsRuleTable s nodes j m) (sym is) (printed-table s nodes (pair-states s nodes) m (file-table-made s nodes passed .table)),
+      ap (table-bytes (entry-bytes (s .kind)) (s .events) m) is
+          ∙ accepted-table table-limit (s .events) (s .kind) (pair-states s nodes) 0 (pair-table s nodes) (file-table-accepted s nodes passed) .bytes-of,
+    )

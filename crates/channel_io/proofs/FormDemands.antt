@@ -16,10 +16,11 @@ use Rattle.synthesis.specs.TableOfRule.{pair-conditions}
 use Rattle.text_format.specs.Format.{Outcome, contents, refused}
 use Rattle.channel_file.proofs.Forms.{FormLaws, answer-to}
 use Rattle.channel_io.specs.FileConditions.{FileForm, JudgedBy, read-conditions, ReadsAs, IsFileOf, write-file-conditions, WritesAs}
-use Rattle.channel_io.specs.{FileTables.{file-conditions, MakesTableOf}, FileReading.{answer-or, meet-after, rule-after, read-answer, ReadsBy}}
+use Rattle.channel_io.specs.{FileTables.{file-conditions, MakesTableOf}, FileReading.{meet-after, rule-after, read-answer, ReadsBy}}
 use Rattle.channel_io.specs.FileRefusals.{pair-refusal, stored-refusal, text-refusal, pair-states, pair-table, pair-compile-refusal}
 use Rattle.channel_io.specs.{FileCompilation.{entries-after, table-after, file-table-answer, CompilesBy}, FileWriting.{write-refusal, WritesText}}
-use Rattle.channel_io.proofs.{TextCalls.{judged-by}, Claims.{pair-first, read-first, file-first, table-as}, Callers.{Cases, answer-refusal, answer-found, made-of-by}}
+use Rattle.channel_io.proofs.{TextCalls.{judged-by}, Claims.{pair-first, read-first, file-first, table-as}}
+use Rattle.channel_io.proofs.Callers.{Cases, answer-refusal, answer-found, made-of-by}
 
 -- ---- a text is read, and its table is made
 module _ (F : FileForm) (K : FormLaws (F .Inside)) (shows : (t : List ℕ) (c : F .Inside) → answer-to K t ≡ contents c → F .Shown c t) where
@@ -200,8 +201,7 @@ module _ (F : FileForm) (s : Setup) (rule T : List ℕ) (written : pair-refusal 
   again c x ok old new w k room =
       let same = text-of ok c x in
       let fits = le-leb (length T) (length old) (omega (arith, ap length same)) in
-      let passed : write-refusal s rule T old ≡ none = rw (ok, fits) in
-      (
+      let passed : write-refusal s rule T old ≡ none = rw (ok, fits) in (
         ap count-of (k .answer) ∙ ap₂ (λ (o : Option Refusal) (l : List ℕ). count-of (counted o (length l))) passed same,
         k .buffer ∙ ap₂ (λ (o : Option Refusal) (l : List ℕ). put-unless o l old) passed same,
       )

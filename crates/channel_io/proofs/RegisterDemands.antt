@@ -1,8 +1,8 @@
 -- Reading, compiling and writing a register's file: FormDemands at that form.
 use Prim.Native.Nat.{ℕ, _*_, _≤_}
-use mathlib.Core.{Path.{_≡_, refl, sym, ap, ap₂, _∙_, subst}, List.{List}, Option.{Option, none, some}}
+use mathlib.Core.{Path.{_≡_, refl, sym, ap, ap₂, _∙_, subst}, List.{List}, Option.{none, some}}
 use lib.ListN.{length, take}
-use Rattle.refusal.specs.{declared.Refusal.{Refusal}, declared.Counted.{Counted}}
+use Rattle.refusal.specs.declared.Counted.{Counted}
 use Rattle.refusal.specs.Refusal.{has-place, part-of, order, condition-numbers, right-places, JudgedCall, counted-refusal, count-of, put}
 use Rattle.values.specs.{declared.ValueKind.the-variants.{Register}, Setup.{Setup, register-setup, setup-conditions, kind-conditions}}
 use Rattle.text_format.specs.Format.{contents}

@@ -14,7 +14,7 @@ use Rattle.channel_file.specs.{Bytes.{put-front}, RegisterFile.{Contents}}
 use Rattle.channel_file.specs.RegisterReading.{read-file, rule-bytes, stored-reply, arrays-of}
 use Rattle.channel_file.specs.declared.registers.ReadArrays.{ReadArrays}
 use Rattle.channel_file.proofs.Buffers.{front-length}
-use Rattle.channel_io.specs.FileRefusals.{pair-states, pair-table, has-table-room, pair-compile-refusal}
+use Rattle.channel_io.specs.FileRefusals.{pair-states, has-table-room, pair-compile-refusal}
 use Rattle.channel_io.specs.{RegisterFiles.{file-numbers, register-file}, RegisterSteps.{shown-nodes, held-by, held-setup}}
 use Rattle.channel_io.specs.{FileReading.{answer-or}, FileCompilation.{makes-register}, Steps.{MakesBy}}
 use Rattle.channel_io.specs.declared.registers.{FileNumbers.{FileNumbers}, FileTable.{FileTable}, Held.{Held}}

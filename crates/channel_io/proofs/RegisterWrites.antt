@@ -2,16 +2,15 @@
 use Prim.Native.Nat.{ℕ, suc, _+_, _*_, _/_, _%_, _^_, _≤_, _<_}
 use mathlib.Core.{Path.{_≡_, refl, sym, ap, ap₂, _∙_}, List.{List, [], _∷_, _++_, map}, Option.{Option, none, some}}
 use native.Mathlib.Omega.{arith}
-use lib.{Dec.{leb}, ListN.{length, length-append}}
+use lib.ListN.{length, length-append}
 use Rattle.theory.specs.ValueSets.{Masks, unpack}
 use Rattle.theory.specs.Formula.{Formula, truth, variable, transition, output, conjunction, greatest, size}
 use Rattle.theory.specs.Formula.{Node, truth-node, variable-node, transition-node, output-node, conjunction-node, greatest-node, nodes}
 use Rattle.theory.specs.FormulaClasses.{FreeBelow, Fits}
 use Rattle.refusal.specs.declared.{Refusal.{Refusal}, Counted.{Counted}}
-use Rattle.refusal.specs.declared.Judgement.the-variants.{Accepted as Passed, Refused as Judged}
-use Rattle.refusal.specs.declared.Counted.the-variants.{Refused}
-use Rattle.refusal.specs.RefusalAnswers.{or-else, plain-unless, judgement, counted, put-unless}
-use Rattle.refusal.proofs.Refusals.{judgement-accepted, judgement-refused, or-else-none}
+use Rattle.refusal.specs.declared.Judgement.the-variants.{Accepted as Passed}
+use Rattle.refusal.specs.RefusalAnswers.{judgement}
+use Rattle.refusal.proofs.Refusals.{judgement-accepted, or-else-none}
 use Rattle.limits.specs.Limits.{event-limit, line-limit, node-limit, file-limit}
 use Rattle.values.specs.declared.ValueKind.the-variants.{Register}
 use Rattle.values.specs.{Setup.{ValueIn, register-setup}, SetupTests.{setup-refusal}}
@@ -23,7 +22,7 @@ use Rattle.text_format.proofs.Decimal.{decimal-numeral}
 use Rattle.channel_file.specs.ChannelFile.{token-T, token-A, token-V, token-X, token-G, token-O, number, encoded}
 use Rattle.channel_file.specs.RegisterFile.{Token, Contents, mask, SmallMasks, token-text, SmallToken, text, SmallContents, node-numbers}
 use Rattle.channel_file.specs.RegisterFile.{rule-numbers}
-use Rattle.channel_writer.specs.Writing.{with-token, reply-by, buffer-by}
+use Rattle.channel_writer.specs.Writing.{with-token}
 use Rattle.channel_writer.specs.RegisterWriting.{mask-of, masks-of, node-tokens, contents-of, WritesContents}
 use Rattle.channel_writer.specs.Claims.{All, none-left, one-more}
 use Rattle.channel_file.proofs.Claims.{number-length}

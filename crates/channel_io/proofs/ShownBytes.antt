@@ -6,7 +6,7 @@ use borrow.Author.Tests.{le-leb, leb-true, leb-false}
 use lib.{Dec.{leb}, ListN.{length, take, drop, replicate, length-replicate}, Seq.{take-at}}
 use Rattle.theory.proofs.ValueSets.{and-left}
 use Rattle.limits.specs.Limits.{meet-limit, node-limit}
-use Rattle.refusal.specs.declared.{Refusal.{Refusal}, Refusal.the-variants.{At}}
+use Rattle.refusal.specs.declared.Refusal.{Refusal}
 use Rattle.refusal.specs.RefusalAnswers.{or-else, plain-unless}
 use Rattle.refusal.specs.Refusal.{put}
 use Rattle.refusal.proofs.Refusals.{or-else-none, plain-none}

@@ -6,7 +6,7 @@ use lib.ListN.{length}
 use Rattle.limits.specs.Limits.{file-limit}
 use Rattle.refusal.specs.{Refusal.{Condition, plain, at-lowest, JudgedCall, put}, declared.Refusal.{Refusal}}
 use Rattle.values.specs.Setup.{Setup, setup}
-use Rattle.synthesis.specs.TableOfRule.{pair-conditions, pair-table-conditions}
+use Rattle.synthesis.specs.TableOfRule.{pair-conditions}
 use Rattle.channel_file.specs.ChannelFile.{Contents, rule-numbers, rule-text, text, Shows, RefusedBy}
 use Rattle.channel_io.specs.{declared.FileNumbers.{FileNumbers}, declared.FileRead.{FileRead}, declared.FileRead.the-variants.{Accepted, Refused}}
 

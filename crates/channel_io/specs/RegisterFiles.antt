@@ -1,5 +1,5 @@
 -- A register's channel file (document 02, F-7), as the second form of files.
-use mathlib.Core.{List.{List}, Option.{Option, none, some}}
+use mathlib.Core.Option.{Option, none, some}
 use lib.ListN.{length}
 use Rattle.refusal.specs.declared.Refusal.{Refusal}
 use Rattle.values.specs.Setup.{Setup, register-setup}
