@@ -45,7 +45,8 @@ module _ (F : FileForm) (K : FormLaws (F .Inside)) (shows : (t : List ℕ) (c : 
         ((meet rule : List ℕ) (c : F .Inside) → part-of (4 ∷ condition-numbers (read-conditions meet rule (F .setup-of c) (F .nodes-of c))) order ≡ true)
         → ((meet rule : List ℕ) (c : F .Inside) → right-places (read-conditions meet rule (F .setup-of c) (F .nodes-of c)) ≡ true)
         → (t meet rule meet′ rule′ : List ℕ) (r : R) → ReadsBy F accepts refuses (answer-to K) t meet rule meet′ rule′ r
-        → JudgedBy {M = List ℕ × List ℕ} (K .Shows) t (λ c. read-conditions meet rule (F .setup-of c) (F .nodes-of c)) (refusal-in r) (meet, rule) (meet′, rule′)
+        → JudgedBy {M = List ℕ × List ℕ} (K .Shows) t (λ c. read-conditions meet rule (F .setup-of c) (F .nodes-of c)) (refusal-in r)
+        (meet, rule) (meet′, rule′)
     reading-a-file ordered placed t meet rule meet′ rule′ r k =
         judged-by K (λ c. read-conditions meet rule (F .setup-of c) (F .nodes-of c)) t (reading meet rule)
         (λ c. read-first (F .setup-of c) (F .nodes-of c) meet rule) (ordered meet rule) (placed meet rule)

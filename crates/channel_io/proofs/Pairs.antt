@@ -141,7 +141,8 @@ pub record Judging (F : FileForm) (x : Outcome (F .Inside)) (n : F .Numbers) (s�
   pub numbers-are : n ≡ F .numbers-of inside
   pub judged : SameJudged s₁ (F .setup-of inside) nodes₁ (F .nodes-of inside)
 
-module _ {F : FileForm} {read : List ℕ → Outcome (F .Inside)} {t : List ℕ} {R : Type 0} (accepts : F .Numbers → R) (refuses : Refusal → R) (meet rule : List ℕ) where
+module _ {F : FileForm} {read : List ℕ → Outcome (F .Inside)} {t : List ℕ} {R : Type 0} (accepts : F .Numbers → R) (refuses : Refusal → R)
+    (meet rule : List ℕ) where
   pub reads-off-form : {q : Refusal} → OffForm (read t) q → ReadsBy F accepts refuses read t meet rule meet rule (refuses q)
   unfolding read-answer meet-after rule-after
   reads-off-form f =
@@ -157,7 +158,8 @@ module _ {F : FileForm} {read : List ℕ → Outcome (F .Inside)} {t : List ℕ}
       (subst (λ (z : F .Numbers). KeepsBy refuses s₁ nodes₁ accepts z meet rule meet′ rule′ r) (h .numbers-are) w) in
       record { answer = rw e (k .answer); meet-is = rw e (k .meet-is); rule-is = rw e (k .rule-is) }
 
-module _ {F : FileForm} {read : List ℕ → Outcome (F .Inside)} {t : List ℕ} {R : Type 0} (makes : F .Numbers × ℕ → R) (refuses : Refusal → R) (meet to : List ℕ) where
+module _ {F : FileForm} {read : List ℕ → Outcome (F .Inside)} {t : List ℕ} {R : Type 0} (makes : F .Numbers × ℕ → R) (refuses : Refusal → R)
+    (meet to : List ℕ) where
   pub compiles-off-form : {q : Refusal} → OffForm (read t) q → CompilesBy F makes refuses read t meet to meet to (refuses q)
   unfolding file-table-answer entries-after table-after
   compiles-off-form f =

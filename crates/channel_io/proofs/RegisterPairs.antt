@@ -47,7 +47,8 @@ held-nodes c = go (leb (length (c .rule)) node-limit) refl
     go false f = refl
 
 -- what is held of a text that was read into an array: 4
-pub off-form : (t : List ℕ) {a : ReadArrays} {h : Held} {q : Refusal} → a ≡ arrays-of (read-file t) → h ≡ held-by (a .reply) → h ≡ Held.Refused q → OffForm (read-file t) q
+pub off-form : (t : List ℕ) {a : ReadArrays} {h : Held} {q : Refusal} → a ≡ arrays-of (read-file t) → h ≡ held-by (a .reply)
+    → h ≡ Held.Refused q → OffForm (read-file t) q
 off-form t {q = q} e d f = go (read-file t) refl (sym f ∙ d ∙ ap (λ (z : ReadArrays). held-by (z .reply)) e)
   where
     go : (x : Outcome Contents) → read-file t ≡ x → Held.Refused q ≡ held-by (stored-reply x) → OffForm (read-file t) q

@@ -202,7 +202,8 @@ shown-few count limit r e = go (leb count limit) refl e
     go false f d = omega arith
 
 -- what is held of a text that was read into arrays: 4
-pub off-form : (t : List ℕ) {a : ReadArrays} {h : Held} {q : Refusal} → a ≡ arrays-of (read-file t) → h ≡ held-by (a .reply) → h ≡ Refused q → OffForm (read-file t) q
+pub off-form : (t : List ℕ) {a : ReadArrays} {h : Held} {q : Refusal} → a ≡ arrays-of (read-file t) → h ≡ held-by (a .reply) → h ≡ Refused q
+    → OffForm (read-file t) q
 off-form t {q = q} e d f = go (read-file t) refl (sym f ∙ d ∙ ap (λ (z : ReadArrays). held-by (z .reply)) e)
   where
     go : (x : Outcome Contents) → read-file t ≡ x → Refused q ≡ held-by (stored-reply x) → OffForm (read-file t) q

@@ -45,7 +45,8 @@ pub record FileCalls : Type 1 where
 
 -- Those of document 01's file.
 pub data WritesNumbers (rule old new : List ℕ) (r : Counted) : Setup → Type 0 where
-  writes : (events values top : ℕ) (meet : List ℕ) → WritesFile events values top meet rule old new r → WritesNumbers rule old new r (setup events values top meet)
+  writes : (events values top : ℕ) (meet : List ℕ) → WritesFile events values top meet rule old new r →
+      WritesNumbers rule old new r (setup events values top meet)
 
 abbrev pub number-calls : FileCalls
 number-calls =

@@ -25,7 +25,8 @@ returns-2 c =
     .before .args in
     compiles-held _ _ [] (a .to .now) (holds (a .text .now) (c .before .before .before .before .before .before .before .before .before .before .before .before
     .before .before .before .read-arrays .ensures) (c .before .before .before .before .before .before .before .before .before .before .before .before
-    .before .before .hold .ensures) (c .before .before .before .before .before .before .before .before .before .before .before .before .numbers .given .1) .judging)
+    .before .before .hold .ensures) (c .before .before .before .before .before .before .before .before .before .before .before .before
+    .numbers .given .1) .judging)
     (makes-refused _ _ (a .to .now) _ (c .before .before .before .before .before .compile-register .ensures .1) _ (sym (c .before .refusal2 .given .1)
     ∙ c .before .before .before .before .before .compile-register .ensures .0))
 
@@ -35,7 +36,8 @@ returns-3 c =
     .before .args in
     compiles-held _ _ [] (a .to .now) (holds (a .text .now) (c .before .before .before .before .before .before .before .before .before .before .before .before
     .before .before .before .read-arrays .ensures) (c .before .before .before .before .before .before .before .before .before .before .before .before
-    .before .before .hold .ensures) (c .before .before .before .before .before .before .before .before .before .before .before .before .numbers .given .1) .judging)
+    .before .before .hold .ensures) (c .before .before .before .before .before .before .before .before .before .before .before .before
+    .numbers .given .1) .judging)
     (makes-made _ _ (a .to .now) _ (c .before .before .before .before .before .compile-register .ensures .1) _ (sym (c .before .states .given .1)
     ∙ c .before .before .before .before .before .compile-register .ensures .0))
 
