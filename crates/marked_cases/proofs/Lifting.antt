@@ -32,14 +32,14 @@ use Rattle.formulas.specs.Claims.{AcceptedFormula}
 use Rattle.formulas.proofs.{Encoding.{encode-unique}, NodeCodes.{node-code}, RuleClaims.{rule-judged, accepted-formula-of, formula-of-only}}
 use Rattle.machines.specs.{TableBytes.{entry-bytes, row-bytes, rows-bytes, table-bytes}, TableRefusal.{table-refusal}, Claims.{AcceptedTable}}
 use Rattle.machines.specs.StoredEntries.{two-bytes}
-use Rattle.values.specs.{declared.ValueKind.{ValueKind}, declared.ValueKind.the-variants.{Register}}
+use Rattle.values.specs.{declared.ValueKind.{ValueKind}, declared.ValueKind.the-variants.{Numbered, Register}}
 use Rattle.machines.proofs.TableRefusals.{table-refusal-first, accepted-table}
-use Rattle.table_report.specs.{PrintedTable.{Prints}, Report.{report-text}}
-use Rattle.table_report.proofs.ReportClaims.{report-claim}
+use Rattle.table_report.specs.{PrintedTable.{Prints}, Report.{report-text, register-report-text}}
+use Rattle.table_report.proofs.ReportClaims.{one-report-claim}
 use Rattle.channel_log.specs.Distance.{wheel-of-turn, distance}
 use Rattle.marked_cases.specs.MarkedCases.{Case, tabled, printed, repeated, refused, written, failing, passing, passing-same, passing-stricter}
 use Rattle.marked_cases.specs.MarkedCases.{implying, not-implying, measured, total-within, total-above, times, Form, s, IsRule, TableOf, rows-of, device}
-use Rattle.marked_cases.specs.MarkedCases.{handed, registered, masked, both, rows-to-0, rule-in, rows-in, Holds, AllHold}
+use Rattle.marked_cases.specs.MarkedCases.{handed, registered, masked, both, rows-to-0, file-form, rule-in, rows-in, Holds, AllHold}
 
 -- ---- entries of two numbers each, in the bytes of a kind of values
 abbrev in-bytes : ValueKind → List ℕ → List ℕ
@@ -61,6 +61,15 @@ module _ (kind : ValueKind) (events : ℕ) (m : Machine ℕ ℕ) where
   rows-in-bytes (suc n) l =
       row-in-bytes events l zero (rows-bytes two-bytes events m n (suc l))
       ∙ ap (λ x. row-bytes (entry-bytes kind) events m events l zero ++ x) (rows-in-bytes n (suc l))
+
+-- ---- what is printed for a text
+abbrev printed-for : ValueKind → List ℕ → List ℕ
+printed-for (Numbered values) t = report-text t
+printed-for (Register lines) t = register-report-text t
+
+prints : (kind : ValueKind) (t : List ℕ) → Prints (file-form kind) t (printed-for kind t)
+prints (Numbered values) t = one-report-claim .numbers .prints t
+prints (Register lines) t = one-report-claim .registers .prints t
 
 -- ---- what is computed of the cases in a form
 module _ (f : Form) where
@@ -118,7 +127,7 @@ module _ (f : Form) where
   Checked (tabled rule n rows) =
       (rule-refusal (s f .events) (s f .kind) (bytes (rule-in f rule)) ≡ none)
       × (states (case-formula rule) ≡ n) × (leb n state-limit ≡ true) × (numbers-of (made (case-formula rule)) n ≡ numbers-in rows)
-  Checked (printed text output) = report-text text ≡ output
+  Checked (printed text output) = printed-for (f .kind) (text (f .kind)) ≡ output (f .kind)
   Checked (repeated rule e first later) =
       (rule-refusal (s f .events) (s f .kind) (bytes (rule-in f rule)) ≡ none)
       × (leb (states (case-formula rule)) state-limit ≡ true) × (ltb e (s f .events) ≡ true)
@@ -406,7 +415,8 @@ module _ (f : Form) (fine : setup-refusal (s f) ≡ none) where
           ),
         );
       }
-  lifted (printed text output) e = record { lower = subst (Prints text) e (report-claim text) }
+  lifted (printed text output) e =
+      record { lower = subst (Prints (file-form (f .kind)) (text (f .kind))) e (prints (f .kind) (text (f .kind))) }
   lifted (repeated rule e first later) (ok, few, event, now, (l, leads, loop, then)) =
       let φ = case-formula f rule in
       let says = table-has φ (well (rule-in f rule) ok) (states f φ) (made f φ) (made-is φ (well (rule-in f rule) ok) (code

@@ -3,7 +3,6 @@ use mathlib.Core.{Path.{_≡_, refl}, List.{[], _∷_}, Option.{none}}
 use Prim.Native.Nat.{ℕ, zero, suc, _<_}
 use native.Mathlib.Omega.{arith}
 use lib.Bits.{bitAnd}
-use Rattle.theory.specs.MealyMachine.{Machine}
 use Rattle.theory.specs.Formula.{Formula, variable, transition, output, conjunction, greatest}
 use Rattle.theory.specs.{ValueSets.{meetAt, four-value-meet, pack, unpack, top-masks}, DemandSets.{empty, only, union}}
 use Rattle.theory.specs.ValueSetTests.{every, closed-test, idempotent-test, commutative-test, associative-test, neutral-test, lawful}
@@ -21,8 +20,8 @@ use Rattle.text_format.specs.Texts.{numeral}
 use Rattle.table_rows.specs.TableText.{row-line, table-text}
 use Rattle.channel_io.specs.FileRefusals.{pair-table-refusal}
 use Rattle.table_report.specs.Report.{answer-text, outcome-text}
-use Rattle.marked_cases.specs.MarkedCases.{four-values, sixteen-lines, s, first-case, later-cases, cases, MarkedCasesClaim, request-cases}
-use Rattle.marked_cases.specs.MarkedCases.{RequestCasesClaim, limit-cases, written}
+use Rattle.marked_cases.specs.MarkedCases.{four-values, sixteen-lines, s, cases, MarkedCasesClaim, request-cases}
+use Rattle.marked_cases.specs.MarkedCases.{RequestCasesClaim, limit-cases}
 use Rattle.marked_cases.proofs.Lifting.{made, Comparable, Coverable, Checked, AllChecked, all-lifted}
 
 -- The rule that is written in case 11, with values for low and high.
@@ -159,50 +158,18 @@ numbers-checked = (
   ),
 )
 
--- Case 11 takes the longest: its entries have a computation each.
-two-states :
-    (m : Machine ℕ ℕ) (a b c d x y z w : ℕ) → m .value 0 0 ≡ a → m .value 0 1 ≡ b → m .value 1 0 ≡ c → m .value 1 1 ≡ d → m .next 0 0 ≡ x →
-    m .next 0 1 ≡ y → m .next 1 0 ≡ z → m .next 1 1 ≡ w → table-bytes two-bytes 2 m 2 ≡ a ∷ x ∷ b ∷ y ∷ c ∷ z ∷ d ∷ w ∷ []
-two-states m a b c d x y z w e f g h i j k l = rw (e, f, g, h, i, j, k, l) refl
-
-abbrev table-11 : Machine ℕ ℕ
-table-11 = made sixteen-lines (rule-11 65535 4294901760)
-
-value-00 : table-11 .value 0 0 ≡ 65535
+-- The rows of cases 3 and 11 in a register's form, computed apart with little unfolded: that takes far fewer steps than among the rest.
+met-rows : table-bytes two-bytes 2 (made sixteen-lines (conjunction (output 0 65535) (output 0 4294901760))) 2
+    ≡ 0 ∷ 1 ∷ 4294967295 ∷ 1 ∷ 4294967295 ∷ 1 ∷ 4294967295 ∷ 1 ∷ []
 unfolding meetOf pack top-masks empty only union
-value-00 = refl
+met-rows = refl
 
-value-01 : table-11 .value 0 1 ≡ 4294901760
+written-rows : table-bytes two-bytes 2 (made sixteen-lines (rule-11 65535 4294901760)) 2
+    ≡ 65535 ∷ 0 ∷ 4294901760 ∷ 1 ∷ 4294901760 ∷ 1 ∷ 65535 ∷ 1 ∷ []
 unfolding meetOf pack top-masks empty only union
-value-01 = refl
+written-rows = refl
 
-value-10 : table-11 .value 1 0 ≡ 4294901760
-unfolding meetOf pack top-masks empty only union
-value-10 = refl
-
-value-11 : table-11 .value 1 1 ≡ 65535
-unfolding meetOf pack top-masks empty only union
-value-11 = refl
-
-written-checked : Checked sixteen-lines (written 2 (1 ∷ 0 ∷ 2 ∷ 1 ∷ 2 ∷ 1 ∷ 1 ∷ 1 ∷ []) 19)
-unfolding AllChecked Checked Comparable Coverable rule-refusal formula-of or-else plain-unless at-found count-fits nodes-refusal misfit-place structure-refusal
-    depth-refusal variables-refusal lowest-from kind-of fields-fit awaited end-fault first-of node-of nodes-from with-parts formulas first-formula formula-read
-    lowest-fault unbound-below bound-near meetOf meetAt four-value-meet pack unpack top-masks masks-value masks-fit empty only union table-refusal
-    table-test entry-test every
-    closed-test idempotent-test commutative-test associative-test neutral-test lawful events-test values-test entries-test meet-test lines-test kind-refusal
-    setup-refusal formula-states formula-table rule-table-refusal pair-table-refusal numeral row-line table-text answer-text outcome-text
-written-checked = (
-  rule-11 65535 4294901760,
-  refl,
-  refl,
-  refl,
-  refl,
-  refl,
-  refl,
-  two-states table-11 65535 4294901760 4294901760 65535 0 1 1 1 value-00 value-01 value-10 value-11 refl refl refl refl,
-)
-
-registers-checked : AllChecked sixteen-lines (first-case ∷ later-cases) × AllChecked sixteen-lines request-cases
+registers-checked : AllChecked sixteen-lines cases × AllChecked sixteen-lines request-cases
 unfolding AllChecked Checked Comparable Coverable rule-refusal formula-of or-else plain-unless at-found count-fits nodes-refusal misfit-place structure-refusal
     depth-refusal variables-refusal lowest-from kind-of fields-fit awaited end-fault first-of node-of nodes-from with-parts formulas first-formula formula-read
     lowest-fault unbound-below bound-near meetOf meetAt four-value-meet pack unpack top-masks masks-value masks-fit empty only union table-refusal
@@ -213,28 +180,31 @@ registers-checked = (
   (
     (refl, refl, refl, refl),
     (
-      (refl, refl, refl, refl),
+      refl,
       (
-        (refl, refl, refl, refl),
+        (refl, refl, refl, met-rows),
         (
-          (refl, refl, refl, refl, (2, refl, refl, refl)),
+          (refl, refl, refl, refl),
           (
-            refl,
+            (refl, refl, refl, refl, (2, refl, refl, refl)),
             (
               refl,
               (
-                (refl, refl, refl, refl),
+                refl,
                 (
-                  refl,
+                  (refl, refl, refl, refl),
                   (
                     refl,
                     (
-                      (refl, refl, refl, refl),
+                      refl,
                       (
-                        written-checked,
+                        (refl, refl, refl, refl),
                         (
-                          ((refl, refl, refl), refl),
-                          ((refl, refl, lowest-masks), tt),
+                          (rule-11 65535 4294901760, refl, refl, refl, refl, refl, refl, written-rows),
+                          (
+                            ((refl, refl, refl), refl),
+                            ((refl, refl, lowest-masks), tt),
+                          ),
                         ),
                       ),
                     ),
@@ -387,7 +357,7 @@ pub marked-cases : MarkedCasesClaim
 marked-cases =
     record {
       numbers = all-lifted four-values (four-value-setup 2 (omega arith) (omega arith)) cases (numbers-checked .0);
-      registers = all-lifted sixteen-lines register-fine (first-case ∷ later-cases) (registers-checked .0);
+      registers = all-lifted sixteen-lines register-fine cases (registers-checked .0);
     }
 
 pub request-cases-hold : RequestCasesClaim

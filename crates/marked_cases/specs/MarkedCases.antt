@@ -14,6 +14,7 @@ use Rattle.values.specs.Setup.{Setup, setup-of-kind, register-setup, SetupValue
 use Rattle.formulas.specs.{RuleConditions.{encode-all, node-bytes, byte-conditions}, RuleCases.{below-binders}}
 use Rattle.machines.specs.TableBytes.{table-bytes, entry-bytes, entry-width, machine-of, table-condition}
 use Rattle.text_format.specs.Texts.{ascii}
+use Rattle.channel_io.specs.{FileConditions.{FileForm, number-file}, RegisterFiles.{register-file}}
 use Rattle.table_report.specs.PrintedTable.{Prints}
 use Rattle.channel_log.specs.Distance.{wheel-of-turn, distance, TotalAbove}
 
@@ -41,8 +42,8 @@ abbrev pub «V» : Node ℕ
 pub data Case : Type 0 where
   -- the rule is accepted and its table has so many states and these rows
   tabled : List (Node ℕ) → ℕ → List ℕ → Case
-  -- the program prints the second text for the first
-  printed : List ℕ → List ℕ → Case
+  -- the program prints the second text for the first, both by the kind of values
+  printed : (ValueKind → List ℕ) → (ValueKind → List ℕ) → Case
   -- this event repeated gives the first value, then the second for ever
   repeated : List (Node ℕ) → (event first later : ℕ) → Case
   -- the rule is refused
@@ -99,6 +100,11 @@ abbrev pub sixteen-lines : Form
 sixteen-lines =
     record { kind = Register 16; top = pack (top-masks 16); meet = []; value = λ v. pack (record { low = v % 2 * 65535; high = v / 2 * 65535 }) }
 
+-- The form of files for a kind of values.
+abbrev pub file-form : ValueKind → FileForm
+file-form (Numbered values) = number-file
+file-form (Register lines) = register-file
+
 module _ (f : Form) where
   abbrev pub s : Setup
   s = setup-of-kind 2 (f .kind) (f .top) (f .meet)
@@ -139,7 +145,7 @@ module _ (f : Form) where
   unfoldable pub Holds : Case → Type 1
   Holds (tabled rule n rows) =
       Lift {0, 1} ((φ : Formula ℕ) × IsRule (rule-in rule) φ × ((t : Machine ℕ ℕ) × TableOf φ n t × (rows-of t n ≡ rows-in rows)))
-  Holds (printed text output) = Lift {0, 1} (Prints text output)
+  Holds (printed text output) = Lift {0, 1} (Prints (file-form (f .kind)) (text (f .kind)) (output (f .kind)))
   Holds (repeated rule e first later) =
       Lift {0, 1}
       ((φ : Formula ℕ) × IsRule (rule-in rule) φ × Answers (setup-meet s) (setup-top s) φ [] e (f .value first)
@@ -180,20 +186,25 @@ module _ (f : Form) where
   Holds (masked lines low high answer) =
       Lift {0, 1} (First (byte-conditions 2 (Register lines) (3 ∷ 1 ∷ (mask-bytes low ++ mask-bytes high))) answer)
 
--- 1. one state, values 3 and 3
-abbrev pub first-case : Case
-first-case = tabled (T ∷ []) 1 (3 ∷ 0 ∷ 3 ∷ 0 ∷ [])
+-- The file above, and its rows. A register's file has the same rule, with all sixteen lines low where document 01's has the value 1.
+abbrev pub second-file : ValueKind → List ℕ
+second-file (Numbered values) = ascii "events=2\nvalues=4\ntop=3\nmeet=0 0 0 0 0 1 0 1 0 0 2 2 0 1 2 3\nrule=A O1.1 V G1 X0\n"
+second-file (Register lines) = ascii "events=2\nlines=16\nrule=A O1.65535.0 V G1 X0\n"
 
--- 2. the file above: its rows
-abbrev pub second-case : Case
-second-case =
-    printed (ascii "events=2\nvalues=4\ntop=3\nmeet=0 0 0 0 0 1 0 1 0 0 2 2 0 1 2 3\nrule=A O1.1 V G1 X0\n")
-    (ascii "events=2\nstates=3\nrow=0 0 3 1\nrow=0 1 1 2\nrow=1 0 3 1\nrow=1 1 3 1\nrow=2 0 3 1\nrow=2 1 3 2\n")
+abbrev pub second-rows : ValueKind → List ℕ
+second-rows (Numbered values) = ascii "events=2\nstates=3\nrow=0 0 3 1\nrow=0 1 1 2\nrow=1 0 3 1\nrow=1 1 3 1\nrow=2 0 3 1\nrow=2 1 3 2\n"
+second-rows (Register lines) =
+    ascii "events=2\nstates=3\nrow=0 0 65535 65535 1\nrow=0 1 65535 0 2\nrow=1 0 65535 65535 1\n"
+    ++ ascii "row=1 1 65535 65535 1\nrow=2 0 65535 65535 1\nrow=2 1 65535 65535 2\n"
 
-abbrev pub later-cases : List Case
-later-cases =
+abbrev pub cases : List Case
+cases =
+    -- 1. one state, values 3 and 3
+    tabled (T ∷ []) 1 (3 ∷ 0 ∷ 3 ∷ 0 ∷ [])
+    -- 2. the file above: its rows
+    ∷ printed second-file second-rows
     -- 3. two states; event 0 first gives 0
-    tabled (A ∷ O 0 1 ∷ O 0 2 ∷ []) 2 (0 ∷ 1 ∷ 3 ∷ 1 ∷ 3 ∷ 1 ∷ 3 ∷ 1 ∷ [])
+    ∷ tabled (A ∷ O 0 1 ∷ O 0 2 ∷ []) 2 (0 ∷ 1 ∷ 3 ∷ 1 ∷ 3 ∷ 1 ∷ 3 ∷ 1 ∷ [])
     -- 4. three states; event 1 repeated gives 3, then 1 for ever
     ∷ tabled («V» ∷ A ∷ G 1 ∷ O 1 1 ∷ G 1 ∷ X 0 ∷ []) 3 (3 ∷ 1 ∷ 3 ∷ 2 ∷ 3 ∷ 1 ∷ 3 ∷ 1 ∷ 3 ∷ 1 ∷ 1 ∷ 2 ∷ [])
     ∷ repeated («V» ∷ A ∷ G 1 ∷ O 1 1 ∷ G 1 ∷ X 0 ∷ []) 1 3 1
@@ -211,9 +222,6 @@ later-cases =
     ∷ failing 1 (both 3) (A ∷ O 0 1 ∷ O 0 2 ∷ []) (0 ∷ [])
     ∷ passing 0
     ∷ []
-
-abbrev pub cases : List Case
-cases = first-case ∷ second-case ∷ later-cases
 
 -- Cases of our own for document 02, which marks none.
 abbrev pub request-cases : List Case
@@ -283,10 +291,10 @@ unfoldable pub AllHold : Form → List Case → Type 1
 AllHold f [] = Unit {1}
 AllHold f (c ∷ cs) = Holds f c × AllHold f cs
 
--- The cases hold, in both forms; the second is document 01's file.
+-- The cases hold, in both forms.
 pub record MarkedCasesClaim : Type 1 where
   pub numbers : AllHold four-values cases
-  pub registers : AllHold sixteen-lines (first-case ∷ later-cases)
+  pub registers : AllHold sixteen-lines cases
 
 pub record RequestCasesClaim : Type 1 where
   pub numbers : AllHold four-values request-cases
