@@ -1,39 +1,38 @@
 -- The claims on codes, on replay and on trial.
-use mathlib.Core.{Path.{_≡_, refl, sym, _∙_, ap, subst}, Bool.{Bool, cond}, Option.{Option, none, some, Option·some-ne-none}, List.{List, [], _∷_}}
+use mathlib.Core.{Path.{_≡_, refl, sym, _∙_, ap, subst}, Bool.{Bool, true, cond}, Option.{Option, none, some, Option·some-ne-none}, List.{List, [], _∷_, _++_}}
 use Prim.Native.Nat.{ℕ, zero, suc, _+_, _*_, _/_, _%_, _≤_, _<_}
 use native.Mathlib.{Nat.{not-suc-le-zero, le-of-suc-le-suc}, Omega.{arith}}
 use borrow.Author.Tests.{ltb-true, ltb-false, leb-true, leb-false}
 use lib.{Dec.{leb, ltb}, ListN.{length, getD, take}}
 use Rattle.theory.proofs.{Words.{length-word-values, word-values-at}, ValueSets.{every-at, every-some}}
-use Rattle.limits.specs.Limits.{device-limit, table-limit, word-limit}
+use Rattle.limits.specs.Limits.{state-limit, device-limit, table-limit, word-limit}
 use Rattle.theory.specs.MealyMachine.{Word}
 use Rattle.theory.specs.ValueSetTests.{every}
 use Rattle.theory.specs.Formula.{Answers}
 use Rattle.refusal.specs.declared.{Refusal.{Refusal}, Counted.{Counted}}
 use Rattle.refusal.specs.declared.{Refusal.the-variants.{Plain, At}, Counted.the-variants.{Count, Refused as Uncounted}}
-use Rattle.refusal.specs.Refusal.{First, plain, has-place, part-of, order, condition-numbers, right-places, counted-refusal}
+use Rattle.refusal.specs.Refusal.{Condition, First, plain, has-place, part-of, order, condition-numbers, right-places, counted-refusal}
 use Rattle.refusal.specs.RefusalClaims.{refusal-number, refusal-place}
 use Rattle.refusal.specs.{RefusalAnswers.{or-else, plain-unless}, RefusalClaims.{ListedRefusal}}
 use Rattle.refusal.proofs.Refusals.{or-else-none, plain-none, plain-first, first-then, first-append, first-unique, judged}
-use Rattle.values.specs.Setup.{meetOf, setup-meet, setup-conditions, kind-conditions}
+use Rattle.values.specs.{declared.ValueKind.{ValueKind}, declared.ValueKind.the-variants.{Numbered, Register}}
+use Rattle.values.specs.Setup.{Setup, SetupValue, meetOf, setup-meet, setup-top, setup-conditions, kind-conditions, value-width}
+use Rattle.values.specs.Setup.{EventsFault, ValuesFault, MeetFault, LinesFault}
 use Rattle.values.specs.SetupTests.{setup-refusal}
-use Rattle.values.specs.declared.ValueKind.the-variants.{Numbered}
-use Rattle.text_format.specs.Format.{contents}
-use Rattle.channel_file.specs.ChannelFile.{Contents}
-use Rattle.machines.specs.TableRefusal.{table-refusal}
+use Rattle.machines.specs.{TableBytes.{entry-width, machine-of, table-condition}, TableRefusal.{table-refusal}}
+use Rattle.formulas.specs.RuleConditions.{byte-conditions}
 use Rattle.machines.proofs.TableRefusals.{table-refusal-first}
-use Rattle.channel_io.specs.FileConditions.{file-setup}
-use Rattle.channel_io.specs.FileRefusals.{pair-table-refusal, file-states, file-table, contents-table-refusal}
-use Rattle.channel_io.specs.FileConditions.{contents-table-conditions}
+use Rattle.synthesis.specs.TableOfRule.{states-condition, buffer-condition, compile-conditions, rule-conditions-of, pair-table-conditions}
 use Rattle.conformance.specs.declared.Verdict.{Verdict}
 use Rattle.conformance.specs.declared.Verdict.the-variants.{Pass, Fail, Refused}
 use Rattle.conformance.specs.declared.Grade.the-variants.{Same, Stricter}
-use Rattle.conformance.specs.Trial.{input, refusal-of, Passed, word-length}
-use Rattle.conformance.specs.TrialAnswer.{tables-refusal, trial-refusal, trial-answer, found-answer, answer-unless}
+use Rattle.conformance.specs.Trial.{input, refusal-of, word-length}
+use Rattle.conformance.specs.TrialAnswer.{tables-refusal, trial-refusal}
 use Rattle.conformance.proofs.TrialClaims.{trial-satisfies}
+use Rattle.channel_io.specs.FileRefusals.{pair-table-refusal, pair-states, pair-table}
 use Rattle.channel_io.proofs.Claims.{contents-table-claim, file-table-made, file-table-accepted}
 use Rattle.gurvazze_host.specs.Codes.{refusal-code, yield-code, code, counted-code, grade-yield, verdict-code, table-numbers, SmallNumbers}
-use Rattle.gurvazze_host.specs.FileCalls.{file-machine, word-refusal, file-replay-refusal, file-trial, file-trial-refusal, file-trial-answer}
+use Rattle.gurvazze_host.specs.FileCalls.{pair-machine, word-refusal, file-replay-refusal, file-trial, file-trial-refusal}
 use Rattle.gurvazze_host.specs.Claims.{TellsRefusal, TellsCount, TellsVerdict, TellsNumbers, ListedAnswer, CodeClaim}
 use Rattle.gurvazze_host.specs.Claims.{file-replay-conditions, replay-order}
 use Rattle.gurvazze_host.specs.Claims.{file-trial-conditions, FileReplayRefusalClaim, FileReplayClaim, FileTrialRefusalClaim, FileTrialClaim}
@@ -154,6 +153,53 @@ pub code-claim : CodeClaim
 code-claim =
     record { refusals = refusals-told; yields = yields-told; counts = counts-told; verdicts = verdicts-told; numbers = numbers-told }
 
+-- ---- conditions behind those of a set-up are in order and have their places, whichever kind of values it has
+
+-- What holds of the conditions of either kind.
+setup-by :
+    (P : List Condition → Type 0) (s : Setup)
+    → ((values : ℕ) → P (plain 1 (EventsFault (s .events)) ∷ plain 2 (ValuesFault values (s .top)) ∷ plain 3 (MeetFault values (s .top) (s .meet)) ∷ []))
+    → ((lines : ℕ) → P (plain 1 (EventsFault (s .events)) ∷ plain 20 (LinesFault lines) ∷ [])) → P (setup-conditions s)
+unfolding setup-conditions kind-conditions
+setup-by P s numbers register = go (s .kind)
+  where
+    go : (kind : ValueKind) → P (plain 1 (EventsFault (s .events)) ∷ kind-conditions kind (s .top) (s .meet))
+    go (Numbered values) = numbers values
+    go (Register lines) = register lines
+
+-- In an order, also behind 4.
+pub record Ordered (o : List ℕ) (cs : List Condition) : Type 0 where
+  pub behind-4 : part-of (4 ∷ condition-numbers cs) o ≡ true
+  pub alone : part-of (condition-numbers cs) o ≡ true
+  pub placed : right-places cs ≡ true
+
+module _ (s : Setup) (nodes : List ℕ) where
+  abbrev later : List Condition
+  later = rule-conditions-of s nodes
+
+  pub compile-ordered : (old : List ℕ) → Ordered order (compile-conditions state-limit s nodes old)
+  unfolding condition-numbers right-places has-place part-of order
+  compile-ordered old =
+      setup-by (λ (cs : List Condition). Ordered order (cs ++ (byte-conditions (s .events) (s .kind) nodes
+      ++ (states-condition (setup-meet s) (setup-top s) (s .events) (s .kind) nodes state-limit
+      ∷ buffer-condition (setup-meet s) (setup-top s) (s .events) (s .kind) nodes old
+      ∷ [])))) s
+      (λ values. record { behind-4 = refl; alone = refl; placed = refl }) (λ lines. record { behind-4 = refl; alone = refl; placed = refl })
+
+  pub replay-ordered : (word old : List ℕ) → Ordered replay-order (file-replay-conditions word old s nodes)
+  unfolding condition-numbers right-places has-place part-of replay-order
+  replay-ordered word old =
+      setup-by (λ (cs : List Condition). Ordered replay-order ((cs ++ later)
+      ++ (plain 16 (¬ Word (s .events) word) ∷ plain 13 (length old < length word * value-width (s .kind)) ∷ []))) s
+      (λ values. record { behind-4 = refl; alone = refl; placed = refl }) (λ lines. record { behind-4 = refl; alone = refl; placed = refl })
+
+  pub trial-ordered : (states start : ℕ) (device old : List ℕ) → Ordered order (file-trial-conditions states start device old s nodes)
+  unfolding condition-numbers right-places has-place part-of order
+  trial-ordered states start device old =
+      setup-by (λ (cs : List Condition). Ordered order ((cs ++ later) ++ (table-condition (entry-width (s .kind)) device-limit (s .events) (SetupValue s) states
+      start device (machine-of (s .kind) (s .events) device) ∷ plain 13 (length old < word-limit) ∷ []))) s
+      (λ values. record { behind-4 = refl; alone = refl; placed = refl }) (λ lines. record { behind-4 = refl; alone = refl; placed = refl })
+
 -- ---- replay
 
 word-of : (events : ℕ) (w : List ℕ) → ((i : ℕ) → i < length w → getD w i 0 < events) → (j : ℕ) → Word events (take j w)
@@ -163,21 +209,22 @@ word-of events (e ∷ w) h (suc j) = (h 0 (omega arith), word-of events w (λ i 
 
 pub replay-claim : FileReplayClaim
 unfolding file-replay-refusal word-refusal
-replay-claim c word old e =
-    let a = or-else-none (contents-table-refusal c) _ e in
-    let b = or-else-none (plain-unless (every (length word) (λ i. ltb (getD word i 0) (c .events))) 16) _ (a .1) .0 in
-    let all = plain-none (every (length word) (λ i. ltb (getD word i 0) (c .events))) 16 b in
-    let below : (i : ℕ) → i < length word → getD word i 0 < c .events =
-    λ i l. ltb-true (getD word i 0) (c .events) (every-at (length word) (λ j. ltb (getD word j 0) (c .events)) all i l) in
-    let made = file-table-made c (a .0) .table in
+replay-claim s nodes word old e =
+    let test : ℕ → Bool = λ i. ltb (getD word i 0) (s .events) in
+    let a = or-else-none (pair-table-refusal s nodes) _ e in
+    let b = or-else-none (plain-unless (every (length word) test) 16) _ (a .1) .0 in
+    let all = plain-none (every (length word) test) 16 b in
+    let below : (i : ℕ) → i < length word → getD word i 0 < s .events =
+    λ i l. ltb-true (getD word i 0) (s .events) (every-at (length word) test all i l) in
+    let made = file-table-made s nodes (a .0) .table in
     record {
       rule = made .formula;
       rule-is = made .code;
-      same-length = length-word-values (file-machine c) 0 word;
+      same-length = length-word-values (pair-machine s nodes) 0 word;
       answers = λ i l.
-          subst (λ (v : ℕ). Answers (setup-meet (file-setup c)) (c .top) (made .formula) (take i word) (getD word i 0) v)
-          (sym (word-values-at (file-machine c) 0 word i l))
-          (made .answers (take i word) (word-of (c .events) word below i) (getD word i 0) (below i l));
+          subst (λ (v : ℕ). Answers (setup-meet s) (setup-top s) (made .formula) (take i word) (getD word i 0) v)
+          (sym (word-values-at (pair-machine s nodes) 0 word i l))
+          (made .answers (take i word) (word-of (s .events) word below i) (getD word i 0) (below i l));
     }
 
 word-at : (events : ℕ) (w : List ℕ) → Word events w → (i : ℕ) → i < length w → getD w i 0 < events
@@ -189,29 +236,28 @@ whole-word : (events : ℕ) (w : List ℕ) → ((i : ℕ) → i < length w → g
 whole-word events [] h = tt
 whole-word events (e ∷ w) h = (h 0 (omega arith), whole-word events w (λ i l. h (suc i) (omega arith)))
 
-replay-first : (c : Contents) (word old : List ℕ) → First (file-replay-conditions c word old) (file-replay-refusal c word old)
+pub replay-first : (s : Setup) (nodes word old : List ℕ) → First (file-replay-conditions word old s nodes) (file-replay-refusal s nodes word old)
 unfolding file-replay-refusal word-refusal
-replay-first c word old =
-    let test = every (length word) (λ i. ltb (getD word i 0) (c .events)) in
-    first-append _ _ _ _ (contents-table-claim c .first)
-    (first-append (plain 16 (¬ Word (c .events) word) ∷ []) _ _ _
-    (plain-first 16 (¬ Word (c .events) word) test
-    (λ e h. let s = every-some (length word) (λ i. ltb (getD word i 0) (c .events)) e in omega
-    (arith, word-at (c .events) word h (s .0) (s .1), ltb-false (getD word (s .0) 0) (c .events) (s .2)))
-    (λ e h. h (whole-word (c .events) word (λ i l. ltb-true (getD word i 0) (c .events)
-    (every-at (length word) (λ j. ltb (getD word j 0) (c .events)) e i l)))))
-    (plain-first 13 (length old < length word) (leb (length word) (length old))
-    (λ e. leb-false (length word) (length old) e)
-    (λ e h. let l = leb-true (length word) (length old) e in omega arith)))
+replay-first s nodes word old =
+    let test : ℕ → Bool = λ i. ltb (getD word i 0) (s .events) in
+    let size = length word * value-width (s .kind) in
+    first-append _ _ _ _ (contents-table-claim s nodes .first)
+    (first-append (plain 16 (¬ Word (s .events) word) ∷ []) _ _ _
+    (plain-first 16 (¬ Word (s .events) word) (every (length word) test)
+    (λ e h. let x = every-some (length word) test e in omega
+    (arith, word-at (s .events) word h (x .0) (x .1), ltb-false (getD word (x .0) 0) (s .events) (x .2)))
+    (λ e h. h (whole-word (s .events) word (λ i l. ltb-true (getD word i 0) (s .events) (every-at (length word) test e i l)))))
+    (plain-first 13 (length old < size) (leb size (length old))
+    (λ e. leb-false size (length old) e)
+    (λ e h. let l = leb-true size (length old) e in omega arith)))
 
 pub replay-refusal-claim : FileReplayRefusalClaim
-unfolding setup-conditions kind-conditions condition-numbers right-places has-place part-of replay-order
-replay-refusal-claim c word old =
+replay-refusal-claim s nodes word old =
     record {
-      first = replay-first c word old;
-      only = λ other x. first-unique _ other (file-replay-refusal c word old) x (replay-first c word old);
-      ordered = refl;
-      placed = refl;
+      first = replay-first s nodes word old;
+      only = λ other x. first-unique _ other (file-replay-refusal s nodes word old) x (replay-first s nodes word old);
+      ordered = replay-ordered s nodes word old .alone;
+      placed = replay-ordered s nodes word old .placed;
     }
 
 -- ---- trial
@@ -225,36 +271,33 @@ trial-behind : (a b d e : Option Refusal) → a ≡ none → d ≡ none → or-e
 unfolding or-else
 trial-behind a b d e p q = rw (p, q, or-nothing b)
 
-file-trial-first :
-    (c : Contents) (states start : ℕ) (device old : List ℕ) →
-    First (file-trial-conditions c states start device old) (file-trial-refusal c states start device old)
+pub file-trial-first :
+    (s : Setup) (nodes : List ℕ) (states start : ℕ) (device old : List ℕ) →
+    First (file-trial-conditions states start device old s nodes) (file-trial-refusal s nodes states start device old)
 unfolding file-trial-refusal trial-refusal tables-refusal input pair-table-refusal
-file-trial-first c states start device old =
-    first-then (contents-table-conditions c) _ (contents-table-refusal c) _ (contents-table-claim c .first)
+file-trial-first s nodes states start device old =
+    first-then (pair-table-conditions s nodes) _ (pair-table-refusal s nodes) _ (contents-table-claim s nodes .first)
     (λ ok.
     subst (First _)
-    (trial-behind (setup-refusal (file-setup c)) (table-refusal device-limit (c .events) (Numbered (c .values)) states start device)
-    (table-refusal table-limit (c .events) (Numbered (c .values)) (file-states c) 0 (file-table c)) (plain-unless (leb word-limit (length old)) 13)
-    (or-else-none (setup-refusal (file-setup c)) _ ok .0) (file-table-accepted c ok))
-    (first-append _ _ _ _ (table-refusal-first device-limit (c .events) (Numbered (c .values)) states start device)
+    (trial-behind (setup-refusal s) (table-refusal device-limit (s .events) (s .kind) states start device)
+    (table-refusal table-limit (s .events) (s .kind) (pair-states s nodes) 0 (pair-table s nodes)) (plain-unless (leb word-limit (length old)) 13)
+    (or-else-none (setup-refusal s) _ ok .0) (file-table-accepted s nodes ok))
+    (first-append _ _ _ _ (table-refusal-first device-limit (s .events) (s .kind) states start device)
     (plain-first 13 (length old < word-limit) (leb word-limit (length old)) (λ e. leb-false word-limit (length old) e)
     (λ e h. let l = leb-true word-limit (length old) e in omega arith))))
 
 pub file-trial-refusal-claim : FileTrialRefusalClaim
-unfolding setup-conditions kind-conditions condition-numbers right-places has-place part-of order
-file-trial-refusal-claim c states start device old = judged _ _ (file-trial-first c states start device old) refl refl
+file-trial-refusal-claim s nodes states start device old =
+    let o = trial-ordered s nodes states start device old in judged _ _ (file-trial-first s nodes states start device old) (o .alone) (o .placed)
 
 pub file-trial-claim : FileTrialClaim
-unfolding file-trial-refusal file-trial-answer trial-answer input meetOf
-file-trial-claim c states start device old e =
-    let x = file-trial c states start device in
-    let a = or-else-none (contents-table-refusal c) (trial-refusal device-limit table-limit x old) e in
-    let made = file-table-made c (a .0) .table in
-    let t = trial-satisfies device-limit table-limit x old (a .1) (made .formula) (made .code .accepted .well-formed) (made .is-table) in
-    let q : file-trial-answer (contents c) states start device old ≡ trial-answer device-limit table-limit x old =
-    ap (λ (o : Option Refusal). answer-unless o (found-answer x)) (e ∙ sym (a .1)) in
+unfolding file-trial-refusal input meetOf
+file-trial-claim s nodes states start device old e =
+    let x = file-trial s nodes states start device in
+    let a = or-else-none (pair-table-refusal s nodes) (trial-refusal device-limit table-limit x old) e in
+    let made = file-table-made s nodes (a .0) .table in
     record {
       rule = made .formula;
       rule-is = made .code;
-      passes = (λ h. t .0 (subst Passed q h), λ h. subst Passed (sym q) (t .1 h));
+      passes = trial-satisfies device-limit table-limit x old (a .1) (made .formula) (made .code .accepted .well-formed) (made .is-table);
     }

@@ -16,15 +16,12 @@ use Rattle.formulas.specs.RuleRefusal.{count-fits, depth-refusal, variables-ref
 use Rattle.formulas.specs.RuleRefusal.{value-at, rule-refusal}
 use Rattle.formulas.proofs.{Search.{lowest-found}, Faults.{found-within}, Decoding.{CountFits, count-facts}}
 use Rattle.text_format.specs.Format.{refused}
-use Rattle.text_format.specs.Texts.{Refused, at, early}
-use Rattle.channel_file.specs.ChannelFile.{Contents, Form, Refused4, over-long, off-form}
-use Rattle.channel_file.specs.Reading.{AnswersFile, read-file}
-use Rattle.channel_file.proofs.Claims.{answer-claim}
+use Rattle.text_format.specs.Texts.{Refused, FormOf, at, early}
+use Rattle.channel_file.specs.{ChannelFile.{RefusedBy, over-long, off-form}, Reading.{AnswersBy}}
+use Rattle.channel_file.proofs.Forms.{FormLaws, answer-to, answer}
 use Rattle.synthesis.specs.Compilation.{rule-table-refusal, setup-states}
-use Rattle.channel_io.specs.FileConditions.{file-setup}
-use Rattle.channel_file.specs.ChannelFile.{rule-numbers}
 use Rattle.channel_io.proofs.Clamping.{read-size}
-use Rattle.channel_io.specs.FileRefusals.{pair-table-refusal, has-table-room, pair-compile-refusal, contents-table-refusal, file-refusal}
+use Rattle.channel_io.specs.FileRefusals.{pair-table-refusal, has-table-room, pair-compile-refusal}
 use Rattle.gurvazze_host.specs.Codes.{SmallPlace}
 use Rattle.limits.specs.Limits.{node-limit, binder-limit, state-limit, file-limit}
 
@@ -102,21 +99,20 @@ unfolding rule-table-refusal
 rule-table-small s rule =
     or-small _ _ (rule-small (s .events) (s .kind) rule) (plain-small (leb (setup-states state-limit s rule) state-limit) 10)
 
-pub file-small : (c : Contents) (meet to : List ℕ) → SmallAnswer (file-refusal c meet to)
+pub file-small : (s : Setup) (nodes meet to : List ℕ) → SmallAnswer (pair-compile-refusal s nodes meet to)
 unfolding pair-compile-refusal pair-table-refusal
-file-small c meet to =
-    or-small (contents-table-refusal c) _
-    (or-small (setup-refusal (file-setup c)) _ (setup-small (file-setup c)) (rule-table-small (file-setup c) (rule-numbers c)))
-    (plain-small (has-table-room (file-setup c) (rule-numbers c) meet to) 13)
+file-small s nodes meet to =
+    or-small (pair-table-refusal s nodes) _ (or-small (setup-refusal s) _ (setup-small s) (rule-table-small s nodes))
+    (plain-small (has-table-room s nodes meet to) 13)
 
 -- 4
-form-small : (t : List ℕ) (p : ℕ) → length t ≤ file-limit → Refused Form t p → p ≤ file-limit
-form-small t p h (at q l begins stops) = omega arith
-form-small t p h (early begins stops) = h
+form-small : (Form : List ℕ → Type 0) (t : List ℕ) (p : ℕ) → length t ≤ file-limit → Refused Form t p → p ≤ file-limit
+form-small Form t p h (at q l begins stops) = omega arith
+form-small Form t p h (early begins stops) = h
 
-pub text-small : (t : List ℕ) (p : ℕ) → read-file t ≡ refused p → p ≤ file-limit
-text-small t p e = go p (subst (AnswersFile t) e (answer-claim t))
+pub text-small : {A : Type 0} (K : FormLaws A) (t : List ℕ) (p : ℕ) → answer-to K t ≡ refused p → p ≤ file-limit
+text-small K t p e = go p (subst (AnswersBy (K .Shows) t) e (answer K t))
   where
-    go : (q : ℕ) → Refused4 t q → q ≤ file-limit
+    go : (q : ℕ) → RefusedBy (K .Shows) t q → q ≤ file-limit
     go q (over-long l) = omega arith
-    go q (off-form r h d) = form-small t q h d
+    go q (off-form r h d) = form-small (FormOf (K .Shows)) t q h d

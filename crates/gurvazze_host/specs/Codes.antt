@@ -3,6 +3,7 @@
 use mathlib.Core.Option.{Option, none, some}
 use Prim.Native.Nat.{ℕ, _+_, _*_, _≤_, _<_, _^_}
 use Rattle.limits.specs.Limits.{event-limit, value-limit, state-limit}
+use Rattle.values.specs.{declared.ValueKind.{ValueKind}, declared.ValueKind.the-variants.{Numbered, Register}, Setup.{Setup}}
 use Rattle.refusal.specs.declared.Refusal.{Refusal}
 use Rattle.refusal.specs.declared.Refusal.the-variants.{Plain, At}
 use Rattle.refusal.specs.declared.Counted.{Counted}
@@ -44,6 +45,18 @@ verdict-code (Refused refusal) = refusal-code refusal
 -- The numbers of a table: its states in sixteen bits; events, values and top in eight each.
 unfoldable pub table-numbers : (states events values top : ℕ) → ℕ
 table-numbers states events values top = states + (events + (values + top * 256) * 256) * 65536
+
+-- Of a set-up they are its values and top; of a register's its lines in the place of values, and 0 in that of top.
+abbrev pub told-values : ValueKind → ℕ
+told-values (Numbered values) = values
+told-values (Register lines) = lines
+
+abbrev pub told-top : ValueKind → ℕ → ℕ
+told-top (Numbered values) top = top
+told-top (Register lines) top = 0
+
+abbrev pub setup-numbers : Setup → ℕ → ℕ
+setup-numbers s states = table-numbers states (s .events) (told-values (s .kind)) (told-top (s .kind) (s .top))
 
 -- What the private functions of src/ ask: numbers that have room in a code.
 abbrev pub SmallPlace : Refusal → Type 0

@@ -1,10 +1,7 @@
 -- `gurvazze_trial` meets its contract: a table too large for a small one's bytes, a refused file, or a trial against its rule's table.
-use Rattle.limits.specs.Limits.{meet-limit}
-use Rattle.gurvazze_host.proofs.Calls.{unmade-small, other-stopped, trial-stopped, triable, trial-made}
-use Rattle.channel_io.proofs.Callers.{unmade, made-of}
-use lib.ListN.{length-replicate}
-use native.Mathlib.Omega.{arith}
-use Prim.Native.Nat.{ℕ}
+use Rattle.channel_file.proofs.Claims.{channel-form}
+use Rattle.channel_io.proofs.Callers.{unmade, made-of, limits}
+use Rattle.gurvazze_host.proofs.Calls.{number-room, unmade-small, other-stopped, trial-stopped, triable, trial-made, number-setup}
 use mathlib.Core.Path.{sym, _∙_}
 use borrow.Author.Needs.{needs}
 use Rattle.gurvazze_host.proofs.gurvazze_trial.Statement.{statement}
@@ -14,26 +11,26 @@ returns : tie.Need-returns
 returns c = (c .before .before .trial-large .ensures .0, c .before .before .trial-large .ensures .1)
 
 refusal-code-requires : tie.Need-refusal-code-requires
-refusal-code-requires c κs = unmade-small (unmade (c .before .before .before .before .before .before .before .compile-file .ensures)
+refusal-code-requires c κs = unmade-small channel-form (unmade (c .before .before .before .before .before .before .before .compile-file .ensures)
     (c .before .before .before .made .given .1) .0)
 
 trial-made-requires : tie.Need-trial-made-requires
-trial-made-requires c κs = triable (made-of (c .before .before .before .before .before .before .before .before .compile-file .ensures)
-    (c .before .before .before .before .made2 .given .1))
+trial-made-requires c κs = let w = made-of (c .before .before .before .before .before .before .before .before .compile-file .ensures)
+    (c .before .before .before .before .made2 .given .1) in
+    (limits w .entries-in, triable w (number-setup w))
 
 returns-2 : tie.Need-returns-2
 returns-2 c = let u = unmade (c .before .before .before .before .before .before .before .before .compile-file .ensures)
     (c .before .before .before .before .made .given .1) in
-    let r = trial-stopped (other-stopped (omega (arith, length-replicate {A = ℕ} meet-limit 0))
-    (sym (c .before .before .lacks-room .ensures) ∙ c .before .if1 .left) (u .0)) _ _ _ _ in
+    let r = trial-stopped (other-stopped number-room (sym (c .before .before .lacks-room .ensures) ∙ c .before .if1 .left) (u .0)) _ _ _ _ in
     (c .refusal-code .ensures ∙ r .0, r .1)
 
 returns-3 : tie.Need-returns-3
-returns-3 c = trial-made (made-of (c .before .before .before .before .before .before .before .before .before .before .before .compile-file .ensures)
-    (c .before .before .before .before .before .before .before .made2 .given .1)) _ _ _ _ _ _
-    (c .before .before .trial-made .ensures .0) (c .before .before .trial-made .ensures .1)
+returns-3 c = let w = made-of (c .before .before .before .before .before .before .before .before .before .before .before .compile-file .ensures)
+    (c .before .before .before .before .before .before .before .made2 .given .1) in
+    trial-made w (number-setup w) _ _ _ _ _ _ (c .before .before .trial-made .ensures .0) (c .before .before .trial-made .ensures .1)
 
 pub gurvazze-trial-spec : {M : Type 1} → statement M
 gurvazze-trial-spec = tie.close (tie.spec (λ c. search needs) (λ c. search needs) (λ c κs. search needs) (λ c. search needs) (λ c κs. search needs)
-    (λ c κs. search needs) (λ c. search needs) returns refusal-code-requires (λ c. search needs) (λ c. search needs) (λ c. search needs)
-    trial-made-requires returns-2 (λ c. search needs) returns-3)
+    (λ c κs. search needs) (λ c. search needs) returns refusal-code-requires (λ c. search needs) (λ c. search needs) (λ c. search needs) trial-made-requires
+    returns-2 (λ c. search needs) returns-3)

@@ -9,16 +9,16 @@ use Rattle.gurvazze_host.proofs.trial_made.Statement.{statement}
 use Rattle.gurvazze_host.proofs.trial_made.Tie as tie
 
 mul-size : tie.Need-mul-size
-mul-size c = omega (arith, c .before .before .before .before .pre .few-bytes)
+mul-size c = omega (arith, c .before .before .before .before .pre .1)
 
 mul-size-2 : tie.Need-mul-size-2
-mul-size-2 c = omega (arith, c .before .before .before .before .pre .few-bytes)
+mul-size-2 c = omega (arith, c .before .before .before .before .pre .1)
 
 slice-aggregate-trial : tie.Need-slice-aggregate-trial
-slice-aggregate-trial c = sym (length-take-le _ _ (c .before .before .before .before .before .pre .entries-in))
+slice-aggregate-trial c = sym (length-take-le _ _ (c .before .before .before .before .before .pre .0))
 
 slice-aggregate-trial-2 : tie.Need-slice-aggregate-trial-2
-slice-aggregate-trial-2 c = sym (length-take-le _ _ (c .before .before .before .before .before .before .pre .table-in))
+slice-aggregate-trial-2 c = sym (length-take-le _ _ (c .before .before .before .before .before .before .pre .1))
 
 verdict-code-requires : tie.Need-verdict-code-requires
 verdict-code-requires c κs = subst SmallVerdict (sym (c .before .before .trial .ensures .0)) (verdict-small _ _)
