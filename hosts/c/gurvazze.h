@@ -57,6 +57,18 @@
  *         printf("%u steps: refused=%u states=%u\n", count, gurvazze_refusal(answer), gurvazze_states(answer));
  *     }
  *
+ *     static void say_register_file(void)
+ *     {
+ *         static const uint8_t file[] = "events=2\nlines=9\nrule=A O1.511.255 V G1 X0\n", events[] = {1, 1};
+ *         static uint8_t table[GURVAZZE_REGISTER_TABLE_BYTES], values[2 * 4], word[GURVAZZE_WORD_BYTES];
+ *         uint64_t answer = gurvazze_register_table(file, sizeof file - 1, table, sizeof table);
+ *         printf("register file: states=%u lines=%u\n", gurvazze_states(answer), gurvazze_lines(answer));
+ *         gurvazze_register_replay(file, sizeof file - 1, events, sizeof events, values, sizeof values);
+ *         for (size_t event = 0; event < 2; event++)
+ *             printf("value=%u.%u\n", gurvazze_low(values + 4 * event), gurvazze_high(values + 4 * event));
+ *         say_trial(gurvazze_register_trial(file, sizeof file - 1, 3, 0, table, 3 * 2 * 5, word, sizeof word), word);
+ *     }
+ *
  *     static void say_register(void)
  *     {
  *         static uint8_t table[GURVAZZE_REGISTER_TABLE_BYTES], rule[GURVAZZE_REGISTER_RULE_BYTES], word[GURVAZZE_WORD_BYTES];
@@ -102,6 +114,7 @@
  *         say_states_of_steps(64);
  *         say_states_of_steps(255);
  *         say_register();
+ *         say_register_file();
  *         return 0;
  *     }
  *
@@ -124,6 +137,10 @@
  *     word of 1: 1
  *     register: nodes=28
  *     register: refused=6 0
+ *     register file: states=3 lines=9
+ *     value=511.255
+ *     value=511.511
+ *     same
  */
 #ifndef GURVAZZE_H
 #define GURVAZZE_H
@@ -156,10 +173,20 @@ extern "C" {
  * states. */
 uint64_t gurvazze_table(const uint8_t *text, size_t text_length, uint8_t *to, size_t to_length);
 
+/* The same of a register's channel file, whose lines are events, lines and rule, with event.low.high for an O token: five bytes an entry.
+ * Yields its numbers, with the lines in the place of values and 0 in that of top. Refusal 20 is given where the lines are not 1 to 16, and 6
+ * where a mask has a bit at or above their number. Refusals 4, 1, 20, 5 to 8, 23, 9, 10, 13. */
+uint64_t gurvazze_register_table(const uint8_t *text, size_t text_length, uint8_t *to, size_t to_length);
+
 /* The values of a channel file's rule on a sequence of events, one byte each. Yields 0. Refusals 4, 1 to 3, 5 to 8, 23, 9, 10,
  * 16, 13. */
 uint64_t gurvazze_replay(const uint8_t *text, size_t text_length, const uint8_t *events, size_t events_length, uint8_t *to,
                          size_t to_length);
+
+/* The same of a register's channel file, four bytes for each event: the low mask, then the high mask. Yields 0. Refusal 13 is given where the
+ * buffer has fewer than four bytes for each event. Refusals 4, 1, 20, 5 to 8, 23, 9, 10, 16, 13. */
+uint64_t gurvazze_register_replay(const uint8_t *text, size_t text_length, const uint8_t *events, size_t events_length, uint8_t *to,
+                                  size_t to_length);
 
 /* Trial of a device, of 1 to 64 states, against a channel file's rule. Yields GURVAZZE_SAME, 0, for a pass with equal values on every event
  * sequence, GURVAZZE_STRICTER, 65,536, for any other pass, and else the length of the failing word, 1 to 16,384. The word stands at the
@@ -170,6 +197,11 @@ uint64_t gurvazze_replay(const uint8_t *text, size_t text_length, const uint8_t 
  * Refusals 4, 1 to 3, 5 to 8, 23, 9, 10, 11, 13. */
 uint64_t gurvazze_trial(const uint8_t *text, size_t text_length, size_t device_states, size_t device_start, const uint8_t *device,
                         size_t device_length, uint8_t *word, size_t word_length);
+
+/* The same of a register's device, five bytes an entry, against a register's channel file's rule; a mask bit at or above the line count is
+ * refusal 11 in the device. Refusals 4, 1, 20, 5 to 8, 23, 9, 10, 11, 13. */
+uint64_t gurvazze_register_trial(const uint8_t *text, size_t text_length, size_t device_states, size_t device_start, const uint8_t *device,
+                                 size_t device_length, uint8_t *word, size_t word_length);
 
 /* The table of a rule, both in bytes. Yields the number of states. Refusals 1 to 3, 5 to 8, 23, 9, 10, 13. */
 uint64_t gurvazze_compile(size_t events, size_t values, size_t top, const uint8_t *meet, size_t meet_length, const uint8_t *rule,
@@ -211,11 +243,12 @@ static inline uint64_t gurvazze_place(uint64_t answer) { return answer >> 8; }
 /* What an accepted call yields. */
 static inline uint64_t gurvazze_yield(uint64_t answer) { return answer >> 8; }
 
-/* The numbers that gurvazze_table yields. */
+/* The numbers that gurvazze_table yields; gurvazze_register_table has lines for values and top. */
 static inline unsigned gurvazze_states(uint64_t answer) { return (unsigned)(answer >> 8 & 65535); }
 static inline unsigned gurvazze_events(uint64_t answer) { return (unsigned)(answer >> 24 & 255); }
 static inline unsigned gurvazze_values(uint64_t answer) { return (unsigned)(answer >> 32 & 255); }
 static inline unsigned gurvazze_top(uint64_t answer) { return (unsigned)(answer >> 40 & 255); }
+static inline unsigned gurvazze_lines(uint64_t answer) { return (unsigned)(answer >> 32 & 255); }
 
 /* A register's value in four bytes, of a node (from its third byte on) or of an entry: the masks of the lines that may be low and may be
  * high. */

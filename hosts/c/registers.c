@@ -1,5 +1,5 @@
-/* Compile of a rule in bytes for both kinds of values, and a register's trial and rule: accepted calls, each refusal, and what a call leaves
- * in a lent buffer. Compiled and run by hosts/c/test. */
+/* Compile of a rule in bytes for both kinds of values, a register's trial and rule, and the three calls on a register's channel file: accepted
+ * calls, each refusal, and what a call leaves in a lent buffer. Compiled and run by hosts/c/test. */
 #include <stdio.h>
 #include <stdlib.h>
 #include <string.h>
@@ -36,9 +36,9 @@ static void refused(int line, uint64_t answer, unsigned number, unsigned place)
 }
 
 /* The call yielded this and put these bytes at the front of the buffer. */
-static void puts_bytes(int line, uint64_t answer, unsigned yields, const uint8_t *output, size_t length)
+static void puts_bytes(int line, uint64_t answer, uint64_t yields, const uint8_t *output, size_t length)
 {
-    if (answer != 256u * yields || memcmp(buffer, output, length) != 0 || !kept_from(length)) {
+    if (answer != 256 * yields || memcmp(buffer, output, length) != 0 || !kept_from(length)) {
         printf("registers.c:%d: refusal %u, yields %u\n", line, gurvazze_refusal(answer), (unsigned)gurvazze_yield(answer));
         faults++;
     }
@@ -210,6 +210,105 @@ static void register_rules(void)
     REFUSED(gurvazze_register_rule(1, 17, 1, 0, low_lines, 4, buffer, 0), 20, 0);
 }
 
+/* A register's file with these lines, in a call. */
+#define TEXT(text) (const uint8_t *)(text), strlen(text)
+#define FILE_OF(events, lines, rule) TEXT("events=" events "\nlines=" lines "\nrule=" rule "\n")
+
+static uint64_t table_of(const uint8_t *text, size_t length) { return gurvazze_register_table(text, length, buffer, sizeof buffer); }
+
+static uint64_t replay_by(const uint8_t *text, size_t length)
+{
+    static const uint8_t events[] = {255};
+    return gurvazze_register_replay(text, length, events, sizeof events, buffer, 3);
+}
+
+static uint64_t trial_by(const uint8_t *text, size_t length)
+{
+    return gurvazze_register_trial(text, length, 0, 0, open_lines, 0, buffer, 1);
+}
+
+/* What a file meets comes before what events, devices and short buffers meet. */
+static void refused_file(const char *text, unsigned number, unsigned place)
+{
+    REFUSED(table_of(TEXT(text)), number, place);
+    REFUSED(replay_by(TEXT(text)), number, place);
+    REFUSED(trial_by(TEXT(text)), number, place);
+}
+
+static void refused_files(void)
+{
+    static char steps[1024] = "events=1\nlines=1\nrule=", loops[256] = "events=1\nlines=1\nrule=A V ";
+    for (size_t step = 0; step < 256; step++)
+        strcat(steps, "G0 ");
+    strcat(steps, "T\n");
+    for (size_t step = 0; step < 33; step++)
+        strcat(loops, step == 16 ? "X0 V G0 " : "G0 ");
+    strcat(loops, "X0\n");
+    refused_file("", 4, 0);
+    refused_file("events=2\nvalues=4\n", 4, 9);
+    refused_file("events=2\nlines=9\nrule=O0.1\n", 4, 26);
+    refused_file("events=2\nlines=9\nrule=O0.100000.1\n", 4, 30);
+    refused_file("events=0\nlines=0\nrule=A\n", 1, 0);
+    refused_file("events=17\nlines=17\nrule=A\n", 1, 0);
+    refused_file("events=2\nlines=0\nrule=A\n", 20, 0);
+    refused_file("events=2\nlines=17\nrule=A\n", 20, 0);
+    refused_file("events=2\nlines=256\nrule=T\n", 20, 0);
+    refused_file(steps, 5, 0);
+    refused_file("events=2\nlines=2\nrule=A T O0.4.0\n", 6, 2);
+    refused_file("events=2\nlines=2\nrule=A O0.0.4 T\n", 6, 1);
+    refused_file("events=2\nlines=16\nrule=O0.65536.0\n", 6, 0);
+    refused_file("events=2\nlines=2\nrule=O2.0.0\n", 6, 0);
+    refused_file("events=2\nlines=2\nrule=A T\n", 7, 2);
+    refused_file("events=2\nlines=2\nrule=T T\n", 7, 1);
+    refused_file("events=2\nlines=2\nrule=V G0 X1\n", 8, 2);
+    refused_file("events=2\nlines=2\nrule=V V V V V V V V V V V V V X0\n", 23, 0);
+    refused_file("events=2\nlines=2\nrule=V X0\n", 9, 1);
+    refused_file(loops, 10, 0);
+}
+
+/* Lines 0 to 8 may be low and 0 to 7 high on the first event 1; both masks have two bytes. */
+#define LATE_LINES FILE_OF("2", "9", "A O1.511.255 V G1 X0")
+
+static void register_tables_of_files(void)
+{
+    static const uint8_t output[] = {255, 1, 255, 1, 1, 255, 1, 255, 0, 2, 255, 1, 255, 1, 1, 255, 1, 255, 1, 1, 255, 1, 255, 1, 1, 255, 1, 255, 1, 2},
+                         one_line[] = {1, 0, 1, 0, 0};
+    PUTS(table_of(LATE_LINES), 3 + 65536u * 2 + (uint64_t)65536 * 256 * 9, output);
+    REFUSED(gurvazze_register_table(LATE_LINES, buffer, sizeof output - 1), 13, 0);
+    PUTS(table_of(FILE_OF("1", "1", "T")), 1 + 65536u + (uint64_t)65536 * 256, one_line);
+    REFUSED(gurvazze_register_table(FILE_OF("1", "1", "T"), buffer, 4), 13, 0);
+}
+
+static void register_replays(void)
+{
+    static const uint8_t events[] = {1, 0, 1, 2}, output[] = {255, 1, 255, 0, 255, 1, 255, 1, 255, 1, 255, 1},
+                         other[] = {1, 2, 3, 4};
+    PUTS(gurvazze_register_replay(LATE_LINES, events, 3, buffer, sizeof output), 0, output);
+    PUTS(gurvazze_register_replay(FILE_OF("1", "16", "O0.513.1027"), events + 1, 1, buffer, sizeof buffer), 0, other);
+    KEEPS(gurvazze_register_replay(LATE_LINES, events, 0, buffer, 0), 0);
+    REFUSED(gurvazze_register_replay(LATE_LINES, events, 3, buffer, sizeof output - 1), 13, 0);
+    REFUSED(gurvazze_register_replay(LATE_LINES, events, 4, buffer, 0), 16, 0);
+}
+
+static void register_trials_by_files(void)
+{
+    static const uint8_t word[] = {0, 0};
+    static char steps[256] = "events=1\nlines=2\nrule=";
+    KEEPS(gurvazze_register_trial(FILE_OF("1", "2", "O0.3.0"), 2, 0, low_once, 10, buffer, sizeof buffer), GURVAZZE_SAME);
+    KEEPS(gurvazze_register_trial(FILE_OF("1", "2", "T"), 2, 0, low_once, 10, buffer, sizeof buffer), GURVAZZE_STRICTER);
+    PUTS(gurvazze_register_trial(FILE_OF("1", "2", "G0 O0.3.0"), 2, 0, low_once, 10, buffer, sizeof buffer), 2, word);
+    REFUSED(gurvazze_register_trial(FILE_OF("1", "2", "T"), 2, 0, low_once, 10, buffer, GURVAZZE_WORD_BYTES - 1), 13, 0);
+    REFUSED(gurvazze_register_trial(FILE_OF("1", "2", "T"), 2, 2, low_once, 10, buffer, 1), 11, 0);
+    REFUSED(gurvazze_register_trial(FILE_OF("1", "2", "T"), 2, 0, low_once, 9, buffer, 1), 11, 0);
+    REFUSED(gurvazze_register_trial(FILE_OF("1", "1", "T"), 2, 0, low_once, 10, buffer, 1), 11, 0);
+    /* a table of 65 states, one more than a small one has */
+    for (size_t step = 0; step < 64; step++)
+        strcat(steps, "G0 ");
+    strcat(steps, "T\n");
+    KEEPS(gurvazze_register_trial(TEXT(steps), 64, 0, chain(64), 5 * 64, buffer, sizeof buffer), GURVAZZE_SAME);
+    REFUSED(gurvazze_register_trial(TEXT(steps), 65, 0, chain(65), 5 * 65, buffer, sizeof buffer), 11, 0);
+}
+
 int main(void)
 {
     compiles();
@@ -217,6 +316,10 @@ int main(void)
     refused_tables();
     register_trials();
     register_rules();
+    refused_files();
+    register_tables_of_files();
+    register_replays();
+    register_trials_by_files();
     if (faults == 0)
         printf("the calls of registers.c answer as they must\n");
     return faults == 0 ? EXIT_SUCCESS : EXIT_FAILURE;

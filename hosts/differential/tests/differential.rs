@@ -13,7 +13,7 @@ use gurvazze_reference::generate::{
 };
 use gurvazze_reference::table::{in_bytes, Entry, Table};
 use gurvazze_reference::trial::{first_word, same_values, Grade, Outcome, WORD_BYTES};
-use gurvazze_reference::values::{of_masks, Kind, RawSetUp, SetUp, Value};
+use gurvazze_reference::values::{masks_of, of_masks, Kind, RawSetUp, SetUp, Value};
 
 /// Every table has room in so many bytes: 256 states, 16 events.
 const fn table_bytes(kind: Kind) -> usize {
@@ -69,32 +69,32 @@ impl Tally {
     }
 }
 
-/// A channel file, good or damaged.
-fn text(generator: &mut Generator) -> Vec<u8> {
+/// A channel file for values of this kind, good or damaged.
+fn text(generator: &mut Generator, kind: Kind) -> Vec<u8> {
     match generator.below(10) {
-        0 if generator.once_in(3) => large_file(generator),
-        0..=5 => generator.file(),
-        6 | 7 => generator.loose_file(),
-        8 => generator.damaged_file(),
+        0 if generator.once_in(3) => large_file(generator, kind),
+        0..=5 => generator.file_of(kind),
+        6 | 7 => generator.loose_file_of(kind),
+        8 => generator.damaged_file_of(kind),
         _ => {
             let length = generator.between(100, 4100);
-            generator.long_file(length)
+            generator.long_file_of(kind, length)
         }
     }
 }
 
 /// A channel file whose rule has many states (document 02, F-12), at times too many.
-fn large_file(generator: &mut Generator) -> Vec<u8> {
-    let set_up = generator.set_up();
+fn large_file(generator: &mut Generator, kind: Kind) -> Vec<u8> {
+    let set_up = generator.set_up_of(kind);
     let event = generator.below(set_up.events());
     let rule = generator.large_rule(&set_up, event);
     channel_file::to_text(&set_up, &rule).into_bytes()
 }
 
 /// A good channel file and what it says.
-fn good(generator: &mut Generator) -> (Vec<u8>, ChannelFile) {
-    let text = generator.file();
-    let file = channel_file::read(&text).expect("a file is accepted");
+fn good(generator: &mut Generator, kind: Kind) -> (Vec<u8>, ChannelFile) {
+    let text = generator.file_of(kind);
+    let file = channel_file::read_of(kind, &text).expect("a file is accepted");
     (text, file)
 }
 
@@ -111,59 +111,70 @@ fn buffer(generator: &mut Generator, output: usize) -> Vec<u8> {
 }
 
 /// Whether a file's rule has a variable under an inner binder (document 02, F-2).
-fn is_wide(text: &[u8]) -> bool {
-    channel_file::read(text).is_ok_and(|file| has_variable_under_inner_binder(&file.rule))
+fn is_wide(kind: Kind, text: &[u8]) -> bool {
+    channel_file::read_of(kind, text).is_ok_and(|file| has_variable_under_inner_binder(&file.rule))
 }
 
 /// Whether a file's rule has as many binders on a path as it may have (document 02, F-9).
-fn is_deep(text: &[u8]) -> bool {
-    channel_file::read(text).is_ok_and(|file| has_most_binders(&file.rule))
+fn is_deep(kind: Kind, text: &[u8]) -> bool {
+    channel_file::read_of(kind, text).is_ok_and(|file| has_most_binders(&file.rule))
 }
 
 fn shown(text: &[u8]) -> String {
     String::from_utf8_lossy(text).into_owned()
 }
 
-#[test]
-fn tables() {
+/// Channel files for values of this kind.
+fn tables_of(kind: Kind, count: u64) {
     let mut tally = Tally::default();
     let (mut wide, mut deep, mut large, mut most) = (0, 0, 0, 0);
-    for seed in seeds(100_000) {
+    for seed in seeds(count) {
         let mut generator = Generator::new(seed);
-        let text = text(&mut generator);
-        let output = match table::reference(&text, &[0; table_bytes(Kind::Numbers)]).0 {
-            Ok((states, events, _, _)) => states * events * 2,
+        let text = text(&mut generator, kind);
+        let output = match table::reference(kind, &text, &vec![0; table_bytes(kind)]).0 {
+            Ok((states, events, _, _)) => states * events * kind.entry_bytes(),
             Err(_) => 512,
         };
         let old = buffer(&mut generator, output);
-        let library = table::library(&text, &old);
-        wide += usize::from(library.0.is_ok() && is_wide(&text));
-        deep += usize::from(library.0.is_ok() && is_deep(&text));
+        let library = table::library(kind, &text, &old);
+        wide += usize::from(library.0.is_ok() && is_wide(kind, &text));
+        deep += usize::from(library.0.is_ok() && is_deep(kind, &text));
         large += usize::from(library.0.is_ok_and(|numbers| numbers.0 > 64));
         most += usize::from(library.0.is_ok_and(|numbers| numbers.0 == 256));
-        tally.compare(library, table::reference(&text, &old), &old, || format!("seed {seed}: {}", shown(&text)));
+        tally.compare(library, table::reference(kind, &text, &old), &old, || format!("seed {seed}: {}", shown(&text)));
     }
-    tally.has(&[0, 1, 2, 3, 4, 5, 6, 7, 8, 23, 9, 10, 13]);
+    tally.has(of_set_up(kind));
+    tally.has(&[0, 4, 5, 6, 7, 8, 23, 9, 10, 13]);
     assert!(wide > 1000 && deep > 200, "{wide} wide, {deep} deep");
     assert!(large > 1000 && most > 200, "{large} of more than 64 states, {most} of 256");
 }
 
 #[test]
-fn replays() {
+fn tables() {
+    tables_of(Kind::Numbers, 100_000);
+}
+
+#[test]
+fn register_tables() {
+    tables_of(Kind::Register, 100_000);
+}
+
+/// Channel files for values of this kind, and sequences of events.
+fn replays_of(kind: Kind, count: u64) {
     let mut tally = Tally::default();
     let (mut wide, mut deep, mut far) = (0, 0, 0);
-    for seed in seeds(50_000) {
+    for seed in seeds(count) {
         let mut generator = Generator::new(seed);
         let (text, events) = if generator.once_in(4) {
-            (text(&mut generator), generator.between(1, 16))
+            (text(&mut generator, kind), generator.between(1, 16))
         } else {
-            let (text, file) = good(&mut generator);
+            let (text, file) = good(&mut generator, kind);
             (text, file.set_up.events())
         };
         let (text, events, often) = match generator.below(20) {
             // An event that a long rule goes far on.
             0 => {
-                let set_up = generator.set_up();
+                let set_up = generator.set_up_of(kind);
                 let event = generator.below(set_up.events());
                 let rule = generator.large_rule(&set_up, event);
                 (channel_file::to_text(&set_up, &rule).into_bytes(), set_up.events(), Some(event as u8))
@@ -180,17 +191,28 @@ fn replays() {
             let at = generator.below(length);
             word[at] = (events + generator.one_of(&[0, 1, 16, 200])) as u8;
         }
-        let old = buffer(&mut generator, length);
-        let library = replay::library(&text, &word, &old);
-        wide += usize::from(library.0.is_ok() && is_wide(&text));
-        deep += usize::from(library.0.is_ok() && is_deep(&text));
+        let old = buffer(&mut generator, length * kind.value_bytes());
+        let library = replay::library(kind, &text, &word, &old);
+        wide += usize::from(library.0.is_ok() && is_wide(kind, &text));
+        deep += usize::from(library.0.is_ok() && is_deep(kind, &text));
         far += usize::from(library.0.is_ok() && often.is_some());
-        tally.compare(library, replay::reference(&text, &word, &old), &old, || {
+        tally.compare(library, replay::reference(kind, &text, &word, &old), &old, || {
             format!("seed {seed}: {} {word:?}", shown(&text))
         });
     }
-    tally.has(&[0, 1, 2, 3, 4, 5, 6, 7, 8, 23, 9, 10, 13, 16]);
+    tally.has(of_set_up(kind));
+    tally.has(&[0, 4, 5, 6, 7, 8, 23, 9, 10, 13, 16]);
     assert!(wide > 1000 && deep > 200 && far > 500, "{wide} wide, {deep} deep, {far} by long rules");
+}
+
+#[test]
+fn replays() {
+    replays_of(Kind::Numbers, 50_000);
+}
+
+#[test]
+fn register_replays() {
+    replays_of(Kind::Register, 50_000);
 }
 
 /// A rule in bytes, good or damaged.
@@ -305,46 +327,57 @@ impl Verdicts {
     }
 }
 
-#[test]
-fn trials() {
+/// Channel files and devices for values of this kind; each verdict has to arise so often of tables with more than 64 states.
+fn trials_of(kind: Kind, count: u64, of_many_states: usize) {
     let mut tally = Tally::default();
     let mut verdicts = Verdicts::default();
     let mut of_wide = Verdicts::default();
     let mut of_large = Verdicts::default();
     let mut deep = 0;
-    for seed in seeds(50_000) {
+    for seed in seeds(count) {
         let mut generator = Generator::new(seed);
         let text = match generator.below(16) {
-            0..=3 => text(&mut generator),
-            4 => large_file(&mut generator),
-            _ => generator.file(),
+            0..=3 => text(&mut generator, kind),
+            4 => large_file(&mut generator, kind),
+            _ => generator.file_of(kind),
         };
-        let file = channel_file::read(&text).ok();
+        let file = channel_file::read_of(kind, &text).ok();
         let of_rule = file.as_ref().and_then(|file| Table::of_rule(&file.set_up, &file.rule).ok());
-        let set_up = file.map_or_else(|| generator.set_up(), |file| file.set_up);
+        let set_up = file.map_or_else(|| generator.set_up_of(kind), |file| file.set_up);
         let device = device(&mut generator, &set_up, of_rule.as_ref());
         let old = word_buffer(&mut generator);
-        let library = trial::library(&text, &device, &old);
-        deep += usize::from(library.0.is_ok() && is_deep(&text));
+        let library = trial::library(kind, &text, &device, &old);
+        deep += usize::from(library.0.is_ok() && is_deep(kind, &text));
         if let (Ok(outcome), Some(table)) = (library.0, &of_rule) {
             let verdicts = if table.states() > 64 {
                 &mut of_large
-            } else if is_wide(&text) {
+            } else if is_wide(kind, &text) {
                 &mut of_wide
             } else {
                 &mut verdicts
             };
             verdicts.judge(&set_up, &device, table, outcome, &library.1);
         }
-        tally.compare(library, trial::reference(&text, &device, &old), &old, || {
+        tally.compare(library, trial::reference(kind, &text, &device, &old), &old, || {
             format!("seed {seed}: {} {device:?}", shown(&text))
         });
     }
-    tally.has(&[0, 1, 2, 3, 4, 5, 6, 7, 8, 23, 9, 10, 11, 13]);
+    tally.has(of_set_up(kind));
+    tally.has(&[0, 4, 5, 6, 7, 8, 23, 9, 10, 11, 13]);
     verdicts.are_many(1000);
     of_wide.are_many(200);
-    of_large.are_many(100);
+    of_large.are_many(of_many_states);
     assert!(deep > 200, "{deep}");
+}
+
+#[test]
+fn trials() {
+    trials_of(Kind::Numbers, 50_000, 100);
+}
+
+#[test]
+fn register_trials() {
+    trials_of(Kind::Register, 50_000, 5);
 }
 
 /// Set-ups, tables and devices of this kind; each verdict has to arise so often of tables with more than 64 states.
@@ -388,18 +421,17 @@ fn trials_of_register_tables() {
 }
 
 /// Document 02, F-14: one rule implies another exactly if its table, as a device, passes.
-#[test]
-fn covering() {
+fn covering_of(kind: Kind, count: u64) {
     let (mut yes, mut no, mut refused, mut no_device, mut longest, mut wide, mut deep) = (0, 0, 0, 0, 0, 0, 0);
-    for seed in seeds(30_000) {
+    for seed in seeds(count) {
         let mut generator = Generator::new(seed);
-        let set_up = generator.set_up();
+        let set_up = generator.set_up_of(kind);
         let (first, second) = generator.pair_of_rules(&set_up);
         let [first, second] = [first, second].map(|rule| channel_file::to_text(&set_up, &rule).into_bytes());
-        let answer = covers::library(&first, &second);
-        assert_eq!(answer, covers::reference(&first, &second), "seed {seed}: {} {}", shown(&first), shown(&second));
-        wide += usize::from(answer.is_ok() && (is_wide(&first) || is_wide(&second)));
-        deep += usize::from(answer.is_ok() && (is_deep(&first) || is_deep(&second)));
+        let answer = covers::library(kind, &first, &second);
+        assert_eq!(answer, covers::reference(kind, &first, &second), "seed {seed}: {} {}", shown(&first), shown(&second));
+        wide += usize::from(answer.is_ok() && (is_wide(kind, &first) || is_wide(kind, &second)));
+        deep += usize::from(answer.is_ok() && (is_deep(kind, &first) || is_deep(kind, &second)));
         match answer {
             Ok(None) => yes += 1,
             Ok(Some(word)) => {
@@ -415,23 +447,38 @@ fn covering() {
     assert!(yes > 5000 && no > 5000 && refused > 200 && no_device > 200 && longest > 20 && wide > 1000 && deep > 200);
 }
 
+#[test]
+fn covering() {
+    covering_of(Kind::Numbers, 30_000);
+}
+
+#[test]
+fn register_covering() {
+    covering_of(Kind::Register, 30_000);
+}
+
 /// Document 02, F-14: two rules joined by A have the meet of both values.
 #[test]
 fn joining() {
     let mut words = 0;
     for seed in seeds(20_000) {
         let mut generator = Generator::new(seed);
-        let set_up = generator.set_up();
+        let set_up = generator.any_set_up();
+        let kind = set_up.kind();
         let (first, second) = generator.pair_of_rules(&set_up);
-        let Ok(both) = Rule::from_bytes(&set_up, &joined(set_up.kind(), &first.to_bytes(), &second.to_bytes())) else {
+        let Ok(both) = Rule::from_bytes(&set_up, &joined(kind, &first.to_bytes(), &second.to_bytes())) else {
             continue;
         };
         let word = generator.word(&set_up, 50);
-        let values = |rule: &Rule| replay::library(channel_file::to_text(&set_up, rule).as_bytes(), &word, &[0; 50]);
-        let ((Ok(()), both), (Ok(()), first), (Ok(()), second)) = (values(&both), values(&first), values(&second)) else {
+        let values = |rule: &Rule| {
+            let text = channel_file::to_text(&set_up, rule);
+            let (answer, to) = replay::library(kind, text.as_bytes(), &word, &vec![0; 50 * kind.value_bytes()]);
+            answer.map(|()| to.chunks(kind.value_bytes()).map(|value| kind.value_from(value)).collect::<Vec<Value>>())
+        };
+        let (Ok(both), Ok(first), Ok(second)) = (values(&both), values(&first), values(&second)) else {
             continue;
         };
-        let meets: Vec<u8> = first.iter().zip(&second).map(|(&b, &c)| set_up.meet(b.into(), c.into()) as u8).collect();
+        let meets: Vec<Value> = first.into_iter().zip(second).map(|(b, c)| set_up.meet(b, c)).collect();
         assert_eq!(both, meets, "seed {seed}");
         words += 1;
     }
@@ -566,45 +613,79 @@ fn deep_rules() -> impl Iterator<Item = String> {
     around_twelve.chain(many).chain(unbound)
 }
 
-/// The limits of documents 01 and 02, and the worst cases.
-#[test]
-fn limits() {
-    let mut tally = Tally::default();
-    let four = |items: &str, events: usize| {
-        format!("events={events}\nvalues=4\ntop=3\nmeet=0 0 0 0 0 1 0 1 0 0 2 2 0 1 2 3\nrule={items}\n").into_bytes()
+/// A file with these items, of the four-value set or of a register of two lines.
+fn file(kind: Kind, items: &str, events: usize) -> Vec<u8> {
+    let values = match kind {
+        Kind::Numbers => "values=4\ntop=3\nmeet=0 0 0 0 0 1 0 1 0 0 2 2 0 1 2 3",
+        Kind::Register => "lines=2",
     };
+    format!("events={events}\n{values}\nrule={items}\n").into_bytes()
+}
+
+/// Rules about the limits of documents 01 and 02, and the worst cases, in such files.
+fn files_about_limits(kind: Kind) -> Vec<Vec<u8>> {
     let steps = |count: usize| format!("{}T", "G0 ".repeat(count));
+    let low = match kind {
+        Kind::Numbers => "O0.1",
+        Kind::Register => "O0.3.0",
+    };
     let mut texts: Vec<Vec<u8>> = Vec::new();
     for events in [1, 2, 16] {
-        texts.extend([0, 1, 62, 63, 64, 100, 254, 255, 256].map(|count| four(&steps(count), events)));
+        texts.extend([0, 1, 62, 63, 64, 100, 254, 255, 256].map(|count| file(kind, &steps(count), events)));
         // About 256 states: 15 × 17, the empty set, and what is demanded on the first events alone; then 16 × 17.
         for (first, second) in [(15, 16), (15, 17), (16, 17)] {
             let both = loops(first, second);
             texts.extend(
-                [both.clone(), format!("A O0.1 {both}"), format!("A {both} G0 O0.1")].map(|items| four(&items, events)),
+                [both.clone(), format!("A {low} {both}"), format!("A {both} G0 {low}")].map(|items| file(kind, &items, events)),
             );
         }
-        texts.extend(deep_rules().map(|items| four(&items, events)));
-        texts.push(four(&format!("{}T{}", "A ".repeat(127), " T".repeat(127)), events));
-        texts.push(four(&format!("{}T{}", "A T ".repeat(127), ""), events));
+        texts.extend(deep_rules().map(|items| file(kind, &items, events)));
+        texts.push(file(kind, &format!("{}T{}", "A ".repeat(127), " T".repeat(127)), events));
+        texts.push(file(kind, &format!("{}T{}", "A T ".repeat(127), ""), events));
         // Loops of prime lengths, whose states are as many as the product of the lengths.
         let primes = [2, 3, 5, 7, 11, 13, 17, 19, 23];
         for count in 1..=primes.len() {
             let loops = |prime: &usize| format!("V {}X0", "G0 ".repeat(*prime));
             let items: Vec<String> = primes[..count].iter().map(loops).collect();
-            texts.push(four(&format!("{}{}", "A ".repeat(count - 1), items.join(" ")), events));
+            texts.push(file(kind, &format!("{}{}", "A ".repeat(count - 1), items.join(" ")), events));
         }
         // Each inner binder has its outer one's demands twice or ten times (document 02, F-2); more than eleven are 23.
         for (count, variables) in [(3, 2), (7, 2), (11, 2), (11, 10), (12, 2), (20, 2), (42, 2)] {
-            texts.push(four(&inner_binders(count, variables), events));
+            texts.push(file(kind, &inner_binders(count, variables), events));
         }
     }
-    for text in &texts {
-        for length in [0, 1, 2, 127, 128, 511, 512, 1023, 1024, 8191, 8192, 9000] {
+    texts
+}
+
+/// Tables of such files in buffers about the size of one entry, of one state, and of 64 and 256 states.
+fn limits_of_files(kind: Kind) {
+    let mut tally = Tally::default();
+    let entry = kind.entry_bytes();
+    let lengths = [1, 64, 256, 512, 16 * 256].map(|entries| entries * entry);
+    for text in files_about_limits(kind) {
+        for length in lengths.into_iter().flat_map(|length| [length - 1, length]).chain([0, lengths[4] + 100]) {
             let old = vec![170; length];
-            tally.compare(table::library(text, &old), table::reference(text, &old), &old, || shown(text));
+            let (library, reference) = (table::library(kind, &text, &old), table::reference(kind, &text, &old));
+            tally.compare(library, reference, &old, || shown(&text));
         }
     }
+    tally.has(&[0, 5, 6, 7, 8, 23, 9, 10, 13]);
+}
+
+#[test]
+fn limits_of_number_files() {
+    limits_of_files(Kind::Numbers);
+}
+
+#[test]
+fn limits_of_register_files() {
+    limits_of_files(Kind::Register);
+}
+
+/// The limits of tables and of words.
+#[test]
+fn limits() {
+    let mut tally = Tally::default();
     // One event, a chain of states whose last returns to itself: 49 nodes for 12 states, then 23; 12 for 64.
     let one = RawSetUp::four_values(1);
     let chains = [(1, Ok(5)), (2, Ok(9)), (12, Ok(49)), (13, Err(23)), (62, Err(23)), (63, Err(23)), (64, Err(12))];
@@ -640,13 +721,13 @@ fn limits() {
     for states in [1, 63, 64, 65, 255, 256, 257, 512] {
         let (small, large) = (ring(1, 0), ring(states, usize::MAX));
         let old = vec![170; WORD_BYTES];
-        let text = four("T", 1);
+        let text = file(Kind::Numbers, "T", 1);
         let as_device = if states > 64 { Err((11, None)) } else { Ok(Outcome::Passes(Grade::Same)) };
         let as_table = if states > 256 { Err((11, None)) } else { Ok(Outcome::Passes(Grade::Stricter)) };
-        let by_text = trial::library(&text, &large, &old);
+        let by_text = trial::library(Kind::Numbers, &text, &large, &old);
         let by_tables = trial_table::library(&one, &ring(1, usize::MAX), &large, &old);
         assert_eq!((by_text.0, by_tables.0), (as_device, as_device), "{states} states");
-        tally.compare(by_text, trial::reference(&text, &large, &old), &old, || format!("{large:?}"));
+        tally.compare(by_text, trial::reference(Kind::Numbers, &text, &large, &old), &old, || format!("{large:?}"));
         tally.compare(by_tables, trial_table::reference(&one, &ring(1, usize::MAX), &large, &old), &old, || {
             format!("{large:?}")
         });
@@ -676,6 +757,42 @@ fn limits() {
         }
     }
     println!("{:?}", tally.0);
+}
+
+/// A register's rule of 65 states, one more than a small table has: devices of up to 65 states, and words of up to 66 events.
+#[test]
+fn register_file_of_65_states() {
+    let mut tally = Tally::default();
+    let kind = Kind::Register;
+    let text = file(kind, &format!("{}O0.3.1", "G0 ".repeat(63)), 1);
+    for states in [1, 64, 65] {
+        for low in [usize::MAX, 0, states - 1] {
+            let (device, old) = (ring_of(kind, states, low), vec![170; WORD_BYTES]);
+            let library = trial::library(kind, &text, &device, &old);
+            match (states, low) {
+                (65, _) => assert_eq!(library.0, Err((11, None))),
+                // The loop is at its last state where the rule wants the second line low.
+                _ if low == states - 1 => assert_eq!(library.0, Ok(Outcome::Passes(Grade::Stricter))),
+                _ => assert_eq!(library.0, Ok(Outcome::Fails(64))),
+            }
+            tally.compare(library, trial::reference(kind, &text, &device, &old), &old, || format!("{device:?}"));
+        }
+    }
+    for length in 0..=66 {
+        for more in [-1, 0, 1] {
+            let (word, old) = (vec![0; length], vec![170; (4 * length as isize + more).max(0) as usize]);
+            let library = replay::library(kind, &text, &word, &old);
+            if more >= 0 {
+                let mut values = [3, 0, 3, 0].repeat(length);
+                if length > 63 {
+                    values[4 * 63 + 2] = 1;
+                }
+                assert_eq!(library, (Ok(()), [&values[..], &old[values.len()..]].concat()));
+            }
+            tally.compare(library, replay::reference(kind, &text, &word, &old), &old, || format!("{length} events"));
+        }
+    }
+    tally.has(&[0, 13]);
 }
 
 /// Each bit of a register's masks with its number, and all bits of one or both masks with that of one of them.
@@ -749,6 +866,50 @@ fn bits_in_tables() {
         }
     }
     tally.has(&[0, 20, 11, 13]);
+}
+
+/// The same of O tokens, and of masks of no 16 bits: the file's table, its first value, and itself as its device.
+#[test]
+fn bits_in_files() {
+    let mut tally = Tally::default();
+    let kind = Kind::Register;
+    let bits = masks().map(|(bit, value)| {
+        let (low, high) = masks_of(value);
+        (bit % 16, u32::from(low), u32::from(high))
+    });
+    let large = [65_536, 65_537, 98_304, 99_999].into_iter().flat_map(|mask| [(16, mask, 0), (16, 0, mask), (16, mask, mask)]);
+    let tokens: Vec<(usize, u32, u32)> = bits.chain(large).collect();
+    for lines in 0..=18 {
+        for &(bit, low, high) in &tokens {
+            let text = format!("events=1\nlines={lines}\nrule=O0.{low}.{high}\n").into_bytes();
+            let expected = if bit < lines && bit < 16 { Ok((2, 1, lines, None)) } else { Err((6, Some(0))) };
+            // The table has two entries.
+            for length in [0, 9, 10, 11] {
+                let old = vec![170; length];
+                let library = table::library(kind, &text, &old);
+                if length >= 10 {
+                    assert_eq!(library.0, beside_20(lines, expected), "{}", shown(&text));
+                }
+                tally.compare(library, table::reference(kind, &text, &old), &old, || shown(&text));
+            }
+            for length in [0, 3, 4, 5] {
+                let old = vec![170; length];
+                let library = replay::library(kind, &text, &[0], &old);
+                if library.0.is_ok() {
+                    assert_eq!(library.1[..4], kind.value_to_bytes(of_masks(low as u16, high as u16)), "{}", shown(&text));
+                }
+                tally.compare(library, replay::reference(kind, &text, &[0], &old), &old, || shown(&text));
+            }
+            let (_, bytes) = table::library(kind, &text, &[0; 10]);
+            let device = RawTable { states: 2, start: 0, bytes };
+            for length in [WORD_BYTES - 1, WORD_BYTES] {
+                let old = vec![170; length];
+                let library = trial::library(kind, &text, &device, &old);
+                tally.compare(library, trial::reference(kind, &text, &device, &old), &old, || shown(&text));
+            }
+        }
+    }
+    tally.has(&[0, 20, 6, 13]);
 }
 
 /// Lengths about those of whole nodes and entries of a register, all bytes 0: T, and tables in conflict.

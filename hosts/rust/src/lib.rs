@@ -1,5 +1,5 @@
 //! Channel rule tables by the proved library: the table of a channel file's rule or of a rule in bytes, replay, trial, and the rule of a
-//! table. Values are numbers with a meet table; what takes tables and rules in bytes is there a second time for a register's values.
+//! table. Values are numbers with a meet table; every function is there a second time for a register's values.
 //!
 //! In bytes a node of a rule is its kind (0 T, 1 X, 2 G, 3 O, 4 A, 5 V), a first number, and the value of an O node; an entry of a table is a
 //! value and a next state. A number as value is one byte, so that a node has three bytes and an entry two. A register's value is four bytes,
@@ -56,6 +56,17 @@ pub struct TableNumbers {
     pub values: usize,
     /// The top value.
     pub top: usize,
+}
+
+/// The numbers of a register's table that was made.
+#[derive(Clone, Copy, Debug, PartialEq, Eq)]
+pub struct RegisterTableNumbers {
+    /// How many states; the table has `states * events` entries of five bytes.
+    pub states: usize,
+    /// How many events.
+    pub events: usize,
+    /// How many lines.
+    pub lines: usize,
 }
 
 /// How a device passes.
@@ -215,9 +226,37 @@ pub struct Table<'a> {
 pub fn table(text: &[u8], to: &mut [u8]) -> Result<TableNumbers, Refusal> {
     // SAFETY: both slices are valid for the call, and a slice that is lent mutably overlaps no other.
     let code = unsafe { library::gurvazze_table(text.as_ptr(), text.len(), to.as_mut_ptr(), to.len()) };
-    let numbers = yielded(code)?;
-    let byte = |shift: u32| (numbers >> shift & 255) as usize;
-    Ok(TableNumbers { states: (numbers & 65535) as usize, events: byte(16), values: byte(24), top: byte(32) })
+    numbers(code)
+}
+
+/// The table of a register's channel file's rule goes into `to`, five bytes an entry. Refusals 4, 1, 20, 5 to 8, 23, 9, 10, 13.
+///
+/// Such a file has the lines `events`, `lines` and `rule`; an O token is event.low.high, the masks of the lines that may be low and may be
+/// high.
+///
+/// ```
+/// use gurvazze::Masks;
+///
+/// let file = b"events=2\nlines=9\nrule=A O1.511.255 V G1 X0\n";
+/// let (low, top) = (Masks { low: 0x1ff, high: 0xff }, Masks { low: 0x1ff, high: 0x1ff });
+/// let mut to = [0; gurvazze::REGISTER_TABLE_BYTES];
+/// let numbers = gurvazze::register_table(file, &mut to)?;
+/// assert_eq!((numbers.states, numbers.events, numbers.lines), (3, 2, 9));
+/// let rows = [top.entry(1), low.entry(2), top.entry(1), top.entry(1), top.entry(1), top.entry(2)];
+/// assert_eq!(to[..30], rows.concat());
+///
+/// // Line 8 is one too many for eight lines, and a file has at most 16.
+/// let refusal = gurvazze::register_table(b"events=2\nlines=8\nrule=A O1.511.255 V G1 X0\n", &mut to).unwrap_err();
+/// assert_eq!((refusal.number, refusal.place), (6, Some(1)));
+/// let refusal = gurvazze::register_table(b"events=2\nlines=17\nrule=T\n", &mut to).unwrap_err();
+/// assert_eq!((refusal.number, refusal.place), (20, None));
+/// # Ok::<(), gurvazze::Refusal>(())
+/// ```
+pub fn register_table(text: &[u8], to: &mut [u8]) -> Result<RegisterTableNumbers, Refusal> {
+    // SAFETY: as in `table`.
+    let code = unsafe { library::gurvazze_register_table(text.as_ptr(), text.len(), to.as_mut_ptr(), to.len()) };
+    // The lines stand in the place of values, and 0 in that of top.
+    numbers(code).map(|TableNumbers { states, events, values, .. }| RegisterTableNumbers { states, events, lines: values })
 }
 
 /// The values of a channel file's rule on a sequence of events go into `to`, one byte for each event. Refusals 4, 1 to 3,
@@ -235,6 +274,29 @@ pub fn replay(text: &[u8], events: &[u8], to: &mut [u8]) -> Result<(), Refusal> 
     // SAFETY: as in `table`.
     let code = unsafe {
         library::gurvazze_replay(text.as_ptr(), text.len(), events.as_ptr(), events.len(), to.as_mut_ptr(), to.len())
+    };
+    yielded(code).map(|_| ())
+}
+
+/// The values of a register's channel file's rule on a sequence of events go into `to`, four bytes for each event, [`Masks::to_bytes`].
+/// Refusals 4, 1, 20, 5 to 8, 23, 9, 10, 16, 13; 13 where `to` has fewer than four bytes for each event.
+///
+/// ```
+/// use gurvazze::Masks;
+///
+/// let file = b"events=2\nlines=9\nrule=V A G1 O1.511.255 G1 X0\n";
+/// let (low, top) = (Masks { low: 0x1ff, high: 0xff }, Masks { low: 0x1ff, high: 0x1ff });
+/// let mut values = [0; 12];
+/// gurvazze::register_replay(file, &[1, 1, 0], &mut values)?;
+/// assert_eq!(values, [top.to_bytes(), low.to_bytes(), top.to_bytes()].concat()[..]);
+/// assert_eq!(gurvazze::register_replay(file, &[2], &mut values).unwrap_err().number, 16);
+/// assert_eq!(gurvazze::register_replay(file, &[0; 3], &mut values[1..]).unwrap_err().number, 13);
+/// # Ok::<(), gurvazze::Refusal>(())
+/// ```
+pub fn register_replay(text: &[u8], events: &[u8], to: &mut [u8]) -> Result<(), Refusal> {
+    // SAFETY: as in `table`.
+    let code = unsafe {
+        library::gurvazze_register_replay(text.as_ptr(), text.len(), events.as_ptr(), events.len(), to.as_mut_ptr(), to.len())
     };
     yielded(code).map(|_| ())
 }
@@ -281,6 +343,42 @@ pub fn trial(text: &[u8], device: Table<'_>, word: &mut [u8]) -> Result<Verdict,
     // SAFETY: as in `table`.
     let code = unsafe {
         library::gurvazze_trial(
+            text.as_ptr(),
+            text.len(),
+            device.states,
+            device.start,
+            device.bytes.as_ptr(),
+            device.bytes.len(),
+            word.as_mut_ptr(),
+            word.len(),
+        )
+    };
+    verdict(code)
+}
+
+/// Trial of a register's device, five bytes an entry, against a register's channel file's rule. Refusals 4, 1, 20, 5 to 8, 23, 9, 10, 11, 13.
+/// A rule covers another by it as by [`trial`].
+///
+/// ```
+/// use gurvazze::{Grade, Masks, Table, Verdict};
+///
+/// let file = b"events=1\nlines=2\nrule=G0 O0.3.0\n";
+/// let (low, open) = (Masks { low: 3, high: 0 }, Masks { low: 3, high: 3 });
+/// let mut word = [0; gurvazze::WORD_BYTES];
+/// let device = Table { states: 1, start: 0, bytes: &open.entry(0) };
+/// assert_eq!(gurvazze::register_trial(file, device, &mut word)?, Verdict::Fail(2));
+/// assert_eq!(word[..2], [0, 0]);
+/// let device = Table { states: 1, start: 0, bytes: &low.entry(0) };
+/// assert_eq!(gurvazze::register_trial(file, device, &mut word)?, Verdict::Pass(Grade::Stricter));
+/// let second_low = [open.entry(1), low.entry(2), open.entry(2)].concat();
+/// let device = Table { states: 3, start: 0, bytes: &second_low };
+/// assert_eq!(gurvazze::register_trial(file, device, &mut word)?, Verdict::Pass(Grade::Same));
+/// # Ok::<(), gurvazze::Refusal>(())
+/// ```
+pub fn register_trial(text: &[u8], device: Table<'_>, word: &mut [u8]) -> Result<Verdict, Refusal> {
+    // SAFETY: as in `table`.
+    let code = unsafe {
+        library::gurvazze_register_trial(
             text.as_ptr(),
             text.len(),
             device.states,
@@ -551,6 +649,14 @@ pub fn register_rule(register: Register, table: Table<'_>, to: &mut [u8]) -> Res
     count(code)
 }
 
+/// The table of a file yields its numbers: states in sixteen bits, then eight each.
+fn numbers(code: u64) -> Result<TableNumbers, Refusal> {
+    yielded(code).map(|numbers| {
+        let byte = |shift: u32| (numbers >> shift & 255) as usize;
+        TableNumbers { states: (numbers & 65535) as usize, events: byte(16), values: byte(24), top: byte(32) }
+    })
+}
+
 /// A call that makes something yields its count.
 fn count(code: u64) -> Result<usize, Refusal> {
     yielded(code).map(|count| count as usize)
@@ -580,6 +686,8 @@ mod library {
     extern "C" {
         pub fn gurvazze_table(text: *const u8, text_length: usize, to: *mut u8, to_length: usize) -> u64;
 
+        pub fn gurvazze_register_table(text: *const u8, text_length: usize, to: *mut u8, to_length: usize) -> u64;
+
         pub fn gurvazze_replay(
             text: *const u8,
             text_length: usize,
@@ -589,7 +697,27 @@ mod library {
             to_length: usize,
         ) -> u64;
 
+        pub fn gurvazze_register_replay(
+            text: *const u8,
+            text_length: usize,
+            word: *const u8,
+            word_length: usize,
+            to: *mut u8,
+            to_length: usize,
+        ) -> u64;
+
         pub fn gurvazze_trial(
+            text: *const u8,
+            text_length: usize,
+            device_states: usize,
+            device_start: usize,
+            device: *const u8,
+            device_length: usize,
+            word: *mut u8,
+            word_length: usize,
+        ) -> u64;
+
+        pub fn gurvazze_register_trial(
             text: *const u8,
             text_length: usize,
             device_states: usize,

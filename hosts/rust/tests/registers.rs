@@ -1,10 +1,12 @@
-//! Compile of a rule in bytes for both kinds of values, and a register's trial and rule: accepted calls, each refusal, and what a call leaves
-//! in a lent buffer.
+//! Compile of a rule in bytes for both kinds of values, a register's trial and rule, and the three calls on a register's channel file:
+//! accepted calls, each refusal, and what a call leaves in a lent buffer.
 
 use std::fmt::Debug;
 
-use gurvazze::{compile, register_compile, register_rule, register_trial_of_table};
-use gurvazze::{Grade, Masks, Refusal, Register, SetUp, Table, Verdict, WORD_BYTES};
+use gurvazze::{
+    compile, register_compile, register_replay, register_rule, register_table, register_trial, register_trial_of_table,
+};
+use gurvazze::{Grade, Masks, Refusal, Register, RegisterTableNumbers, SetUp, Table, Verdict, WORD_BYTES};
 
 /// Two events and the four-value set.
 const FOUR: SetUp<'static> = SetUp { events: 2, values: 4, top: 3, meet: &[0, 0, 0, 0, 0, 1, 0, 1, 0, 0, 2, 2, 0, 1, 2, 3] };
@@ -228,4 +230,144 @@ fn register_written() {
     for lines in [0, 17, 256, usize::MAX] {
         refused(9, 20, None, |to| with(Register { events: 1, lines }, to));
     }
+}
+
+/// A register's channel file.
+fn file(register: Register, items: &str) -> Vec<u8> {
+    format!("events={}\nlines={}\nrule={items}\n", register.events, register.lines).into_bytes()
+}
+
+/// The items of nodes of kind, first number and value, the value as a low mask.
+fn items(nodes: &[[u8; 3]]) -> String {
+    let item = |&[kind, first, value]: &[u8; 3]| match kind {
+        0 => "T".to_string(),
+        1 => format!("X{first}"),
+        2 => format!("G{first}"),
+        3 => format!("O{first}.{value}.0"),
+        4 => "A".to_string(),
+        _ => "V".to_string(),
+    };
+    nodes.iter().map(item).collect::<Vec<String>>().join(" ")
+}
+
+/// Register files that are refused, with the refusal's number and place.
+fn refused_files() -> Vec<(Vec<u8>, u8, Option<usize>)> {
+    // What a file cannot say is left out: no nodes, an unknown kind, an unused field.
+    let unused = |&[kind, first, value]: &[u8; 3]| match kind {
+        1 | 2 => value > 0,
+        3 => false,
+        0 | 4 | 5 => (first, value) != (0, 0),
+        _ => true,
+    };
+    let rules = refused_rules().into_iter().filter(|(nodes, ..)| !nodes.is_empty() && !nodes.iter().any(unused));
+    let mut files: Vec<_> = rules.map(|(nodes, number, place)| (file(TWO_LINES, &items(&nodes)), number, place)).collect();
+    let head = file(TWO_LINES, "").len() - 1;
+    // The form: what ends early, document 01's lines and O tokens, leading zeros and a sixth digit.
+    for (items, place) in
+        [("", 0), ("O0.1", 4), ("O0.1.", 5), ("O0.01.1", 4), ("O0.1.01", 6), ("O0.100000.1", 8), ("O0.1.1.1", 6)]
+    {
+        files.push((file(TWO_LINES, items), 4, Some(head + place)));
+    }
+    files.push((b"events=2\nvalues=4\ntop=3\nmeet=0\nrule=T\n".to_vec(), 4, Some(9)));
+    files.push((vec![b'e'; 4097], 4, Some(4096)));
+    for events in [0, 17, 257, 999] {
+        files.push((file(Register { events, lines: 0 }, "A"), 1, None));
+    }
+    for lines in [0, 17, 256, 258, 999] {
+        files.push((file(Register { lines, ..TWO_LINES }, "A"), 20, None));
+    }
+    // Masks of no 16 bits are no masks of 16 lines either.
+    for items in ["A T O0.65536.0", "A T O0.0.65536", "A T O0.65537.1", "A T O0.99999.99999"] {
+        files.push((file(Register { lines: 16, ..TWO_LINES }, items), 6, Some(2)));
+    }
+    files
+}
+
+/// What a file meets comes before what events, devices and short buffers meet.
+#[test]
+fn files_refused() {
+    for (text, number, place) in refused_files() {
+        refused(20_480, number, place, |to| register_table(&text, to));
+        refused(0, number, place, |to| register_replay(&text, &[255], to));
+        refused(0, number, place, |word| register_trial(&text, Table { states: 0, start: 0, bytes: &[] }, word));
+    }
+}
+
+/// Two lines on event 1 that are low, then high, then open for ever.
+const LOW_THEN_HIGH: &str = "A O1.3.0 G1 O1.0.3";
+
+#[test]
+fn tables_of_files() {
+    let text = file(TWO_LINES, LOW_THEN_HIGH);
+    let high = Masks { low: 0, high: 3 };
+    let output = [OPEN.entry(1), LOW.entry(2), OPEN.entry(1), OPEN.entry(1), OPEN.entry(1), high.entry(1)].concat();
+    puts(RegisterTableNumbers { states: 3, events: 2, lines: 2 }, &output, |to| register_table(&text, to));
+    refused(29, 13, None, |to| register_table(&text, to));
+    // Numbers at their ends.
+    for register in [Register { events: 1, lines: 1 }, Register { events: 16, lines: 16 }] {
+        let all = u16::MAX >> (16 - register.lines);
+        let output = Masks { low: all, high: all }.entry(0).repeat(register.events);
+        let numbers = RegisterTableNumbers { states: 1, events: register.events, lines: register.lines };
+        puts(numbers, &output, |to| register_table(&file(register, "T"), to));
+    }
+    let steps = |count: usize| file(ONE_EVENT, &("G0 ".repeat(count) + "T"));
+    for states in [64, 65, 256] {
+        let numbers = RegisterTableNumbers { states, events: 1, lines: 2 };
+        puts(numbers, &chain(states), |to| register_table(&steps(states - 1), to));
+    }
+}
+
+#[test]
+fn replayed() {
+    let text = file(TWO_LINES, LOW_THEN_HIGH);
+    let high = Masks { low: 0, high: 3 };
+    let values = [LOW, high, OPEN, OPEN].map(Masks::to_bytes).concat();
+    puts((), &values, |to| register_replay(&text, &[1, 1, 0, 1], to));
+    puts((), &[], |to| register_replay(&text, &[], to));
+    refused(15, 13, None, |to| register_replay(&text, &[1, 1, 0, 1], to));
+    refused(4, 13, None, |to| register_replay(&text, &[0; 4], to));
+    // 16 over all events, before 13.
+    for word in [[2, 0, 0], [0, 0, 2], [0, 255, 0]] {
+        refused(0, 16, None, |to| register_replay(&text, &word, to));
+    }
+    // Each byte of both masks, by a table of 3 states and one of 130.
+    let value = Masks { low: 0x0201, high: 0x0403 };
+    let sixteen = Register { events: 1, lines: 16 };
+    for steps in [1, 128] {
+        let text = file(sixteen, &("G0 ".repeat(steps) + "O0.513.1027"));
+        let mut values = vec![255; 4 * (steps + 2)];
+        values[4 * steps..4 * steps + 4].copy_from_slice(&value.to_bytes());
+        puts((), &values, |to| register_replay(&text, &vec![0; steps + 2], to));
+    }
+}
+
+#[test]
+fn tried_by_files() {
+    let device = [LOW.entry(1), OPEN.entry(1)].concat();
+    let device = Table { states: 2, start: 0, bytes: &device };
+    let tried = |items: &str, device: Table<'_>| {
+        let mut word = vec![OLD; WORD_BYTES];
+        (register_trial(&file(ONE_EVENT, items), device, &mut word), word)
+    };
+    let as_before = vec![OLD; WORD_BYTES];
+    let with_word = |length: usize| [&vec![0; length][..], &as_before[length..]].concat();
+    // The second text has a table of 65 states.
+    for open in ["T".to_string(), "G0 ".repeat(64) + "T"] {
+        assert_eq!(tried(&open, device), (Ok(Verdict::Pass(Grade::Stricter)), as_before.clone()));
+        assert_eq!(tried(&open, Table { start: 1, ..device }), (Ok(Verdict::Pass(Grade::Same)), as_before.clone()));
+        for (states, start, bytes) in refused_tables() {
+            let none = Table { states, start, bytes: &bytes };
+            refused(0, 11, None, |word| register_trial(&file(ONE_EVENT, &open), none, word));
+        }
+        refused(WORD_BYTES - 1, 13, None, |word| register_trial(&file(ONE_EVENT, &open), device, word));
+        let long = chain(65);
+        assert_eq!(tried(&open, Table { states: 64, start: 0, bytes: &chain(64) }).0, Ok(Verdict::Pass(Grade::Same)));
+        refused(0, 11, None, |word| {
+            register_trial(&file(ONE_EVENT, &open), Table { states: 65, start: 0, bytes: &long }, word)
+        });
+    }
+    assert_eq!(tried("O0.3.0", device), (Ok(Verdict::Pass(Grade::Same)), as_before.clone()));
+    assert_eq!(tried("G0 O0.3.0", device), (Ok(Verdict::Fail(2)), with_word(2)));
+    assert_eq!(tried("O0.0.3", device), (Ok(Verdict::Fail(1)), with_word(1)));
+    assert_eq!(tried(&("G0 ".repeat(64) + "O0.3.0"), device), (Ok(Verdict::Fail(65)), with_word(65)));
 }

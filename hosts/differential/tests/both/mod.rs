@@ -6,14 +6,14 @@ use gurvazze_reference::channel_file::{self, ChannelFile};
 use gurvazze_reference::generate::RawTable;
 use gurvazze_reference::table::{self as reference_table, Table};
 use gurvazze_reference::trial::{trial_of_rule, trial_of_table, Grade, Outcome};
-use gurvazze_reference::values::{RawNumbers, RawSetUp, RawValues};
+use gurvazze_reference::values::{Kind, RawNumbers, RawSetUp, RawValues};
 use gurvazze_reference::{characteristic, Refusal};
 
 /// An answer, or the refusal's number and place; and the lent buffer afterwards.
 pub type Called<T> = (Result<T, (u8, Option<usize>)>, Vec<u8>);
 
-/// States, events, values and top of a table that was made.
-pub type Numbers = (usize, usize, usize, usize);
+/// States, events, values and top of a table that was made; of a register's lines for values, and no top.
+pub type Numbers = (usize, usize, usize, Option<usize>);
 
 fn plain<T>(result: Result<T, Refusal>) -> Result<T, (u8, Option<usize>)> {
     result.map_err(|refusal| (refusal.number, refusal.place))
@@ -21,14 +21,6 @@ fn plain<T>(result: Result<T, Refusal>) -> Result<T, (u8, Option<usize>)> {
 
 fn proved<T>(result: Result<T, gurvazze::Refusal>) -> Result<T, (u8, Option<usize>)> {
     result.map_err(|refusal| (refusal.number, refusal.place))
-}
-
-/// The values of a set-up of numbers.
-fn numbers(raw: &RawSetUp) -> &RawNumbers {
-    match &raw.values {
-        RawValues::Numbers(numbers) => numbers,
-        RawValues::Register { .. } => panic!("the set-up is one of numbers"),
-    }
 }
 
 /// A set-up of either kind as the library takes it.
@@ -60,29 +52,35 @@ fn outcome(verdict: gurvazze::Verdict) -> Outcome {
     }
 }
 
-fn compiled(text: &[u8]) -> Result<(ChannelFile, Table), Refusal> {
-    let file = channel_file::read(text)?;
+fn compiled(kind: Kind, text: &[u8]) -> Result<(ChannelFile, Table), Refusal> {
+    let file = channel_file::read_of(kind, text)?;
     let table = Table::of_rule(&file.set_up, &file.rule)?;
     Ok((file, table))
 }
 
-/// The table of a channel file's rule.
+/// The table of a channel file's rule; the file is one for values of this kind, here and below.
 pub mod table {
     use super::*;
 
     /// By the proved library.
-    pub fn library(text: &[u8], old: &[u8]) -> Called<Numbers> {
+    pub fn library(kind: Kind, text: &[u8], old: &[u8]) -> Called<Numbers> {
         let mut to = old.to_vec();
-        let answer = gurvazze::table(text, &mut to);
-        (proved(answer.map(|made| (made.states, made.events, made.values, made.top))), to)
+        let answer = match kind {
+            Kind::Numbers => gurvazze::table(text, &mut to).map(|made| (made.states, made.events, made.values, Some(made.top))),
+            Kind::Register => gurvazze::register_table(text, &mut to).map(|made| (made.states, made.events, made.lines, None)),
+        };
+        (proved(answer), to)
     }
 
     /// By the reference.
-    pub fn reference(text: &[u8], old: &[u8]) -> Called<Numbers> {
+    pub fn reference(kind: Kind, text: &[u8], old: &[u8]) -> Called<Numbers> {
         let mut to = old.to_vec();
-        let answer = compiled(text).and_then(|(file, table)| {
+        let answer = compiled(kind, text).and_then(|(file, table)| {
             let states = table.write_bytes(&mut to)?;
-            let RawNumbers { values, top, .. } = *numbers(file.set_up.raw());
+            let (values, top) = match file.set_up.raw().values {
+                RawValues::Numbers(RawNumbers { values, top, .. }) => (values, Some(top)),
+                RawValues::Register { lines } => (lines, None),
+            };
             Ok((states, file.set_up.events(), values, top))
         });
         (plain(answer), to)
@@ -94,24 +92,24 @@ pub mod replay {
     use super::*;
 
     /// By the proved library.
-    pub fn library(text: &[u8], word: &[u8], old: &[u8]) -> Called<()> {
+    pub fn library(kind: Kind, text: &[u8], word: &[u8], old: &[u8]) -> Called<()> {
         let mut to = old.to_vec();
-        (proved(gurvazze::replay(text, word, &mut to)), to)
+        let answer = match kind {
+            Kind::Numbers => gurvazze::replay(text, word, &mut to),
+            Kind::Register => gurvazze::register_replay(text, word, &mut to),
+        };
+        (proved(answer), to)
     }
 
     /// By the reference.
-    pub fn reference(text: &[u8], word: &[u8], old: &[u8]) -> Called<()> {
+    pub fn reference(kind: Kind, text: &[u8], word: &[u8], old: &[u8]) -> Called<()> {
         let mut to = old.to_vec();
-        let answer = compiled(text).and_then(|(file, table)| {
+        let answer = compiled(kind, text).and_then(|(file, table)| {
             if word.iter().any(|&event| usize::from(event) >= file.set_up.events()) {
                 return Err(Refusal::new(16));
             }
-            if to.len() < word.len() {
-                return Err(Refusal::new(13));
-            }
-            for (to, value) in to.iter_mut().zip(table.run(0, word).0) {
-                *to = value as u8;
-            }
+            let values: Vec<u8> = table.run(0, word).0.into_iter().flat_map(|value| kind.value_to_bytes(value)).collect();
+            to.get_mut(..values.len()).ok_or(Refusal::new(13))?.copy_from_slice(&values);
             Ok(())
         });
         (plain(answer), to)
@@ -123,15 +121,19 @@ pub mod trial {
     use super::*;
 
     /// By the proved library.
-    pub fn library(text: &[u8], device: &RawTable, old: &[u8]) -> Called<Outcome> {
+    pub fn library(kind: Kind, text: &[u8], device: &RawTable, old: &[u8]) -> Called<Outcome> {
         let mut word = old.to_vec();
-        (proved(gurvazze::trial(text, lent(device), &mut word).map(outcome)), word)
+        let answer = match kind {
+            Kind::Numbers => gurvazze::trial(text, lent(device), &mut word),
+            Kind::Register => gurvazze::register_trial(text, lent(device), &mut word),
+        };
+        (proved(answer.map(outcome)), word)
     }
 
     /// By the reference.
-    pub fn reference(text: &[u8], device: &RawTable, old: &[u8]) -> Called<Outcome> {
+    pub fn reference(kind: Kind, text: &[u8], device: &RawTable, old: &[u8]) -> Called<Outcome> {
         let mut word = old.to_vec();
-        let answer = channel_file::read(text)
+        let answer = channel_file::read_of(kind, text)
             .and_then(|file| trial_of_rule(file.set_up.raw(), device.lent(), &file.rule.to_bytes(), &mut word));
         (plain(answer), word)
     }
@@ -186,12 +188,12 @@ pub mod covers {
     use super::*;
 
     /// By the proved library: its table of the first rule, as a device from state 0, tried against the second rule.
-    pub fn library(first: &[u8], second: &[u8]) -> Result<Option<Vec<u8>>, (u8, Option<usize>)> {
-        let (made, mut bytes) = table::library(first, &[0; gurvazze::TABLE_BYTES]);
+    pub fn library(kind: Kind, first: &[u8], second: &[u8]) -> Result<Option<Vec<u8>>, (u8, Option<usize>)> {
+        let (made, mut bytes) = table::library(kind, first, &[0; gurvazze::REGISTER_TABLE_BYTES]);
         let (states, events, _, _) = made?;
-        bytes.truncate(2 * states * events);
+        bytes.truncate(states * events * kind.entry_bytes());
         let device = RawTable { states, start: 0, bytes };
-        let (answer, mut word) = trial::library(second, &device, &[0; gurvazze::WORD_BYTES]);
+        let (answer, mut word) = trial::library(kind, second, &device, &[0; gurvazze::WORD_BYTES]);
         Ok(match answer? {
             Outcome::Passes(_) => None,
             Outcome::Fails(length) => {
@@ -202,9 +204,9 @@ pub mod covers {
     }
 
     /// By the reference.
-    pub fn reference(first: &[u8], second: &[u8]) -> Result<Option<Vec<u8>>, (u8, Option<usize>)> {
-        let answer = channel_file::read(first).and_then(|first| {
-            let second = channel_file::lines(second)?.rule;
+    pub fn reference(kind: Kind, first: &[u8], second: &[u8]) -> Result<Option<Vec<u8>>, (u8, Option<usize>)> {
+        let answer = channel_file::read_of(kind, first).and_then(|first| {
+            let second = channel_file::lines_of(kind, second)?.rule;
             gurvazze_reference::trial::covers(first.set_up.raw(), &first.rule.to_bytes(), &second)
         });
         plain(answer)
