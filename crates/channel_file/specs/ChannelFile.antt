@@ -74,17 +74,10 @@ pub record Shows (c : Contents) (t : List ℕ) : Type 0 where
   pub small : SmallContents c
   pub printed : text c ≡ t
 
--- t is a text of the form.
-abbrev pub Form : List ℕ → Type 0
-Form = FormOf Shows
-
 -- Refusal 4 at a place, where texts show some contents: "over 4,096 bytes: place 4,096, tested first"; else where the form refuses the text.
 pub data RefusedBy {A : Type 0} (Shows : A → List ℕ → Type 0) (t : List ℕ) : ℕ → Type 0 where
   over-long : file-limit < length t → RefusedBy Shows t file-limit
   off-form : (p : ℕ) → length t ≤ file-limit → Refused (FormOf Shows) t p → RefusedBy Shows t p
-
-abbrev pub Refused4 : List ℕ → ℕ → Type 0
-Refused4 = RefusedBy Shows
 
 -- "The rule line's tokens are handed out as a stretch of the lent text. It runs from after `rule=` to before the last byte 10, and is
 -- empty for a text that 4 refuses." rule-text: the items with one space between.
@@ -95,9 +88,6 @@ pub data TokensBy {A : Type 0} (Shows : A → List ℕ → Type 0) (rule-text : 
 
 abbrev pub rule-text : Contents → List ℕ
 rule-text c = separated (map token-text (c .rule))
-
-abbrev pub TokensOf : List ℕ → List ℕ → Type 0
-TokensOf = TokensBy Shows rule-text
 
 -- Kind, first and value of an item's node, "0 T, 1 X, 2 G, 3 O, 4 A, 5 V"; "an unused field is 0".
 abbrev pub item-fields : {B : Type 0} → B → RuleItem B → ℕ × ℕ × B

@@ -153,7 +153,8 @@ pub record OneStore : Type 0 where
   pub cleared : (t : Store) → AllCells t → (c : ℕ) → called (clear c) t .0 ≡ accepted →
       (d : ℕ) → channels (called (clear c) t .1) d ≡ with-channel c none (channels t) d
 
--- F-7: registers of 1 to 16 lines. What is claimed in Demands and above of a set-up is claimed of both kinds; this is what a register's is.
+-- F-7: registers of 1 to 16 lines. What is claimed in Demands and above of a set-up is claimed of both kinds, and what is claimed of files of both forms
+-- (`register-files`); this is what a register's values are.
 pub record SixteenLines : Type 0 where
   -- "20, lines outside 1 to 16, in the place of 2 and 3"
   pub accepted : (events lines : ℕ) →
