@@ -14,7 +14,7 @@ use Rattle.refusal.specs.declared.{Refusal.the-variants.{Plain, At}, Counted.th
 use Rattle.refusal.specs.Refusal.{Condition, First, plain, has-place, part-of, order, condition-numbers, right-places, counted-refusal}
 use Rattle.refusal.specs.RefusalClaims.{refusal-number, refusal-place}
 use Rattle.refusal.specs.{RefusalAnswers.{or-else, plain-unless}, RefusalClaims.{ListedRefusal}}
-use Rattle.refusal.proofs.Refusals.{or-else-none, plain-none, plain-first, first-then, first-append, first-unique, judged}
+use Rattle.refusal.proofs.Refusals.{or-else-none, plain-none, plain-first, first-then, first-append}
 use Rattle.values.specs.{declared.ValueKind.{ValueKind}, declared.ValueKind.the-variants.{Numbered, Register}}
 use Rattle.values.specs.Setup.{Setup, SetupValue, meetOf, setup-meet, setup-top, setup-conditions, kind-conditions, value-width}
 use Rattle.values.specs.Setup.{EventsFault, ValuesFault, MeetFault, LinesFault}
@@ -35,7 +35,7 @@ use Rattle.gurvazze_host.specs.Codes.{refusal-code, yield-code, code, co
 use Rattle.gurvazze_host.specs.FileCalls.{pair-machine, word-refusal, file-replay-refusal, file-trial, file-trial-refusal}
 use Rattle.gurvazze_host.specs.Claims.{TellsRefusal, TellsCount, TellsVerdict, TellsNumbers, ListedAnswer, CodeClaim}
 use Rattle.gurvazze_host.specs.Claims.{file-replay-conditions, replay-order}
-use Rattle.gurvazze_host.specs.Claims.{file-trial-conditions, FileReplayRefusalClaim, FileReplayClaim, FileTrialRefusalClaim, FileTrialClaim}
+use Rattle.gurvazze_host.specs.Claims.{file-trial-conditions, FileReplayClaim, FileTrialClaim}
 
 -- ---- codes
 
@@ -167,10 +167,9 @@ setup-by P s numbers register = go (s .kind)
     go (Numbered values) = numbers values
     go (Register lines) = register lines
 
--- In an order, also behind 4.
+-- Behind 4, in an order.
 pub record Ordered (o : List ℕ) (cs : List Condition) : Type 0 where
   pub behind-4 : part-of (4 ∷ condition-numbers cs) o ≡ true
-  pub alone : part-of (condition-numbers cs) o ≡ true
   pub placed : right-places cs ≡ true
 
 module _ (s : Setup) (nodes : List ℕ) where
@@ -184,21 +183,21 @@ module _ (s : Setup) (nodes : List ℕ) where
       ++ (states-condition (setup-meet s) (setup-top s) (s .events) (s .kind) nodes state-limit
       ∷ buffer-condition (setup-meet s) (setup-top s) (s .events) (s .kind) nodes old
       ∷ [])))) s
-      (λ values. record { behind-4 = refl; alone = refl; placed = refl }) (λ lines. record { behind-4 = refl; alone = refl; placed = refl })
+      (λ values. record { behind-4 = refl; placed = refl }) (λ lines. record { behind-4 = refl; placed = refl })
 
   pub replay-ordered : (word old : List ℕ) → Ordered replay-order (file-replay-conditions word old s nodes)
   unfolding condition-numbers right-places has-place part-of replay-order
   replay-ordered word old =
       setup-by (λ (cs : List Condition). Ordered replay-order ((cs ++ later)
       ++ (plain 16 (¬ Word (s .events) word) ∷ plain 13 (length old < length word * value-width (s .kind)) ∷ []))) s
-      (λ values. record { behind-4 = refl; alone = refl; placed = refl }) (λ lines. record { behind-4 = refl; alone = refl; placed = refl })
+      (λ values. record { behind-4 = refl; placed = refl }) (λ lines. record { behind-4 = refl; placed = refl })
 
   pub trial-ordered : (states start : ℕ) (device old : List ℕ) → Ordered order (file-trial-conditions states start device old s nodes)
   unfolding condition-numbers right-places has-place part-of order
   trial-ordered states start device old =
       setup-by (λ (cs : List Condition). Ordered order ((cs ++ later) ++ (table-condition (entry-width (s .kind)) device-limit (s .events) (SetupValue s) states
       start device (machine-of (s .kind) (s .events) device) ∷ plain 13 (length old < word-limit) ∷ []))) s
-      (λ values. record { behind-4 = refl; alone = refl; placed = refl }) (λ lines. record { behind-4 = refl; alone = refl; placed = refl })
+      (λ values. record { behind-4 = refl; placed = refl }) (λ lines. record { behind-4 = refl; placed = refl })
 
 -- ---- replay
 
@@ -251,15 +250,6 @@ replay-first s nodes word old =
     (λ e. leb-false size (length old) e)
     (λ e h. let l = leb-true size (length old) e in omega arith)))
 
-pub replay-refusal-claim : FileReplayRefusalClaim
-replay-refusal-claim s nodes word old =
-    record {
-      first = replay-first s nodes word old;
-      only = λ other x. first-unique _ other (file-replay-refusal s nodes word old) x (replay-first s nodes word old);
-      ordered = replay-ordered s nodes word old .alone;
-      placed = replay-ordered s nodes word old .placed;
-    }
-
 -- ---- trial
 
 or-nothing : (a : Option Refusal) → or-else a none ≡ a
@@ -285,10 +275,6 @@ file-trial-first s nodes states start device old =
     (first-append _ _ _ _ (table-refusal-first device-limit (s .events) (s .kind) states start device)
     (plain-first 13 (length old < word-limit) (leb word-limit (length old)) (λ e. leb-false word-limit (length old) e)
     (λ e h. let l = leb-true word-limit (length old) e in omega arith))))
-
-pub file-trial-refusal-claim : FileTrialRefusalClaim
-file-trial-refusal-claim s nodes states start device old =
-    let o = trial-ordered s nodes states start device old in judged _ _ (file-trial-first s nodes states start device old) (o .alone) (o .placed)
 
 pub file-trial-claim : FileTrialClaim
 unfolding file-trial-refusal input meetOf

@@ -4,7 +4,7 @@ use Prim.Native.Nat.{ℕ, _*_, _/_, _%_, _^_, _≤_, _<_}
 use lib.ListN.{length, getD, take}
 use Rattle.theory.specs.{Formula.{Formula, size, Answers}, MealyMachine.{Machine, Word}, MachineRuns.{word-values}, TableSatisfaction.{TableSatisfies}}
 use Rattle.refusal.specs.{declared.Refusal.{Refusal}, declared.Counted.{Counted}}
-use Rattle.refusal.specs.Refusal.{put, Condition, plain, has-place, First, part-of, condition-numbers, right-places, Judged, JudgedCall, counted-refusal}
+use Rattle.refusal.specs.Refusal.{put, Condition, plain, has-place, First, part-of, condition-numbers, right-places, JudgedCall, counted-refusal}
 use Rattle.refusal.specs.Refusal.{count-of}
 use Rattle.refusal.specs.RefusalClaims.{ListedRefusal, refusal-number, refusal-place}
 use Rattle.formulas.specs.{RuleConditions.{encode-formula, node-bytes}, Claims.{AcceptedFormula}}
@@ -92,10 +92,6 @@ pub record JudgedReplay (cs : List Condition) (answer : Option Refusal) : Type 0
   pub ordered : part-of (condition-numbers cs) replay-order ≡ true
   pub placed : right-places cs ≡ true
 
-abbrev pub FileReplayRefusalClaim : Type 0
-FileReplayRefusalClaim =
-    (s : Setup) (nodes word old : List ℕ) → JudgedReplay (file-replay-conditions word old s nodes) (file-replay-refusal s nodes word old)
-
 -- The values that a replay writes are the rule's: on each event its value after the events before it, by followers (`Answers`).
 pub record Replayed (s : Setup) (nodes word values : List ℕ) : Type 0 where
   pub rule : Formula ℕ
@@ -118,11 +114,6 @@ file-trial-conditions states start device old s nodes =
     ++ (table-condition (entry-width (s .kind)) device-limit (s .events) (SetupValue s) states start device (machine-of (s .kind) (s .events) device)
     ∷ plain 13 (length old < word-limit)
     ∷ [])
-
-abbrev pub FileTrialRefusalClaim : Type 0
-FileTrialRefusalClaim =
-    (s : Setup) (nodes : List ℕ) (states start : ℕ) (device old : List ℕ) →
-    Judged (file-trial-conditions states start device old s nodes) (file-trial-refusal s nodes states start device old)
 
 -- It passes exactly if the device's start satisfies the rule by the set definition.
 pub record Tried (s : Setup) (nodes : List ℕ) (states start : ℕ) (device old : List ℕ) : Type 0 where

@@ -32,11 +32,11 @@ module _ (s : Setup) (nodes : List ℕ) where
   abbrev pub pair-machine : Machine ℕ ℕ
   pair-machine = machine-of (s .kind) (s .events) (pair-table s nodes)
 
-  -- Those of the set-up, 5 to 10, then 13, for a buffer that held `old`.
+  -- The set-up's refusals, 5 to 10, then 13, for a buffer that held `old`.
   unfoldable pub table-call-refusal : List ℕ → Option Refusal
   table-call-refusal old = or-else (pair-table-refusal s nodes) (plain-unless (leb (length (pair-table s nodes)) (length old)) 13)
 
-  -- Those of the set-up and 5 to 10, which say whether there is a rule to play events by; then 16 and 13.
+  -- The set-up's refusals and 5 to 10, which say whether there is a rule to play events by; then 16 and 13.
   unfoldable pub file-replay-refusal : List ℕ → List ℕ → Option Refusal
   file-replay-refusal word old = or-else (pair-table-refusal s nodes) (word-refusal (s .kind) (s .events) word old)
 
@@ -44,7 +44,7 @@ module _ (s : Setup) (nodes : List ℕ) where
   abbrev pub file-trial : ℕ → ℕ → List ℕ → TrialInput
   file-trial states start device = input s (pair-states s nodes) (pair-table s nodes) states start device
 
-  -- Those of the set-up, 5 to 10, then 11 and 13.
+  -- The set-up's refusals, 5 to 10, then 11 and 13.
   unfoldable pub file-trial-refusal : ℕ → ℕ → List ℕ → List ℕ → Option Refusal
   file-trial-refusal states start device old =
       or-else (pair-table-refusal s nodes) (trial-refusal device-limit table-limit (file-trial states start device) old)

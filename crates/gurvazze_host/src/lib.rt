@@ -212,6 +212,7 @@ fn replay_large(text: &[u8], word: &[u8], to: &mut [u8]) -> u64
     }
 }
 
+// The same of a register's file.
 fn register_replay_large(text: &[u8], word: &[u8], to: &mut [u8]) -> u64
     ensures answer { λ r. ⌜ r ≡ replay-code register-file (register-reading.read-file (now (text .entry))) (now (word .entry)) (now (to .entry)) ⌝ }
     ensures contents { λ _. ⌜ now (to .exit) ≡ replay-after register-file (register-reading.read-file (now (text .entry))) (now (word .entry))
@@ -331,6 +332,7 @@ fn trial_large(
     }
 }
 
+// The same of a register's file.
 fn register_trial_large(
     text: &[u8],
     device_states: usize,
