@@ -5,12 +5,17 @@ use gurvazze_reference::generate::RawTable;
 use gurvazze_reference::table::{Entry, Table};
 use gurvazze_reference::tool::{Reading, Tool, MAX_TOTAL};
 use gurvazze_reference::trial::{failing_word, WORD_BYTES};
-use gurvazze_reference::values::{SetUp, Value};
+use gurvazze_reference::values::{Kind, SetUp, Value};
 use gurvazze_reference::Refusal;
 
 /// The table of a channel file.
 pub fn table(text: &[u8], to: &mut [u8]) -> Result<usize, Refusal> {
-    let file = channel_file::read(text)?;
+    table_of(Kind::Numbers, text, to)
+}
+
+/// The same of a file for values of this kind.
+pub fn table_of(kind: Kind, text: &[u8], to: &mut [u8]) -> Result<usize, Refusal> {
+    let file = channel_file::read_of(kind, text)?;
     Table::of_rule(&file.set_up, &file.rule)?.write_bytes(to)
 }
 
@@ -41,18 +46,29 @@ fn search(set_up: &SetUp, table: &Table, device: &RawTable, word: &mut [u8]) -> 
 
 /// Replay with the library's checks: the file's, 16 and 13.
 pub fn replay(text: &[u8], events: &[u8], to: &mut [u8]) -> Result<(), Refusal> {
-    let file = channel_file::read(text)?;
+    replay_of(Kind::Numbers, text, events, to, |value| [value as u8])
+}
+
+/// The same of a file for values of this kind, each stored in so many bytes.
+pub fn replay_of<const N: usize>(
+    kind: Kind,
+    text: &[u8],
+    events: &[u8],
+    to: &mut [u8],
+    bytes: impl Fn(Value) -> [u8; N],
+) -> Result<(), Refusal> {
+    let file = channel_file::read_of(kind, text)?;
     let table = Table::of_rule(&file.set_up, &file.rule)?;
     if events.iter().any(|&event| usize::from(event) >= file.set_up.events()) {
         return Err(Refusal::new(16));
     }
-    if to.len() < events.len() {
+    if to.len() < events.len() * N {
         return Err(Refusal::new(13));
     }
     let mut state = 0;
-    for (to, &event) in to.iter_mut().zip(events) {
+    for (to, &event) in to.chunks_exact_mut(N).zip(events) {
         let Entry { value, next } = table.entry(state, event.into());
-        *to = value as u8;
+        to.copy_from_slice(&bytes(value));
         state = next.into();
     }
     Ok(())

@@ -4,21 +4,23 @@
 use std::hint::black_box;
 
 use gurvazze::WORD_BYTES;
-use gurvazze_reference::formula::{Node, MAX_NODES};
-use gurvazze_reference::generate::RawTable;
+use gurvazze_reference::formula::{Node, Rule, MAX_NODES};
+use gurvazze_reference::generate::{Generator, RawTable};
 use gurvazze_reference::table::{self, MAX_STATES};
 use gurvazze_reference::trial::{self, Outcome};
-use gurvazze_reference::values::{RawValues, SetUp, Value};
-use gurvazze_reference::{characteristic, Refusal};
+use gurvazze_reference::values::{Kind, RawValues, SetUp, Value};
+use gurvazze_reference::{channel_file, characteristic, Refusal};
 
 use crate::rules::{branching, bytes_of, chain, four, full_states, full_states_of_events, joined, lines, loop_table};
 use crate::rules::{ring_with, shown, wide_rule};
 use crate::timing::{Call, Report};
 use crate::{in_library_words, in_reference_words, lent, library_trial_of_table, plain, raw, said};
 
-/// The rows of the table of a rule, of a trial and of the rule of a table.
+/// The rows of the table of a rule, of calls on a file, of a trial and of the rule of a table.
 pub fn registers(report: &mut Report) {
     tables(report);
+    files(report);
+    replays(report);
     trials(report);
     rules(report);
 }
@@ -87,6 +89,92 @@ fn tables(report: &mut Report) {
 /// A loop of so many states on event 0, with an O node in each.
 fn ring_with_outputs(states: usize) -> Vec<Node> {
     ring_with(0, states, |state| vec![Node::Both, Node::Output(0, 1 + state as Value % 2)])
+}
+
+/// The rule in this set-up's values, as a channel file.
+fn file_of(set_up: &SetUp, nodes: &[Node]) -> Vec<u8> {
+    let rule = Rule::from_bytes(set_up, &bytes_of(set_up, nodes)).expect("accepted");
+    channel_file::to_text(set_up, &rule).into_bytes()
+}
+
+fn library_table(kind: Kind, text: &[u8], to: &mut [u8]) -> Result<usize, Refusal> {
+    let states = match kind {
+        Kind::Numbers => gurvazze::table(text, to).map(|numbers| numbers.states),
+        Kind::Register => gurvazze::register_table(text, to).map(|numbers| numbers.states),
+    };
+    states.map_err(in_reference_words)
+}
+
+fn line_file(report: &mut Report, case: &str, events: usize, nodes: &[Node]) {
+    line(report, case, events, |set_up| {
+        let (kind, text) = (set_up.kind(), file_of(&set_up, nodes));
+        let mut to = vec![0; MAX_STATES * events * kind.entry_bytes()];
+        let mut other = to.clone();
+        let states = plain::table_of(kind, &text, &mut other);
+        assert_eq!(states, library_table(kind, &text, &mut to));
+        assert!(to == other);
+        let same = text.clone();
+        (
+            said(states, "states"),
+            move || {
+                let _ = black_box(library_table(black_box(kind), black_box(&text), black_box(&mut to)));
+            },
+            move || {
+                let _ = black_box(plain::table_of(black_box(kind), black_box(&same), black_box(&mut other)));
+            },
+        )
+    });
+}
+
+fn files(report: &mut Report) {
+    report.section("table of a channel file; for 16 lines the columns of fast are of 4 values");
+    for size in [16, 128, 256] {
+        line_file(report, &format!("file of {size} nodes"), 2, &wide_rule(&four(2), size));
+    }
+    for states in [3, 63] {
+        line_file(report, &format!("file of a loop of {states} with O"), 2, &ring_with_outputs(states));
+    }
+}
+
+fn library_replay(kind: Kind, text: &[u8], word: &[u8], to: &mut [u8]) -> Result<(), Refusal> {
+    let replayed = match kind {
+        Kind::Numbers => gurvazze::replay(text, word, to),
+        Kind::Register => gurvazze::register_replay(text, word, to),
+    };
+    replayed.map_err(in_reference_words)
+}
+
+fn plain_replay(kind: Kind, text: &[u8], word: &[u8], to: &mut [u8]) -> Result<(), Refusal> {
+    match kind {
+        Kind::Numbers => plain::replay(text, word, to),
+        Kind::Register => plain::replay_of(kind, text, word, to, Value::to_le_bytes),
+    }
+}
+
+fn replays(report: &mut Report) {
+    report.section("replay of a channel file; for 16 lines the columns of fast are of 4 values");
+    for length in [0, 1000, 1_000_000] {
+        line(report, &format!("replay of {length}, loop of 31 with O"), 2, |set_up| {
+            let (kind, text) = (set_up.kind(), file_of(&set_up, &ring_with_outputs(31)));
+            let word = Generator::new(1).word(&set_up, length);
+            let mut to = vec![0; length * kind.value_bytes()];
+            let mut other = to.clone();
+            assert_eq!(plain_replay(kind, &text, &word, &mut other), Ok(()));
+            assert_eq!(library_replay(kind, &text, &word, &mut to), Ok(()));
+            assert!(to == other);
+            let same = (text.clone(), word.clone());
+            (
+                "accepted".to_string(),
+                move || {
+                    let _ = black_box(library_replay(black_box(kind), black_box(&text), black_box(&word), black_box(&mut to)));
+                },
+                move || {
+                    let _ =
+                        black_box(plain_replay(black_box(kind), black_box(&same.0), black_box(&same.1), black_box(&mut other)));
+                },
+            )
+        });
+    }
 }
 
 fn library_trial(

@@ -40,7 +40,7 @@ pub record FileCalls : Type 1 where
   pub setup-from : form .Numbers → List ℕ → Setup
   pub nodes-from : form .Numbers → List ℕ → List ℕ
   pub Writes : Setup → (rule old new : List ℕ) → Counted → Type 0
-  pub Prints-to : (t old new : List ℕ) → Counted → Type 0
+  pub Reports-by : (t old new : List ℕ) → Counted → Type 0
   pub tokens : List ℕ → List ℕ
 
 -- Those of document 01's file.
@@ -59,7 +59,7 @@ number-calls =
       setup-from = λ n meet. setup (n .events) (n .values) (n .top) (take (n .entries) meet);
       nodes-from = λ n rule. take (3 * n .nodes) rule;
       Writes = λ s rule old new r. WritesNumbers rule old new r s;
-      Prints-to = Reports;
+      Reports-by = Reports;
       tokens = λ t. tokens-stretch t (read-file t);
     }
 
@@ -79,7 +79,7 @@ register-calls =
       setup-from = λ n meet. register-setup (n .events) (n .lines);
       nodes-from = λ n rule. take (6 * n .nodes) rule;
       Writes = λ s rule old new r. WritesRegister rule old new r s;
-      Prints-to = RegisterReports;
+      Reports-by = RegisterReports;
       tokens = λ t. register-tokens t (read-register-file t);
     }
 
@@ -89,7 +89,7 @@ pub record FilesJudged (C : FileCalls) : Type 1 where
       JudgedText {M = List ℕ × List ℕ} (C .form) t (read-conditions meet rule) (C .refusal-in r) (meet, rule) (meet′, rule′)
   pub writing : (s : Setup) (rule old new : List ℕ) (r : Counted) → C .Writes s rule old new r →
       JudgedCall (write-file-conditions (C .form) s rule old) (counted-refusal r) old new
-  pub reporting : (t old new : List ℕ) (r : Counted) → C .Prints-to t old new r → JudgedCall (report-conditions (C .form) t old) (counted-refusal r) old new
+  pub reporting : (t old new : List ℕ) (r : Counted) → C .Reports-by t old new r → JudgedCall (report-conditions (C .form) t old) (counted-refusal r) old new
 
 -- Demand 1: "any public entry takes any input of its type: the call .. accepts or refuses by document 01's list, and a refusal changes no
 -- lent memory." That calls end and do nothing undefined is what a proved crate is; no public function has a requires.
@@ -137,7 +137,7 @@ pub record FilesAgree (C : FileCalls) : Type 0 where
       (found : C .form .Numbers) → C .numbers-in r ≡ some found → (old new : List ℕ) (w : Counted) →
       C .Writes (C .setup-from found meet′) (C .nodes-from found rule′) old new w →
       length t ≤ length old → (count-of w ≡ some (length t)) × (new ≡ put t old)
-  pub file-to-report : (t old new : List ℕ) (r : Counted) → C .Prints-to t old new r → (n : ℕ) → count-of r ≡ some n →
+  pub file-to-report : (t old new : List ℕ) (r : Counted) → C .Reports-by t old new r → (n : ℕ) → count-of r ≡ some n →
       (s : List ℕ) × Prints (C .form) t s × ((other : List ℕ) → Prints (C .form) t other → other ≡ s) × (n ≡ length s) × (new ≡ put s old)
   pub file-to-tokens : (t : List ℕ) → TokensBy (C .form .Shown) (C .form .tokens-of) t (C .tokens t)
       × ((other : List ℕ) → TokensBy (C .form .Shown) (C .form .tokens-of) t other → other ≡ C .tokens t)
