@@ -1,4 +1,4 @@
--- Twin of FileConditions, pinned by product_claims DemandTwo.
+-- Twin of FileTables, pinned by product_claims Extras.
 -- The table of a file's rule (refusals 4, those of a set-up, 5 to 10 and 13): the answer, and what two lent buffers hold afterwards. For any form of
 -- files.
 use Prim.Native.Nat.{ℕ}
