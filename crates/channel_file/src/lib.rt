@@ -1,5 +1,7 @@
 // The channel file: its form and refusal 4, the bytes read from it, and the stretch of its tokens. A register's file has a reader of its
 // own, in registers.rt; the two share what reads numbers, words, tokens and lines.
+#![tactic(auto)]
+
 pub mod registers;
 
 ghost use Rattle.std.specs.Prelude.{◌≡◌, ◌∷◌, [], ◌≤◌, ◌*◌, length, replicate};
@@ -20,7 +22,7 @@ use refusal::{Refusal, TEXT_FORM};
 use text_output::put;
 
 // The answer to a text: its numbers, how many meet entries and rule items there are and where they start; or 4.
-#[derive(Drop)]
+#[derive(Clone, Copy)]
 pub enum Checked {
     Form {
         events: usize,
@@ -35,7 +37,7 @@ pub enum Checked {
 }
 
 // The reply to a text that is read: its numbers, and how many meet entries and rule items it has; or 4.
-#[derive(Drop)]
+#[derive(Clone, Copy)]
 pub enum Stored {
     Form {
         events: usize,
@@ -52,7 +54,7 @@ const NODE_BYTES: usize = NODE_LIMIT * 3;
 
 // What is read of a text: the reply; its meet entries, one byte each; and its rule's nodes, three bytes each, a numeral above 255 as 255.
 // Both as far as the arrays go, with 0 behind them, and 0 alone beside a refusal.
-#[derive(Drop)]
+#[derive(Clone, Copy)]
 pub struct ReadArrays {
     pub reply: Stored,
     pub meet: [u8; MEET_LIMIT],
@@ -60,21 +62,21 @@ pub struct ReadArrays {
 }
 
 // The answer to a text of tokens alone: how many nodes it has, or that it is no list of tokens.
-#[derive(Drop)]
+#[derive(Clone, Copy)]
 pub enum TokenList {
     Nodes(usize),
     Malformed,
 }
 
 // The kind of values that O's have: numbers, or the two masks of a register.
-#[derive(Drop)]
+#[derive(Clone, Copy)]
 pub enum Values {
     Numbered,
     Register,
 }
 
 // A token of the rule line. O has an event and two numbers: a value and 0, or the low and the high mask.
-#[derive(Drop)]
+#[derive(Clone, Copy)]
 enum Item {
     Truth,
     Both,
@@ -96,63 +98,63 @@ const MASK_MORE: usize = 4;
 const MASK_LIMIT: usize = 65535;
 
 // What stands behind an item.
-#[derive(Drop)]
+#[derive(Clone, Copy)]
 enum Behind {
     Space,
     Newline,
 }
 
 // Each answer below has what was read and the offset behind it, or the offset where the text cannot go on.
-#[derive(Drop)]
+#[derive(Clone, Copy)]
 enum Number {
     Value(usize, usize),
     Bad(usize),
 }
 
-#[derive(Drop)]
+#[derive(Clone, Copy)]
 enum Ended {
     By(Behind, usize),
     Bad(usize),
 }
 
-#[derive(Drop)]
+#[derive(Clone, Copy)]
 enum Entry {
     Of(usize, Behind, usize),
     Bad(usize),
 }
 
-#[derive(Drop)]
+#[derive(Clone, Copy)]
 enum Value {
     Of(usize, usize, usize),
     Bad(usize),
 }
 
-#[derive(Drop)]
+#[derive(Clone, Copy)]
 enum Taken {
     Of(Item, usize),
     Bad(usize),
 }
 
-#[derive(Drop)]
+#[derive(Clone, Copy)]
 enum Scanned {
     Of(Item, Behind, usize),
     Bad(usize),
 }
 
-#[derive(Drop)]
+#[derive(Clone, Copy)]
 enum Reached {
     Past(usize),
     Bad(usize),
 }
 
-#[derive(Drop)]
+#[derive(Clone, Copy)]
 enum Head {
     Numbers(usize, usize, usize, usize),
     Bad(usize),
 }
 
 // The lines of a file, in the order in which they stand; a register's file has `lines` in the place of `values`, `top` and `meet`.
-#[derive(Drop)]
+#[derive(Clone, Copy)]
 enum Line {
     Events,
     Values,
@@ -163,14 +165,14 @@ enum Line {
 }
 
 // A reader of the lent text, which stands where a line starts.
-#[derive(Drop)]
+#[derive(Clone, Copy)]
 struct Reader<'a> {
     text: &'a [u8],
     at: usize,
 }
 
 // Offsets in a text, from and to before.
-#[derive(Drop)]
+#[derive(Clone, Copy)]
 struct Span {
     from: usize,
     to: usize,

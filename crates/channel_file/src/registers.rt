@@ -13,7 +13,7 @@ use limits::{FILE_LIMIT, NODE_LIMIT};
 use refusal::{Refusal, TEXT_FORM};
 
 // The answer to a text: its numbers, how many rule items there are and where they start; or 4.
-#[derive(Drop)]
+#[derive(Clone, Copy)]
 pub enum Checked {
     Form {
         events: usize,
@@ -25,7 +25,7 @@ pub enum Checked {
 }
 
 // The reply to a text that is read: its numbers, and how many rule items it has; or 4.
-#[derive(Drop)]
+#[derive(Clone, Copy)]
 pub enum Stored {
     Form {
         events: usize,
@@ -40,7 +40,7 @@ const NODE_BYTES: usize = NODE_LIMIT * 6;
 
 // What is read of a text: the reply; and its rule's nodes, six bytes each: a numeral above 255 as 255, and a node whose masks 16 bits do not
 // hold with kind 255. They go as far as the array goes, with 0 behind them, and 0 alone beside a refusal.
-#[derive(Drop)]
+#[derive(Clone, Copy)]
 pub struct ReadArrays {
     pub reply: Stored,
     pub rule: [u8; NODE_BYTES],

@@ -1,4 +1,6 @@
 // Channel files read, written and compiled, with all their refusals: 4, 1 to 3, 5 to 10 and 13; those of a register in registers.rt.
+#![tactic(auto)]
+
 pub mod registers;
 
 ghost use Rattle.std.specs.Prelude.{◌≡◌, cond, leb, ltb};
@@ -20,7 +22,7 @@ use text_output::put_word;
 use values::{ValueKind, check_setup_by_sets};
 
 // The numbers of a file: those of its set-up, and how many meet entries and nodes it has.
-#[derive(Drop)]
+#[derive(Clone, Copy)]
 pub struct FileNumbers {
     pub events: usize,
     pub values: usize,
@@ -30,21 +32,21 @@ pub struct FileNumbers {
 }
 
 // The answer to reading a file.
-#[derive(Drop)]
+#[derive(Clone, Copy)]
 pub enum FileRead {
     Accepted(FileNumbers),
     Refused(Refusal),
 }
 
 // A file's numbers and the states of its rule's table, or the refusal.
-#[derive(Drop)]
+#[derive(Clone, Copy)]
 pub enum FileTable {
     Made(FileNumbers, usize),
     Refused(Refusal),
 }
 
 // What is held of a text: its numbers, and how many bytes of its entries and of its nodes are judged; or 4.
-#[derive(Drop)]
+#[derive(Clone, Copy)]
 enum Held {
     File(FileNumbers, usize, usize),
     Refused(Refusal),

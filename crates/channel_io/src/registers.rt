@@ -19,7 +19,7 @@ use text_output::put_word;
 use values::{ValueKind, check_register};
 
 // The numbers of a file: those of its set-up, and how many nodes it has.
-#[derive(Drop)]
+#[derive(Clone, Copy)]
 pub struct FileNumbers {
     pub events: usize,
     pub lines: usize,
@@ -27,21 +27,21 @@ pub struct FileNumbers {
 }
 
 // The answer to reading a file.
-#[derive(Drop)]
+#[derive(Clone, Copy)]
 pub enum FileRead {
     Accepted(FileNumbers),
     Refused(Refusal),
 }
 
 // A file's numbers and the states of its rule's table, or the refusal.
-#[derive(Drop)]
+#[derive(Clone, Copy)]
 pub enum FileTable {
     Made(FileNumbers, usize),
     Refused(Refusal),
 }
 
 // What is held of a text: its numbers, and how many bytes of its nodes are judged; or 4.
-#[derive(Drop)]
+#[derive(Clone, Copy)]
 enum Held {
     File(FileNumbers, usize),
     Refused(Refusal),

@@ -1,4 +1,6 @@
 // Writing a channel file. A register's is written by registers.rt; the two share what puts numbers, tokens and the rule's line.
+#![tactic(auto)]
+
 pub mod registers;
 
 ghost use Rattle.std.specs.Prelude.{◌≡◌, ◌++◌, cond, ◌+◌, ◌<◌, ◌≤◌, ltb, length};

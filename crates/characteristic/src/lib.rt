@@ -1,4 +1,6 @@
 // The rule of a table (document 01, "Rule of a table"): refusals 1 to 3, or 1 and 20 with registers, 11, 12, 23 and 13.
+#![tactic(auto)]
+
 ghost use Rattle.std.specs.Prelude.{◌≡◌, [], ◌∷◌, ◌++◌, ◌+◌, ◌*◌, ◌≤◌, ◌<◌, max, length, take};
 ghost use Rattle.std.proofs.lemmas.List.Edits.{sets};
 ghost use Rattle.limits.specs.Limits.{event_limit, table_limit, node_limit};

@@ -1,4 +1,6 @@
 // A line of commands: its words, its numbers and lists, and the command that it names.
+#![tactic(auto)]
+
 ghost use Rattle.std.specs.Prelude.{◌≡◌, ◌+◌, ◌-◌, ◌*◌, ◌≤◌, ◌<◌, true, false, length, take, drop};
 ghost use Rattle.values.specs.Setup.{mask_bytes};
 ghost use Rattle.text_format.specs.Decimal.{is_digit};
@@ -17,14 +19,14 @@ use text_output::put;
 pub const NUMBER_LIMIT: usize = 4294967296;
 
 // The answer to a word: its number, or that it is none.
-#[derive(Drop)]
+#[derive(Clone, Copy)]
 pub enum Number {
     Value(usize),
     Malformed,
 }
 
 // The answer to a list: how many bytes were stored, that a word is malformed, or that the buffer is too short.
-#[derive(Drop)]
+#[derive(Clone, Copy)]
 pub enum Listed {
     Count(usize),
     Malformed,
@@ -32,7 +34,7 @@ pub enum Listed {
 }
 
 // The commands.
-#[derive(Drop)]
+#[derive(Clone, Copy)]
 pub enum Command {
     Setup,
     Register,

@@ -1,4 +1,6 @@
 // Document 01, "Trial": a device judged against a rule's table.
+#![tactic(auto)]
+
 ghost use Rattle.std.specs.Prelude.{◌≡◌, ◌≤◌, ◌<◌, length, leb};
 ghost use Rattle.refusal.specs.declared.Judgement.TheVariants.{Accepted};
 ghost use Rattle.refusal.specs.RefusalAnswers.{or_else, plain_unless, judgement};
@@ -22,14 +24,14 @@ const SMALL_QUEUE: usize = 256;
 const MIDDLE_QUEUE: usize = DEVICE_LIMIT * DEVICE_LIMIT;
 
 // How a device passes (document 02, F-5): with the rule's values on every event sequence, or with some that are strictly below.
-#[derive(Drop)]
+#[derive(Clone, Copy)]
 pub enum Grade {
     Same,
     Stricter,
 }
 
 // The answer of a trial; a failed one has the word's length.
-#[derive(Drop)]
+#[derive(Clone, Copy)]
 pub enum Verdict {
     Pass(Grade),
     Fail(usize),
@@ -37,7 +39,7 @@ pub enum Verdict {
 }
 
 // What a pair of states shows: the first event on which the device fails, or that it passes, and whether all its values are equal.
-#[derive(Drop)]
+#[derive(Clone, Copy)]
 enum PairVerdict {
     Bad(usize),
     Good(bool),
@@ -45,7 +47,7 @@ enum PairVerdict {
 
 // Where the search finds a value that is not at or below: nowhere, and whether all values are equal; or at a place of the queue, on an
 // event.
-#[derive(Drop)]
+#[derive(Clone, Copy)]
 enum Failure {
     Nowhere(bool),
     At(usize, usize),

@@ -3,6 +3,8 @@
 // all by one replay, with no pulses; or any other, all by one replay, with three pulses each. The kind is 0, numbers with the four-value set's
 // meet, or any other, registers, whose lines stand in the place of the values, and top is not looked at. Prints the sum of what the event calls
 // replied, or of what the last replay replied and wrote. bench/ times it.
+#![tactic(auto)]
+
 mod numbers;
 mod registers;
 

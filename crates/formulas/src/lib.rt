@@ -1,4 +1,6 @@
 // Formulas in bytes (document 01, "Rules"): refusals 5 to 9, and 23 of document 02, F-9.
+#![tactic(auto)]
+
 ghost use Rattle.std.specs.Prelude.{◌≡◌, ◌+◌, ◌/◌, ◌≤◌, ◌<◌, min, cond, length};
 ghost use Rattle.std.proofs.Math.Option.{none, some};
 ghost use Rattle.formulas.specs.RuleConditions.{node_width};
@@ -31,7 +33,7 @@ pub const CONJUNCTION: u8 = 4;
 pub const GREATEST: u8 = 5;
 
 // The fields of nodes, however they lie in bytes: the first `count` of each array.
-#[derive(Drop)]
+#[derive(Clone, Copy)]
 pub struct Nodes {
     pub count: usize,
     pub kinds: [u8; NODE_LIMIT],

@@ -11,7 +11,7 @@ use refusal::Refusal;
 
 // A call: the channel, but for a restart of all; then how many bytes a rule's nodes or a list of events have, which are kept beside, or an
 // event and its pulses. Nothing is left to call where a line has its answer.
-#[derive(Drop)]
+#[derive(Clone, Copy)]
 pub enum Call {
     Load(usize, usize),
     Event(usize, usize),
@@ -25,7 +25,7 @@ pub enum Call {
 }
 
 // Of a replay that was accepted, how many values it returned.
-#[derive(Drop)]
+#[derive(Clone, Copy)]
 pub enum Replayed {
     Values(usize),
     Not,

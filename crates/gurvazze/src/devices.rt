@@ -10,7 +10,7 @@ use limits::FILE_LIMIT;
 use refusal::Counted;
 
 // What was said of a device: its states and its start, and how many bytes its entries take.
-#[derive(Drop)]
+#[derive(Clone, Copy)]
 pub struct Device {
     pub kept: bool,
     pub states: usize,

@@ -11,33 +11,33 @@ pub const LINE_LIMIT: usize = 32768;
 pub const LIST_LIMIT: usize = LINE_LIMIT / 2;
 
 // What is left of the block that was read last: the bytes from `at` to before `end`.
-#[derive(Drop)]
+#[derive(Clone, Copy)]
 pub struct Input {
     pub at: usize,
     pub end: usize,
 }
 
-#[derive(Drop)]
+#[derive(Clone, Copy)]
 enum Next {
     Byte(u8),
     End,
 }
 
-#[derive(Drop)]
+#[derive(Clone, Copy)]
 struct Taken {
     next: Next,
     input: Input,
 }
 
 // A line: so many bytes, more than there is room for, or none, since the input is over.
-#[derive(Drop)]
+#[derive(Clone, Copy)]
 pub enum Line {
     Whole(usize),
     Long,
     End,
 }
 
-#[derive(Drop)]
+#[derive(Clone, Copy)]
 pub struct LineRead {
     pub line: Line,
     pub input: Input,
@@ -71,7 +71,7 @@ fn take_byte(block: &mut [u8; BLOCK_LIMIT], input: Input) -> Taken {
 }
 
 // How much of a line is in the buffer, and whether it has no room for more that came.
-#[derive(Drop)]
+#[derive(Clone, Copy)]
 struct Kept {
     n: usize,
     long: bool,

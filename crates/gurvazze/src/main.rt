@@ -1,6 +1,8 @@
 // The command program: commands on standard input, a line each, and their answers on standard output. It keeps a tool of numbers and one of
 // a register, of which the last accepted set-up has one in force, the turn of a wheel for the next set-up, and a device. Every judgement is a
 // library's; what this program adds are the answers `error=`, for lines that are no commands.
+#![tactic(auto)]
+
 mod answers;
 mod calls;
 mod covers;
@@ -25,7 +27,7 @@ use wheels::Turn;
 
 // What is kept beside the tools and the device's entries: whether a set-up was accepted, the one in force, the wheel's turn for the next, and
 // what was said of the device.
-#[derive(Drop)]
+#[derive(Clone, Copy)]
 struct Session {
     ready: bool,
     setup: Setup,
@@ -95,7 +97,7 @@ fn with_device(session: Session, device: Device) -> Session {
 
 // What a line asks for: a set-up of numbers or of a register, something to keep, an answer that changes nothing, or a call of the tool in
 // force. Nothing is left to do where a line is skipped or has its answer.
-#[derive(Drop)]
+#[derive(Clone, Copy)]
 enum Step {
     Nothing,
     Setup,

@@ -3,7 +3,7 @@ use crate::answers::say_error;
 use command_line::{Number, read_number, word};
 
 // What they are, that there are too few or too many words, or that one is no number.
-#[derive(Drop)]
+#[derive(Clone, Copy)]
 pub enum Numbers {
     One(usize),
     Two(usize, usize),

@@ -33,7 +33,7 @@ fn token_room(setup: Setup, meet: &[u8]) -> usize {
 }
 
 // The answer to tokens: the bytes of their nodes, or that they are not in the form.
-#[derive(Drop)]
+#[derive(Clone, Copy)]
 pub enum Nodes {
     Bytes(usize),
     Malformed,
@@ -52,7 +52,7 @@ pub fn read_rule(setup: Setup, meet: &[u8], tokens: &[u8], nodes: &mut [u8]) -> 
 }
 
 // The answer to a rule in tokens: the states of its table, a refusal, or that the tokens are not in the form.
-#[derive(Drop)]
+#[derive(Clone, Copy)]
 pub enum Made {
     States(usize),
     Refused(Refusal),
@@ -147,7 +147,7 @@ fn say_digraph(setup: Setup, states: usize, table: &[u8]) {
 }
 
 // How a table is shown.
-#[derive(Drop)]
+#[derive(Clone, Copy)]
 enum Form {
     Rows,
     Digraph,

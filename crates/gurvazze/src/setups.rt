@@ -11,7 +11,7 @@ use refusal::Counted;
 use table_graph::REGISTER_GRAPH_LENGTH;
 use table_rows::REGISTER_ROWS_LENGTH;
 
-#[derive(Drop)]
+#[derive(Clone, Copy)]
 pub enum Setup {
     Numbers {
         events: usize,

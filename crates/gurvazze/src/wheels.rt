@@ -3,7 +3,7 @@ use crate::answers::say;
 use crate::numbers::{Numbers, only_two, say_wrong};
 
 // Pulses and millimetres of a turn, as they were said; a set-up judges them.
-#[derive(Drop)]
+#[derive(Clone, Copy)]
 pub struct Turn {
     pub pulses: usize,
     pub millimetres: usize,

@@ -1,5 +1,7 @@
 // The static library for programs in C and Rust. Each exported function is an entry of the crates below with its answer in one number
 // of 64 bits: the refusal's number in the low byte, 0 where there is none, and above it the refusal's place or what the call yields.
+#![tactic(auto)]
+
 ghost use Rattle.std.specs.Prelude.{◌≡◌, ◌≤◌, ltb, length, get_or};
 ghost use Rattle.theory.specs.ValueSetTests.{every};
 ghost use Rattle.refusal.specs.Refusal.{put};

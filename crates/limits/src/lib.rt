@@ -1,6 +1,8 @@
 // The limits of documents 01 and 02, a name each; specs/Limits has the same names for contracts and claims.
 
 // A set-up: events, values, meet entries, lines of a register.
+#![tactic(auto)]
+
 pub const EVENT_LIMIT: usize = 16;
 
 pub const VALUE_LIMIT: usize = 16;

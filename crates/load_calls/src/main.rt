@@ -2,6 +2,8 @@
 // events, values, top, pulses and millimetres per turn; how long the first rule is; the two rules. The kind is 0, numbers with the four-value
 // set's meet, or any other, registers, whose lines stand in the place of the values, and top is not looked at. Prints how many loads were
 // accepted. bench/ times it.
+#![tactic(auto)]
+
 ghost use Rattle.std.specs.Prelude.{◌≤◌, length};
 
 use recorder::registers::RegisterTool;

@@ -1,5 +1,7 @@
 // Tables in bytes (document 01, "Table of a rule" and refusal 11): an entry is a value and a next state, ordered by state, then
 // event. A number has one byte; a register's masks have four (document 02, F-7).
+#![tactic(auto)]
+
 ghost use Rattle.std.specs.Prelude.{◌≡◌, ◌&&◌, ◌+◌, ◌*◌, ◌≤◌, ◌<◌, length, get_or, eqb, ltb};
 ghost use Rattle.theory.specs.ValueSetTests.{every};
 ghost use Rattle.refusal.specs.RefusalAnswers.{judgement};

@@ -1,6 +1,8 @@
 // Document 01, "Tool": one set-up and eight channels, and the calls on them; document 02, F-6: the distance with every event, F-12: one store
 // of rows. Refusals 14 to 19, and 25. Here the tool of numbered values; `registers` has that of registers (F-7).
 // Each call first decides, then writes and returns the tool once; a refused call returns the tool as it came.
+#![tactic(auto)]
+
 mod decisions;
 mod faults;
 mod mask_store;
@@ -40,7 +42,7 @@ use synthesis::compile;
 
 // What an accepted event returns: the value, which is a number, or a register's masks as low + 65536 * high, and the distance of the channel's
 // total, in whole millimetres and a remainder in parts of a millimetre, as many to one as the wheel's turn has pulses.
-#[derive(Drop)]
+#[derive(Clone, Copy)]
 pub struct Reading {
     pub value: u32,
     pub millimetres: u64,
@@ -48,7 +50,7 @@ pub struct Reading {
 }
 
 // What a call replies.
-#[derive(Drop)]
+#[derive(Clone, Copy)]
 pub enum Reply {
     Accepted,
     Value(Reading),
@@ -56,14 +58,14 @@ pub enum Reply {
 }
 
 // Pulses and millimetres of one turn.
-#[derive(Drop)]
+#[derive(Clone, Copy)]
 pub struct Wheel {
     pub pulses: u32,
     pub millimetres: u32,
 }
 
 // The set-up; the meet table's entries come first in the array.
-#[derive(Drop)]
+#[derive(Clone, Copy)]
 pub struct ToolSetup {
     pub events: u8,
     pub values: u8,
@@ -74,7 +76,7 @@ pub struct ToolSetup {
 
 // A channel of 0 states is empty. The total is of its pulses. The channels' tables lie packed in channel order in `value` and `next`, by state,
 // then event; behind the last one both are 0 after a set-up, a load or a clear.
-#[derive(Drop)]
+#[derive(Clone, Copy)]
 pub struct Tool {
     pub setup: ToolSetup,
     pub states: [u16; CHANNEL_LIMIT],
@@ -84,14 +86,14 @@ pub struct Tool {
     pub next: [u8; STORE_LIMIT],
 }
 
-#[derive(Drop)]
+#[derive(Clone, Copy)]
 pub struct Answer {
     pub reply: Reply,
     pub tool: Tool,
 }
 
 // What an event comes to: a refusal's number, or 0; the value that it returns; the channel's state and total after it.
-#[derive(Drop)]
+#[derive(Clone, Copy)]
 struct Decision {
     refusal: u8,
     value: u32,

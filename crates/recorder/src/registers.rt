@@ -33,7 +33,7 @@ use limits::{CHANNEL_LIMIT, REGISTER_TABLE_BYTES, STORE_LIMIT};
 use refusal::{Counted, Judgement, Refusal};
 use synthesis::compile_register;
 
-#[derive(Drop)]
+#[derive(Clone, Copy)]
 pub struct RegisterSetup {
     pub events: u8,
     pub lines: u8,
@@ -41,7 +41,7 @@ pub struct RegisterSetup {
 }
 
 // As a tool of numbered values; a value is its masks, low + 65536 * high.
-#[derive(Drop)]
+#[derive(Clone, Copy)]
 pub struct RegisterTool {
     pub setup: RegisterSetup,
     pub states: [u16; CHANNEL_LIMIT],
@@ -51,7 +51,7 @@ pub struct RegisterTool {
     pub next: [u8; STORE_LIMIT],
 }
 
-#[derive(Drop)]
+#[derive(Clone, Copy)]
 pub struct RegisterAnswer {
     pub reply: Reply,
     pub tool: RegisterTool,

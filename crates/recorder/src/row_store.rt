@@ -11,7 +11,7 @@ use crate::widths::{smaller, wide, wide16};
 use limits::{CHANNEL_LIMIT, ROW_LIMIT, STORE_LIMIT};
 
 // What a splice goes by: where the old entries lie and how many they are, how many come for them, and how many lie behind.
-#[derive(Drop)]
+#[derive(Clone, Copy)]
 pub struct Room {
     pub at: usize,
     pub old: usize,

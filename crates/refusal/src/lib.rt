@@ -1,21 +1,23 @@
 // Document 01, "Who can cause a refusal": the product's one refusal type, and the answers that hold it.
 
 // A refusal's number in document 01's list; 4 and 6 to 9 also have a place.
-#[derive(Drop)]
+#![tactic(auto)]
+
+#[derive(Clone, Copy)]
 pub enum Refusal {
     Plain(u8),
     At(u8, usize),
 }
 
 // The answer of a check.
-#[derive(Drop)]
+#[derive(Clone, Copy)]
 pub enum Judgement {
     Accepted,
     Refused(Refusal),
 }
 
 // The answer of a call that makes something: how many states, nodes or bytes.
-#[derive(Drop)]
+#[derive(Clone, Copy)]
 pub enum Counted {
     Count(usize),
     Refused(Refusal),

@@ -1,4 +1,6 @@
 // Reads a register's channel file (document 02, F-7) on standard input and prints the table of its rule, or the refusal.
+#![tactic(auto)]
+
 use limits::FILE_LIMIT;
 use refusal::Counted;
 use table_report::registers::{REPORT_LENGTH, report};

@@ -1,4 +1,6 @@
 // Reads a channel file on standard input and prints the table of its rule, or the refusal.
+#![tactic(auto)]
+
 use limits::FILE_LIMIT;
 use refusal::Counted;
 use table_report::{REPORT_LENGTH, report};

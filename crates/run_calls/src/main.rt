@@ -1,6 +1,8 @@
 // A mixed list of calls on all eight channels of a tool, accepted and refused, against stored output; set-ups with wheels; replays with
 // pulses; tables that grow and shrink in the one store; then every call on tools that no list of calls makes. Beside each reply stands
 // what it should not have changed, where it did.
+#![tactic(auto)]
+
 mod answers;
 mod calls;
 mod replays;

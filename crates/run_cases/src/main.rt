@@ -1,5 +1,7 @@
 // Document 01's cases that are run, as document 02, F-9 and F-12, changes them: chains and loops of rules and of tables, at and above the
 // limits.
+#![tactic(auto)]
+
 ghost use Rattle.std.specs.Prelude.{◌≡◌, length};
 
 use conformance::{Grade, Verdict, trial};

@@ -1,4 +1,6 @@
 // Channel files, whole and damaged, through the report of the program, against stored output; those of a register in registers.rt.
+#![tactic(auto)]
+
 mod registers;
 
 use limits::FILE_LIMIT;

@@ -1,4 +1,6 @@
 // Document 01, "Table of a rule": from rule bytes to the table, refusals 10 and 13.
+#![tactic(auto)]
+
 mod demands;
 mod entries;
 mod exploration;
@@ -33,7 +35,7 @@ use values::{ValueKind, check_register, check_setup_by_sets, register_top};
 const SMALL_STATES: usize = 64;
 
 // What an attempt comes to: the number of states, or the limit and one where there are more; and whether the table was stored.
-#[derive(Drop)]
+#[derive(Clone, Copy)]
 struct Attempt {
     states: usize,
     stored: bool,

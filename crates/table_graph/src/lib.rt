@@ -1,4 +1,6 @@
 // A table rendered as a Graphviz digraph in a lent buffer. Values are numbers, or a register's masks (document 02, F-7).
+#![tactic(auto)]
+
 ghost use Rattle.std.proofs.Math.Option.{none};
 ghost use Rattle.text_output.specs.Output.{Puts};
 ghost use Rattle.values.specs.declared.ValueKind.TheVariants.{Numbered, Register};

@@ -1,4 +1,6 @@
 // The whole output of the program for a channel file, rendered into a lent buffer; for a register's file in registers.rt.
+#![tactic(auto)]
+
 pub mod registers;
 
 ghost use Rattle.std.specs.Prelude.{◌≡◌};

@@ -1,5 +1,7 @@
 // The rows of a table handed in, printed into a lent buffer; and the check of a table handed in to be rendered. Values are numbers, or a
 // register's masks (document 02, F-7).
+#![tactic(auto)]
+
 ghost use Rattle.std.specs.Prelude.{◌≡◌, ◌++◌};
 ghost use Rattle.std.proofs.Math.Option.{none};
 ghost use Rattle.text_output.specs.Output.{Puts};

@@ -1,5 +1,7 @@
 // Texts put into a lent buffer, piece by piece. Each function puts its text at an offset and answers the offset behind it, also where
 // that lies behind the buffer's end: what would lie there is left out. So a text put at 0 into an empty buffer answers its length.
+#![tactic(auto)]
+
 ghost use Rattle.std.specs.Prelude.{◌≡◌, ◌∷◌, [], ◌++◌, ◌+◌, ◌<◌, min};
 ghost use Rattle.text_format.specs.Texts.{numeral};
 ghost use Rattle.text_output.specs.Output.{offset_limit, Puts};

@@ -1,4 +1,6 @@
 // Document 01, "Value sets": the check of a set-up, the four-value set, values of either kind, their meet and how they compare.
+#![tactic(auto)]
+
 ghost use Rattle.std.specs.Prelude.{◌≡◌, true, ◌+◌, ◌^◌, ◌<◌, ◌≤◌, min, length, get_or};
 ghost use Rattle.refusal.specs.RefusalAnswers.{judgement};
 ghost use Rattle.limits.specs.Limits.{line_limit};
@@ -17,14 +19,14 @@ use limits::{EVENT_LIMIT, LINE_LIMIT, VALUE_LIMIT};
 use refusal::{Judgement, Refusal};
 
 // What the values are: so many numbers with a meet table, or registers of so many lines, whose value is low + 65536 * high.
-#[derive(Drop)]
+#[derive(Clone, Copy)]
 pub enum ValueKind {
     Numbered(u32),
     Register(u32),
 }
 
 // What comparing two values tells (document 02, F-5).
-#[derive(Drop)]
+#[derive(Clone, Copy)]
 pub enum Comparison {
     Equal,
     StrictlyBelow,
