@@ -18,11 +18,24 @@ use Rattle.theory.specs.FormulaWriting.{rows, write, written}
 use Rattle.theory.proofs.{Substitution.{closed_position_guarded}, DistinctLists.{Distinct, distinct_below}}
 
 -- ---- where a state is open on a path
+first_or : ℕ → List ℕ → ℕ
+first_or d [] = d
+first_or d (t ∷ path) = t
+
+rest_of : List ℕ → List ℕ
+rest_of [] = []
+rest_of (t ∷ path) = path
+
+-- It is stated for two equal paths, so that each place is read by itself.
+open_same : {s : ℕ} {path path' : List ℕ} {i j : ℕ} → path ≡ path' → OpenAt s path i → OpenAt s path' j → i ≡ j
+unfolding first_or rest_of
+open_same e here here = refl
+open_same {s} e here (above d o) = absurd (d (ap (first_or s) e))
+open_same {s} e (above d o) here = absurd (d (sym (ap (first_or s) e)))
+open_same e (above d o) (above c p) = ap suc (open_same (ap rest_of e) o p)
+
 pub open_one : {s : ℕ} {path : List ℕ} {i j : ℕ} → OpenAt s path i → OpenAt s path j → i ≡ j
-open_one here here = refl
-open_one here (above d o) = absurd (d refl)
-open_one (above d o) here = absurd (d refl)
-open_one (above d o) (above c p) = ap suc (open_one o p)
+open_one o p = open_same refl o p
 
 pub open_below : {s : ℕ} {path : List ℕ} {i : ℕ} → OpenAt s path i → i < length path
 open_below here = suc-le-suc zero-le
@@ -33,6 +46,7 @@ open_head {s} path e = subst (λ x. OpenAt s (x ∷ path) zero) e here
 
 -- A state that is not open is not on the path.
 not_on_path : (s : ℕ) (path : List ℕ) → ((i : ℕ) → ¬ OpenAt s path i) → Memᴰ s path → ⊥
+not_on_path s [] c h = elim h [ ]
 not_on_path s (t ∷ path) c (Memᴰ.head e) = c zero (open_head path e)
 not_on_path s (t ∷ path) c (Memᴰ.tail h) =
     not_on_path s path (λ i o. c (suc i) (above (λ e. c zero (open_head path e)) o)) h

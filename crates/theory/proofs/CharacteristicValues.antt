@@ -80,6 +80,7 @@ module _ {B : Type 0} (m : Machine ℕ B) (events : ℕ) (In : B → Type 0) (n 
     is_it : χ ≡ greatest (instantiate 1 σ φ)
 
   binder_of : {path : List ℕ} {σ : List (Formula B)} {s i : ℕ} → Binders path σ → OpenAt s path i → BinderOf s (nth σ i)
+  binder_of no_binder o = elim o [ ]
   binder_of (one_binder {path = path} {σ = σ} {φ = φ} v r l) here =
       record { path = path; σ = σ; φ = φ; above_it = v; its_rows = r; its_state = l; is_it = refl }
   binder_of (one_binder v r l) (above d o) = binder_of v o

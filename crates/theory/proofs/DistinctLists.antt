@@ -14,17 +14,20 @@ module _ {A : Type 0} where
 
   -- The list without one occurrence.
   without : {x : A} (ys : List A) → Memᴰ x ys → List A
+  without [] i = elim i [ ]
   without (y ∷ ys) (mathlib.Core.List.Memᴰ.head e) = ys
   without (y ∷ ys) (mathlib.Core.List.Memᴰ.tail i) = y ∷ without ys i
 
   length_without : {x : A} (ys : List A) (i : Memᴰ x ys) → length ys ≡ suc (length (without ys i))
   unfolding without
+  length_without [] i = elim i [ ]
   length_without (y ∷ ys) (mathlib.Core.List.Memᴰ.head e) = refl
   length_without (y ∷ ys) (mathlib.Core.List.Memᴰ.tail i) = ap suc (length_without ys i)
 
   -- Another element stays.
   stays : {x z : A} (ys : List A) (i : Memᴰ x ys) → (z ≡ x → ⊥) → Memᴰ z ys → Memᴰ z (without ys i)
   unfolding without
+  stays [] i d j = elim i [ ]
   stays (y ∷ ys) (mathlib.Core.List.Memᴰ.head e) d (mathlib.Core.List.Memᴰ.head f) = absurd (d (f ∙ sym e))
   stays (y ∷ ys) (mathlib.Core.List.Memᴰ.head e) d (mathlib.Core.List.Memᴰ.tail j) = j
   stays (y ∷ ys) (mathlib.Core.List.Memᴰ.tail i) d (mathlib.Core.List.Memᴰ.head f) = mathlib.Core.List.Memᴰ.head f
@@ -57,6 +60,7 @@ module _ {A : Type 0} where
 
   pub number_of :
       (xs : List A) (d : A) {z : A} → Memᴰ z xs → (l : ℕ) × (l < length xs) × (z ≡ get_or xs l d)
+  number_of [] d i = elim i [ ]
   number_of (x ∷ xs) d (mathlib.Core.List.Memᴰ.head e) = (zero, suc-le-suc zero-le, e)
   number_of (x ∷ xs) d (mathlib.Core.List.Memᴰ.tail i) = let r = number_of xs d i in (suc r.0, suc-le-suc r.1, r.2)
 

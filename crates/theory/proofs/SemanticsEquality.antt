@@ -54,6 +54,7 @@ module _ {B : Type 0} (In : B → Type 0) (meet : B → B → B) (top : B) (even
   -- And each step is the computed pair.
   pub only_step : (e : ℕ) (φ : Formula B) (b : B) (ψ : Formula B) → Good φ → Steps meet top e φ b ψ → (b, ψ) ≡ step meet top e φ
   only_step e truth b ψ g of_truth = sym (step_truth events In meet top e)
+  only_step e (variable n) b ψ g d = elim d [ ]
   only_step e (transition a φ) b ψ g of_transition =
       sym (step_transition events In meet top e e φ ∙ ap (λ t. (top, cond t φ truth)) (eq-eqb e e refl))
   only_step e (transition a φ) b ψ g (of_other_transition h) =
