@@ -1,0 +1,7 @@
+-- `values::byte_at` meets its contract: past the end the list's default is 0.
+use mathlib.Core.Path.{sym}
+use lib.ListN.{get_or-eq_default}
+use Rattle.values.proofs.byte_at.Goals as goal
+
+pub returns-else-at-bytes : goal.returns-else-at-bytes
+returns-else-at-bytes c = sym (get_or-eq_default c.args.bytes.now 0 c.if-at-bytes.false)

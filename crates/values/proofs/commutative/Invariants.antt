@@ -1,0 +1,20 @@
+-- `values::commutative` meets its contract. The loops' invariants: the law holds at every pair before (a, b).
+use mathlib.Core.{Path.{◌≡◌}, Bool.{true}}
+use Prim.Native.Nat.{◌≤◌, ◌-◌}
+use lib.Dec.{eqb}
+use Rattle.theory.specs.ValueSets.{meet_at}
+use Rattle.theory.specs.ValueSetTests.{every}
+use Rattle.values.proofs.commutative.Given as goal
+
+abbrev pub invariant-loop-b : goal.invariant-loop-b
+invariant-loop-b l = (l.b ≤ l.values) × (every l.b (λ j. eqb (meet_at l.values l.meet l.a j) (meet_at l.values l.meet j l.a)) ≡ true)
+
+abbrev pub decreases-loop-b : goal.decreases-loop-b
+decreases-loop-b l = l.values - l.b
+
+abbrev pub invariant-loop-a : goal.invariant-loop-a
+invariant-loop-a l =
+    (l.a ≤ l.values) × (every l.a (λ i. every l.values (λ j. eqb (meet_at l.values l.meet i j) (meet_at l.values l.meet j i))) ≡ true)
+
+abbrev pub decreases-loop-a : goal.decreases-loop-a
+decreases-loop-a l = l.values - l.a
