@@ -57,7 +57,9 @@ all_binders = state_below unbound_search zero
 
 -- A variable whose own binder is near is not protected; any other that has a binder is.
 near_unprotected : (ms : List Mark) (n : ℕ) → n < near_binders ms → ¬ Protected ms n
+near_unprotected [] n h w = elim h [ ]
 near_unprotected (transition_mark ∷ ms) n h w = omega (arith, h)
+near_unprotected (binder_mark ∷ ms) zero h w = elim w [ ]
 near_unprotected (binder_mark ∷ ms) (suc n) h (past_binder w) = near_unprotected ms n (omega (arith, h)) w
 
 far_protected : (ms : List Mark) (n : ℕ) → near_binders ms ≤ n → n < all_binders ms → Protected ms n
