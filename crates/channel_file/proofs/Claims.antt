@@ -158,14 +158,14 @@ one_offset : (t : List ℕ) (n m : ℕ) → n ≤ length t → m ≤ length t �
 one_offset t n m h g e = omega (arith, ap length e, length-drop n t, length-drop m t)
 
 pub one_line_claim : OneLineClaim
-one_line_claim line t at (Number.Value v n) (Number.Value w m) x y =
+one_line_claim k t at (Number.Value v n) (Number.Value w m) x y =
     let e : ok v (drop n t) ≡ ok w (drop m t) = sym x.same ∙ y.same in
     let ev : v ≡ w = cc in
     let er : drop n t ≡ drop m t = cc in
     ap₂ (λ (i j : ℕ). Number.Value i j) ev (one_offset t n m x.within y.within er)
-one_line_claim line t at (Number.Value v n) (Number.Bad q) x y = not_both x.same y.same
-one_line_claim line t at (Number.Bad p) (Number.Value w m) x y = not_both y.same x.same
-one_line_claim line t at (Number.Bad p) (Number.Bad q) x y =
+one_line_claim k t at (Number.Value v n) (Number.Bad q) x y = not_both x.same y.same
+one_line_claim k t at (Number.Bad p) (Number.Value w m) x y = not_both y.same x.same
+one_line_claim k t at (Number.Bad p) (Number.Bad q) x y =
     let e : ◌≡◌ {A = Parsed ℕ} (bad (drop p t)) (bad (drop q t)) = sym x.same ∙ y.same in
     let er : drop p t ≡ drop q t = cc in
     ap (λ (i : ℕ). Number.Bad i) (one_offset t p q x.within y.within er)

@@ -10,7 +10,6 @@ pub mod Storing
 pub mod Forms
 pub mod Claims
 pub mod Accepted
-pub mod Readers
 pub mod TextDemands
 pub mod RegisterClaims
 pub mod RegisterReading

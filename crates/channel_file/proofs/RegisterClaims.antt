@@ -1,5 +1,5 @@
 -- The claim of specs/Claims on a register's file, and what a text shows whatever its length.
-use Prim.Native.Nat.{ℕ, ◌+◌, ◌≤◌}
+use Prim.Native.Nat.{ℕ, ◌≤◌}
 use mathlib.Core.{Path.{◌≡◌, refl, sym}, List.{List, ◌++◌, append_assoc}, Logic.{◌⊎◌}, Option.{some, some-ne-none}}
 use lib.ListN.{length}
 use Rattle.limits.specs.Limits.{file_limit}

@@ -1,0 +1,11 @@
+-- `channel_file::store_tokens` meets its contract: the node of each token is stored as far as there is room, and counted.
+use Prim.Native.Nat.{◌-◌, ◌≤◌}
+use lib.ListN.{length}
+use Rattle.channel_file.proofs.Storing.{TookTokens}
+use Rattle.channel_file.proofs.store_tokens.Given as goal
+
+abbrev pub invariant-loop-x : goal.invariant-loop-x
+invariant-loop-x l = (l.i ≤ length l.text) × (l.n ≤ l.i) × TookTokens l.values l.text l.i l.initial.out l.out l.n l.k
+
+abbrev pub decreases-loop-x : goal.decreases-loop-x
+decreases-loop-x l = length l.text - l.i
