@@ -1,5 +1,5 @@
 -- The claims of specs/Claims.
-use Prim.Native.Nat.{ℕ, ◌+◌, ◌/◌, ◌%◌, ◌≤◌, ◌<◌, min}
+use Prim.Native.Nat.{ℕ, ◌/◌, ◌%◌, ◌≤◌, ◌<◌, min}
 use mathlib.Core.{Path.{◌≡◌, refl, sym, ap, ap₂, ◌∙◌, subst}, List.{List, [], ◌∷◌, ◌++◌}, Bool.{Bool, true, false, ◌&&◌, cond}}
 use mathlib.Core.{Logic.{inl, inr}, Option.{Option, some, none, some-ne-none}}
 use native.Mathlib.Omega.{arith}
