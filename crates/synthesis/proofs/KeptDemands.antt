@@ -8,8 +8,8 @@ use Rattle.theory.specs.{FormulaClasses.{Guarded}, ReachableStates.{NodeSet}, De
 use Rattle.theory.proofs.Demands.{is_next_set}
 use Rattle.formulas.specs.{NodeReading.{Reads}, NodeWalks.{field}}
 use Rattle.synthesis.specs.{NodeWords.{row}, NodeWalks.{Binds}, Binding.{AllBound}, DemandRows.{AllBelow, UnguardedRows, RowsTo}}
-use Rattle.synthesis.specs.{Exploring.{stepped}, KeptSets.{kept_set}, KeptDemands.{KeepsDemands, KeptUnionClaim}}
-use Rattle.synthesis.proofs.{DemandRows.{below_later, unguarded_row}, KeptSets.{kept_of, kept_first, kept_left, kept_right, kept_demands}}
+use Rattle.synthesis.specs.{Exploring.{stepped}, KeptDemands.{KeepsDemands, KeptUnionClaim}}
+use Rattle.synthesis.proofs.{DemandRows.{below_later}, KeptSets.{kept_of, kept_first, kept_left, kept_right, kept_demands}}
 use Rattle.synthesis.proofs.Stepping.{KeptFrom, stepped_moved}
 
 -- A node's own row, and those behind it.

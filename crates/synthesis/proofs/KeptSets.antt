@@ -1,15 +1,15 @@
 -- The sets kept for the nodes of a formula: that of each node is its demands.
 use mathlib.Core.Logic.Iff
-use mathlib.Core.{Path.{◌≡◌, refl, sym, ◌∙◌, ap, ap₂, subst⁻¹}, Logic.{◌↔◌}, List.{List, [], ◌∷◌, ◌++◌}}
-use Prim.Native.Nat.{ℕ, zero, suc, ◌+◌, ◌<◌}
+use mathlib.Core.{Path.{◌≡◌, refl, sym, ◌∙◌, ap, ap₂, subst⁻¹}, Logic.{◌↔◌}, List.{List, ◌∷◌, ◌++◌}}
+use Prim.Native.Nat.{ℕ, suc, ◌+◌, ◌<◌}
 use native.Mathlib.Omega.{arith}
 use lib.{Dec.{T}, ListN.{length, get_or, length-append, get_or-append}, Seq.{get_or-append-add}}
 use Rattle.theory.specs.Formula.{Formula, truth, variable, transition, output, conjunction, greatest, size}
 use Rattle.theory.specs.Formula.{Stands, root, part_of_transition, left_part, right_part, part_of_greatest}
-use Rattle.theory.specs.{FormulaClasses.{Guarded}, ReachableStates.{NodeSet, Demands}, DemandSets.{empty, demands}}
+use Rattle.theory.specs.{ReachableStates.{NodeSet, Demands}, DemandSets.{empty, demands}}
 use Rattle.theory.proofs.{Binders.{binder_demands}, Demands.{demands_iff}, NodeSets.{same_members}}
 use Rattle.formulas.proofs.Walking.{size_positive}
-use Rattle.synthesis.specs.{KeptSets.{kept_sets, kept_set}, KeptDemands.{IsKeptSet, KeptDemandsClaim}}
+use Rattle.synthesis.specs.{KeptSets.{kept_sets, kept_set}, KeptDemands.{KeptDemandsClaim}}
 
 -- Among the sets kept for the formula at i, that of its node n.
 abbrev pub kept_of : List NodeSet → ℕ → Formula ℕ → ℕ → NodeSet

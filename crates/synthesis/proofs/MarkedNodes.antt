@@ -39,7 +39,7 @@ module _ {step : ℕ → List ℕ → List ℕ → Type 0} {m : ℕ} {before : L
 
 -- After one walk another one, over a set that agrees with the first walk's.
 came_more :
-    {step : ℕ → List ℕ → List ℕ → Type 0} {D E : NodeSet} {m n k : ℕ} {before between l : List ℕ} →
+    {step : ℕ → List ℕ → List ℕ → Type 0} {D E : NodeSet} {m n : ℕ} {before between : List ℕ} {k : ℕ} {l : List ℕ} →
     ((j : ℕ) → k ≤ j → j < n → D j ≡ E j) → Came step E m before n between → Came step D n between k l → Came step E m before k l
 came_more f old none_yet = old
 came_more {k = k} f old (not_in e c) =

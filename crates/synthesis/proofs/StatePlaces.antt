@@ -1,6 +1,6 @@
 -- States found by their sets: equal sets have equal places, and what one more state does to places and links.
 use mathlib.Core.{Path.{◌≡◌, refl, sym, ◌∙◌, ap, ap₂, subst}, List.{List}}
-use Prim.Native.Nat.{ℕ, zero, suc, ◌+◌, ◌*◌, ◌/◌, ◌%◌, ◌^◌, ◌≤◌, ◌<◌}
+use Prim.Native.Nat.{ℕ, zero, suc, ◌+◌, ◌*◌, ◌/◌, ◌%◌, ◌^◌, ◌<◌}
 use native.Mathlib.{Nat.{mod-lt, mod-eq_of_lt}, Decide.{ℕ_discrete}, Omega.{arith}}
 use lib.{Bits.{bit_xor}, Dec.{eqb}, ListN.{length, get_or, set, replicate}, Pow.{pow_pos}, Seq.{get_or-set_same, get_or-set_other}}
 use Rattle.synthesis.specs.{NodeWords.{bits_at, Stored}, Exploring.{Found}}

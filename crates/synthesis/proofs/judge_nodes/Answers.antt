@@ -1,0 +1,23 @@
+-- `judge_nodes` meets its contract: 5 by the number of bytes, then what the nodes are judged by.
+use mathlib.Core.Path.{sym, ◌∙◌}
+use borrow.Author.{Tests.{not-true, not-false}}
+use Rattle.limits.specs.Limits.{node_limit}
+use Rattle.formulas.specs.RuleConditions.{node_width}
+use Rattle.formulas.specs.NodeWalks.{field}
+use Rattle.formulas.specs.RuleRefusal.{count_fits, fields_refusal}
+use Rattle.values.specs.ValueTests.{value_fits}
+use Rattle.synthesis.proofs.Compilation.{bytes_misfit, bytes_fit}
+use Rattle.synthesis.proofs.judge_nodes.Goals as goal
+
+pub returns-then-not-count_fits : goal.returns-then-not-count_fits
+returns-then-not-count_fits c =
+    bytes_misfit (count_fits (node_width c.args.kind) node_limit c.args.bytes)
+    (fields_refusal (field c.args.kinds.now) (field c.args.firsts.now) (field c.args.fields.now) c.args.count (value_fits c.args.kind) c.args.events)
+    (sym c.count_fits.ensures ∙ not-true c.count_fits.result c.if-not-count_fits.true-raw)
+
+pub returns : goal.returns
+returns c =
+    c.check_nodes.ensures
+    ∙ bytes_fit (count_fits (node_width c.args.kind) node_limit c.args.bytes)
+    (fields_refusal (field c.args.kinds.now) (field c.args.firsts.now) (field c.args.fields.now) c.args.count (value_fits c.args.kind) c.args.events)
+    (sym c.count_fits.ensures ∙ not-false c.count_fits.result c.if-not-count_fits.false-raw)
