@@ -1,0 +1,21 @@
+-- `characteristic::put_output` meets its contract: two nodes, one after the other.
+use mathlib.Core.Path.{refl}
+use native.Mathlib.Omega.{arith}
+use Rattle.theory.specs.Formula.{output_node, conjunction_node}
+use Rattle.characteristic.proofs.{Appended.{zero_fits, both}, Walks.{room_after}}
+use Rattle.characteristic.proofs.put_output.Goals as goal
+
+pub put_node-part-requires : goal.put_node-part-requires
+put_node-part-requires c = (c.requires.0, omega arith, zero_fits c.args.kind)
+
+pub put_node-requires : goal.put_node-requires
+put_node-requires c = (
+  room_after c.requires.0 (c.put_node-part.ensures conjunction_node refl refl refl),
+  c.requires.1,
+  c.requires.2,
+)
+
+pub returns : goal.returns
+returns c =
+    both (c.put_node-part.ensures conjunction_node refl refl refl)
+    (c.put_node.ensures (output_node c.args.event c.args.value) refl refl refl)

@@ -1,0 +1,35 @@
+-- `characteristic::write_register_rule` meets its contract: a refused set-up, or what is written over an accepted one.
+use mathlib.Core.{Path.{sym, ◌∙◌}, List.{[]}}
+use native.Mathlib.Omega.{arith}
+use Rattle.limits.specs.Limits.{table_limit, node_limit}
+use Rattle.theory.specs.ValueSets.{pack, top_masks}
+use Rattle.refusal.proofs.Refusals.{judgement_accepted}
+use Rattle.values.specs.{Setup.{register_setup}, SetupTests.{setup_refusal}}
+use Rattle.values.proofs.Setups.{setup_accepted}
+use Rattle.characteristic.proofs.Answers.{setup_refused}
+use Rattle.characteristic.proofs.write_register_rule.Goals as goal
+
+pub overflow_cast-lines : goal.overflow_cast-lines
+overflow_cast-lines c =
+    let s = register_setup c.args.events c.args.lines in
+    let w = (setup_accepted s).0 (judgement_accepted (setup_refusal s) (sym c.check_register-judged.ensures ∙ c.in_default.is)) in
+    omega (arith, w.of_kind.few_lines)
+
+pub write_accepted-requires : goal.write_accepted-requires
+write_accepted-requires c =
+    let s = register_setup c.args.events c.args.lines in
+    let w = (setup_accepted s).0 (judgement_accepted (setup_refusal s) (sym c.check_register-judged.ensures ∙
+    c.in_default.is)) in
+    (omega (arith, w.some_events), w.few_events)
+
+pub returns-in-Refused : goal.returns-in-Refused
+returns-in-Refused c =
+    let r = setup_refused table_limit node_limit (register_setup c.args.events c.args.lines) c.args.states c.args.start c.args.table.now
+    c.args.to.now c.in-Refused.reason (sym c.check_register-judged.ensures ∙ c.in-Refused.is) in
+    record { answer = r.0; contents = r.1 }
+
+pub returns : goal.returns
+returns c =
+    let r = c.write_accepted.ensures (pack (top_masks c.args.lines)) []
+    (judgement_accepted (setup_refusal (register_setup c.args.events c.args.lines)) (sym c.check_register-judged.ensures ∙ c.in_default.is)) in
+    record { answer = r.0; contents = r.1 }
