@@ -2,7 +2,8 @@
 use mathlib.Core.{Path.{◌≡◌, refl, sym, ◌∙◌, ap, ap₂, subst, subst⁻¹}, Bool.{Bool, true, false}, List.{List, [], ◌∷◌, reverse}, Option.{Option, none}}
 use Prim.Native.Nat.{ℕ, zero, ◌+◌, ◌*◌, ◌≤◌, ◌<◌}
 use native.Mathlib.{Nat.{mul-le-mul_right, suc-mul}, Omega.{arith}}
-use lib.{Dec.{eqb}, ListN.{length, get_or, set, replicate, length-set, length-reverse, length-replicate, get_or-replicate}, Seq.{get_or-set_same, get_or-set_other}}
+use lib.{Dec.{eqb}, ListN.{length, get_or, set, replicate, length-set, length-reverse, length-replicate, get_or-replicate}}
+use lib.Seq.{get_or-set_same, get_or-set_other}
 use Rattle.theory.specs.Exploration.{reached, has_state}
 use Rattle.theory.specs.ConformanceCheck.{same_pair, next_pair, is_none, counterexample}
 use Rattle.theory.proofs.Numbers.{digits_equal}

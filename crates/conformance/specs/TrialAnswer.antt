@@ -9,7 +9,7 @@ use Rattle.values.specs.{declared.ValueKind.{ValueKind}, SetupTests.{setup_refus
 use Rattle.machines.specs.TableRefusal.{table_refusal}
 use Rattle.conformance.specs.{declared.Verdict.{Verdict}, declared.Verdict.TheVariants.{Pass, Fail, Refused}}
 use Rattle.conformance.specs.{declared.Grade.{Grade}, declared.Grade.TheVariants.{Same, Stricter}}
-use Rattle.conformance.specs.Trial.{TrialInput, meet, device_machine, table_machine}
+use Rattle.conformance.specs.Trial.{TrialInput, device_machine, table_machine}
 
 abbrev pub below : TrialInput → ℕ → ℕ → Bool
 below x = at_or_below x.set_up.kind x.set_up.meet
