@@ -162,13 +162,13 @@ abbrev Each : (List ℕ × Command → Type 0) → List (List ℕ × Command) �
 Each P [] = Unit {0}
 Each P (p ∷ ps) = P p × Each P ps
 
-each_one : (P : List ℕ × Command → Type 0) (ps : List (List ℕ × Command)) (p : List ℕ × Command) → Each P ps → Memᴰ p ps → P p
-each_one P ps p a (Memᴰ.head e) = subst P (sym e) a.0
-each_one P ps p a (Memᴰ.tail m) = each_one P _ p a.1 m
+each_one : (P : List ℕ × Command → Type 0) (p : List ℕ × Command) (ps : List (List ℕ × Command)) → Each P ps → Memᴰ p ps → P p
+each_one P p ps a (Memᴰ.head e) = subst P (sym e) a.0
+each_one P p ps a (Memᴰ.tail m) = each_one P p _ a.1 m
 
 names_right : Each (λ p. named p.0 ≡ p.1) names
 unfolding equal
 names_right = (refl, (refl, (refl, (refl, (refl, (refl, (refl, (refl, (refl, (refl, (refl, (refl, (refl, (refl, (refl, (refl, tt))))))))))))))))
 
 pub names_claim : NamesClaim
-names_claim = record { named_so = λ p m. each_one (λ q. named q.0 ≡ q.1) names p names_right m; listed_so = listed_in names }
+names_claim = record { named_so = λ p m. each_one (λ q. named q.0 ≡ q.1) p names names_right m; listed_so = listed_in names }
