@@ -1,0 +1,8 @@
+use Rattle.text_output.proofs.Outputs.{puts_as, puts_then}
+use Rattle.table_rows.proofs.Texts.{row_parts}
+use Rattle.table_rows.proofs.put_row.Goals as goal
+
+pub returns : goal.returns
+returns c =
+    puts_as (row_parts c.args.kind c.args.state c.args.event c.args.value c.args.next)
+    (puts_then c.put_field-a.ensures (puts_then c.put_field-b.ensures (puts_then c.put_value-d.ensures c.put_line.ensures)))
