@@ -1,0 +1,9 @@
+use Rattle.text_output.proofs.Outputs.{puts_as, puts_then}
+use Rattle.table_graph.proofs.Graphs.{arrow_parts}
+use Rattle.table_graph.proofs.put_arrow.Goals as goal
+
+pub returns : goal.returns
+returns c =
+    puts_as (arrow_parts c.args.kind c.args.top c.args.state c.args.event c.args.value c.args.next)
+    (puts_then c.put_field-a.ensures (puts_then c.put_field-b.ensures
+    (puts_then c.put_field-d.ensures (puts_then c.put_label-f.ensures c.put_word.ensures))))
