@@ -12,10 +12,10 @@ list_nodes-count-requires c =
     (rule_room c.args.kind (length-replicate {A = ℕ} (node_limit * 6) 0), c.requires.0, c.requires.1, c.requires.2, refl)
 
 pub returns-then-count-gt-NODE_LIMIT : goal.returns-then-count-gt-NODE_LIMIT
-returns-then-count-gt-NODE_LIMIT c = too_many c.list_nodes-count.ensures c.if-count-gt-NODE_LIMIT.true
+returns-then-count-gt-NODE_LIMIT c = too_many c.list_nodes-count.ensures (omega arith)
 
 pub returns-then-longest-gt-BINDER_LIMIT : goal.returns-then-longest-gt-BINDER_LIMIT
-returns-then-longest-gt-BINDER_LIMIT c = path_too_long c.list_nodes-count.ensures c.if-count-gt-NODE_LIMIT.false c.if-longest-gt-BINDER_LIMIT.true
+returns-then-longest-gt-BINDER_LIMIT c = path_too_long c.list_nodes-count.ensures (omega arith) (omega arith)
 
 pub overflow_mul-bytes : goal.overflow_mul-bytes
 overflow_mul-bytes c = omega (arith, rule_bytes c.if-count-gt-NODE_LIMIT.false c.node_width.ensures.2)
