@@ -100,7 +100,7 @@ module _ (F : FileForm) (read : List ℕ → Outcome F.Inside) where
     pub reads : read t ≡ contents inside
     pub accepted : pair_compile_refusal (F.setup_of inside) (F.nodes_of inside) meet to ≡ none
     pub passed : pair_table_refusal (F.setup_of inside) (F.nodes_of inside) ≡ none
-    pub numbers_are : n ≡ F.Numbers_of inside
+    pub numbers_are : n ≡ F.numbers_of inside
     pub states_are : k ≡ pair_states (F.setup_of inside) (F.nodes_of inside)
     pub entries_put : meet' ≡ put (F.setup_of inside).meet meet
     pub table_put : to' ≡ put (pair_table (F.setup_of inside) (F.nodes_of inside)) to
@@ -113,7 +113,7 @@ module _ (F : FileForm) (read : List ℕ → Outcome F.Inside) where
         take (k * (F.setup_of inside).events * entry_width (F.setup_of inside).kind) to' ≡ pair_table (F.setup_of inside) (F.nodes_of inside)
 
   made_by : {t meet to meet' to' : List ℕ} {n : F.Numbers} {k : ℕ} (c : F.Inside) → read t ≡ contents c
-      → pair_compile_refusal (F.setup_of c) (F.nodes_of c) meet to ≡ none → n ≡ F.Numbers_of c → k ≡ pair_states (F.setup_of c) (F.nodes_of c)
+      → pair_compile_refusal (F.setup_of c) (F.nodes_of c) meet to ≡ none → n ≡ F.numbers_of c → k ≡ pair_states (F.setup_of c) (F.nodes_of c)
       → meet' ≡ put (F.setup_of c).meet meet → to' ≡ put (pair_table (F.setup_of c) (F.nodes_of c)) to → MadeOf t meet to meet' to' n k
   unfolding pair_compile_refusal
   made_by {to = to} {to' = to'} {k = k} c e ok n j m b =
@@ -158,7 +158,7 @@ module _ (F : FileForm) (read : List ℕ → Outcome F.Inside) where
           go (contents c) e f g =
               let a : pair_compile_refusal (F.setup_of c) (F.nodes_of c) meet to ≡ some r =
               sym (answer_refusal cases (pair_compile_refusal (F.setup_of c) (F.nodes_of c) meet to)
-              (F.Numbers_of c, pair_states (F.setup_of c) (F.nodes_of c))) ∙ sym f in
+              (F.numbers_of c, pair_states (F.setup_of c) (F.nodes_of c))) ∙ sym f in
               (turned_away c r e a, g ∙ ap (λ (o : Option Refusal). put_unless o (pair_table (F.setup_of c) (F.nodes_of c)) to) a)
 
       pub made_of_by : {n : F.Numbers} {j : ℕ} → table_in x ≡ some (n, j) → MadeOf t meet to meet' to' n j
@@ -171,7 +171,7 @@ module _ (F : FileForm) (read : List ℕ → Outcome F.Inside) where
           go (contents c) e f g h =
               let s = F.setup_of c in
               let nodes = F.nodes_of c in
-              let a = answer_found cases (pair_compile_refusal s nodes meet to) (F.Numbers_of c, pair_states s nodes) (n, j) f in
+              let a = answer_found cases (pair_compile_refusal s nodes meet to) (F.numbers_of c, pair_states s nodes) (n, j) f in
               made_by c e a.0 (ap (λ (p : F.Numbers × ℕ). p.0) a.1) (ap (λ (p : F.Numbers × ℕ). p.1) a.1)
               (g ∙ ap (λ (o : Option Refusal). put_unless o s.meet meet) a.0)
               (h ∙ ap (λ (o : Option Refusal). put_unless o (pair_table s nodes) to) a.0)

@@ -33,7 +33,7 @@ module _ (F : FileForm) (K : FormLaws F.Inside) (shows : (t : List ℕ) (c : F.I
       read_refused : (x : Outcome F.Inside) → refusal_in (read_answer F accepts refuses x meet rule) ≡ text_refusal reading x
       unfolding read_answer text_refusal
       read_refused (refused p) = (cases.of_refused (At 4 p)).0
-      read_refused (contents c) = answer_refusal cases (reading c) (F.Numbers_of c)
+      read_refused (contents c) = answer_refusal cases (reading c) (F.numbers_of c)
 
       read_kept : (x : Outcome F.Inside) (q : Refusal) → text_refusal reading x ≡ some q
           → ◌≡◌ {A = List ℕ × List ℕ} (meet_after F x meet rule, rule_after F x meet rule) (meet, rule)
@@ -58,7 +58,7 @@ module _ (F : FileForm) (K : FormLaws F.Inside) (shows : (t : List ℕ) (c : F.I
       pub inside : F.Inside
       pub reads : answer_to K t ≡ contents inside
       pub accepted : pair_refusal (F.setup_of inside) (F.nodes_of inside) ≡ none
-      pub numbers_are : found ≡ F.Numbers_of inside
+      pub numbers_are : found ≡ F.numbers_of inside
       pub meet_put : meet' ≡ put (F.setup_of inside).meet meet
       pub rule_put : rule' ≡ put (F.nodes_of inside) rule
 
@@ -72,7 +72,7 @@ module _ (F : FileForm) (K : FormLaws F.Inside) (shows : (t : List ℕ) (c : F.I
             → meet' ≡ meet_after F x meet rule → rule' ≡ rule_after F x meet rule → ReadOf t meet rule meet' rule' found
         go (refused p) e f g h = absurd (some-ne-none found (sym f ∙ (cases.of_refused (At 4 p)).1))
         go (contents c) e f g h =
-            let a = answer_found cases (stored_refusal (F.setup_of c) (F.nodes_of c) meet rule) (F.Numbers_of c) found f in
+            let a = answer_found cases (stored_refusal (F.setup_of c) (F.nodes_of c) meet rule) (F.numbers_of c) found f in
             record {
               inside = c;
               reads = e;
@@ -103,7 +103,7 @@ module _ (F : FileForm) (K : FormLaws F.Inside) (shows : (t : List ℕ) (c : F.I
       made_refused : (x : Outcome F.Inside) → refusal_in (file_table_answer F makes refuses x meet to) ≡ text_refusal making x
       unfolding file_table_answer text_refusal
       made_refused (refused p) = (cases.of_refused (At 4 p)).0
-      made_refused (contents c) = answer_refusal cases (making c) (F.Numbers_of c, pair_states (F.setup_of c) (F.nodes_of c))
+      made_refused (contents c) = answer_refusal cases (making c) (F.numbers_of c, pair_states (F.setup_of c) (F.nodes_of c))
 
       made_kept : (x : Outcome F.Inside) (q : Refusal) → text_refusal making x ≡ some q
           → ◌≡◌ {A = List ℕ × List ℕ} (entries_after F x meet to, table_after F x meet to) (meet, to)

@@ -138,7 +138,7 @@ pub record OffForm {A : Type 0} (x : Outcome A) (r : Refusal) : Type 0 where
 pub record Judging (F : FileForm) (x : Outcome F.Inside) (n : F.Numbers) (s₁ : Setup) (nodes₁ : List ℕ) : Type 0 where
   pub inside : F.Inside
   pub answer : x ≡ contents inside
-  pub numbers_are : n ≡ F.Numbers_of inside
+  pub numbers_are : n ≡ F.numbers_of inside
   pub judged : SameJudged s₁ (F.setup_of inside) nodes₁ (F.nodes_of inside)
 
 module _ {F : FileForm} {read : List ℕ → Outcome F.Inside} {t : List ℕ} {R : Type 0} (accepts : F.Numbers → R) (refuses : Refusal → R)

@@ -29,7 +29,7 @@ module _ (F : FileForm) where
     file_table_answer (refused p) meet to = refuses (At 4 p)
     file_table_answer (contents c) meet to =
         answer_or makes refuses (pair_compile_refusal (F.setup_of c) (F.nodes_of c) meet to)
-        (F.Numbers_of c, pair_states (F.setup_of c) (F.nodes_of c))
+        (F.numbers_of c, pair_states (F.setup_of c) (F.nodes_of c))
 
     -- Answer and later contents of a call that makes the table of the text t, by what the file reader says of it.
     pub record CompilesBy (read : List ℕ → Outcome F.Inside) (t meet to meet' to' : List ℕ) (r : R) : Type 0 where

@@ -34,7 +34,7 @@ module _ (F : FileForm) where
     -- The answer to a text.
     unfoldable pub read_answer : Outcome F.Inside → List ℕ → List ℕ → R
     read_answer (refused p) meet rule = refuses (At 4 p)
-    read_answer (contents c) meet rule = answer_or accepts refuses (stored_refusal (F.setup_of c) (F.nodes_of c) meet rule) (F.Numbers_of c)
+    read_answer (contents c) meet rule = answer_or accepts refuses (stored_refusal (F.setup_of c) (F.nodes_of c) meet rule) (F.numbers_of c)
 
     -- Answer and later contents of a call that reads the text t, by what the file reader says of it.
     pub record ReadsBy (read : List ℕ → Outcome F.Inside) (t meet rule meet' rule' : List ℕ) (r : R) : Type 0 where

@@ -27,7 +27,7 @@ file_conditions meet to s nodes = pair_table_conditions s nodes ++ (plain 13 (Co
 pub record MakesTableOf (F : FileForm) (t meet to meet' to' : List ℕ) (found : F.Numbers) (states : ℕ) : Type 0 where
   pub contents : F.Inside
   pub shown : F.Shown contents t
-  pub numbers_are : found ≡ F.Numbers_of contents
+  pub numbers_are : found ≡ F.numbers_of contents
   pub meet_put : meet' ≡ put (F.setup_of contents).meet meet
   pub table : Machine ℕ ℕ
   pub is_table : IsRuleTable (F.setup_of contents) (F.nodes_of contents) states table
