@@ -3,6 +3,8 @@ use crate::answers::{say, say_number, say_reply};
 use crate::calls;
 use crate::calls::say_item;
 use recorder::{Reply, Tool};
+use std::io;
+use std::io::Stdout;
 
 // Fills memory with G0 nodes, three bytes each.
 fn chain(nodes: &mut [u8]) {
@@ -13,41 +15,42 @@ fn chain(nodes: &mut [u8]) {
     }
 }
 
-fn say_call(name: &[u8], channel: usize) {
-    say(name);
-    say(b" in ");
-    say_number(channel);
-    say(b": ");
+fn say_call(stdout: Stdout, name: &[u8], channel: usize) -> io::Result<()> {
+    say(stdout, name)?;
+    say(stdout, b" in ")?;
+    say_number(stdout, channel)?;
+    say(stdout, b": ")
 }
 
-fn load(name: &[u8], tool: Tool, channel: usize, rule: &[u8]) -> Tool {
-    say_call(name, channel);
-    let t = calls::load(tool, channel, rule);
-    say(b"\n");
-    t
+fn load(stdout: Stdout, name: &[u8], tool: Tool, channel: usize, rule: &[u8]) -> io::Result<Tool> {
+    say_call(stdout, name, channel)?;
+    let t = calls::load(stdout, tool, channel, rule)?;
+    say(stdout, b"\n")?;
+    Ok(t)
 }
 
 // G0 254 times, then O0 with a value.
-fn load_256(tool: Tool, channel: usize, value: u8) -> Tool {
+fn load_256(stdout: Stdout, tool: Tool, channel: usize, value: u8) -> io::Result<Tool> {
     let mut rule = [0u8; 765];
     chain(&mut rule);
     rule[762] = 3;
     rule[764] = value;
-    load(b"256 rows", tool, channel, &rule)
+    load(stdout, b"256 rows", tool, channel, &rule)
 }
 
 // G0 248 times, then O0 with a value.
-fn load_250(tool: Tool, channel: usize, value: u8) -> Tool {
+fn load_250(stdout: Stdout, tool: Tool, channel: usize, value: u8) -> io::Result<Tool> {
     let mut rule = [0u8; 747];
     chain(&mut rule);
     rule[744] = 3;
     rule[746] = value;
-    load(b"250 rows", tool, channel, &rule)
+    load(stdout, b"250 rows", tool, channel, &rule)
 }
 
-fn load_3(tool: Tool, channel: usize) -> Tool {
+fn load_3(stdout: Stdout, tool: Tool, channel: usize) -> io::Result<Tool> {
     // A O1.1 V G1 X0
     load(
+        stdout,
         b"3 rows",
         tool,
         channel,
@@ -56,8 +59,9 @@ fn load_3(tool: Tool, channel: usize) -> Tool {
 }
 
 // V A A O0.1 G0 X0 G1 V A A O1.2 G1 X0 G0 X1
-fn load_2(tool: Tool, channel: usize) -> Tool {
+fn load_2(stdout: Stdout, tool: Tool, channel: usize) -> io::Result<Tool> {
     load(
+        stdout,
         b"2 rows",
         tool,
         channel,
@@ -68,12 +72,12 @@ fn load_2(tool: Tool, channel: usize) -> Tool {
     )
 }
 
-fn load_1(tool: Tool, channel: usize) -> Tool {
-    load(b"1 row", tool, channel, &[0, 0, 0])
+fn load_1(stdout: Stdout, tool: Tool, channel: usize) -> io::Result<Tool> {
+    load(stdout, b"1 row", tool, channel, &[0, 0, 0])
 }
 
 // Loops of 16 and 17 states joined: A V G0 16 times X0 V G0 17 times X0.
-fn load_272(tool: Tool, channel: usize) -> Tool {
+fn load_272(stdout: Stdout, tool: Tool, channel: usize) -> io::Result<Tool> {
     let mut rule = [0u8; 114];
     chain(&mut rule);
     rule[0] = 4;
@@ -81,24 +85,25 @@ fn load_272(tool: Tool, channel: usize) -> Tool {
     rule[54] = 1;
     rule[57] = 5;
     rule[111] = 1;
-    load(b"272 states", tool, channel, &rule)
+    load(stdout, b"272 states", tool, channel, &rule)
 }
 
 // What 5 to 10 refuse, on a tool that has no row left: 25 comes after them.
-fn load_refused(tool: Tool, channel: usize) -> Tool {
+fn load_refused(stdout: Stdout, tool: Tool, channel: usize) -> io::Result<Tool> {
     let many = [0u8; 771];
-    let t = load(b"257 nodes", tool, channel, &many);
-    let t = load(b"G2 T", t, channel, &[2, 2, 0, 0, 0, 0]);
-    let t = load(b"A T", t, channel, &[4, 0, 0, 0, 0, 0]);
-    let t = load(b"X0", t, channel, &[1, 0, 0]);
-    let t = load_deep(t, channel);
-    let t = load(b"V X0", t, channel, &[5, 0, 0, 1, 0, 0]);
-    load_272(t, channel)
+    let t = load(stdout, b"257 nodes", tool, channel, &many)?;
+    let t = load(stdout, b"G2 T", t, channel, &[2, 2, 0, 0, 0, 0])?;
+    let t = load(stdout, b"A T", t, channel, &[4, 0, 0, 0, 0, 0])?;
+    let t = load(stdout, b"X0", t, channel, &[1, 0, 0])?;
+    let t = load_deep(stdout, t, channel)?;
+    let t = load(stdout, b"V X0", t, channel, &[5, 0, 0, 1, 0, 0])?;
+    load_272(stdout, t, channel)
 }
 
 // Thirteen V, then T.
-fn load_deep(tool: Tool, channel: usize) -> Tool {
+fn load_deep(stdout: Stdout, tool: Tool, channel: usize) -> io::Result<Tool> {
     load(
+        stdout,
         b"13 V",
         tool,
         channel,
@@ -109,17 +114,17 @@ fn load_deep(tool: Tool, channel: usize) -> Tool {
     )
 }
 
-fn clear(tool: Tool, channel: usize) -> Tool {
-    say_call(b"clear", channel);
-    let t = calls::clear(tool, channel);
-    say(b"\n");
-    t
+fn clear(stdout: Stdout, tool: Tool, channel: usize) -> io::Result<Tool> {
+    say_call(stdout, b"clear", channel)?;
+    let t = calls::clear(stdout, tool, channel)?;
+    say(stdout, b"\n")?;
+    Ok(t)
 }
 
 // Twelve events on a channel, and their values.
-fn play(tool: Tool, channel: usize) -> Tool {
+fn play(stdout: Stdout, tool: Tool, channel: usize) -> io::Result<Tool> {
     let mut values = [9u8; 12];
-    say_call(b"events", channel);
+    say_call(stdout, b"events", channel)?;
     let answer = recorder::replay(
         tool,
         channel,
@@ -129,18 +134,19 @@ fn play(tool: Tool, channel: usize) -> Tool {
     );
     let reply = answer.reply;
     if let Reply::Value(_) = reply {
-        say_items(&values);
+        say_items(stdout, &values)?;
     } else {
-        say_reply(reply);
+        say_reply(stdout, reply)?;
     }
-    say(b"\n");
-    answer.tool
+    say(stdout, b"\n")?;
+    Ok(answer.tool)
 }
 
-fn say_items(values: &[u8]) {
+fn say_items(stdout: Stdout, values: &[u8]) -> io::Result<()> {
     for i in 0..values.len() {
-        say_item(values[i]);
+        say_item(stdout, values[i])?;
     }
+    Ok(())
 }
 
 fn set_up() -> Tool {
@@ -150,65 +156,67 @@ fn set_up() -> Tool {
 }
 
 // 256 and 256 rows, and one; the rows that a channel has are free for its own next table.
-fn full() {
-    let t = load_256(set_up(), 3, 1);
-    let t = load_256(t, 5, 2);
-    let t = load_1(t, 7);
-    let t = load_1(t, 0);
-    let t = load_1(t, 8);
-    let t = load_refused(t, 4);
-    let t = play(t, 4);
-    let t = load_256(t, 5, 1);
-    let t = load_256(t, 3, 2);
-    let t = play(t, 3);
-    let t = play(t, 5);
-    let t = load_3(t, 3);
-    let t = load_250(t, 0, 1);
-    let t = load_3(t, 7);
-    let t = load_1(t, 1);
-    let t = clear(t, 5);
-    let t = load_1(t, 1);
-    play(t, 7);
+fn full(stdout: Stdout) -> io::Result<()> {
+    let t = load_256(stdout, set_up(), 3, 1)?;
+    let t = load_256(stdout, t, 5, 2)?;
+    let t = load_1(stdout, t, 7)?;
+    let t = load_1(stdout, t, 0)?;
+    let t = load_1(stdout, t, 8)?;
+    let t = load_refused(stdout, t, 4)?;
+    let t = play(stdout, t, 4)?;
+    let t = load_256(stdout, t, 5, 1)?;
+    let t = load_256(stdout, t, 3, 2)?;
+    let t = play(stdout, t, 3)?;
+    let t = play(stdout, t, 5)?;
+    let t = load_3(stdout, t, 3)?;
+    let t = load_250(stdout, t, 0, 1)?;
+    let t = load_3(stdout, t, 7)?;
+    let t = load_1(stdout, t, 1)?;
+    let t = clear(stdout, t, 5)?;
+    let t = load_1(stdout, t, 1)?;
+    play(stdout, t, 7)?;
+    Ok(())
 }
 
 // The channels on both sides of a table that grows and shrinks.
-fn sides(tool: Tool) -> Tool {
-    let t = play(tool, 0);
-    let t = play(t, 1);
-    let t = play(t, 3);
-    let t = play(t, 6);
-    play(t, 7)
+fn sides(stdout: Stdout, tool: Tool) -> io::Result<Tool> {
+    let t = play(stdout, tool, 0)?;
+    let t = play(stdout, t, 1)?;
+    let t = play(stdout, t, 3)?;
+    let t = play(stdout, t, 6)?;
+    play(stdout, t, 7)
 }
 
 // 256 rows replaced by 3 and back, then cleared, with other channels on both sides.
-fn replaced() {
-    let t = load_2(set_up(), 7);
-    let t = load_256(t, 3, 1);
-    let t = load_2(t, 0);
-    let t = load_3(t, 1);
-    let t = load_2(t, 6);
-    let t = sides(t);
-    let t = load_3(t, 3);
-    let t = sides(t);
-    let t = load_256(t, 3, 2);
-    let t = sides(t);
-    let t = load_256(t, 1, 1);
-    let t = load_250(t, 1, 1);
-    let t = sides(t);
-    let t = clear(t, 3);
-    let t = sides(t);
-    let t = clear(t, 3);
-    let t = clear(t, 0);
-    let t = sides(t);
-    let t = load_1(t, 2);
-    let t = load_2(t, 0);
-    say(b"restart all: ");
-    let t = calls::restart_all(t);
-    say(b"\n");
-    sides(t);
+fn replaced(stdout: Stdout) -> io::Result<()> {
+    let t = load_2(stdout, set_up(), 7)?;
+    let t = load_256(stdout, t, 3, 1)?;
+    let t = load_2(stdout, t, 0)?;
+    let t = load_3(stdout, t, 1)?;
+    let t = load_2(stdout, t, 6)?;
+    let t = sides(stdout, t)?;
+    let t = load_3(stdout, t, 3)?;
+    let t = sides(stdout, t)?;
+    let t = load_256(stdout, t, 3, 2)?;
+    let t = sides(stdout, t)?;
+    let t = load_256(stdout, t, 1, 1)?;
+    let t = load_250(stdout, t, 1, 1)?;
+    let t = sides(stdout, t)?;
+    let t = clear(stdout, t, 3)?;
+    let t = sides(stdout, t)?;
+    let t = clear(stdout, t, 3)?;
+    let t = clear(stdout, t, 0)?;
+    let t = sides(stdout, t)?;
+    let t = load_1(stdout, t, 2)?;
+    let t = load_2(stdout, t, 0)?;
+    say(stdout, b"restart all: ")?;
+    let t = calls::restart_all(stdout, t)?;
+    say(stdout, b"\n")?;
+    sides(stdout, t)?;
+    Ok(())
 }
 
-pub fn stores() {
-    full();
-    replaced();
+pub fn stores(stdout: Stdout) -> io::Result<()> {
+    full(stdout)?;
+    replaced(stdout)
 }
