@@ -11,6 +11,8 @@ mod registers;
 ghost use Rattle.std.specs.Prelude.{◌≤◌, length};
 
 use recorder::Reply;
+use standard_input::read_full;
+use std::io;
 use std::num::wrapping_add_u64;
 
 const EVENT_ROUNDS: usize = 256;
@@ -61,11 +63,11 @@ fn sum_for(line: &[u8]) -> u64
     registers::sum_for(tool, how, word)
 }
 
-fn main() {
+fn main(rt: HostRuntime) -> io::Result<()> {
     let mut line = [0u8; ROOM];
-    let n = io::read_full(0, &mut line);
+    let n = read_full(&mut rt.stdin(), &mut line)?;
     if HEAD <= n {
-        io::print_decimal(1, sum_for(&line[..n]));
-        io::write_all(1, b"\n");
+        rt.println(sum_for(&line[..n]))?;
     }
+    Ok(())
 }

@@ -8,6 +8,8 @@ ghost use Rattle.std.specs.Prelude.{◌≤◌, length};
 
 use recorder::registers::RegisterTool;
 use recorder::{Reply, Tool, registers};
+use standard_input::read_full;
+use std::io;
 
 const LOAD_ROUNDS: usize = 16384;
 
@@ -90,11 +92,11 @@ fn loads(line: &[u8]) -> u64
     register_rounds(neighbour.tool, first, second)
 }
 
-fn main() {
+fn main(rt: HostRuntime) -> io::Result<()> {
     let mut line = [0u8; ROOM];
-    let n = io::read_full(0, &mut line);
+    let n = read_full(&mut rt.stdin(), &mut line)?;
     if HEAD <= n {
-        io::print_decimal(1, loads(&line[..n]));
-        io::write_all(1, b"\n");
+        rt.println(loads(&line[..n]))?;
     }
+    Ok(())
 }

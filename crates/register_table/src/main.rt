@@ -3,15 +3,18 @@
 
 use limits::FILE_LIMIT;
 use refusal::Counted;
+use standard_input::read_full;
+use std::io;
 use table_report::registers::{REPORT_LENGTH, report};
 
-fn main() {
+fn main(rt: HostRuntime) -> io::Result<()> {
     // one byte more than the limit, so that a text over it is seen
     let mut text = [0u8; FILE_LIMIT + 1];
-    let n = io::read_full(0, &mut text);
+    let n = read_full(&mut rt.stdin(), &mut text)?;
     let mut out = [0u8; REPORT_LENGTH];
     let answer = report(&text[..n], &mut out);
     if let Counted::Count(length) = answer {
-        io::write_all(1, &out[..length]);
+        rt.write_all(&out[..length])?;
     }
+    Ok(())
 }

@@ -5,9 +5,10 @@
 ghost use Rattle.std.specs.Prelude.{◌≡◌, length};
 
 use conformance::{Grade, Verdict, trial};
-use libc::STDOUT_FILENO;
 use limits::{NODE_LIMIT, TABLE_BYTES, TABLE_LIMIT, WORD_LIMIT};
 use refusal::{Counted, Refusal};
+use std::io;
+use std::io::Stdout;
 
 // A rule of as many nodes as there may be: those before its last, and its bytes.
 const TRANSITIONS: usize = NODE_LIMIT - 1;
@@ -21,49 +22,43 @@ const LOOP_ROOM: usize = LOOP_STATES * 2;
 
 const LAST_VALUE: usize = TABLE_LIMIT * 2;
 
-fn print_refusal(r: Refusal) {
-    io::write_all(STDOUT_FILENO, b"refused=");
+fn print_refusal(stdout: Stdout, r: Refusal) -> io::Result<()> {
+    stdout.write_all(b"refused=")?;
     match r {
-        Refusal::Plain(n) => {
-            io::print_decimal(STDOUT_FILENO, n as u64);
-        }
+        Refusal::Plain(n) => stdout.print(n)?,
         Refusal::At(n, p) => {
-            io::print_decimal(STDOUT_FILENO, n as u64);
-            io::write_all(STDOUT_FILENO, b" ");
-            io::print_decimal(STDOUT_FILENO, p as u64);
+            stdout.print(n)?;
+            stdout.write_all(b" ")?;
+            stdout.print(p)?;
         }
     }
-    io::write_all(STDOUT_FILENO, b"\n");
+    stdout.write_all(b"\n")
 }
 
-fn print_counted(key: &[u8], c: Counted) {
+fn print_counted(stdout: Stdout, key: &[u8], c: Counted) -> io::Result<()> {
     match c {
         Counted::Count(n) => {
-            io::write_all(STDOUT_FILENO, key);
-            io::print_decimal(STDOUT_FILENO, n as u64);
-            io::write_all(STDOUT_FILENO, b"\n");
+            stdout.write_all(key)?;
+            stdout.print(n)?;
+            stdout.write_all(b"\n")
         }
-        Counted::Refused(r) => print_refusal(r),
+        Counted::Refused(r) => print_refusal(stdout, r),
     }
 }
 
 // The grade of a pass, or the length of the failing word.
-fn print_verdict(v: Verdict) {
+fn print_verdict(stdout: Stdout, v: Verdict) -> io::Result<()> {
     match v {
         Verdict::Pass(grade) => match grade {
-            Grade::Same => {
-                io::write_all(STDOUT_FILENO, b"pass=same\n");
-            }
-            Grade::Stricter => {
-                io::write_all(STDOUT_FILENO, b"pass=stricter\n");
-            }
+            Grade::Same => stdout.write_all(b"pass=same\n"),
+            Grade::Stricter => stdout.write_all(b"pass=stricter\n"),
         },
         Verdict::Fail(n) => {
-            io::write_all(STDOUT_FILENO, b"fail=");
-            io::print_decimal(STDOUT_FILENO, n as u64);
-            io::write_all(STDOUT_FILENO, b"\n");
+            stdout.write_all(b"fail=")?;
+            stdout.print(n)?;
+            stdout.write_all(b"\n")
         }
-        Verdict::Refused(r) => print_refusal(r),
+        Verdict::Refused(r) => print_refusal(stdout, r),
     }
 }
 
@@ -102,33 +97,36 @@ fn chain_of_states(first: u8) -> [u8; 128]
 }
 
 // The states of a chain of transitions from a node on.
-fn compile_chain(rule: &[u8]) {
+fn compile_chain(stdout: Stdout, rule: &[u8]) -> io::Result<()> {
     let meet = values::four_values();
     let mut table = [0u8; TABLE_BYTES];
     print_counted(
+        stdout,
         b"states=",
         synthesis::compile(2, 4, 3, &meet, rule, &mut table),
-    );
+    )
 }
 
 // The states of a rule for one event.
-fn compile_back(rule: &[u8]) {
+fn compile_back(stdout: Stdout, rule: &[u8]) -> io::Result<()> {
     let meet = values::four_values();
     let mut table = [0u8; 128];
     print_counted(
+        stdout,
         b"states=",
         synthesis::compile(1, 4, 3, &meet, rule, &mut table),
-    );
+    )
 }
 
 // The nodes of the rule of a chain of states; and the states of that rule, which fills the lent buffer.
-fn write_chain(table: &[u8], states: usize, rule: &mut [u8]) {
+fn write_chain(stdout: Stdout, table: &[u8], states: usize, rule: &mut [u8]) -> io::Result<()> {
     let meet = values::four_values();
     let written = characteristic::write_rule(1, 4, 3, &meet, states, 0, table, rule);
-    print_counted(b"nodes=", written);
+    print_counted(stdout, b"nodes=", written)?;
     if let Counted::Count(_) = written {
-        compile_back(&*rule);
+        compile_back(stdout, &*rule)?;
     }
+    Ok(())
 }
 
 // The state after entry i of a loop whose state 0 is entry `first` of 257, in one byte; the last state returns to 0.
@@ -158,7 +156,7 @@ fn loop_of_states(first: usize, value: u8, last_value: u8) -> [u8; LOOP_ROOM]
 }
 
 // The trial of a device against a table, both for one event and with states for all their bytes.
-fn try_device(device: &[u8], table: &[u8], word: &mut [u8]) {
+fn try_device(stdout: Stdout, device: &[u8], table: &[u8], word: &mut [u8]) -> io::Result<()> {
     let meet = values::four_values();
     let verdict = trial(
         1,
@@ -172,74 +170,75 @@ fn try_device(device: &[u8], table: &[u8], word: &mut [u8]) {
         device,
         word,
     );
-    print_verdict(verdict);
+    print_verdict(stdout, verdict)
 }
 
 // A device of value 0, and 3 in its last state, against a table of value 3, and 1 in its last state, both loops: it fails where both are in
 // their last states. With 63 and 254 states that is after 63 x 254 events.
-fn try_longest(word: &mut [u8]) {
+fn try_longest(stdout: Stdout, word: &mut [u8]) -> io::Result<()> {
     let device = loop_of_states(194, 0, 3);
     let table = loop_of_states(3, 3, 1);
-    try_device(&device[388..], &table[6..], word);
+    try_device(stdout, &device[388..], &table[6..], word)
 }
 
 // Tables of 256 and of 257 states.
-fn try_tables(word: &mut [u8]) {
+fn try_tables(stdout: Stdout, word: &mut [u8]) -> io::Result<()> {
     let device = loop_of_states(256, 0, 3);
     let most = loop_of_states(1, 3, 1);
-    try_device(&device[512..], &most[2..], word);
+    try_device(stdout, &device[512..], &most[2..], word)?;
     let more = loop_of_states(0, 3, 1);
-    try_device(&device[512..], &more, word);
+    try_device(stdout, &device[512..], &more, word)
 }
 
 // Devices of 64 and of 65 states.
-fn try_devices(word: &mut [u8]) {
+fn try_devices(stdout: Stdout, word: &mut [u8]) -> io::Result<()> {
     let table = loop_of_states(256, 3, 1);
     let most = loop_of_states(193, 0, 3);
-    try_device(&most[386..], &table[512..], word);
+    try_device(stdout, &most[386..], &table[512..], word)?;
     let more = loop_of_states(192, 0, 3);
-    try_device(&more[384..], &table[512..], word);
+    try_device(stdout, &more[384..], &table[512..], word)
 }
 
 // A buffer of one byte less than the longest word has.
-fn try_short() {
+fn try_short(stdout: Stdout) -> io::Result<()> {
     let device = loop_of_states(256, 0, 3);
     let table = loop_of_states(256, 3, 1);
     let mut word = [0u8; WORD_LIMIT - 1];
-    try_device(&device[512..], &table[512..], &mut word);
+    try_device(stdout, &device[512..], &table[512..], &mut word)
 }
 
-fn trials() {
+fn trials(stdout: Stdout) -> io::Result<()> {
     let mut word = [0u8; WORD_LIMIT];
-    try_longest(&mut word);
-    try_tables(&mut word);
-    try_devices(&mut word);
-    try_short();
+    try_longest(stdout, &mut word)?;
+    try_tables(stdout, &mut word)?;
+    try_devices(stdout, &mut word)?;
+    try_short(stdout)
 }
 
 // The rules of chains of states, and of loops of 256 and of 257.
-fn writings() {
+fn writings(stdout: Stdout) -> io::Result<()> {
     let mut exact = [0u8; 147];
     let twelve = chain_of_states(52);
-    write_chain(&twelve[104..], 12, &mut exact);
+    write_chain(stdout, &twelve[104..], 12, &mut exact)?;
     let mut room = [0u8; RULE_ROOM];
     let thirteen = chain_of_states(51);
-    write_chain(&thirteen[102..], 13, &mut room);
+    write_chain(stdout, &thirteen[102..], 13, &mut room)?;
     let sixty_three = chain_of_states(1);
-    write_chain(&sixty_three[2..], 63, &mut room);
+    write_chain(stdout, &sixty_three[2..], 63, &mut room)?;
     let sixty_four = chain_of_states(0);
-    write_chain(&sixty_four, 64, &mut room);
+    write_chain(stdout, &sixty_four, 64, &mut room)?;
     let most = loop_of_states(1, 3, 3);
-    write_chain(&most[2..], 256, &mut room);
+    write_chain(stdout, &most[2..], 256, &mut room)?;
     let more = loop_of_states(0, 3, 3);
-    write_chain(&more, 257, &mut room);
+    write_chain(stdout, &more, 257, &mut room)
 }
 
-fn main() {
+fn main(rt: HostRuntime) -> io::Result<()> {
+    let stdout = rt.stdout();
     let rule = chain_of_transitions();
-    compile_chain(&rule[576..]);
-    compile_chain(&rule[573..]);
-    compile_chain(&rule);
-    writings();
-    trials();
+    compile_chain(stdout, &rule[576..])?;
+    compile_chain(stdout, &rule[573..])?;
+    compile_chain(stdout, &rule)?;
+    writings(stdout)?;
+    trials(stdout)
 }
