@@ -8,6 +8,8 @@ use command_line::{Command, Listed, NUMBER_LIMIT, equal, read_numbers, rest, wor
 use limits::CHANNEL_LIMIT;
 use recorder::{Reading, Reply};
 use refusal::Refusal;
+use std::io;
+use std::io::Stdout;
 
 // A call: the channel, but for a restart of all; then how many bytes a rule's nodes or a list of events have, which are kept beside, or an
 // event and its pulses. Nothing is left to call where a line has its answer.
@@ -32,65 +34,71 @@ pub enum Replayed {
 }
 
 // The numbers of a line are wrong.
-fn wrong(numbers: Numbers) -> Call {
-    say_wrong(numbers);
-    Call::Nothing
+fn wrong(stdout: Stdout, numbers: Numbers) -> io::Result<Call> {
+    say_wrong(stdout, numbers)?;
+    Ok(Call::Nothing)
 }
 
 // load C TOKENS
-fn load(setup: Setup, meet: &[u8], line: &[u8], nodes: &mut [u8]) -> Call {
+fn load(
+    stdout: Stdout,
+    setup: Setup,
+    meet: &[u8],
+    line: &[u8],
+    nodes: &mut [u8],
+) -> io::Result<Call> {
     let numbers = one_number(line);
     let Numbers::One(channel) = numbers else {
-        return wrong(numbers);
+        return wrong(stdout, numbers);
     };
     let read = read_rule(setup, meet, rest(line, 2), nodes);
     let Nodes::Bytes(n) = read else {
-        say_error(b"tokens");
-        return Call::Nothing;
+        say_error(stdout, b"tokens")?;
+        return Ok(Call::Nothing);
     };
-    Call::Load(channel, n)
+    Ok(Call::Load(channel, n))
 }
 
 // event C E
-fn event_alone(line: &[u8]) -> Call {
+fn event_alone(stdout: Stdout, line: &[u8]) -> io::Result<Call> {
     let numbers = two_numbers(line);
     let Numbers::Two(channel, e) = numbers else {
-        return wrong(numbers);
+        return wrong(stdout, numbers);
     };
-    Call::Event(channel, e)
+    Ok(Call::Event(channel, e))
 }
 
 // event C E PULSES; above 4,294,967,295 these are no number.
-fn event_with_pulses(line: &[u8]) -> Call {
+fn event_with_pulses(stdout: Stdout, line: &[u8]) -> io::Result<Call> {
     let numbers = only_three(line);
     let Numbers::Three(channel, e, pulses) = numbers else {
-        return wrong(numbers);
+        return wrong(stdout, numbers);
     };
     if NUMBER_LIMIT <= pulses {
-        return wrong(Numbers::Malformed);
+        return wrong(stdout, Numbers::Malformed);
     }
-    Call::Measure(channel, e, pulses as u32)
+    Ok(Call::Measure(channel, e, pulses as u32))
 }
 
 // event C E, event C E PULSES
-fn event(line: &[u8]) -> Call {
+fn event(stdout: Stdout, line: &[u8]) -> io::Result<Call> {
     if has_word(line, 3) {
-        return event_with_pulses(line);
+        return event_with_pulses(stdout, line);
     }
-    event_alone(line)
+    event_alone(stdout, line)
 }
 
 // events C E E...
-fn events(line: &[u8], list: &mut [u8]) -> Call {
+fn events(stdout: Stdout, line: &[u8], list: &mut [u8]) -> io::Result<Call> {
     let numbers = one_number(line);
     let Numbers::One(channel) = numbers else {
-        return wrong(numbers);
+        return wrong(stdout, numbers);
     };
     let listed = read_numbers(rest(line, 2), list);
     let Listed::Count(n) = listed else {
-        return wrong(Numbers::Malformed);
+        return wrong(stdout, Numbers::Malformed);
     };
-    Call::Replay(channel, n)
+    Ok(Call::Replay(channel, n))
 }
 
 // Whether a line names all channels.
@@ -102,63 +110,64 @@ fn names_all(line: &[u8]) -> bool {
 }
 
 // restart C, restart all
-fn restart(line: &[u8]) -> Call {
+fn restart(stdout: Stdout, line: &[u8]) -> io::Result<Call> {
     if names_all(line) {
-        return Call::RestartAll;
+        return Ok(Call::RestartAll);
     }
     let numbers = only_one(line);
     let Numbers::One(channel) = numbers else {
-        return wrong(numbers);
+        return wrong(stdout, numbers);
     };
-    Call::Restart(channel)
+    Ok(Call::Restart(channel))
 }
 
 // clear C
-fn clear(line: &[u8]) -> Call {
+fn clear(stdout: Stdout, line: &[u8]) -> io::Result<Call> {
     let numbers = only_one(line);
     let Numbers::One(channel) = numbers else {
-        return wrong(numbers);
+        return wrong(stdout, numbers);
     };
-    Call::Clear(channel)
+    Ok(Call::Clear(channel))
 }
 
 // show C
-fn show(line: &[u8]) -> Call {
+fn show(stdout: Stdout, line: &[u8]) -> io::Result<Call> {
     let numbers = only_one(line);
     let Numbers::One(channel) = numbers else {
-        return wrong(numbers);
+        return wrong(stdout, numbers);
     };
     if CHANNEL_LIMIT <= channel {
-        say_refusal(Refusal::Plain(refusal::CHANNEL_NUMBER));
-        return Call::Nothing;
+        say_refusal(stdout, Refusal::Plain(refusal::CHANNEL_NUMBER))?;
+        return Ok(Call::Nothing);
     }
-    Call::Show(channel)
+    Ok(Call::Show(channel))
 }
 
 // The call of a line.
 pub fn read_call(
+    stdout: Stdout,
     command: Command,
     setup: Setup,
     meet: &[u8],
     line: &[u8],
     list: &mut [u8; LIST_LIMIT],
-) -> Call {
+) -> io::Result<Call> {
     match command {
-        Command::Load => load(setup, meet, line, list),
-        Command::Event => event(line),
-        Command::Events => events(line, list),
-        Command::Restart => restart(line),
-        Command::Clear => clear(line),
-        Command::Show => show(line),
-        _ => Call::Nothing,
+        Command::Load => load(stdout, setup, meet, line, list),
+        Command::Event => event(stdout, line),
+        Command::Events => events(stdout, line, list),
+        Command::Restart => restart(stdout, line),
+        Command::Clear => clear(stdout, line),
+        Command::Show => show(stdout, line),
+        _ => Ok(Call::Nothing),
     }
 }
 
 // The reply to a set-up.
-pub fn say_set_up(reply: Reply) {
+pub fn say_set_up(stdout: Stdout, reply: Reply) -> io::Result<()> {
     match reply {
-        Reply::Refused(refusal) => say_refusal(refusal),
-        _ => say(b"ok\n"),
+        Reply::Refused(refusal) => say_refusal(stdout, refusal),
+        _ => say(stdout, b"ok\n"),
     }
 }
 
@@ -187,71 +196,73 @@ fn total_of(total: [u64; CHANNEL_LIMIT], channel: usize) -> usize {
     0
 }
 
-fn say_channel(states: usize, state: usize, total: usize) {
+fn say_channel(stdout: Stdout, states: usize, state: usize, total: usize) -> io::Result<()> {
     if states == 0 {
-        say(b"empty\n");
-        return;
+        return say(stdout, b"empty\n");
     }
-    say(b"states=");
-    say_number(states);
-    say(b" state=");
-    say_number(state);
-    say_field(b" total=", total);
+    say(stdout, b"states=")?;
+    say_number(stdout, states)?;
+    say(stdout, b" state=")?;
+    say_number(stdout, state)?;
+    say_field(stdout, b" total=", total)
 }
 
 // The reply to an event.
-fn say_reading(setup: Setup, call: Call, reading: Reading) {
+fn say_reading(stdout: Stdout, setup: Setup, call: Call, reading: Reading) -> io::Result<()> {
     match call {
         Call::Event(_, _) => {
-            say(b"value=");
-            say_value(setup, reading.value);
-            say(b"\n");
+            say(stdout, b"value=")?;
+            say_value(stdout, setup, reading.value)?;
+            say(stdout, b"\n")
         }
         Call::Measure(_, _, _) => {
-            say(b"value=");
-            say_value(setup, reading.value);
-            say(b" mm=");
-            say_number(reading.millimetres as usize);
-            say_field(b" rest=", reading.remainder as usize);
+            say(stdout, b"value=")?;
+            say_value(stdout, setup, reading.value)?;
+            say(stdout, b" mm=")?;
+            say_number(stdout, reading.millimetres as usize)?;
+            say_field(stdout, b" rest=", reading.remainder as usize)
         }
-        _ => {}
+        _ => Ok(()),
     }
 }
 
 // An accepted call that returns no value; of the channels there are the states, the current state and the total.
 fn say_accepted(
+    stdout: Stdout,
     call: Call,
     states: [u16; CHANNEL_LIMIT],
     current: [u8; CHANNEL_LIMIT],
     total: [u64; CHANNEL_LIMIT],
-) {
+) -> io::Result<()> {
     match call {
-        Call::Load(channel, _) => say_field(b"states=", states_of(states, channel)),
+        Call::Load(channel, _) => say_field(stdout, b"states=", states_of(states, channel)),
         Call::Show(channel) => say_channel(
+            stdout,
             states_of(states, channel),
             state_of(current, channel),
             total_of(total, channel),
         ),
-        Call::Restart(_) => say(b"ok\n"),
-        Call::RestartAll => say(b"ok\n"),
-        Call::Clear(_) => say(b"ok\n"),
-        _ => {}
+        Call::Restart(_) => say(stdout, b"ok\n"),
+        Call::RestartAll => say(stdout, b"ok\n"),
+        Call::Clear(_) => say(stdout, b"ok\n"),
+        _ => Ok(()),
     }
 }
 
 // The reply to a call, but for the values of a replay.
 pub fn say_reply(
+    stdout: Stdout,
     setup: Setup,
     call: Call,
     reply: Reply,
     states: [u16; CHANNEL_LIMIT],
     current: [u8; CHANNEL_LIMIT],
     total: [u64; CHANNEL_LIMIT],
-) {
+) -> io::Result<()> {
     match reply {
-        Reply::Accepted => say_accepted(call, states, current, total),
-        Reply::Value(reading) => say_reading(setup, call, reading),
-        Reply::Refused(refusal) => say_refusal(refusal),
+        Reply::Accepted => say_accepted(stdout, call, states, current, total),
+        Reply::Value(reading) => say_reading(stdout, setup, call, reading),
+        Reply::Refused(refusal) => say_refusal(stdout, refusal),
     }
 }
 

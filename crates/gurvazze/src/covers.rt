@@ -5,9 +5,12 @@ use crate::setups;
 use crate::setups::{NODE_ROOM, Setup, TABLE_ROOM, entries_of};
 use command_line::{first_part, front, rest, second_part};
 use conformance::Verdict;
+use std::io;
+use std::io::Stdout;
 
 // The table of the first rule against that of the second.
 fn cover_table(
+    stdout: Stdout,
     setup: Setup,
     meet: &[u8],
     first_states: usize,
@@ -15,7 +18,7 @@ fn cover_table(
     second_states: usize,
     second: &[u8],
     word: &mut [u8],
-) {
+) -> io::Result<()> {
     let verdict = setups::trial(
         setup,
         meet,
@@ -27,51 +30,69 @@ fn cover_table(
         word,
     );
     match verdict {
-        Verdict::Pass(_) => say(b"yes\n"),
-        Verdict::Fail(n) => say_list(b"no=", front(&*word, n)),
-        Verdict::Refused(refusal) => say_refusal(refusal),
+        Verdict::Pass(_) => say(stdout, b"yes\n"),
+        Verdict::Fail(n) => say_list(stdout, b"no=", front(&*word, n)),
+        Verdict::Refused(refusal) => say_refusal(stdout, refusal),
     }
 }
 
 // The table of the first rule against the nodes of the second.
 fn cover_rule(
+    stdout: Stdout,
     setup: Setup,
     meet: &[u8],
     states: usize,
     first: &[u8],
     second: &[u8],
     word: &mut [u8],
-) {
+) -> io::Result<()> {
     let mut table = [0u8; TABLE_ROOM];
     let made = compile_rule(setup, meet, second, &mut table);
     let Made::States(n) = made else {
-        say_unmade(made);
-        return;
+        return say_unmade(stdout, made);
     };
     let entries = entries_of(setup, n, &table);
-    cover_table(setup, meet, states, first, n, entries, word);
+    cover_table(stdout, setup, meet, states, first, n, entries, word)
 }
 
 // Both rules are read before either is judged, and the first is judged before the second.
-fn cover(setup: Setup, meet: &[u8], first: &[u8], second: &[u8], word: &mut [u8]) {
+fn cover(
+    stdout: Stdout,
+    setup: Setup,
+    meet: &[u8],
+    first: &[u8],
+    second: &[u8],
+    word: &mut [u8],
+) -> io::Result<()> {
     let mut nodes = [0u8; NODE_ROOM];
     let read = read_rule(setup, meet, second, &mut nodes);
     let Nodes::Bytes(n) = read else {
-        say_error(b"tokens");
-        return;
+        return say_error(stdout, b"tokens");
     };
     let mut table = [0u8; TABLE_ROOM];
     let made = make_table(setup, meet, first, &mut table);
     let Made::States(states) = made else {
-        say_unmade(made);
-        return;
+        return say_unmade(stdout, made);
     };
     let entries = entries_of(setup, states, &table);
-    cover_rule(setup, meet, states, entries, front(&nodes, n), word);
+    cover_rule(stdout, setup, meet, states, entries, front(&nodes, n), word)
 }
 
 // covers TOKENS / TOKENS
-pub fn covers(setup: Setup, meet: &[u8], line: &[u8], word: &mut [u8]) {
+pub fn covers(
+    stdout: Stdout,
+    setup: Setup,
+    meet: &[u8],
+    line: &[u8],
+    word: &mut [u8],
+) -> io::Result<()> {
     let rules = rest(line, 1);
-    cover(setup, meet, first_part(rules), second_part(rules), word);
+    cover(
+        stdout,
+        setup,
+        meet,
+        first_part(rules),
+        second_part(rules),
+        word,
+    )
 }

@@ -1,5 +1,6 @@
 // Lines of standard input, read block by block.
-use libc::STDIN_FILENO;
+use std::io;
+use std::io::{Read, Stdin};
 
 // Most bytes that are read at once.
 pub const BLOCK_LIMIT: usize = 4096;
@@ -44,30 +45,27 @@ pub struct LineRead {
 }
 
 // What is left of the block, or a new one.
-fn refill(block: &mut [u8; BLOCK_LIMIT], input: Input) -> Input {
+fn refill(mut stdin: Stdin, block: &mut [u8; BLOCK_LIMIT], input: Input) -> io::Result<Input> {
     if input.at < input.end {
-        return input;
+        return Ok(input);
     }
-    let got = libc::read(STDIN_FILENO, block);
-    Input {
-        at: 0,
-        end: io::count(got, block),
-    }
+    let end = stdin.read(block)?;
+    Ok(Input { at: 0, end })
 }
 
-fn take_byte(block: &mut [u8; BLOCK_LIMIT], input: Input) -> Taken {
-    let left = refill(block, input);
+fn take_byte(stdin: Stdin, block: &mut [u8; BLOCK_LIMIT], input: Input) -> io::Result<Taken> {
+    let left = refill(stdin, block, input)?;
     let at = left.at;
     let end = left.end;
     if at < end {
         if at < block.len() {
             let next = Next::Byte(block[at]);
             let input = Input { at: at + 1, end };
-            return Taken { next, input };
+            return Ok(Taken { next, input });
         }
     }
     let next = Next::End;
-    Taken { next, input: left }
+    Ok(Taken { next, input: left })
 }
 
 // How much of a line is in the buffer, and whether it has no room for more that came.
@@ -109,26 +107,27 @@ fn over(kept: Kept, input: Input) -> LineRead {
 
 // The next line, without its byte 10, to the front of a buffer. A line that is too long is passed over whole.
 pub fn read_line(
+    stdin: Stdin,
     block: &mut [u8; BLOCK_LIMIT],
     input: Input,
     line: &mut [u8; LINE_LIMIT],
-) -> LineRead {
+) -> io::Result<LineRead> {
     let mut left = input;
     let mut kept = Kept { n: 0, long: false };
     // nothing says that the input ends
     let mut turns: u64 = 18446744073709551615;
     while 0 < turns {
-        let taken = take_byte(block, left);
+        let taken = take_byte(stdin, block, left)?;
         left = taken.input;
         let next = taken.next;
         let Next::Byte(b) = next else {
-            return over(kept, left);
+            return Ok(over(kept, left));
         };
         if b == 10 {
-            return ended(kept, left);
+            return Ok(ended(kept, left));
         }
         kept = keep_byte(line, kept, b);
         turns -= 1;
     }
-    over(kept, left)
+    Ok(over(kept, left))
 }

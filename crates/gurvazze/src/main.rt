@@ -23,6 +23,8 @@ use limits::WORD_LIMIT;
 use lines::{BLOCK_LIMIT, Input, LINE_LIMIT, LIST_LIMIT, Line, read_line};
 use recorder::Reply;
 use setups::{Setup, TABLE_ROOM, is_register, meet_of};
+use std::io;
+use std::io::Stdout;
 use wheels::Turn;
 
 // What is kept beside the tools and the device's entries: whether a set-up was accepted, the one in force, the wheel's turn for the next, and
@@ -108,36 +110,36 @@ enum Step {
 }
 
 // A command that needs a set-up.
-fn step_under(ready: bool, command: Command) -> Step {
+fn step_under(stdout: Stdout, ready: bool, command: Command) -> io::Result<Step> {
     if !ready {
-        say_error(b"setup");
-        return Step::Nothing;
+        say_error(stdout, b"setup")?;
+        return Ok(Step::Nothing);
     }
     match command {
-        Command::Table => Step::Ask(command),
-        Command::Dot => Step::Ask(command),
-        Command::Trial => Step::Ask(command),
-        Command::Covers => Step::Ask(command),
-        Command::Write => Step::Ask(command),
-        _ => Step::Call(command),
+        Command::Table => Ok(Step::Ask(command)),
+        Command::Dot => Ok(Step::Ask(command)),
+        Command::Trial => Ok(Step::Ask(command)),
+        Command::Covers => Ok(Step::Ask(command)),
+        Command::Write => Ok(Step::Ask(command)),
+        _ => Ok(Step::Call(command)),
     }
 }
 
-fn step_of_command(ready: bool, command: Command) -> Step {
+fn step_of_command(stdout: Stdout, ready: bool, command: Command) -> io::Result<Step> {
     match command {
-        Command::Setup => Step::Setup,
-        Command::Register => Step::Register,
-        Command::Wheel => Step::Keep(command),
-        Command::Device => Step::Keep(command),
+        Command::Setup => Ok(Step::Setup),
+        Command::Register => Ok(Step::Register),
+        Command::Wheel => Ok(Step::Keep(command)),
+        Command::Device => Ok(Step::Keep(command)),
         Command::Help => {
-            say_help();
-            Step::Nothing
+            say_help(stdout)?;
+            Ok(Step::Nothing)
         }
         Command::Unknown => {
-            say_error(b"command");
-            Step::Nothing
+            say_error(stdout, b"command")?;
+            Ok(Step::Nothing)
         }
-        _ => step_under(ready, command),
+        _ => step_under(stdout, ready, command),
     }
 }
 
@@ -151,66 +153,76 @@ fn is_skipped(line: &[u8]) -> bool {
 }
 
 // A line that is not skipped is a command.
-fn step_of_line(ready: bool, line: &[u8]) -> Step {
+fn step_of_line(stdout: Stdout, ready: bool, line: &[u8]) -> io::Result<Step> {
     if is_skipped(line) {
-        return Step::Nothing;
+        return Ok(Step::Nothing);
     }
-    step_of_command(ready, read_command(word(line, 0)))
+    step_of_command(stdout, ready, read_command(word(line, 0)))
 }
 
 // The turn or the device of a line is kept.
 fn keep(
+    stdout: Stdout,
     command: Command,
     session: Session,
     line: &[u8],
     entries: &mut [u8; TABLE_ROOM],
-) -> Session {
+) -> io::Result<Session> {
     let setup = session.setup;
     let turn = session.turn;
     let device = session.device;
     match command {
-        Command::Wheel => with_turn(session, wheels::wheel(turn, line)),
-        Command::Device => with_device(session, devices::keep(device, setup, line, entries)),
-        _ => session,
+        Command::Wheel => {
+            let turn = wheels::wheel(stdout, turn, line)?;
+            Ok(with_turn(session, turn))
+        }
+        Command::Device => {
+            let device = devices::keep(stdout, device, setup, line, entries)?;
+            Ok(with_device(session, device))
+        }
+        _ => Ok(session),
     }
 }
 
 // A command that changes nothing.
 fn ask(
+    stdout: Stdout,
     command: Command,
     session: Session,
     meet: &[u8],
     line: &[u8],
     entries: &[u8; TABLE_ROOM],
     out: &mut [u8; WORD_LIMIT],
-) {
+) -> io::Result<()> {
     let setup = session.setup;
     let device = session.device;
     match command {
-        Command::Table => rules::table(setup, meet, line),
-        Command::Dot => rules::dot(setup, meet, line),
-        Command::Trial => devices::trial(setup, meet, device, line, entries, out),
-        Command::Covers => covers::covers(setup, meet, line, out),
-        Command::Write => devices::write(setup, meet, device, line, entries),
-        _ => {}
+        Command::Table => rules::table(stdout, setup, meet, line),
+        Command::Dot => rules::dot(stdout, setup, meet, line),
+        Command::Trial => devices::trial(stdout, setup, meet, device, line, entries, out),
+        Command::Covers => covers::covers(stdout, setup, meet, line, out),
+        Command::Write => devices::write(stdout, setup, meet, device, line, entries),
+        _ => Ok(()),
     }
 }
 
 // The bytes of a line; none of one that is too long.
-fn text_of(found: Line, line: &[u8; LINE_LIMIT]) -> &[u8] {
+fn text_of(stdout: Stdout, found: Line, line: &[u8; LINE_LIMIT]) -> io::Result<&[u8]> {
     match found {
-        Line::Whole(n) => front(line, n),
+        Line::Whole(n) => Ok(front(line, n)),
         Line::Long => {
-            say_error(b"line");
-            front(line, 0)
+            say_error(stdout, b"line")?;
+            Ok(front(line, 0))
         }
-        Line::End => front(line, 0),
+        Line::End => Ok(front(line, 0)),
     }
 }
 
 // Lists, and what a command gives back, go to memory that is lent, so that it is not cleared for each command. Only the tool in force is
 // handed on.
-fn main() {
+fn main(rt: HostRuntime) -> io::Result<()> {
+    let stdin = rt.stdin();
+    let stdout = rt.stdout();
     let mut block = [0u8; BLOCK_LIMIT];
     let mut line = [0u8; LINE_LIMIT];
     let mut entries = [0u8; TABLE_ROOM];
@@ -227,42 +239,50 @@ fn main() {
     // nothing says that the input ends
     let mut turns: u64 = 18446744073709551615;
     while 0 < turns {
-        let read = read_line(&mut block, input, &mut line);
+        let read = read_line(stdin, &mut block, input, &mut line)?;
         input = read.input;
         let found = read.line;
         if let Line::End = found {
-            return;
+            return Ok(());
         }
-        let text = text_of(found, &line);
+        let text = text_of(stdout, found, &line)?;
         let setup = session.setup;
         let turn = session.turn;
         let meet = meet_of(setup, &tool.setup.meet);
-        let step = step_of_line(session.ready, text);
+        let step = step_of_line(stdout, session.ready, text)?;
         match step {
             Step::Nothing => {}
             Step::Setup => {
-                let made = number_calls::set_up(turn, text, &mut list);
+                let made = number_calls::set_up(stdout, turn, text, &mut list)?;
                 let reply = made.reply;
                 tool = number_calls::latest(tool, made);
                 session = with_setup(session, reply, number_calls::setup_of(tool));
             }
             Step::Register => {
-                let made = register_calls::set_up(turn, text);
+                let made = register_calls::set_up(stdout, turn, text)?;
                 let reply = made.reply;
                 register = register_calls::latest(register, made);
                 session = with_setup(session, reply, register_calls::setup_of(register));
             }
-            Step::Keep(command) => session = keep(command, session, text, &mut entries),
-            Step::Ask(command) => ask(command, session, meet, text, &entries, &mut out),
+            Step::Keep(command) => session = keep(stdout, command, session, text, &mut entries)?,
+            Step::Ask(command) => ask(stdout, command, session, meet, text, &entries, &mut out)?,
             Step::Call(command) => {
-                let call = read_call(command, setup, meet, text, &mut list);
+                let call = read_call(stdout, command, setup, meet, text, &mut list)?;
                 if is_register(setup) {
-                    register = register_calls::obey(setup, register, call, &list, &mut values);
+                    register = register_calls::obey(
+                        stdout,
+                        setup,
+                        register,
+                        call,
+                        &list,
+                        &mut values,
+                    )?;
                 } else {
-                    tool = number_calls::obey(setup, tool, call, &list, &mut out);
+                    tool = number_calls::obey(stdout, setup, tool, call, &list, &mut out)?;
                 }
             }
         }
         turns -= 1;
     }
+    Ok(())
 }

@@ -9,6 +9,8 @@ use crate::wheels::Turn;
 use command_line::{Listed, front, read_numbers, rest};
 use limits::WORD_LIMIT;
 use recorder::{Answer, Reply, Tool};
+use std::io;
+use std::io::Stdout;
 
 // A refused set-up, with a tool whose cells are all 0.
 pub fn no_tool() -> Answer {
@@ -16,30 +18,42 @@ pub fn no_tool() -> Answer {
 }
 
 // A set-up that is not tried, since its line has no numbers.
-fn blank(numbers: Numbers) -> Answer {
-    say_wrong(numbers);
-    no_tool()
+fn blank(stdout: Stdout, numbers: Numbers) -> io::Result<Answer> {
+    say_wrong(stdout, numbers)?;
+    Ok(no_tool())
 }
 
 // A set-up, with its answer printed.
-fn try_set_up(turn: Turn, events: usize, values: usize, top: usize, meet: &[u8]) -> Answer {
+fn try_set_up(
+    stdout: Stdout,
+    turn: Turn,
+    events: usize,
+    values: usize,
+    top: usize,
+    meet: &[u8],
+) -> io::Result<Answer> {
     let answer = recorder::set_up(events, values, top, meet, turn.pulses, turn.millimetres);
     let reply = answer.reply;
-    say_set_up(reply);
-    answer
+    say_set_up(stdout, reply)?;
+    Ok(answer)
 }
 
 // setup EVENTS VALUES TOP MEET...
-pub fn set_up(turn: Turn, line: &[u8], meet: &mut [u8; LIST_LIMIT]) -> Answer {
+pub fn set_up(
+    stdout: Stdout,
+    turn: Turn,
+    line: &[u8],
+    meet: &mut [u8; LIST_LIMIT],
+) -> io::Result<Answer> {
     let numbers = three_numbers(line);
     let Numbers::Three(events, values, top) = numbers else {
-        return blank(numbers);
+        return blank(stdout, numbers);
     };
     let listed = read_numbers(rest(line, 4), meet);
     let Listed::Count(n) = listed else {
-        return blank(Numbers::Malformed);
+        return blank(stdout, Numbers::Malformed);
     };
-    try_set_up(turn, events, values, top, front(&*meet, n))
+    try_set_up(stdout, turn, events, values, top, front(&*meet, n))
 }
 
 // The tool of an accepted set-up, and else the one that was there.
@@ -77,21 +91,22 @@ fn answer_to(tool: Tool, call: Call, bytes: &[u8], values: &mut [u8]) -> Answer 
 
 // A call, with its answer printed.
 pub fn obey(
+    stdout: Stdout,
     setup: Setup,
     tool: Tool,
     call: Call,
     bytes: &[u8; LIST_LIMIT],
     values: &mut [u8; WORD_LIMIT],
-) -> Tool {
+) -> io::Result<Tool> {
     let answer = answer_to(tool, call, bytes, values);
     let reply = answer.reply;
     let states = answer.tool.states;
     let current = answer.tool.current;
     let total = answer.tool.total;
-    say_reply(setup, call, reply, states, current, total);
+    say_reply(stdout, setup, call, reply, states, current, total)?;
     let replayed = returned(call, reply);
     if let Replayed::Values(n) = replayed {
-        say_list(b"values=", front(&*values, n));
+        say_list(stdout, b"values=", front(&*values, n))?;
     }
-    answer.tool
+    Ok(answer.tool)
 }

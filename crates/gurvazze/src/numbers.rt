@@ -1,6 +1,8 @@
 // The numbers of a line.
 use crate::answers::say_error;
 use command_line::{Number, read_number, word};
+use std::io;
+use std::io::Stdout;
 
 // What they are, that there are too few or too many words, or that one is no number.
 #[derive(Clone, Copy)]
@@ -12,11 +14,11 @@ pub enum Numbers {
     Malformed,
 }
 
-pub fn say_wrong(numbers: Numbers) {
+pub fn say_wrong(stdout: Stdout, numbers: Numbers) -> io::Result<()> {
     if let Numbers::Malformed = numbers {
-        say_error(b"number");
+        say_error(stdout, b"number")
     } else {
-        say_error(b"arguments");
+        say_error(stdout, b"arguments")
     }
 }
 

@@ -9,6 +9,8 @@ use crate::wheels::Turn;
 use command_line::front;
 use recorder::registers::{RegisterAnswer, RegisterTool};
 use recorder::{Reply, registers};
+use std::io;
+use std::io::Stdout;
 
 // A refused set-up, with a tool whose cells are all 0.
 pub fn no_tool() -> RegisterAnswer {
@@ -16,16 +18,16 @@ pub fn no_tool() -> RegisterAnswer {
 }
 
 // register EVENTS LINES
-pub fn set_up(turn: Turn, line: &[u8]) -> RegisterAnswer {
+pub fn set_up(stdout: Stdout, turn: Turn, line: &[u8]) -> io::Result<RegisterAnswer> {
     let numbers = only_two(line);
     let Numbers::Two(events, lines) = numbers else {
-        say_wrong(numbers);
-        return no_tool();
+        say_wrong(stdout, numbers)?;
+        return Ok(no_tool());
     };
     let answer = registers::set_up(events, lines, turn.pulses, turn.millimetres);
     let reply = answer.reply;
-    say_set_up(reply);
-    answer
+    say_set_up(stdout, reply)?;
+    Ok(answer)
 }
 
 // The tool of an accepted set-up, and else the one that was there.
@@ -63,21 +65,22 @@ fn answer_to(tool: RegisterTool, call: Call, bytes: &[u8], values: &mut [u32]) -
 
 // A call, with its answer printed.
 pub fn obey(
+    stdout: Stdout,
     setup: Setup,
     tool: RegisterTool,
     call: Call,
     bytes: &[u8; LIST_LIMIT],
     values: &mut [u32; LIST_LIMIT],
-) -> RegisterTool {
+) -> io::Result<RegisterTool> {
     let answer = answer_to(tool, call, bytes, values);
     let reply = answer.reply;
     let states = answer.tool.states;
     let current = answer.tool.current;
     let total = answer.tool.total;
-    say_reply(setup, call, reply, states, current, total);
+    say_reply(stdout, setup, call, reply, states, current, total)?;
     let replayed = returned(call, reply);
     if let Replayed::Values(n) = replayed {
-        say_masks_list(b"values=", &*values, n);
+        say_masks_list(stdout, b"values=", &*values, n)?;
     }
-    answer.tool
+    Ok(answer.tool)
 }

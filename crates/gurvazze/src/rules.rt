@@ -8,6 +8,8 @@ use channel_file::TokenList;
 use command_line::{front, rest};
 use limits::{ENTRY_LIMIT, FILE_LIMIT};
 use refusal::{Counted, Refusal};
+use std::io;
+use std::io::Stdout;
 
 // Most tables have at most a sixteenth of the entries; an eighth of the room is more than what is printed of them takes.
 const FEW_ENTRIES: usize = ENTRY_LIMIT / 16;
@@ -79,11 +81,11 @@ pub fn make_table(setup: Setup, meet: &[u8], tokens: &[u8], table: &mut [u8]) ->
 }
 
 // Why there is no table.
-pub fn say_unmade(made: Made) {
+pub fn say_unmade(stdout: Stdout, made: Made) -> io::Result<()> {
     match made {
-        Made::Refused(refusal) => say_refusal(refusal),
-        Made::Malformed => say_error(b"tokens"),
-        Made::States(_) => {}
+        Made::Refused(refusal) => say_refusal(stdout, refusal),
+        Made::Malformed => say_error(stdout, b"tokens"),
+        Made::States(_) => Ok(()),
     }
 }
 
@@ -98,19 +100,27 @@ fn second_line(text: &[u8]) -> usize {
 }
 
 // The lines of a table, without that of its events.
-fn say_lines(text: &[u8]) {
+fn say_lines(stdout: Stdout, text: &[u8]) -> io::Result<()> {
     let at = second_line(text);
     if at < text.len() {
-        say(&text[at..]);
+        say(stdout, &text[at..])?;
     }
+    Ok(())
 }
 
 // The rows of a table, put into a buffer first.
-fn say_rows_by(setup: Setup, states: usize, table: &[u8], out: &mut [u8]) {
+fn say_rows_by(
+    stdout: Stdout,
+    setup: Setup,
+    states: usize,
+    table: &[u8],
+    out: &mut [u8],
+) -> io::Result<()> {
     let printed = setups::rows(setup, states, table, out);
     if let Counted::Count(n) = printed {
-        say_lines(front(&*out, n));
+        say_lines(stdout, front(&*out, n))?;
     }
+    Ok(())
 }
 
 // Whether a table of so many states is one of those.
@@ -118,31 +128,38 @@ fn has_few(setup: Setup, states: usize) -> bool {
     product(states, events_of(setup)) <= FEW_ENTRIES
 }
 
-fn say_rows(setup: Setup, states: usize, table: &[u8]) {
+fn say_rows(stdout: Stdout, setup: Setup, states: usize, table: &[u8]) -> io::Result<()> {
     if has_few(setup, states) {
         let mut out = [0u8; FEW_ROWS];
-        say_rows_by(setup, states, table, &mut out);
+        say_rows_by(stdout, setup, states, table, &mut out)
     } else {
         let mut out = [0u8; ROWS_ROOM];
-        say_rows_by(setup, states, table, &mut out);
+        say_rows_by(stdout, setup, states, table, &mut out)
     }
 }
 
 // A table as a Graphviz digraph, put into a buffer first.
-fn say_digraph_by(setup: Setup, states: usize, table: &[u8], out: &mut [u8]) {
+fn say_digraph_by(
+    stdout: Stdout,
+    setup: Setup,
+    states: usize,
+    table: &[u8],
+    out: &mut [u8],
+) -> io::Result<()> {
     let drawn = setups::dot(setup, states, table, out);
     if let Counted::Count(n) = drawn {
-        say(front(&*out, n));
+        say(stdout, front(&*out, n))?;
     }
+    Ok(())
 }
 
-fn say_digraph(setup: Setup, states: usize, table: &[u8]) {
+fn say_digraph(stdout: Stdout, setup: Setup, states: usize, table: &[u8]) -> io::Result<()> {
     if has_few(setup, states) {
         let mut out = [0u8; FEW_ARROWS];
-        say_digraph_by(setup, states, table, &mut out);
+        say_digraph_by(stdout, setup, states, table, &mut out)
     } else {
         let mut out = [0u8; GRAPH_ROOM];
-        say_digraph_by(setup, states, table, &mut out);
+        say_digraph_by(stdout, setup, states, table, &mut out)
     }
 }
 
@@ -154,26 +171,25 @@ enum Form {
 }
 
 // The table of a rule in tokens.
-fn show(form: Form, setup: Setup, meet: &[u8], tokens: &[u8]) {
+fn show(stdout: Stdout, form: Form, setup: Setup, meet: &[u8], tokens: &[u8]) -> io::Result<()> {
     let mut table = [0u8; TABLE_ROOM];
     let made = make_table(setup, meet, tokens, &mut table);
     let Made::States(states) = made else {
-        say_unmade(made);
-        return;
+        return say_unmade(stdout, made);
     };
     let entries = entries_of(setup, states, &table);
     match form {
-        Form::Rows => say_rows(setup, states, entries),
-        Form::Digraph => say_digraph(setup, states, entries),
+        Form::Rows => say_rows(stdout, setup, states, entries),
+        Form::Digraph => say_digraph(stdout, setup, states, entries),
     }
 }
 
 // table TOKENS
-pub fn table(setup: Setup, meet: &[u8], line: &[u8]) {
-    show(Form::Rows, setup, meet, rest(line, 1));
+pub fn table(stdout: Stdout, setup: Setup, meet: &[u8], line: &[u8]) -> io::Result<()> {
+    show(stdout, Form::Rows, setup, meet, rest(line, 1))
 }
 
 // dot TOKENS
-pub fn dot(setup: Setup, meet: &[u8], line: &[u8]) {
-    show(Form::Digraph, setup, meet, rest(line, 1));
+pub fn dot(stdout: Stdout, setup: Setup, meet: &[u8], line: &[u8]) -> io::Result<()> {
+    show(stdout, Form::Digraph, setup, meet, rest(line, 1))
 }

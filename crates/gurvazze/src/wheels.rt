@@ -1,6 +1,8 @@
 // The turn of a wheel that the next set-up takes.
 use crate::answers::say;
 use crate::numbers::{Numbers, only_two, say_wrong};
+use std::io;
+use std::io::Stdout;
 
 // Pulses and millimetres of a turn, as they were said; a set-up judges them.
 #[derive(Clone, Copy)]
@@ -18,15 +20,15 @@ pub fn first_turn() -> Turn {
 }
 
 // wheel P C
-pub fn wheel(old: Turn, line: &[u8]) -> Turn {
+pub fn wheel(stdout: Stdout, old: Turn, line: &[u8]) -> io::Result<Turn> {
     let numbers = only_two(line);
     let Numbers::Two(pulses, millimetres) = numbers else {
-        say_wrong(numbers);
-        return old;
+        say_wrong(stdout, numbers)?;
+        return Ok(old);
     };
-    say(b"ok\n");
-    Turn {
+    say(stdout, b"ok\n")?;
+    Ok(Turn {
         pulses,
         millimetres,
-    }
+    })
 }
