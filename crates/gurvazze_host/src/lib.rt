@@ -1,5 +1,6 @@
-// The static library for programs in C and Rust. Each exported function is an entry of the crates below with its answer in one number
-// of 64 bits: the refusal's number in the low byte, 0 where there is none, and above it the refusal's place or what the call yields.
+// What the static library gurvazze_host_c exports to programs in C and Rust. Each public function is an entry of the crates below with its
+// answer in one number of 64 bits: the refusal's number in the low byte, 0 where there is none, and above it the refusal's place or what the
+// call yields.
 #![tactic(auto)]
 
 ghost use Rattle.std.specs.Prelude.{◌≡◌, ◌≤◌, ltb, length, get_or};
@@ -350,8 +351,7 @@ fn register_trial_large(
 }
 
 // The table of a channel file's rule, two bytes an entry, and its numbers: 4, 1 to 3, 5 to 10, 13.
-#[unsafe(no_mangle)]
-pub extern "C" fn gurvazze_table(text: &[u8], to: &mut [u8]) -> u64
+pub fn gurvazze_table(text: &[u8], to: &mut [u8]) -> u64
     ensures answer { result ≡ table_code number_file (read_file text.now) to.old }
     ensures contents { to.new ≡ table_after number_file (read_file text.now) to.old }
 {
@@ -366,8 +366,7 @@ pub extern "C" fn gurvazze_table(text: &[u8], to: &mut [u8]) -> u64
 }
 
 // The same of a register's channel file, five bytes an entry: 4, 1, 20, 5 to 10, 13.
-#[unsafe(no_mangle)]
-pub extern "C" fn gurvazze_register_table(text: &[u8], to: &mut [u8]) -> u64
+pub fn gurvazze_register_table(text: &[u8], to: &mut [u8]) -> u64
     ensures answer { result ≡ table_code register_file (register_reading.read_file text.now) to.old }
     ensures contents { to.new ≡ table_after register_file (register_reading.read_file text.now) to.old }
 {
@@ -381,8 +380,7 @@ pub extern "C" fn gurvazze_register_table(text: &[u8], to: &mut [u8]) -> u64
 }
 
 // The values of a channel file's rule on a sequence of events, one byte each: 4, 1 to 3, 5 to 10, 16, 13.
-#[unsafe(no_mangle)]
-pub extern "C" fn gurvazze_replay(text: &[u8], word: &[u8], to: &mut [u8]) -> u64
+pub fn gurvazze_replay(text: &[u8], word: &[u8], to: &mut [u8]) -> u64
     ensures answer { result ≡ replay_code number_file (read_file text.now) word.now to.old }
     ensures contents { to.new ≡ replay_after number_file (read_file text.now) word.now to.old }
 {
@@ -404,8 +402,7 @@ pub extern "C" fn gurvazze_replay(text: &[u8], word: &[u8], to: &mut [u8]) -> u6
 }
 
 // The same of a register's channel file, four bytes each: 4, 1, 20, 5 to 10, 16, 13.
-#[unsafe(no_mangle)]
-pub extern "C" fn gurvazze_register_replay(text: &[u8], word: &[u8], to: &mut [u8]) -> u64
+pub fn gurvazze_register_replay(text: &[u8], word: &[u8], to: &mut [u8]) -> u64
     ensures answer { result ≡ replay_code register_file (register_reading.read_file text.now) word.now to.old }
     ensures contents { to.new ≡ replay_after register_file (register_reading.read_file text.now) word.now
         to.old }
@@ -427,8 +424,7 @@ pub extern "C" fn gurvazze_register_replay(text: &[u8], word: &[u8], to: &mut [u
 }
 
 // Trial of a device against a channel file's rule: 4, 1 to 3, 5 to 10, 11, 13.
-#[unsafe(no_mangle)]
-pub extern "C" fn gurvazze_trial(
+pub fn gurvazze_trial(
     text: &[u8],
     device_states: usize,
     device_start: usize,
@@ -466,8 +462,7 @@ pub extern "C" fn gurvazze_trial(
 }
 
 // Trial of a register's device, five bytes an entry, against a register's channel file's rule: 4, 1, 20, 5 to 10, 11, 13.
-#[unsafe(no_mangle)]
-pub extern "C" fn gurvazze_register_trial(
+pub fn gurvazze_register_trial(
     text: &[u8],
     device_states: usize,
     device_start: usize,
@@ -503,8 +498,7 @@ pub extern "C" fn gurvazze_register_trial(
 }
 
 // The table of a rule, both in bytes, two an entry and three a node; yields the number of states: 1 to 3, 5 to 10, 13.
-#[unsafe(no_mangle)]
-pub extern "C" fn gurvazze_compile(
+pub fn gurvazze_compile(
     events: usize,
     values: usize,
     top: usize,
@@ -522,8 +516,7 @@ pub extern "C" fn gurvazze_compile(
 }
 
 // The same over a register, five bytes an entry and six a node: 1, 20, 5 to 10, 13.
-#[unsafe(no_mangle)]
-pub extern "C" fn gurvazze_register_compile(
+pub fn gurvazze_register_compile(
     events: usize,
     lines: usize,
     rule: &[u8],
@@ -537,8 +530,7 @@ pub extern "C" fn gurvazze_register_compile(
 }
 
 // Trial of a device against a rule's table, both in bytes: 1 to 3, 11, 13.
-#[unsafe(no_mangle)]
-pub extern "C" fn gurvazze_trial_table(
+pub fn gurvazze_trial_table(
     events: usize,
     values: usize,
     top: usize,
@@ -573,8 +565,7 @@ pub extern "C" fn gurvazze_trial_table(
 }
 
 // The same over a register, five bytes an entry: 1, 20, 11, 13.
-#[unsafe(no_mangle)]
-pub extern "C" fn gurvazze_register_trial_table(
+pub fn gurvazze_register_trial_table(
     events: usize,
     lines: usize,
     states: usize,
@@ -605,8 +596,7 @@ pub extern "C" fn gurvazze_register_trial_table(
 }
 
 // The rule of a table from a start, three bytes a node; yields the node count: 1 to 3, 11, 12, 23, 13.
-#[unsafe(no_mangle)]
-pub extern "C" fn gurvazze_rule(
+pub fn gurvazze_rule(
     events: usize,
     values: usize,
     top: usize,
@@ -626,8 +616,7 @@ pub extern "C" fn gurvazze_rule(
 }
 
 // The same over a register, five bytes an entry and six a node: 1, 20, 11, 12, 23, 13.
-#[unsafe(no_mangle)]
-pub extern "C" fn gurvazze_register_rule(
+pub fn gurvazze_register_rule(
     events: usize,
     lines: usize,
     states: usize,
