@@ -16,8 +16,8 @@ use crate::plain;
 use crate::rules::{bytes_of, chain, four, lines};
 use crate::timing::{processor_time, programs_time, Report};
 
-const PROGRAM: &str = "../target/bin/event_calls";
-const LOAD_PROGRAM: &str = "../target/bin/load_calls";
+const PROGRAM: &str = "../crates/event_calls/out/event_calls";
+const LOAD_PROGRAM: &str = "../crates/load_calls/out/load_calls";
 /// So many events are played so many times over, with so many pulses each.
 const EVENTS: usize = 4096;
 const EVENT_ROUNDS: usize = 256;
@@ -34,7 +34,7 @@ enum How {
     ReplayWithPulses,
 }
 
-/// The rows of calls on a tool. They are left out where `rt check event_calls load_calls` has not made the programs.
+/// The rows of calls on a tool. They are left out where `rt run`, in the folders of the programs, has not made them.
 pub fn calls(report: &mut Report) {
     report.section("calls on a tool, 2 states and 2 events unless said, beside the same checks; for 16 lines the columns of fast are of 4 values");
     let (few, many) = (few(), chain(255, 16));

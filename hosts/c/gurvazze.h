@@ -1,5 +1,5 @@
 /* Channel rule tables by the proved library, for C on x86-64 Linux. Link target/staticlib/libgurvazze_host.a, which
- * `rt staticlib gurvazze_host` writes.
+ * `hosts/library` writes.
  *
  * A slice is a pointer and a length in bytes. A pointer is not null, even where the length is 0; what a function writes to (to, word)
  * overlaps nothing else that the call is lent. A refused call leaves all lent memory as it was, and what lies behind an output keeps

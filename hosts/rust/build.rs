@@ -14,7 +14,7 @@ fn main() {
     println!("cargo:rerun-if-changed={}", library.display());
     if !library.is_file() {
         eprintln!(
-            "{} is not there: run `rt staticlib gurvazze_host` in the repository, or set GURVAZZE_LIBRARY to its folder",
+            "{} is not there: run `hosts/library` in the repository, or set GURVAZZE_LIBRARY to its folder",
             library.display()
         );
         exit(1);
