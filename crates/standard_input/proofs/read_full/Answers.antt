@@ -18,7 +18,8 @@ slice_range_put_mid : (a k n : ℕ) (xs ys : List ℕ) → a ≤ length xs → n
 slice_range_put_mid a k n xs ys within fits =
     let same : (a + n) - a ≡ n = omega arith in
     let after = post_of a k xs in
-    ap (take ((a + n) - a)) (drop_at (take a xs) (ys ++ after) a (length-take-le a xs within)) ∙ ap (λ m. take m (ys ++ after)) same ∙ take-append-le n ys after fits
+    let at_middle = drop_at (take a xs) (ys ++ after) a (length-take-le a xs within) in
+    ap (take ((a + n) - a)) at_middle ∙ ap (λ m. take m (ys ++ after)) same ∙ take-append-le n ys after fits
 
 pub loop-done-preserved : goal.loop-done-preserved
 loop-done-preserved g c =
