@@ -115,8 +115,7 @@ pub fn read_line(
     let mut left = input;
     let mut kept = Kept { n: 0, long: false };
     // nothing says that the input ends
-    let mut turns: u64 = 18446744073709551615;
-    while 0 < turns {
+    for _ in 0..u64::MAX {
         let taken = take_byte(stdin, block, left)?;
         left = taken.input;
         let next = taken.next;
@@ -127,7 +126,6 @@ pub fn read_line(
             return Ok(ended(kept, left));
         }
         kept = keep_byte(line, kept, b);
-        turns -= 1;
     }
     Ok(over(kept, left))
 }

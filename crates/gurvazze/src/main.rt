@@ -237,8 +237,7 @@ fn main(rt: HostRuntime) -> io::Result<()> {
     let mut session = start();
     let mut input = Input { at: 0, end: 0 };
     // nothing says that the input ends
-    let mut turns: u64 = 18446744073709551615;
-    while 0 < turns {
+    for _ in 0..u64::MAX {
         let read = read_line(stdin, &mut block, input, &mut line)?;
         input = read.input;
         let found = read.line;
@@ -282,7 +281,6 @@ fn main(rt: HostRuntime) -> io::Result<()> {
                 }
             }
         }
-        turns -= 1;
     }
     Ok(())
 }
