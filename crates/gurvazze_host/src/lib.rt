@@ -516,12 +516,7 @@ pub fn gurvazze_compile(
 }
 
 // The same over a register, five bytes an entry and six a node: 1, 20, 5 to 10, 13.
-pub fn gurvazze_register_compile(
-    events: usize,
-    lines: usize,
-    rule: &[u8],
-    to: &mut [u8],
-) -> u64
+pub fn gurvazze_register_compile(events: usize, lines: usize, rule: &[u8], to: &mut [u8]) -> u64
     ensures answer { result ≡ counted_code (compile_answer state_limit (register_setup events lines) rule.now to.old) }
     ensures contents { to.new ≡ compile_contents state_limit (register_setup events lines) rule.now to.old }
 {
