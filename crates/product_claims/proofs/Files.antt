@@ -1,8 +1,8 @@
 -- The demands on calls on files, of both forms.
 use Prim.Native.Nat.{ℕ}
-use mathlib.Core.{Path.{◌≡◌}, List.{List}, Option.{some}}
+use mathlib.Core.{Path.{◌≡◌, refl, ap, subst}, List.{List}, Option.{some}}
 use Rattle.refusal.specs.{declared.Counted.{Counted}, Refusal.{JudgedCall, counted_refusal, count_of}}
-use Rattle.values.specs.Setup.{Setup, setup, register_setup}
+use Rattle.values.specs.{Setup.{Setup, setup, register_setup}, declared.ValueKind.TheVariants.{Register}}
 use Rattle.channel_file.proofs.TextDemands.{file_to_tokens}
 use Rattle.channel_file.proofs.RegisterClaims.{file_to_tokens as register_file_to_tokens}
 use Rattle.channel_io.specs.{FileConditions.{number_file, write_file_conditions, WritesAs}, RegisterFiles.{register_file}}
@@ -51,9 +51,19 @@ register_file_of : (s : Setup) (rule old new : List ℕ) (r : Counted) → Write
     → WritesAs register_file s rule old new n
 register_file_of s rule old new r (WritesRegister.writes events lines w) = registers.rule_to_file events lines rule old new r w
 
+-- a set-up that is a register's is one of its events and lines alone
+register_written_at : (s : Setup) (rule old new : List ℕ) (r : Counted) → WritesRegister rule old new r s → (events lines : ℕ)
+    → s ≡ register_setup events lines → WritesRegisterFile events lines rule old new r
+register_written_at s rule old new r (WritesRegister.writes e l w) events lines q =
+    let same_events : e ≡ events = ap (λ (x : Setup). x.events) q in
+    let same_kind : Register l ≡ Register lines = ap (λ (x : Setup). x.kind) q in
+    let same_lines : l ≡ lines = cc in
+    subst (λ x. WritesRegisterFile x lines rule old new r) same_events
+    (subst (λ x. WritesRegisterFile e x rule old new r) same_lines w)
+
 register_written : (events lines : ℕ) (rule old new : List ℕ) (r : Counted) → WritesRegister rule old new r (register_setup events lines)
     → WritesRegisterFile events lines rule old new r
-register_written events lines rule old new r (WritesRegister.writes e l w) = w
+register_written events lines rule old new r x = register_written_at _ rule old new r x events lines refl
 
 pub register_files_judged : FilesJudged register_calls
 register_files_judged = record { reading = registers.reading_a_file; writing = register_writing; reporting = reporting one_report_claim.registers }
