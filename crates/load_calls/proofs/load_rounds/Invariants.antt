@@ -1,6 +1,5 @@
 -- `load_calls::load_rounds`: the rounds end, and no sum overflows.
 use Prim.Native.Nat.{◌≤◌, ◌*◌, ◌-◌}
-use borrow.Author.Rules.{rules}
 use Rattle.load_calls.proofs.load_rounds.Given as goal
 
 abbrev pub invariant-loop-round : goal.invariant-loop-round

@@ -1,6 +1,5 @@
 -- `load_calls::register_rounds`: the rounds end, and no sum overflows.
 use Prim.Native.Nat.{◌≤◌, ◌*◌, ◌-◌}
-use borrow.Author.Rules.{rules}
 use Rattle.load_calls.proofs.register_rounds.Given as goal
 
 abbrev pub invariant-loop-round : goal.invariant-loop-round

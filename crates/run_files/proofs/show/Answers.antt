@@ -5,7 +5,6 @@ use native.Mathlib.Omega.{arith}
 use lib.{ListN.{length-replicate}, Seq.{length-take-le}}
 use Rattle.table_report.specs.Report.{report_limit}
 use Rattle.table_report.proofs.Answers.{count_within}
-use borrow.Author.Rules.{rules}
 use Rattle.run_files.proofs.show.Goals as goal
 
 pub slice_bounds-out-end : goal.slice_bounds-out-end

@@ -1,5 +1,5 @@
 -- `event_calls::numbers::replay`: the rounds end.
-use Rattle.std.proofs.Common.{◌≡◌, ◌-◌, ◌≤◌, length, rules}
+use Rattle.std.proofs.Common.{◌≡◌, ◌-◌, ◌≤◌, length}
 use Rattle.event_calls.proofs.numbers.replay.Given as goal
 
 abbrev pub invariant-loop-round : goal.invariant-loop-round

@@ -1,5 +1,5 @@
 -- `event_calls::numbers::sum_of`: it ends, and keeps within its slice.
-use Rattle.std.proofs.Common.{◌-◌, ◌≤◌, length, rules}
+use Rattle.std.proofs.Common.{◌-◌, ◌≤◌, length}
 use Rattle.event_calls.proofs.numbers.sum_of.Given as goal
 
 abbrev pub invariant-loop-i : goal.invariant-loop-i

@@ -1,5 +1,5 @@
 -- `event_calls::registers::play`: the rounds end, and keep within the slice.
-use Rattle.std.proofs.Common.{◌-◌, ◌≤◌, length, rules}
+use Rattle.std.proofs.Common.{◌-◌, ◌≤◌, length}
 use Rattle.event_calls.proofs.registers.play.Given as goal
 
 abbrev pub invariant-loop-i : goal.invariant-loop-i
