@@ -31,7 +31,8 @@ use Rattle.channel_io.proofs.Clamping.{clamp_below, clamp_zero, unknown, clamp_f
 -- ---- items in six numbers each
 
 module _ (code : Token → List ℕ) (six : (x : Token) → length (code x) ≡ 6) where
-  at_item : (xs : List Token) (i r : ℕ) → r < 6 → get_or (code token_T) r 0 ≡ 0 → get_or (encoded code xs) (i * 6 + r) 0 ≡ get_or (code (get_or xs i token_T)) r 0
+  at_item : (xs : List Token) (i r : ℕ) → r < 6 → get_or (code token_T) r 0 ≡ 0 → get_or (encoded code xs) (i * 6 + r) 0 ≡ get_or
+      (code (get_or xs i token_T)) r 0
   at_item [] i r h z = sym z
   at_item (x ∷ xs) zero r h z =
       let e : zero * 6 + r ≡ r = omega arith in

@@ -133,7 +133,8 @@ module _ (f : Form) where
       (rule_refusal (s f).events (s f).kind (bytes (rule_in f rule)) ≡ none)
       × (leb (states (case_formula rule)) state_limit ≡ true) × (ltb e (s f).events ≡ true)
       × ((made (case_formula rule)).value 0 e ≡ f.value first)
-      × ((l : ℕ) × ((made (case_formula rule)).next 0 e ≡ l) × ((made (case_formula rule)).next l e ≡ l) × ((made (case_formula rule)).value l e ≡ f.value later))
+      × ((l : ℕ) × ((made (case_formula rule)).next 0 e ≡ l) × ((made (case_formula rule)).next l e ≡ l) ×
+      ((made (case_formula rule)).value l e ≡ f.value later))
   Checked (refused rule refusal) = rule_refusal (s f).events (s f).kind (bytes (rule_in f rule)) ≡ some refusal
   Checked (written n rows count) =
       (φ : Formula ℕ) × (rule_written (device f rows) n 1 0 ≡ φ)

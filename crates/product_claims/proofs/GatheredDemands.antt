@@ -3,7 +3,7 @@ use mathlib.Core.{Logic.{◌↔◌}, List.{List}}
 use Prim.Native.Nat.{ℕ, suc}
 use lib.Dec.{T}
 use Rattle.theory.specs.Formula.{Formula, transition, Stands, part_of_transition}
-use Rattle.theory.specs.{MealyMachine.{Machine}, ReachableStates.{NodeSet, Demands, InNextSet, IsSetMachine}}
+use Rattle.theory.specs.{MealyMachine.{Machine}, ReachableStates.{NodeSet, Demands, IsSetMachine}}
 use Rattle.values.specs.Setup.{Setup, setup_meet, setup_top}
 use Rattle.synthesis.specs.KeptSets.{kept_set}
 use Rattle.synthesis.proofs.KeptSets.{kept_demands}

@@ -19,7 +19,7 @@ unfolding judgement misfit_place
 returns-then-not-fields_fit c =
     let t : misfit c.args.events c.args.kind c.args.kinds.now c.args.firsts.now c.args.values.now c.loop-i.i ≡ true
     = ap not (sym (c.fields_fit.ensures ∙ ap (fields_fit c.args.events (kind_of (get_or c.args.kinds.now c.loop-i.i 0)) (get_or c.args.firsts.now c.loop-i.i 0)
-    (get_or c.args.values.now c.loop-i.i 0)) c.value_fits.ensures)) ∙ c.if-not-fields_fit.true-raw in
+    (get_or c.args.values.now c.loop-i.i 0)) c.value_fits.ensures)) ∙ ap not c.if-not-fields_fit.true in
     sym (ap judgement (tree_misfit _ _ _ _ _ _ _ (sym c.loop-i.invariant.search ∙ lowest_here _ c.args.count c.loop-i.i
     c.loop-i-test.true t)))
 
@@ -27,20 +27,25 @@ pub returns-then-parts-gt0 : goal.returns-then-parts-gt0
 unfolding judgement misfit_place at_found
 returns-then-parts-gt0 c =
     let e : c.loop-i.used ≡ c.args.count = omega (arith, c.loop-i.invariant.together c.if-parts-gt0.true, c.loop-i.invariant.within) in
-    sym (ap judgement (tree_end _ _ _ _ _ _ (sym c.loop-i.invariant.search ∙ lowest_end _ (c.args.count - c.loop-i.i) c.loop-i.i (omega arith)) ∙ ap (λ o. at_found o 7)
+    sym (ap judgement (tree_end _ _ _ _ _ _ (sym c.loop-i.invariant.search ∙ lowest_end _ (c.args.count - c.loop-i.i) c.loop-i.i (omega arith)) ∙ ap
+        (λ o. at_found o 7)
     (sym c.loop-i.invariant.walk ∙ end_short _ c.loop-i.parts (c.args.count - c.loop-i.used) c.loop-i.used c.if-parts-gt0.true (omega (arith, e)) ∙ ap some e)))
 
 pub returns-then-used-count : goal.returns-then-used-count
 unfolding judgement misfit_place at_found
 returns-then-used-count c =
-    sym (ap judgement (tree_end _ _ _ _ _ _ (sym c.loop-i.invariant.search ∙ lowest_end _ (c.args.count - c.loop-i.i) c.loop-i.i (omega arith)) ∙ ap (λ o. at_found o 7)
-    (sym c.loop-i.invariant.walk ∙ end_over _ c.loop-i.parts (c.args.count - c.loop-i.used) c.loop-i.used (omega (arith, c.if-parts-gt0.false)) (omega (arith, c.if-used-count.true)))))
+    sym (ap judgement (tree_end _ _ _ _ _ _ (sym c.loop-i.invariant.search ∙ lowest_end _ (c.args.count - c.loop-i.i) c.loop-i.i (omega arith)) ∙ ap
+        (λ o. at_found o 7)
+    (sym c.loop-i.invariant.walk ∙ end_over _ c.loop-i.parts (c.args.count - c.loop-i.used) c.loop-i.used (omega (arith, c.if-parts-gt0.false))
+        (omega (arith, c.if-used-count.true)))))
 
 pub returns : goal.returns
 unfolding judgement misfit_place at_found
 returns c =
-    sym (ap judgement (tree_end _ _ _ _ _ _ (sym c.loop-i.invariant.search ∙ lowest_end _ (c.args.count - c.loop-i.i) c.loop-i.i (omega arith)) ∙ ap (λ o. at_found o 7)
-    (sym c.loop-i.invariant.walk ∙ end_none _ c.loop-i.parts (c.args.count - c.loop-i.used) c.loop-i.used (omega (arith, c.if-parts-gt0.false)) (omega (arith, c.if-used-count.false)))))
+    sym (ap judgement (tree_end _ _ _ _ _ _ (sym c.loop-i.invariant.search ∙ lowest_end _ (c.args.count - c.loop-i.i) c.loop-i.i (omega arith)) ∙ ap
+        (λ o. at_found o 7)
+    (sym c.loop-i.invariant.walk ∙ end_none _ c.loop-i.parts (c.args.count - c.loop-i.used) c.loop-i.used (omega (arith, c.if-parts-gt0.false))
+        (omega (arith, c.if-used-count.false)))))
 
 pub loop-i-preserved : goal.loop-i-preserved
 loop-i-preserved c =
@@ -48,7 +53,7 @@ loop-i-preserved c =
     let k = field c.args.kinds.now in
     let t : m c.loop-i.i ≡ false
     = ap not (sym (c.fields_fit.ensures ∙ ap (fields_fit c.args.events (kind_of (k c.loop-i.i)) (get_or c.args.firsts.now c.loop-i.i 0)
-    (get_or c.args.values.now c.loop-i.i 0)) c.value_fits.ensures)) ∙ c.if-not-fields_fit.false-raw in
+    (get_or c.args.values.now c.loop-i.i 0)) c.value_fits.ensures)) ∙ ap not c.if-not-fields_fit.false in
     elim c.if-parts-ge1.branch [
       | then-parts-ge1 w ↦ subst (λ u. TreeTo m k c.args.count c.if-parts-ge1.parts u (c.loop-i.i + 1)) (sym w.used-is)
           (tree_node m k c.args.count c.loop-i.parts c.loop-i.used c.loop-i.i c.loop-i.invariant c.loop-i-test.true t

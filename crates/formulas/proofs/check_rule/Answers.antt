@@ -11,7 +11,7 @@ pub returns-then-not-count_fits : goal.returns-then-not-count_fits
 unfolding judgement
 returns-then-not-count_fits c =
     sym (ap judgement (rule_misfit c.args.events c.args.kind c.args.bytes.now
-    (sym c.count_fits.ensures ∙ not-true c.count_fits.result c.if-not-count_fits.true-raw)))
+    (sym c.count_fits.ensures ∙ c.if-not-count_fits.true)))
 
 pub returns : goal.returns
 returns c =
@@ -19,5 +19,4 @@ returns c =
     ∙ ap (λ n. judgement (fields_refusal (field n.kinds) (field n.firsts) (field n.values) n.count (value_fits c.args.kind) c.args.events))
     c.decode-nodes.ensures
     ∙ ap judgement (decoded_refusal c.args.events c.args.kind c.args.bytes.now
-    (sym c.count_fits.ensures ∙ not-false
-    c.count_fits.result c.if-not-count_fits.false-raw))
+    (sym c.count_fits.ensures ∙ c.if-not-count_fits.false))

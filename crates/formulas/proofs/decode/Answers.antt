@@ -46,9 +46,12 @@ loop-i-preserved c = (
   c.loop-i.invariant.1,
   omega arith,
   omega (arith, c.loop-i.invariant.0, c.loop-i.invariant.3, next_node c.args.kind c.loop-i.i),
-  ap₂ (λ l x. set l c.loop-i.i (get_or c.args.bytes.now x 0)) c.loop-i.invariant.4 c.loop-i.invariant.3 ∙ padded_more (kind_at c.args.kind c.args.bytes.now) node_limit c.loop-i.i (omega (arith, c.loop-i.invariant.1)),
-  ap₂ (λ l x. set l c.loop-i.i (get_or c.args.bytes.now (x + 1) 0)) c.loop-i.invariant.5 c.loop-i.invariant.3 ∙ padded_more (first_at c.args.kind c.args.bytes.now) node_limit c.loop-i.i (omega (arith, c.loop-i.invariant.1)),
-  ap₂ (λ l x. set l c.loop-i.i x) c.loop-i.invariant.6 (c.value_from.ensures ∙ ap (λ x. value_from c.args.kind c.args.bytes.now (x + 2)) c.loop-i.invariant.3) ∙ padded_more (value_at c.args.kind c.args.bytes.now) node_limit c.loop-i.i
+  ap₂ (λ l x. set l c.loop-i.i (get_or c.args.bytes.now x 0)) c.loop-i.invariant.4 c.loop-i.invariant.3 ∙ padded_more
+      (kind_at c.args.kind c.args.bytes.now) node_limit c.loop-i.i (omega (arith, c.loop-i.invariant.1)),
+  ap₂ (λ l x. set l c.loop-i.i (get_or c.args.bytes.now (x + 1) 0)) c.loop-i.invariant.5 c.loop-i.invariant.3 ∙ padded_more
+      (first_at c.args.kind c.args.bytes.now) node_limit c.loop-i.i (omega (arith, c.loop-i.invariant.1)),
+  ap₂ (λ l x. set l c.loop-i.i x) c.loop-i.invariant.6 (c.value_from.ensures ∙ ap (λ x. value_from c.args.kind c.args.bytes.now (x + 2))
+      c.loop-i.invariant.3) ∙ padded_more (value_at c.args.kind c.args.bytes.now) node_limit c.loop-i.i
       (omega (arith, c.loop-i.invariant.1)),
 )
 

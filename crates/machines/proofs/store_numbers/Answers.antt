@@ -21,29 +21,39 @@ pub shape_of-to : goal.shape_of-to
 shape_of-to c = c.loop-i.invariant.1
 
 pub returns-then-values-count-clause-answer : goal.returns-then-values-count-clause-answer
-returns-then-values-count-clause-answer c = (not_stored 2 low_bytes c.args.values.now c.args.nexts.now c.args.count c.args.to.now (few_values 2 c.args.values.now c.args.nexts.now c.args.count c.args.to.now c.if-values-count.true)).0
+returns-then-values-count-clause-answer c = (not_stored 2 low_bytes c.args.values.now c.args.nexts.now c.args.count c.args.to.now
+    (few_values 2 c.args.values.now c.args.nexts.now c.args.count c.args.to.now c.if-values-count.true)).0
 
 pub returns-then-values-count-clause-contents : goal.returns-then-values-count-clause-contents
-returns-then-values-count-clause-contents c = (not_stored 2 low_bytes c.args.values.now c.args.nexts.now c.args.count c.args.to.now (few_values 2 c.args.values.now c.args.nexts.now c.args.count c.args.to.now c.if-values-count.true)).1
+returns-then-values-count-clause-contents c = (not_stored 2 low_bytes c.args.values.now c.args.nexts.now c.args.count c.args.to.now
+    (few_values 2 c.args.values.now c.args.nexts.now c.args.count c.args.to.now c.if-values-count.true)).1
 
 pub returns-then-nexts-count-clause-answer : goal.returns-then-nexts-count-clause-answer
-returns-then-nexts-count-clause-answer c = (not_stored 2 low_bytes c.args.values.now c.args.nexts.now c.args.count c.args.to.now (few_nexts 2 c.args.values.now c.args.nexts.now c.args.count c.args.to.now (search rules) c.if-nexts-count.true)).0
+returns-then-nexts-count-clause-answer c = (not_stored 2 low_bytes c.args.values.now c.args.nexts.now c.args.count c.args.to.now
+    (few_nexts 2 c.args.values.now c.args.nexts.now c.args.count c.args.to.now (search rules) c.if-nexts-count.true)).0
 
 pub returns-then-nexts-count-clause-contents : goal.returns-then-nexts-count-clause-contents
-returns-then-nexts-count-clause-contents c = (not_stored 2 low_bytes c.args.values.now c.args.nexts.now c.args.count c.args.to.now (few_nexts 2 c.args.values.now c.args.nexts.now c.args.count c.args.to.now (search rules) c.if-nexts-count.true)).1
+returns-then-nexts-count-clause-contents c = (not_stored 2 low_bytes c.args.values.now c.args.nexts.now c.args.count c.args.to.now
+    (few_nexts 2 c.args.values.now c.args.nexts.now c.args.count c.args.to.now (search rules) c.if-nexts-count.true)).1
 
 pub returns-then-to-count-clause-answer : goal.returns-then-to-count-clause-answer
-returns-then-to-count-clause-answer c = (not_stored 2 low_bytes c.args.values.now c.args.nexts.now c.args.count c.args.to.now (short_buffer 2 c.args.values.now c.args.nexts.now c.args.count c.args.to.now (search rules) (search rules) (omega arith))).0
+returns-then-to-count-clause-answer c = (not_stored 2 low_bytes c.args.values.now c.args.nexts.now c.args.count c.args.to.now
+    (short_buffer 2 c.args.values.now c.args.nexts.now c.args.count c.args.to.now (search rules) (search rules) (omega arith))).0
 
 pub returns-then-to-count-clause-contents : goal.returns-then-to-count-clause-contents
-returns-then-to-count-clause-contents c = (not_stored 2 low_bytes c.args.values.now c.args.nexts.now c.args.count c.args.to.now (short_buffer 2 c.args.values.now c.args.nexts.now c.args.count c.args.to.now (search rules) (search rules) (omega arith))).1
+returns-then-to-count-clause-contents c = (not_stored 2 low_bytes c.args.values.now c.args.nexts.now c.args.count c.args.to.now
+    (short_buffer 2 c.args.values.now c.args.nexts.now c.args.count c.args.to.now (search rules) (search rules) (omega arith))).1
 
 pub returns-clause-answer : goal.returns-clause-answer
 returns-clause-answer c =
     let e : c.loop-i.i ≡ c.args.count = omega arith in
-    (all_stored 2 low_bytes c.args.values.now c.args.nexts.now c.args.count c.args.to.now (enough 2 c.args.values.now c.args.nexts.now c.args.count c.args.to.now (search rules) (search rules) (omega arith)) c.loop-i.to (rw e at c.loop-i.invariant.2)).0
+    (all_stored 2 low_bytes c.args.values.now c.args.nexts.now c.args.count c.args.to.now
+        (enough 2 c.args.values.now c.args.nexts.now c.args.count c.args.to.now (search rules) (search rules) (omega arith)) c.loop-i.to
+        (rw e at c.loop-i.invariant.2)).0
 
 pub returns-clause-contents : goal.returns-clause-contents
 returns-clause-contents c =
     let e : c.loop-i.i ≡ c.args.count = omega arith in
-    (all_stored 2 low_bytes c.args.values.now c.args.nexts.now c.args.count c.args.to.now (enough 2 c.args.values.now c.args.nexts.now c.args.count c.args.to.now (search rules) (search rules) (omega arith)) c.loop-i.to (rw e at c.loop-i.invariant.2)).1
+    (all_stored 2 low_bytes c.args.values.now c.args.nexts.now c.args.count c.args.to.now
+        (enough 2 c.args.values.now c.args.nexts.now c.args.count c.args.to.now (search rules) (search rules) (omega arith)) c.loop-i.to
+        (rw e at c.loop-i.invariant.2)).1

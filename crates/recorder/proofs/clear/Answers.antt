@@ -9,19 +9,22 @@ use Rattle.recorder.proofs.clear.Goals as goal
 
 pub returns-then-refusal-gt0 : goal.returns-then-refusal-gt0
 returns-then-refusal-gt0 c =
-    clear_refused (store_of c.args.tool) c.args.channel c.tool_fault-fault.result (rw c.rows_start-at.ensures at c.tool_fault-fault.ensures) c.channel_refusal-refusal.result c.channel_refusal-refusal.ensures _
+    clear_refused (store_of c.args.tool) c.args.channel c.tool_fault-fault.result (rw c.rows_start-at.ensures at c.tool_fault-fault.ensures)
+        c.channel_refusal-refusal.result c.channel_refusal-refusal.ensures _
     c.plain_reply.ensures c.if-refusal-gt0.true
 
 pub stored-requires : goal.stored-requires
 stored-requires c =
     let z : c.channel_refusal-refusal.result ≡ 0 = omega (arith, c.if-refusal-gt0.false) in
     let sized : length c.args.tool.states ≡ channel_limit = c.well_formed.0.1.1.1.0.1.0.1 in (
-      clear_storable (store_of c.args.tool) c.args.channel c.tool_fault-fault.result (rw c.rows_start-at.ensures at c.tool_fault-fault.ensures) c.channel_refusal-refusal.result c.channel_refusal-refusal.ensures z sized,
+      clear_storable (store_of c.args.tool) c.args.channel c.tool_fault-fault.result (rw c.rows_start-at.ensures at c.tool_fault-fault.ensures)
+          c.channel_refusal-refusal.result c.channel_refusal-refusal.ensures z sized,
       omega arith,
     )
 
 pub returns : goal.returns
 returns c =
     let z : c.channel_refusal-refusal.result ≡ 0 = omega (arith, c.if-refusal-gt0.false) in
-    clear_stored (store_of c.args.tool) c.args.channel c.tool_fault-fault.result (rw c.rows_start-at.ensures at c.tool_fault-fault.ensures) c.channel_refusal-refusal.result c.channel_refusal-refusal.ensures z
+    clear_stored (store_of c.args.tool) c.args.channel c.tool_fault-fault.result (rw c.rows_start-at.ensures at c.tool_fault-fault.ensures)
+        c.channel_refusal-refusal.result c.channel_refusal-refusal.ensures z
     (store_of c.stored.result) c.stored.ensures

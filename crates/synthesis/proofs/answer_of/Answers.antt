@@ -10,8 +10,8 @@ returns-then-states-gt-STATE_LIMIT c = answer_many state_limit c.args.states c.a
 
 pub returns-then-not-stored : goal.returns-then-not-stored
 returns-then-not-stored c =
-    answer_short state_limit c.args.states c.args.stored (omega (arith, c.if-states-gt-STATE_LIMIT.false)) (not-true c.args.stored c.if-not-stored.true-raw)
+    answer_short state_limit c.args.states c.args.stored (omega (arith, c.if-states-gt-STATE_LIMIT.false)) c.if-not-stored.true
 
 pub returns : goal.returns
 returns c =
-    answer_stored state_limit c.args.states c.args.stored (omega (arith, c.if-states-gt-STATE_LIMIT.false)) (not-false c.args.stored c.if-not-stored.false-raw)
+    answer_stored state_limit c.args.states c.args.stored (omega (arith, c.if-states-gt-STATE_LIMIT.false)) c.if-not-stored.false

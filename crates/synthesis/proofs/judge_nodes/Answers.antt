@@ -13,11 +13,11 @@ pub returns-then-not-count_fits : goal.returns-then-not-count_fits
 returns-then-not-count_fits c =
     bytes_misfit (count_fits (node_width c.args.kind) node_limit c.args.bytes)
     (fields_refusal (field c.args.kinds.now) (field c.args.firsts.now) (field c.args.fields.now) c.args.count (value_fits c.args.kind) c.args.events)
-    (sym c.count_fits.ensures ∙ not-true c.count_fits.result c.if-not-count_fits.true-raw)
+    (sym c.count_fits.ensures ∙ c.if-not-count_fits.true)
 
 pub returns : goal.returns
 returns c =
     c.check_nodes.ensures
     ∙ bytes_fit (count_fits (node_width c.args.kind) node_limit c.args.bytes)
     (fields_refusal (field c.args.kinds.now) (field c.args.firsts.now) (field c.args.fields.now) c.args.count (value_fits c.args.kind) c.args.events)
-    (sym c.count_fits.ensures ∙ not-false c.count_fits.result c.if-not-count_fits.false-raw)
+    (sym c.count_fits.ensures ∙ c.if-not-count_fits.false)

@@ -11,22 +11,24 @@ returns-then-earlier-gt0 c = earlier_stands _ _ _ c.loaded_refusal-earlier.ensur
 pub returns-then-not-allowed : goal.returns-then-not-allowed
 returns-then-not-allowed c =
     later_stands _ _ _ _ c.loaded_refusal-earlier.ensures (omega arith)
-    (earlier_stands _ _ 16 (fails c.args.allowed 16 (not-true c.args.allowed c.if-not-allowed.true-raw)) (omega arith))
+    (earlier_stands _ _ 16 (fails c.args.allowed 16 c.if-not-allowed.true) (omega arith))
 
 pub returns-then-total-gt-TOTAL_LIMIT : goal.returns-then-total-gt-TOTAL_LIMIT
 returns-then-total-gt-TOTAL_LIMIT c =
     later_stands _ _ _ _ c.loaded_refusal-earlier.ensures (omega arith)
-    (later_stands _ _ 0 _ (passes c.args.allowed 16 (not-false c.args.allowed c.if-not-allowed.false-raw)) (omega arith)
+    (later_stands _ _ 0 _ (passes c.args.allowed 16 c.if-not-allowed.false) (omega arith)
     (earlier_stands _ _ 19 (fails _ 19 (lt-leb c.args.total total_limit (omega arith))) (omega arith)))
 
 pub returns-then-not-fits : goal.returns-then-not-fits
 returns-then-not-fits c =
     later_stands _ _ _ _ c.loaded_refusal-earlier.ensures (omega arith)
-    (later_stands _ _ 0 _ (passes c.args.allowed 16 (not-false c.args.allowed c.if-not-allowed.false-raw)) (omega arith)
-    (later_stands _ _ 0 _ (passes _ 19 (le-leb c.args.total total_limit (omega arith))) (omega arith) (fails c.args.fits 13 (not-true c.args.fits c.if-not-fits.true-raw))))
+    (later_stands _ _ 0 _ (passes c.args.allowed 16 c.if-not-allowed.false) (omega arith)
+    (later_stands _ _ 0 _ (passes _ 19 (le-leb c.args.total total_limit (omega arith))) (omega arith)
+        (fails c.args.fits 13 c.if-not-fits.true)))
 
 pub returns : goal.returns
 returns c =
     later_stands _ _ _ _ c.loaded_refusal-earlier.ensures (omega arith)
-    (later_stands _ _ 0 _ (passes c.args.allowed 16 (not-false c.args.allowed c.if-not-allowed.false-raw)) (omega arith)
-    (later_stands _ _ 0 _ (passes _ 19 (le-leb c.args.total total_limit (omega arith))) (omega arith) (passes c.args.fits 13 (not-false c.args.fits c.if-not-fits.false-raw))))
+    (later_stands _ _ 0 _ (passes c.args.allowed 16 c.if-not-allowed.false) (omega arith)
+    (later_stands _ _ 0 _ (passes _ 19 (le-leb c.args.total total_limit (omega arith))) (omega arith)
+        (passes c.args.fits 13 c.if-not-fits.false)))

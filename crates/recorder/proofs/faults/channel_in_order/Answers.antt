@@ -43,7 +43,7 @@ returns-then-total-gt-TOTAL_LIMIT c =
 pub returns-then-not-fits : goal.returns-then-not-fits
 unfolding channel_fits
 returns-then-not-fits c =
-    simp (lt-ltb c.args.channel channel_limit (omega arith), lt-ltb 0 c.args.states (omega arith), not-true c.args.fits c.if-not-fits.true-raw, and-false)
+    simp (lt-ltb c.args.channel channel_limit (omega arith), lt-ltb 0 c.args.states (omega arith), c.if-not-fits.true, and-false)
 
 pub overflow_mul-states : goal.overflow_mul-states
 overflow_mul-states c =
@@ -60,6 +60,6 @@ returns c =
       le-leb c.args.states table_limit (omega arith),
       lt-ltb c.args.current c.args.states (omega arith),
       le-leb c.args.total total_limit (omega arith),
-      not-false c.args.fits c.if-not-fits.false-raw,
+      c.if-not-fits.false,
     )
     (rw c.wide.ensures at c.entries_below.ensures)

@@ -48,6 +48,7 @@ returns c =
       refl,
       record {
         old_fits = old_fits c.args.events c.args.states.now c.args.channel c.requires.0.few_events c.requires.0.channel c.requires.0.fits;
-        new_fits = new_fits c.args.events c.args.states.now c.args.channel c.requires.0.few_events c.requires.0.channel c.args.new (omega (arith, c.requires.0.channel)) c.requires.0.new_fits;
+        new_fits = new_fits c.args.events c.args.states.now c.args.channel c.requires.0.few_events c.requires.0.channel c.args.new
+            (omega (arith, c.requires.0.channel)) c.requires.0.new_fits;
       },
     )

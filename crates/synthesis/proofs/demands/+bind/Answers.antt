@@ -26,7 +26,8 @@ returns-then-kind-eq-VARIABLE t c =
     record {
       low = search rules;
       high = search rules;
-      end = end_leaf c.args.kinds.now _ _ (λ e. omega (arith, e, c.if-kind-eq-VARIABLE.true)) (λ e. omega (arith, e, c.if-kind-eq-VARIABLE.true)) (λ e. omega (arith, e, c.if-kind-eq-VARIABLE.true));
+      end = end_leaf c.args.kinds.now _ _ (λ e. omega (arith, e, c.if-kind-eq-VARIABLE.true)) (λ e. omega (arith, e, c.if-kind-eq-VARIABLE.true))
+          (λ e. omega (arith, e, c.if-kind-eq-VARIABLE.true));
       sizes = (search rules, simp length-set (search rules));
       below = λ k h. refl;
       earlier = λ i h. get_or-set_other c.args.binders.now c.args.at i _ 0 (λ e. omega (arith, e));
@@ -53,11 +54,14 @@ returns-then-kind-eq-CONJUNCTION t c =
     record {
       low = search rules;
       high = search rules;
-      end = end_conjunction c.args.kinds.now _ _ c.bind-second.result _ c.bind-second.ensures.end c.bind-then-kind-eq-CONJUNCTION.ensures.end c.if-kind-eq-CONJUNCTION.true;
+      end = end_conjunction c.args.kinds.now _ _ c.bind-second.result _ c.bind-second.ensures.end c.bind-then-kind-eq-CONJUNCTION.ensures.end
+          c.if-kind-eq-CONJUNCTION.true;
       sizes = c.bind-then-kind-eq-CONJUNCTION.ensures.sizes;
       below = λ i h. c.bind-then-kind-eq-CONJUNCTION.ensures.below i h ∙ c.bind-second.ensures.below i h;
-      earlier = λ i h. c.bind-then-kind-eq-CONJUNCTION.ensures.earlier i (omega (arith, c.bind-second.ensures.low)) ∙ c.bind-second.ensures.earlier i (omega arith);
-      bound = bound_conjunction c.args.kinds.now c.args.firsts.now _ _ _ c.args.stack.now _ _ _ c.bind-second.result c.if-kind-eq-CONJUNCTION.true c.bind-second.ensures.end
+      earlier = λ i h. c.bind-then-kind-eq-CONJUNCTION.ensures.earlier i (omega (arith, c.bind-second.ensures.low)) ∙ c.bind-second.ensures.earlier i
+          (omega arith);
+      bound = bound_conjunction c.args.kinds.now c.args.firsts.now _ _ _ c.args.stack.now _ _ _ c.bind-second.result c.if-kind-eq-CONJUNCTION.true
+          c.bind-second.ensures.end
           c.bind-second.ensures.bound c.bind-second.ensures.below c.bind-then-kind-eq-CONJUNCTION.ensures.earlier c.bind-then-kind-eq-CONJUNCTION.ensures.bound;
     }
 
@@ -79,7 +83,8 @@ bind-requires-then-kind-eq-GREATEST t c = (
 
 pub returns-then-kind-eq-GREATEST : goal.returns-then-kind-eq-GREATEST
 returns-then-kind-eq-GREATEST t c =
-    let rest : (i : ℕ) → i < c.args.depth → get_or c.if-depth-lt-BINDER_LIMIT.stack i 0 ≡ get_or c.args.stack.now i 0 = λ i h. elim c.if-depth-lt-BINDER_LIMIT.branch [
+    let rest : (i : ℕ) → i < c.args.depth → get_or c.if-depth-lt-BINDER_LIMIT.stack i 0 ≡ get_or c.args.stack.now i 0 = λ i h. elim
+        c.if-depth-lt-BINDER_LIMIT.branch [
       | then-depth-lt-BINDER_LIMIT w ↦ ap (λ l. get_or l i 0) w.stack-is ∙ get_or-set_other c.args.stack.now c.args.depth i _ 0 (λ e. omega (arith, e))
       | else-depth-lt-BINDER_LIMIT w ↦ ap (λ l. get_or l i 0) w.stack-is
     ] in

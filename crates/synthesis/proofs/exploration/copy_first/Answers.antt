@@ -20,6 +20,7 @@ loop-w-preserved c =
 pub returns : goal.returns
 returns c = (
   search rules,
-  bits_of c.loop-w.states c.args.rows.now 0 0 (set_same c.loop-w.states c.args.rows.now 0 0 (λ w h. let z : 0 + w ≡ w = omega arith in ap (λ x. get_or c.loop-w.states x 0) z ∙ c.loop-w.invariant.2 w
+  bits_of c.loop-w.states c.args.rows.now 0 0 (set_same c.loop-w.states c.args.rows.now 0 0
+      (λ w h. let z : 0 + w ≡ w = omega arith in ap (λ x. get_or c.loop-w.states x 0) z ∙ c.loop-w.invariant.2 w
       (omega arith) ∙ ap (λ x. get_or c.args.rows.now x 0) (sym z))),
 )

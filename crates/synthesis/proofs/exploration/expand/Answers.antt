@@ -23,7 +23,8 @@ loop-event-init c =
       search rules,
       search rules,
       refl,
-      λ kinds count marked start P old. subst (λ m. Kept (next_bits kinds c.args.firsts.now c.args.rows.now count) start c.args.events P c.args.n m c.args.states.now
+      λ kinds count marked start P old. subst (λ m. Kept (next_bits kinds c.args.firsts.now c.args.rows.now count) start c.args.events P c.args.n m
+          c.args.states.now
           c.args.nexts.now) z old,
       search rules,
       search rules,
@@ -121,7 +122,8 @@ loop-event-preserved c =
         ap length w.states-is ∙ w.store.ensures.sized ∙ c.loop-event.invariant.3,
         sized,
         ap (λ x. row x c.args.i) w.states-is
-            ∙ set_else c.loop-event.states _ c.loop-event.k c.args.i w.store.ensures.below w.store.ensures.above (λ e. omega (arith, e, c.loop-event.invariant.1, c.requires.0))
+            ∙ set_else c.loop-event.states _ c.loop-event.k c.args.i w.store.ensures.below w.store.ensures.above
+                (λ e. omega (arith, e, c.loop-event.invariant.1, c.requires.0))
             ∙ c.loop-event.invariant.5,
         λ kinds count marked start P old. rw (w.states-is, w.k-is)
             (candidate_new kinds c.args.firsts.now c.args.rows.now count c.args.events c.args.i c.args.n c.loop-event.k c.loop-event.event c.args.states.now
@@ -138,7 +140,8 @@ loop-event-preserved c =
             (subst (Found c.loop-event.states c.loop-event.k _) w.if-j-k.true c.look_up-j.ensures)),
         rw (w.states-is, w.k-is, w.heads-is ∙ w.link.ensures.0, w.links-is ∙ w.link.ensures.1)
             (chained_more c.loop-event.k c.loop-event.states _ _ w.store.ensures c.loop-event.heads c.loop-event.links _ c.place_of-place.ensures
-            (omega (arith, c.loop-event.invariant.7, place_below _ 0 _ c.place_of-place.ensures)) (omega (arith, c.loop-event.invariant.8, c.loop-event.invariant.2, w.if-k-limit.false, c.requires.2)) c.loop-event.invariant.10),
+            (omega (arith, c.loop-event.invariant.7, place_below _ 0 _ c.place_of-place.ensures))
+                (omega (arith, c.loop-event.invariant.8, c.loop-event.invariant.2, w.if-k-limit.false, c.requires.2)) c.loop-event.invariant.10),
       )
       | else-j-k w ↦ (
         search rules,

@@ -85,7 +85,8 @@ returns c =
       c.loop-i.invariant.3,
       record {
         at_most = search rules;
-        all = λ h. all_kept nb c.args.rows.now c.args.events c.args.limit c.loop-i.i c.loop-i.n c.loop-i.states c.loop-i.nexts q (search rules) c.loop-i.invariant.4;
+        all = λ h. all_kept nb c.args.rows.now c.args.events c.args.limit c.loop-i.i c.loop-i.n c.loop-i.states c.loop-i.nexts q (search rules)
+            c.loop-i.invariant.4;
         more = λ h. absurd (omega (arith, h));
       },
     )

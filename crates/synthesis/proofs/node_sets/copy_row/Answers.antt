@@ -20,5 +20,6 @@ loop-w-preserved c =
 pub returns : goal.returns
 returns c = (
   c.loop-w.invariant.1,
-  set_same c.loop-w.set c.args.sets.now 0 (c.args.i * 4) (λ w h. let z : 0 + w ≡ w = omega arith in ap (λ x. get_or c.loop-w.set x 0) z ∙ c.loop-w.invariant.2 w (omega arith)),
+  set_same c.loop-w.set c.args.sets.now 0 (c.args.i * 4) (λ w h. let z : 0 + w ≡ w = omega arith in ap (λ x. get_or c.loop-w.set x 0) z ∙
+      c.loop-w.invariant.2 w (omega arith)),
 )
