@@ -1,6 +1,5 @@
 -- `product` keeps within its type.
 use native.Mathlib.{Nat.{mul-le-mul_left}, Omega.{arith}}
-use borrow.Author.Rules.{rules}
 use Rattle.gurvazze.proofs.setups.product.Goals as goal
 
 pub overflow_mul-result : goal.overflow_mul-result

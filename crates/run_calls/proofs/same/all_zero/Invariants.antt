@@ -1,7 +1,6 @@
 -- `all_zero` keeps within its slice, and ends.
 use Prim.Native.Nat.{◌-◌, ◌≤◌}
 use lib.ListN.{length}
-use borrow.Author.Rules.{rules}
 use Rattle.run_calls.proofs.same.all_zero.Given as goal
 
 abbrev pub invariant-loop-i : goal.invariant-loop-i

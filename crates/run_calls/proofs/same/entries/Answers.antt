@@ -1,6 +1,5 @@
 -- `entries` keeps within its type.
 use native.Mathlib.{Nat.{mul-le-mul_left}, Omega.{arith}}
-use borrow.Author.Rules.{rules}
 use Rattle.run_calls.proofs.same.entries.Goals as goal
 
 pub overflow_mul-result : goal.overflow_mul-result

@@ -1,6 +1,5 @@
 -- `others_same` ends.
 use Prim.Native.Nat.{◌-◌, ◌≤◌}
-use borrow.Author.Rules.{rules}
 use Rattle.run_calls.proofs.same.others_same.Given as goal
 
 abbrev pub invariant-loop-i : goal.invariant-loop-i

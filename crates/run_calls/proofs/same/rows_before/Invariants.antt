@@ -1,6 +1,5 @@
 -- `rows_before` keeps within its array and its type, and ends.
 use Prim.Native.Nat.{◌-◌, ◌*◌, ◌≤◌}
-use borrow.Author.Rules.{rules}
 use Rattle.run_calls.proofs.same.rows_before.Given as goal
 
 abbrev pub invariant-loop-i : goal.invariant-loop-i
