@@ -210,7 +210,7 @@ module _ (kind first : ℕ → ℕ) (depth near at left : ℕ) (before : List �
             deep = λ value.
                 walk_greatest kind first value (deep_search binder_limit) at left depth _ _ r _ k
                 (subst (Keeps (cond (path_full binder_limit depth) (some at) none) (get_or before 1 0))
-                    (sym (get_or-set_same before 1 n 0 (omega (arith, l)))) u)
+                (sym (get_or-set_same before 1 n 0 (omega (arith, l)))) u)
                 (rw (← (add-one depth)) (w.deep value));
             unprotected = λ value.
                 walk_greatest kind first value unprotected_search at left near _ _ r _ k (other 2 (λ q. omega (arith, q)))

@@ -108,7 +108,7 @@ module _ (n : ℕ) (states : List ℕ) (c : ℕ) (few_events : n ≤ event_limit
           let e : rows_before states d ≡ rows_before states c + get_or states c 0 + x =
           omega (arith, before_next states c, before_rises states (suc c) d behind) in
           ap (λ r. r * n) e ∙ add-mul (rows_before states c + get_or states c 0) x n ∙ ap (λ r. r + x * n)
-              (add-mul (rows_before states c) (get_or states c 0) n)
+          (add-mul (rows_before states c) (get_or states c 0) n)
 
       pub new_start : rows_start n (set states c k) d ≡ at + k * n + between
       unfolding rows_start

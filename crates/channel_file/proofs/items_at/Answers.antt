@@ -18,7 +18,7 @@ shape_of-out-in-Bad c = puts_length c.loop-p.invariant.2.bytes
 pub returns-in-Bad : goal.returns-in-Bad
 returns-in-Bad c =
     items_stuck (rule_items c.args.values) c.args.text.now c.args.at c.loop-p.i c.loop-p.invariant.2 _
-        (subst (SawItem c.args.values c.args.text.now c.loop-p.i) c.in-Bad.is
+    (subst (SawItem c.args.values c.args.text.now c.loop-p.i) c.in-Bad.is
     c.item_at.ensures)
 
 pub loop-p-init : goal.loop-p-init

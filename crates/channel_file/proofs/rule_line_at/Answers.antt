@@ -12,7 +12,7 @@ items_at-requires c =
 pub returns-in-Bad : goal.returns-in-Bad
 returns-in-Bad c =
     items_unkeyed (ascii "rule=") (items_format c.args.values) (code c.args.values) c.args.text.now c.args.at _ _
-        (subst (SawWord (ascii "rule=") c.args.text.now
+    (subst (SawWord (ascii "rule=") c.args.text.now
     c.args.at) c.in-Bad.is
     c.word_at.ensures)
 

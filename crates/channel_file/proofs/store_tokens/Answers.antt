@@ -45,6 +45,9 @@ pub loop-x-preserved : goal.loop-x-preserved
 loop-x-preserved c =
     let q = subst (SawToken c.args.values c.args.text.now c.loop-x.i) c.in-Of.is c.token_at.ensures in
     let f = tokens_forward c.args.values c.args.text.now c.loop-x.i c.loop-x.invariant.2 (token_of c.args.values c.in-Of.x) c.in-Of.m (q.same true)
-        c.put_node-k.ensures c.if-text-m.false c.if-text-m-ne32.false c.loop-x.invariant.0 in
-    (omega arith, omega arith, tokens_next c.args.values c.args.text.now c.loop-x.i c.loop-x.invariant.2 (token_of c.args.values c.in-Of.x) c.in-Of.m
-        (q.same true) c.put_node-k.ensures c.if-text-m.false c.if-text-m-ne32.false)
+    c.put_node-k.ensures c.if-text-m.false c.if-text-m-ne32.false c.loop-x.invariant.0 in (
+      omega arith,
+      omega arith,
+      tokens_next c.args.values c.args.text.now c.loop-x.i c.loop-x.invariant.2 (token_of c.args.values c.in-Of.x) c.in-Of.m
+          (q.same true) c.put_node-k.ensures c.if-text-m.false c.if-text-m-ne32.false,
+    )

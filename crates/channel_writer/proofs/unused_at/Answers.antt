@@ -34,11 +34,11 @@ returns-then-mask_of-eq0 c =
     let low : mask_at c.args.nodes.now j ≡ 0 = sym c.mask_of.ensures.0 ∙ c.if-mask_of-eq0.true in
     of_kind c.args.nodes.now j _ c.in-Register.is
     (ap (λ (m : ℕ). eqb m 0) c.mask_of-then-mask_of-eq0.ensures.0 ∙ ap (λ (b : Bool). b && eqb (mask_at c.args.nodes.now (j + 2)) 0)
-        (sym (eq-eqb (mask_at c.args.nodes.now j) 0 low)))
+    (sym (eq-eqb (mask_at c.args.nodes.now j) 0 low)))
 
 pub returns-else-mask_of-eq0 : goal.returns-else-mask_of-eq0
 returns-else-mask_of-eq0 c =
     let j = c.args.i + 2 in
     of_kind c.args.nodes.now j _ c.in-Register.is
     (ap (λ (b : Bool). b && eqb (mask_at c.args.nodes.now (j + 2)) 0)
-        (sym (ne_eqb (mask_at c.args.nodes.now j) 0 (λ z. c.if-mask_of-eq0.false (c.mask_of.ensures.0 ∙ z)))))
+    (sym (ne_eqb (mask_at c.args.nodes.now j) 0 (λ z. c.if-mask_of-eq0.false (c.mask_of.ensures.0 ∙ z)))))

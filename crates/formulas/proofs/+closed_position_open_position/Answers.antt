@@ -17,7 +17,7 @@ closed_position-returns-then-kind-eq-VARIABLE t c = scanned_closed_variable _ _ 
     (subst (λ x. Keeps (cond x (some c.args.at) none) (get_or c.args.faults.now 0 0) c.noted.result) c.unbound.ensures
     c.noted.ensures)
     (subst (λ x. Keeps (cond x (some c.args.at) none) (get_or (set c.args.faults.now 0 c.noted.result) 2 0) c.noted-then-kind-eq-VARIABLE.result)
-        c.bound_near.ensures
+    c.bound_near.ensures
     c.noted-then-kind-eq-VARIABLE.ensures)
 
 pub closed_position-returns-then-kind-eq-TRANSITION : goal.closed_position-returns-then-kind-eq-TRANSITION

@@ -28,24 +28,24 @@ unfolding judgement misfit_place at_found
 returns-then-parts-gt0 c =
     let e : c.loop-i.used ≡ c.args.count = omega (arith, c.loop-i.invariant.together c.if-parts-gt0.true, c.loop-i.invariant.within) in
     sym (ap judgement (tree_end _ _ _ _ _ _ (sym c.loop-i.invariant.search ∙ lowest_end _ (c.args.count - c.loop-i.i) c.loop-i.i (omega arith)) ∙ ap
-        (λ o. at_found o 7)
+    (λ o. at_found o 7)
     (sym c.loop-i.invariant.walk ∙ end_short _ c.loop-i.parts (c.args.count - c.loop-i.used) c.loop-i.used c.if-parts-gt0.true (omega (arith, e)) ∙ ap some e)))
 
 pub returns-then-used-count : goal.returns-then-used-count
 unfolding judgement misfit_place at_found
 returns-then-used-count c =
     sym (ap judgement (tree_end _ _ _ _ _ _ (sym c.loop-i.invariant.search ∙ lowest_end _ (c.args.count - c.loop-i.i) c.loop-i.i (omega arith)) ∙ ap
-        (λ o. at_found o 7)
+    (λ o. at_found o 7)
     (sym c.loop-i.invariant.walk ∙ end_over _ c.loop-i.parts (c.args.count - c.loop-i.used) c.loop-i.used (omega (arith, c.if-parts-gt0.false))
-        (omega (arith, c.if-used-count.true)))))
+    (omega (arith, c.if-used-count.true)))))
 
 pub returns : goal.returns
 unfolding judgement misfit_place at_found
 returns c =
     sym (ap judgement (tree_end _ _ _ _ _ _ (sym c.loop-i.invariant.search ∙ lowest_end _ (c.args.count - c.loop-i.i) c.loop-i.i (omega arith)) ∙ ap
-        (λ o. at_found o 7)
+    (λ o. at_found o 7)
     (sym c.loop-i.invariant.walk ∙ end_none _ c.loop-i.parts (c.args.count - c.loop-i.used) c.loop-i.used (omega (arith, c.if-parts-gt0.false))
-        (omega (arith, c.if-used-count.false)))))
+    (omega (arith, c.if-used-count.false)))))
 
 pub loop-i-preserved : goal.loop-i-preserved
 loop-i-preserved c =

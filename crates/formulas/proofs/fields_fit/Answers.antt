@@ -35,9 +35,9 @@ pub returns-else-wide-events-2 : goal.returns-else-wide-events-2
 unfolding kind_of fields_fit
 returns-else-wide-events-2 c =
     le-ltb c.wide-then-kind-eq-OUTPUT.result c.args.events c.if-wide-events-2.false ∙ sym
-        (ap (λ k. fields_fit c.args.events (kind_of k) c.args.first c.args.value c.args.fits)
+    (ap (λ k. fields_fit c.args.events (kind_of k) c.args.first c.args.value c.args.fits)
     c.if-kind-eq-OUTPUT.true ∙ ap (λ b. b && c.args.fits) (le-ltb c.args.first c.args.events
-        (omega (arith, c.if-wide-events-2.false, c.wide-then-kind-eq-OUTPUT.ensures.0))))
+    (omega (arith, c.if-wide-events-2.false, c.wide-then-kind-eq-OUTPUT.ensures.0))))
 
 pub returns-then-kind-gt-GREATEST : goal.returns-then-kind-gt-GREATEST
 returns-then-kind-gt-GREATEST c =

@@ -17,7 +17,7 @@ entry_in_order-requires c =
 pub returns-then-not-entry_in_order : goal.returns-then-not-entry_in_order
 returns-then-not-entry_in_order c =
     let fails = entry_tested c.args.kind c.args.states c.args.bytes.now c.loop-i.i c.loop-i.at c.loop-i.invariant.1 ∙ sym c.entry_in_order.ensures ∙
-        c.if-not-entry_in_order.true in
+    c.if-not-entry_in_order.true in
     sym (every_not _ _ c.loop-i.i (search rules) fails)
 
 pub overflow_add-at : goal.overflow_add-at
@@ -27,7 +27,7 @@ overflow_add-at c =
 pub loop-i-preserved : goal.loop-i-preserved
 loop-i-preserved c =
     let holds = entry_tested c.args.kind c.args.states c.args.bytes.now c.loop-i.i c.loop-i.at c.loop-i.invariant.1 ∙ sym c.entry_in_order.ensures ∙
-        c.if-not-entry_in_order.false in
+    c.if-not-entry_in_order.false in
     (search rules, omega (arith, c.loop-i.invariant.1, next_entry c.args.kind c.loop-i.i), every_more _ _ c.loop-i.invariant.2 holds)
 
 pub returns : goal.returns

@@ -57,12 +57,12 @@ pub returns-clause-answer : goal.returns-clause-answer
 returns-clause-answer c =
     let e : c.loop-i.i ≡ c.args.count = omega arith in
     (all_stored 5 five_bytes c.args.values.now c.args.nexts.now c.args.count c.args.to.now
-        (enough 5 c.args.values.now c.args.nexts.now c.args.count c.args.to.now (search rules) (search rules) (omega arith)) c.loop-i.to
-        (rw e at c.loop-i.invariant.2)).0
+    (enough 5 c.args.values.now c.args.nexts.now c.args.count c.args.to.now (search rules) (search rules) (omega arith)) c.loop-i.to
+    (rw e at c.loop-i.invariant.2)).0
 
 pub returns-clause-contents : goal.returns-clause-contents
 returns-clause-contents c =
     let e : c.loop-i.i ≡ c.args.count = omega arith in
     (all_stored 5 five_bytes c.args.values.now c.args.nexts.now c.args.count c.args.to.now
-        (enough 5 c.args.values.now c.args.nexts.now c.args.count c.args.to.now (search rules) (search rules) (omega arith)) c.loop-i.to
-        (rw e at c.loop-i.invariant.2)).1
+    (enough 5 c.args.values.now c.args.nexts.now c.args.count c.args.to.now (search rules) (search rules) (omega arith)) c.loop-i.to
+    (rw e at c.loop-i.invariant.2)).1

@@ -10,7 +10,7 @@ use Rattle.recorder.proofs.clear.Goals as goal
 pub returns-then-refusal-gt0 : goal.returns-then-refusal-gt0
 returns-then-refusal-gt0 c =
     clear_refused (store_of c.args.tool) c.args.channel c.tool_fault-fault.result (rw c.rows_start-at.ensures at c.tool_fault-fault.ensures)
-        c.channel_refusal-refusal.result c.channel_refusal-refusal.ensures _
+    c.channel_refusal-refusal.result c.channel_refusal-refusal.ensures _
     c.plain_reply.ensures c.if-refusal-gt0.true
 
 pub stored-requires : goal.stored-requires
@@ -26,5 +26,5 @@ pub returns : goal.returns
 returns c =
     let z : c.channel_refusal-refusal.result ≡ 0 = omega (arith, c.if-refusal-gt0.false) in
     clear_stored (store_of c.args.tool) c.args.channel c.tool_fault-fault.result (rw c.rows_start-at.ensures at c.tool_fault-fault.ensures)
-        c.channel_refusal-refusal.result c.channel_refusal-refusal.ensures z
+    c.channel_refusal-refusal.result c.channel_refusal-refusal.ensures z
     (store_of c.stored.result) c.stored.ensures

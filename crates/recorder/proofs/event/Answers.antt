@@ -8,13 +8,13 @@ pub read_place-place-requires : goal.read_place-place-requires
 read_place-place-requires c =
     λ h.
     rw c.rows_start-at.ensures (event_bounds (store_of c.args.tool) c.args.channel (record { event = c.args.event; pulses = c.args.pulses })
-        c.tool_fault-fault.result
+    c.tool_fault-fault.result
     (rw c.rows_start-at.ensures at c.tool_fault-fault.ensures) (sym (rw (c.total_with-sum.ensures, c.wide64.ensures.0) at c.event_refusal-refusal.ensures) ∙ h))
 
 pub value_reply-reply-requires : goal.value_reply-reply-requires
 value_reply-reply-requires c =
     event_measurable (store_of c.args.tool) c.args.channel (record { event = c.args.event; pulses = c.args.pulses }) c.tool_fault-fault.result
-        (rw c.rows_start-at.ensures at c.tool_fault-fault.ensures)
+    (rw c.rows_start-at.ensures at c.tool_fault-fault.ensures)
     c.decide_event-decision.result c.event_refusal-refusal.result
     (rw (c.wide_byte-value.ensures, c.read_place-place.ensures.0, c.rows_start-at.ensures, c.total_with-sum.ensures, c.wide64.ensures.0) at
     c.decide_event-decision.ensures) (rw (c.total_with-sum.ensures, c.wide64.ensures.0) at c.event_refusal-refusal.ensures)
@@ -22,7 +22,7 @@ value_reply-reply-requires c =
 pub returns : goal.returns
 returns c =
     event_done (store_of c.args.tool) c.args.channel (record { event = c.args.event; pulses = c.args.pulses }) c.tool_fault-fault.result
-        (rw c.rows_start-at.ensures at c.tool_fault-fault.ensures) _
+    (rw c.rows_start-at.ensures at c.tool_fault-fault.ensures) _
     c.decide_event-decision.result c.event_refusal-refusal.result c.value_reply-reply.ensures
     (rw (
       c.wide_byte-value.ensures,

@@ -14,15 +14,17 @@ returns-then-refusal-gt0 c =
     let t = store_of c.args.tool in
     let h = rw c.rows_start-at.ensures at c.tool_fault-fault.ensures in
     load_refused t c.args.channel c.tool_fault-fault.result h c.channel_refusal-refusal.result c.channel_refusal-refusal.ensures c.args.rule.now _
-        c.plain_reply.ensures c.if-refusal-gt0.true
+    c.plain_reply.ensures c.if-refusal-gt0.true
 
 pub compile_for-verdict-requires : goal.compile_for-verdict-requires
 compile_for-verdict-requires c =
     let t = store_of c.args.tool in
     let h = rw c.rows_start-at.ensures at c.tool_fault-fault.ensures in
-    let z : c.channel_refusal-refusal.result ≡ 0 = omega (arith, c.if-refusal-gt0.false) in
-    (search rules, few_values _ _ _ _ _ (setup_passes t c.args.channel c.tool_fault-fault.result h c.channel_refusal-refusal.result
-        c.channel_refusal-refusal.ensures z))
+    let z : c.channel_refusal-refusal.result ≡ 0 = omega (arith, c.if-refusal-gt0.false) in (
+      search rules,
+      few_values _ _ _ _ _ (setup_passes t c.args.channel c.tool_fault-fault.result h c.channel_refusal-refusal.result
+          c.channel_refusal-refusal.ensures z),
+    )
 
 pub returns-in_default : goal.returns-in_default
 returns-in_default c =
@@ -30,7 +32,7 @@ returns-in_default c =
     let h = rw c.rows_start-at.ensures at c.tool_fault-fault.ensures in
     let z : c.channel_refusal-refusal.result ≡ 0 = omega (arith, c.if-refusal-gt0.false) in
     load_judged t c.args.channel c.tool_fault-fault.result h c.channel_refusal-refusal.result c.channel_refusal-refusal.ensures c.args.rule.now z _
-        (omega arith) c.compile_for-verdict.result c.compile_for-verdict.ensures.answer _ c.in_default.field-0
+    (omega arith) c.compile_for-verdict.result c.compile_for-verdict.ensures.answer _ c.in_default.field-0
     c.counted_reply.ensures c.in_default.is
 
 pub rows_left-requires : goal.rows_left-requires
@@ -52,7 +54,7 @@ returns-then-not-rows_left c =
     let sized : length c.args.tool.states ≡ channel_limit = c.well_formed.0.1.1.1.0.1.0.1 in
     let z : c.channel_refusal-refusal.result ≡ 0 = omega (arith, c.if-refusal-gt0.false) in
     load_over t c.args.channel c.tool_fault-fault.result h c.channel_refusal-refusal.result c.channel_refusal-refusal.ensures c.args.rule.now z _
-        (omega arith) c.compile_for-verdict.result c.compile_for-verdict.ensures.answer c.in-Count.n c.in-Count.is
+    (omega arith) c.compile_for-verdict.result c.compile_for-verdict.ensures.answer c.in-Count.n c.in-Count.is
     sized c.rows_left.result c.rows_left.ensures c.if-not-rows_left.true
 
 pub stored-requires : goal.stored-requires
@@ -78,5 +80,5 @@ returns c =
     let y = c.if-not-rows_left.false in
     let z : c.channel_refusal-refusal.result ≡ 0 = omega (arith, c.if-refusal-gt0.false) in
     load_stored t c.args.channel c.tool_fault-fault.result h c.channel_refusal-refusal.result c.channel_refusal-refusal.ensures c.args.rule.now z _
-        (omega arith) c.compile_for-verdict.result c.compile_for-verdict.ensures.answer c.in-Count.n c.in-Count.is
+    (omega arith) c.compile_for-verdict.result c.compile_for-verdict.ensures.answer c.in-Count.n c.in-Count.is
     sized c.rows_left.result c.rows_left.ensures y (store_of c.stored.result) _ c.compile_for-verdict.ensures.contents c.stored.ensures

@@ -8,8 +8,14 @@ use Rattle.synthesis.proofs.compile_nodes.Goals as goal
 
 pub attempt_few-few-requires : goal.attempt_few-few-requires
 attempt_few-few-requires c =
-    record { few_nodes = c.requires.0; few_events = c.requires.1; sized = (c.requires.2, c.requires.3, c.requires.4); rows_sized =
-        c.keep_demands.ensures.0; kept = c.keep_demands.ensures.1 }
+    record {
+      few_nodes = c.requires.0;
+      few_events = c.requires.1;
+      sized = (c.requires.2, c.requires.3, c.requires.4);
+      rows_sized =
+          c.keep_demands.ensures.0;
+      kept = c.keep_demands.ensures.1;
+    }
 
 pub returns-then-few-le-SMALL_STATES : goal.returns-then-few-le-SMALL_STATES
 returns-then-few-le-SMALL_STATES c =
@@ -25,8 +31,14 @@ returns-then-few-le-SMALL_STATES c =
 
 pub attempt_many-many-requires : goal.attempt_many-many-requires
 attempt_many-many-requires c =
-    record { few_nodes = c.requires.0; few_events = c.requires.1; sized = (c.requires.2, c.requires.3, c.requires.4); rows_sized =
-        c.keep_demands.ensures.0; kept = c.keep_demands.ensures.1 }
+    record {
+      few_nodes = c.requires.0;
+      few_events = c.requires.1;
+      sized = (c.requires.2, c.requires.3, c.requires.4);
+      rows_sized =
+          c.keep_demands.ensures.0;
+      kept = c.keep_demands.ensures.1;
+    }
 
 pub returns : goal.returns
 returns c =

@@ -10,9 +10,12 @@ use Rattle.synthesis.proofs.make_table.Goals as goal
 pub returns-then-limit-n : goal.returns-then-limit-n
 returns-then-limit-n c =
     attempt_over c.args.kind c.args.kinds.now c.args.firsts.now c.args.fields.now c.args.count (meet_of c.args.kind c.args.meet.now) c.args.top
-        c.args.events c.args.limit
-    c.table_of-n.result _ _ c.table_of-n.ensures.2 (omega (arith, c.table_of-n.ensures.0, c.requires.4), omega
-        (arith, c.table_of-n.ensures.1, c.requires.5)) c.args.to.now false c.if-limit-n.true
+    c.args.events c.args.limit
+    c.table_of-n.result _ _ c.table_of-n.ensures.2 (
+      omega (arith, c.table_of-n.ensures.0, c.requires.4),
+      omega
+          (arith, c.table_of-n.ensures.1, c.requires.5),
+    ) c.args.to.now false c.if-limit-n.true
 
 pub overflow_mul-n : goal.overflow_mul-n
 overflow_mul-n c =

@@ -9,7 +9,7 @@ use Rattle.values.proofs.associative.Given as goal
 abbrev pub invariant-loop-c : goal.invariant-loop-c
 invariant-loop-c l =
     (l.c ≤ l.values) × (l.holds ≡ true) × (every l.c (λ k. eqb (meet_at l.values l.meet (meet_at l.values l.meet l.a l.b) k)
-        (meet_at l.values l.meet l.a (meet_at l.values l.meet l.b k))) ≡ true)
+    (meet_at l.values l.meet l.a (meet_at l.values l.meet l.b k))) ≡ true)
 
 abbrev pub decreases-loop-c : goal.decreases-loop-c
 decreases-loop-c l = l.values - l.c

@@ -17,9 +17,9 @@ lawful_meet-requires c = sym c.values_in_limits.ensures ∙ c.if-not-values_in_l
 pub returns-then-not-lawful_meet : goal.returns-then-not-lawful_meet
 returns-then-not-lawful_meet c = sym
     (judged_meet _ _ _ _ (sym c.events_in_limits.ensures ∙ c.if-not-events_in_limits.false)
-        (sym c.values_in_limits.ensures ∙ c.if-not-values_in_limits.false) (sym c.lawful_meet.ensures ∙ c.if-not-lawful_meet.true))
+    (sym c.values_in_limits.ensures ∙ c.if-not-values_in_limits.false) (sym c.lawful_meet.ensures ∙ c.if-not-lawful_meet.true))
 
 pub returns : goal.returns
 returns c = sym
     (judged_accepted _ _ _ _ (sym c.events_in_limits.ensures ∙ c.if-not-events_in_limits.false)
-        (sym c.values_in_limits.ensures ∙ c.if-not-values_in_limits.false) (sym c.lawful_meet.ensures ∙ c.if-not-lawful_meet.false))
+    (sym c.values_in_limits.ensures ∙ c.if-not-values_in_limits.false) (sym c.lawful_meet.ensures ∙ c.if-not-lawful_meet.false))

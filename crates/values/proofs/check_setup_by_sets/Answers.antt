@@ -17,9 +17,9 @@ lawful_by_sets-requires c = sym c.values_in_limits.ensures ∙ c.if-not-values_i
 pub returns-then-not-lawful_by_sets : goal.returns-then-not-lawful_by_sets
 returns-then-not-lawful_by_sets c = sym
     (judged_meet _ _ _ _ (sym c.events_in_limits.ensures ∙ c.if-not-events_in_limits.false)
-        (sym c.values_in_limits.ensures ∙ c.if-not-values_in_limits.false) (sym c.lawful_by_sets.ensures ∙ c.if-not-lawful_by_sets.true))
+    (sym c.values_in_limits.ensures ∙ c.if-not-values_in_limits.false) (sym c.lawful_by_sets.ensures ∙ c.if-not-lawful_by_sets.true))
 
 pub returns-else-not-lawful_by_sets : goal.returns-else-not-lawful_by_sets
 returns-else-not-lawful_by_sets c = sym
     (judged_accepted _ _ _ _ (sym c.events_in_limits.ensures ∙ c.if-not-events_in_limits.false)
-        (sym c.values_in_limits.ensures ∙ c.if-not-values_in_limits.false) (sym c.lawful_by_sets.ensures ∙ c.if-not-lawful_by_sets.false))
+    (sym c.values_in_limits.ensures ∙ c.if-not-values_in_limits.false) (sym c.lawful_by_sets.ensures ∙ c.if-not-lawful_by_sets.false))

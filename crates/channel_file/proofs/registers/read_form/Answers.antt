@@ -10,7 +10,7 @@ use Rattle.channel_file.proofs.registers.read_form.Goals as goal
 pub returns-then-text-gt-FILE_LIMIT : goal.returns-then-text-gt-FILE_LIMIT
 returns-then-text-gt-FILE_LIMIT c =
     form_refused (read_file c.args.text.now) 4096 _ _
-        (ap (λ (b : Bool). cond b (refused 4096) (read file c.args.text.now)) (lt-ltb 4096 (length c.args.text.now) c.if-text-gt-FILE_LIMIT.true))
+    (ap (λ (b : Bool). cond b (refused 4096) (read file c.args.text.now)) (lt-ltb 4096 (length c.args.text.now) c.if-text-gt-FILE_LIMIT.true))
 
 pub returns : goal.returns
 returns c =

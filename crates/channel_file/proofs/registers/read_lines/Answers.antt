@@ -30,9 +30,9 @@ returns-in-Bad-read_line-2 c =
     let q = subst (SawNumber (field (ascii "events=")).parse c.args.text.now 0) c.in-Value.is c.read_line.ensures.reply in
     let m = subst (SawNumber (field (ascii "lines=")).parse c.args.text.now c.in-Value.a) c.in-Value-read_line.is c.read_line-in-Value.ensures.reply in
     let r = subst (SawNumber (count_of rule_line) c.args.text.now c.in-Value-read_line.b) c.in-Bad-read_line-2.is
-        c.read_line-in-Value-read_line.ensures.reply in
+    c.read_line-in-Value-read_line.ensures.reply in
     refuse c.args.text.now c.in-Bad-read_line-2.p _ _ r.within
-        (bad₃ c.args.text.now c.in-Value.events c.in-Value.a q.within q.same c.in-Value-read_line.lines c.in-Value-read_line.b m.within m.same
+    (bad₃ c.args.text.now c.in-Value.events c.in-Value.a q.within q.same c.in-Value-read_line.lines c.in-Value-read_line.b m.within m.same
     (drop c.in-Bad-read_line-2.p c.args.text.now) r.same)
 
 pub returns-then-d-text : goal.returns-then-d-text
@@ -41,11 +41,11 @@ returns-then-d-text c =
     let q = subst (SawNumber (field (ascii "events=")).parse c.args.text.now 0) c.in-Value.is c.read_line.ensures.reply in
     let m = subst (SawNumber (field (ascii "lines=")).parse c.args.text.now c.in-Value.a) c.in-Value-read_line.is c.read_line-in-Value.ensures.reply in
     let r = subst (SawNumber (count_of rule_line) c.args.text.now c.in-Value-read_line.b) c.in-Value-read_line-2.is
-        c.read_line-in-Value-read_line.ensures.reply in
+    c.read_line-in-Value-read_line.ensures.reply in
     let f = here c.args.text.now d c.if-d-text.true in
     refuse c.args.text.now d _ _ r.within
     (bad₄ c.args.text.now c.in-Value.events c.in-Value.a q.within q.same c.in-Value-read_line.lines c.in-Value-read_line.b m.within m.same
-        c.in-Value-read_line-2.items (get_or c.args.text.now d 0) (drop (d + 1) c.args.text.now)
+    c.in-Value-read_line-2.items (get_or c.args.text.now d 0) (drop (d + 1) c.args.text.now)
     (r.same ∙ ap (λ (s : List ℕ). ok c.in-Value-read_line-2.items s) f) ∙ ap (λ (s : List ℕ). bad s) (sym f))
 
 pub returns-else-d-text : goal.returns-else-d-text
@@ -53,8 +53,8 @@ returns-else-d-text c =
     let q = subst (SawNumber (field (ascii "events=")).parse c.args.text.now 0) c.in-Value.is c.read_line.ensures.reply in
     let m = subst (SawNumber (field (ascii "lines=")).parse c.args.text.now c.in-Value.a) c.in-Value-read_line.is c.read_line-in-Value.ensures.reply in
     let r = subst (SawNumber (count_of rule_line) c.args.text.now c.in-Value-read_line.b) c.in-Value-read_line-2.is
-        c.read_line-in-Value-read_line.ensures.reply in
+    c.read_line-in-Value-read_line.ensures.reply in
     good c.args.text.now c.in-Value.events c.in-Value.a q.within q.same c.in-Value-read_line.lines c.in-Value-read_line.b m.within m.same _ _
     c.read_line-in-Value-read_line.ensures.buffer
     c.in-Value-read_line-2.items (c.in-Value-read_line.b + 5) refl
-        (r.same ∙ ap (λ (s : List ℕ). ok c.in-Value-read_line-2.items s) (over c.args.text.now c.in-Value-read_line-2.d c.if-d-text.false))
+    (r.same ∙ ap (λ (s : List ℕ). ok c.in-Value-read_line-2.items s) (over c.args.text.now c.in-Value-read_line-2.d c.if-d-text.false))

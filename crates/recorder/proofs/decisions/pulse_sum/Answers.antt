@@ -19,8 +19,12 @@ loop-i-preserved c =
     let p = get_or c.args.pulses.now (c.args.from + c.loop-i.i) 0 in
     let e : sum_of (take c.loop-i.i (drop c.args.from c.args.pulses.now)) + p ≡ sum_of (take (c.loop-i.i + 1) (drop c.args.from c.args.pulses.now)) =
     rw add-one
-    (omega (arith, sum_more (drop c.args.from c.args.pulses.now) c.loop-i.i (simp length-drop (omega arith)), get_or-drop c.args.from
-        c.args.pulses.now c.loop-i.i 0)) in
+    (omega (
+      arith,
+      sum_more (drop c.args.from c.args.pulses.now) c.loop-i.i (simp length-drop (omega arith)),
+      get_or-drop c.args.from
+          c.args.pulses.now c.loop-i.i 0,
+    )) in
     (omega arith, rw c.wide64-sum.ensures.0 (ap (λ s. s + p) c.loop-i.invariant.1 ∙ e), omega (arith, c.wide64-sum.ensures.1))
 
 pub returns : goal.returns

@@ -24,11 +24,11 @@ returns-then-not-fits c =
     later_stands _ _ _ _ c.loaded_refusal-earlier.ensures (omega arith)
     (later_stands _ _ 0 _ (passes c.args.allowed 16 c.if-not-allowed.false) (omega arith)
     (later_stands _ _ 0 _ (passes _ 19 (le-leb c.args.total total_limit (omega arith))) (omega arith)
-        (fails c.args.fits 13 c.if-not-fits.true)))
+    (fails c.args.fits 13 c.if-not-fits.true)))
 
 pub returns : goal.returns
 returns c =
     later_stands _ _ _ _ c.loaded_refusal-earlier.ensures (omega arith)
     (later_stands _ _ 0 _ (passes c.args.allowed 16 c.if-not-allowed.false) (omega arith)
     (later_stands _ _ 0 _ (passes _ 19 (le-leb c.args.total total_limit (omega arith))) (omega arith)
-        (passes c.args.fits 13 c.if-not-fits.false)))
+    (passes c.args.fits 13 c.if-not-fits.false)))

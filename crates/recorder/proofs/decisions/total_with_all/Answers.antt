@@ -18,7 +18,7 @@ pub loop-i-preserved : goal.loop-i-preserved
 loop-i-preserved c =
     let s = sum_of (take c.loop-i.i c.args.pulses.now) in
     let e : c.args.total + s + sum_of (take c.smaller-n.result (drop c.loop-i.i c.args.pulses.now)) ≡ c.args.total + sum_of
-        (take (c.loop-i.i + c.smaller-n.result) c.args.pulses.now) =
+    (take (c.loop-i.i + c.smaller-n.result) c.args.pulses.now) =
     omega (arith, sum_block c.args.pulses.now c.loop-i.i c.smaller-n.result) in (
       omega (arith, c.smaller-n.ensures, c.loop-i.invariant.0),
       c.loop-i.invariant.1,

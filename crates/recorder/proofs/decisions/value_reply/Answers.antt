@@ -10,7 +10,7 @@ use Rattle.recorder.proofs.decisions.value_reply.Goals as goal
 pub returns-then-decision-gt0 : goal.returns-then-decision-gt0
 returns-then-decision-gt0 c =
     by_suc (λ n. refused (Plain n) ≡ decided_reply n (reading (wheel_of c.args.wheel) c.args.decision.value c.args.decision.total)) (λ m. refl)
-        c.args.decision.refusal (omega arith)
+    c.args.decision.refusal (omega arith)
 
 pub measured-requires : goal.measured-requires
 measured-requires c = let z : c.args.decision.refusal ≡ 0 = omega arith in c.requires z

@@ -11,7 +11,7 @@ abbrev pub invariant-loop-c : goal.invariant-loop-c
 invariant-loop-c l =
     (l.c ≤ channel_limit)
     × (every l.c (λ d. channel_fits true d (rows_start l.events l.states d) l.events (get_or l.states d 0) (get_or l.current d 0) (get_or l.total d 0)
-        l.next) ≡ true)
+    l.next) ≡ true)
 
 abbrev pub decreases-loop-c : goal.decreases-loop-c
 decreases-loop-c l = channel_limit - l.c

@@ -10,14 +10,17 @@ slice_bounds-copy_values-end c =
     let new = mask_column c.args.table.now c.args.room.new in
     let n = masks_length c.args.table.now c.args.room.new in
     sym (front_length c.args.values.now new c.args.room.at c.args.room.old c.args.room.new c.args.room.later c.requires.0 n c.requires.1.old_fits
-        c.requires.1.new_fits)
+    c.requires.1.new_fits)
 
 pub copy_values-requires : goal.copy_values-requires
 copy_values-requires c =
     let new = mask_column c.args.table.now c.args.room.new in
     let n = masks_length c.args.table.now c.args.room.new in (
-      omega (arith, front_length c.args.values.now new c.args.room.at c.args.room.old c.args.room.new c.args.room.later c.requires.0 n
-          c.requires.1.old_fits c.requires.1.new_fits),
+      omega (
+        arith,
+        front_length c.args.values.now new c.args.room.at c.args.room.old c.args.room.new c.args.room.later c.requires.0 n
+            c.requires.1.old_fits c.requires.1.new_fits,
+      ),
       refl,
     )
 
@@ -35,8 +38,11 @@ pub copy_values-requires-2 : goal.copy_values-requires-2
 copy_values-requires-2 c =
     let new = mask_column c.args.table.now c.args.room.new in
     let n = masks_length c.args.table.now c.args.room.new in (
-      omega (arith, behind_length c.args.values.now new c.args.room.at c.args.room.old c.args.room.new c.args.room.later c.requires.0 n
-          c.requires.1.old_fits c.requires.1.new_fits),
+      omega (
+        arith,
+        behind_length c.args.values.now new c.args.room.at c.args.room.old c.args.room.new c.args.room.later c.requires.0 n
+            c.requires.1.old_fits c.requires.1.new_fits,
+      ),
       two_length c.args.values.now new c.args.room.at c.args.room.old c.args.room.new c.args.room.later c.requires.0 n c.requires.1.old_fits
           c.requires.1.new_fits _ _
           c.copy_values.ensures c.copy_masks.ensures,
@@ -47,5 +53,5 @@ returns c =
     let new = mask_column c.args.table.now c.args.room.new in
     let n = masks_length c.args.table.now c.args.room.new in
     copied c.args.values.now new c.args.room.at c.args.room.old c.args.room.new c.args.room.later c.requires.0 n c.requires.1.old_fits
-        c.requires.1.new_fits _ _ _
+    c.requires.1.new_fits _ _ _
     c.copy_values.ensures c.copy_masks.ensures c.copy_values-2.ensures

@@ -8,7 +8,7 @@ pub read_place-place-requires : goal.read_place-place-requires
 read_place-place-requires c =
     λ h.
     rw c.rows_start-at.ensures (event_bounds (register_store c.args.tool) c.args.channel (record { event = c.args.event; pulses = c.args.pulses })
-        c.tool_fault-fault.result
+    c.tool_fault-fault.result
     (rw c.rows_start-at.ensures at c.tool_fault-fault.ensures) (sym (rw (c.total_with-sum.ensures, c.wide64.ensures.0) at c.event_refusal-refusal.ensures) ∙ h))
 
 pub value_reply-reply-requires : goal.value_reply-reply-requires
@@ -21,7 +21,7 @@ value_reply-reply-requires c =
 pub returns : goal.returns
 returns c =
     event_done (register_store c.args.tool) c.args.channel (record { event = c.args.event; pulses = c.args.pulses }) c.tool_fault-fault.result
-        (rw c.rows_start-at.ensures at c.tool_fault-fault.ensures)
+    (rw c.rows_start-at.ensures at c.tool_fault-fault.ensures)
     _ c.decide_event-decision.result c.event_refusal-refusal.result c.value_reply-reply.ensures
     (rw (c.read_place-place.ensures.0, c.rows_start-at.ensures, c.total_with-sum.ensures, c.wide64.ensures.0) at c.decide_event-decision.ensures)
     (rw (c.total_with-sum.ensures, c.wide64.ensures.0) at c.event_refusal-refusal.ensures)

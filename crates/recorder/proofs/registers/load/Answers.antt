@@ -13,7 +13,7 @@ returns-then-refusal-gt0 c =
     let t = register_store c.args.tool in
     let h = rw c.rows_start-at.ensures at c.tool_fault-fault.ensures in
     load_refused t c.args.channel c.tool_fault-fault.result h c.channel_refusal-refusal.result c.channel_refusal-refusal.ensures c.args.rule.now _
-        c.plain_reply.ensures c.if-refusal-gt0.true
+    c.plain_reply.ensures c.if-refusal-gt0.true
 
 pub returns-in_default : goal.returns-in_default
 returns-in_default c =
@@ -22,7 +22,7 @@ returns-in_default c =
     let z : c.channel_refusal-refusal.result ≡ 0 = omega (arith, c.if-refusal-gt0.false) in
     let y = rw (c.wide.ensures, c.wide-2.ensures) at c.compile_register-verdict.ensures in
     load_judged t c.args.channel c.tool_fault-fault.result h c.channel_refusal-refusal.result c.channel_refusal-refusal.ensures c.args.rule.now z _
-        (omega arith) c.compile_register-verdict.result y.answer _ c.in_default.field-0
+    (omega arith) c.compile_register-verdict.result y.answer _ c.in_default.field-0
     c.counted_reply.ensures c.in_default.is
 
 pub rows_left-requires : goal.rows_left-requires
@@ -47,7 +47,7 @@ returns-then-not-rows_left c =
     let y = rw (c.wide.ensures, c.wide-2.ensures) at c.compile_register-verdict.ensures in
     let sized : length c.args.tool.states ≡ channel_limit = c.well_formed.0.1.1.1.0.1.0.1 in
     load_over t c.args.channel c.tool_fault-fault.result h c.channel_refusal-refusal.result c.channel_refusal-refusal.ensures c.args.rule.now z _
-        (omega arith) c.compile_register-verdict.result y.answer c.in-Count.n c.in-Count.is sized
+    (omega arith) c.compile_register-verdict.result y.answer c.in-Count.n c.in-Count.is sized
     c.rows_left.result c.rows_left.ensures c.if-not-rows_left.true
 
 pub stored-requires : goal.stored-requires
@@ -76,5 +76,5 @@ returns c =
     in
     let w = c.if-not-rows_left.false in
     load_stored t c.args.channel c.tool_fault-fault.result h c.channel_refusal-refusal.result c.channel_refusal-refusal.ensures c.args.rule.now z _
-        (omega arith) c.compile_register-verdict.result y.answer c.in-Count.n c.in-Count.is sized
+    (omega arith) c.compile_register-verdict.result y.answer c.in-Count.n c.in-Count.is sized
     c.rows_left.result c.rows_left.ensures w (register_store c.stored.result) _ y.contents c.stored.ensures

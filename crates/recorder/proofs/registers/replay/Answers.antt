@@ -12,9 +12,9 @@ pub returns-then-refusal-gt0 : goal.returns-then-refusal-gt0
 returns-then-refusal-gt0 c =
     let h = rw c.rows_start-at.ensures at c.tool_fault-fault.ensures in
     replay_refused (register_store c.args.tool) c.args.channel c.args.word.now c.args.pulses.now c.args.values.now c.tool_fault-fault.result h
-        c.word_in_order-allowed.result c.total_with_all-sum.result _
+    c.word_in_order-allowed.result c.total_with_all-sum.result _
     c.word_in_order-allowed.ensures c.total_with_all-sum.ensures refl c.replay_refusal-refusal.result c.replay_refusal-refusal.ensures _
-        c.plain_reply.ensures c.if-refusal-gt0.true
+    c.plain_reply.ensures c.if-refusal-gt0.true
 
 pub run-last-requires : goal.run-last-requires
 run-last-requires c =
@@ -32,7 +32,7 @@ end_reply-requires c =
     let z : c.replay_refusal-refusal.result ≡ 0 = omega (arith, c.if-refusal-gt0.false) in (
       subst⁻¹ (λ n. length c.args.word.now ≤ n) c.run-last.auto.buffer
           (fits_out (register_store c.args.tool) c.args.channel c.args.word.now c.args.pulses.now c.args.values.now c.tool_fault-fault.result h
-              c.word_in_order-allowed.result c.total_with_all-sum.result _
+          c.word_in_order-allowed.result c.total_with_all-sum.result _
           c.word_in_order-allowed.ensures c.total_with_all-sum.ensures refl c.replay_refusal-refusal.result c.replay_refusal-refusal.ensures z),
       replay_measurable (register_store c.args.tool) c.args.channel c.args.word.now c.args.pulses.now c.args.values.now c.tool_fault-fault.result h
           c.word_in_order-allowed.result c.total_with_all-sum.result _
@@ -49,7 +49,7 @@ returns c =
     let cl : length c.args.tool.current ≡ channel_limit = c.well_formed.0.1.1.1.1.0.1.0.1 in
     let tl : length c.args.tool.total ≡ channel_limit = c.well_formed.0.1.1.1.1.1.0.1.0.1 in
     replay_done (register_store c.args.tool) c.args.channel c.args.word.now c.args.pulses.now c.args.values.now c.tool_fault-fault.result h
-        c.word_in_order-allowed.result c.total_with_all-sum.result _
+    c.word_in_order-allowed.result c.total_with_all-sum.result _
     c.word_in_order-allowed.ensures c.total_with_all-sum.ensures refl c.replay_refusal-refusal.result c.replay_refusal-refusal.ensures z _
-        c.run-last.result _ cl tl
+    c.run-last.result _ cl tl
     (rw c.rows_start-at.ensures at c.run-last.ensures.0) (rw c.rows_start-at.ensures at c.run-last.ensures.1) c.end_reply.ensures

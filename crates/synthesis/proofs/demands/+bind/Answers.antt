@@ -84,7 +84,7 @@ bind-requires-then-kind-eq-GREATEST t c = (
 pub returns-then-kind-eq-GREATEST : goal.returns-then-kind-eq-GREATEST
 returns-then-kind-eq-GREATEST t c =
     let rest : (i : ℕ) → i < c.args.depth → get_or c.if-depth-lt-BINDER_LIMIT.stack i 0 ≡ get_or c.args.stack.now i 0 = λ i h. elim
-        c.if-depth-lt-BINDER_LIMIT.branch [
+    c.if-depth-lt-BINDER_LIMIT.branch [
       | then-depth-lt-BINDER_LIMIT w ↦ ap (λ l. get_or l i 0) w.stack-is ∙ get_or-set_other c.args.stack.now c.args.depth i _ 0 (λ e. omega (arith, e))
       | else-depth-lt-BINDER_LIMIT w ↦ ap (λ l. get_or l i 0) w.stack-is
     ] in

@@ -16,9 +16,9 @@ pub returns-then-kind-eq-VARIABLE : goal.returns-then-kind-eq-VARIABLE
 returns-then-kind-eq-VARIABLE t c =
     gathered_one c.args.kinds.now c.args.binders.now _ _ _ _ _ c.store_copy.ensures _ (search rules) (search rules)
     (end_leaf c.args.kinds.now _ _ (λ e. omega (arith, e, c.if-kind-eq-VARIABLE.true)) (λ e. omega (arith, e, c.if-kind-eq-VARIABLE.true))
-        (λ e. omega (arith, e, c.if-kind-eq-VARIABLE.true)))
+    (λ e. omega (arith, e, c.if-kind-eq-VARIABLE.true)))
     (gathers_variable c.args.kinds.now c.args.binders.now _ _ _ _ _ c.store_copy.ensures (ap (row c.args.rows.now) c.wide-binder.ensures.0)
-        c.if-kind-eq-VARIABLE.true)
+    c.if-kind-eq-VARIABLE.true)
 
 pub returns-then-kind-eq-TRANSITION : goal.returns-then-kind-eq-TRANSITION
 returns-then-kind-eq-TRANSITION t c =
@@ -30,7 +30,7 @@ pub returns-then-kind-eq-OUTPUT : goal.returns-then-kind-eq-OUTPUT
 returns-then-kind-eq-OUTPUT t c =
     gathered_one c.args.kinds.now c.args.binders.now _ _ _ _ _ c.store_self-then-kind-eq-OUTPUT.ensures _ (search rules) (search rules)
     (end_leaf c.args.kinds.now _ _ (λ e. omega (arith, e, c.if-kind-eq-OUTPUT.true)) (λ e. omega (arith, e, c.if-kind-eq-OUTPUT.true))
-        (λ e. omega (arith, e, c.if-kind-eq-OUTPUT.true)))
+    (λ e. omega (arith, e, c.if-kind-eq-OUTPUT.true)))
     (gathers_output c.args.kinds.now c.args.binders.now _ _ _ _ _ c.store_self-then-kind-eq-OUTPUT.ensures refl c.if-kind-eq-OUTPUT.true)
 
 pub gather-second-requires : goal.gather-second-requires
@@ -84,12 +84,12 @@ gather-end-requires-then-kind-eq-GREATEST t c = (
 pub returns-then-kind-eq-GREATEST : goal.returns-then-kind-eq-GREATEST
 returns-then-kind-eq-GREATEST t c =
     gathered_greatest c.args.kinds.now c.args.binders.now _ _ _ _ _ _ c.gather-end-then-kind-eq-GREATEST.ensures
-        c.store_copy-then-kind-eq-GREATEST.ensures (omega arith)
+    c.store_copy-then-kind-eq-GREATEST.ensures (omega arith)
     c.if-kind-eq-GREATEST.true
 
 pub returns : goal.returns
 returns t c =
     gathered_one c.args.kinds.now c.args.binders.now _ _ _ _ _ c.store_none.ensures _ (search rules) (search rules)
-        (end_leaf c.args.kinds.now _ _ c.if-kind-eq-TRANSITION.false c.if-kind-eq-CONJUNCTION.false c.if-kind-eq-GREATEST.false)
+    (end_leaf c.args.kinds.now _ _ c.if-kind-eq-TRANSITION.false c.if-kind-eq-CONJUNCTION.false c.if-kind-eq-GREATEST.false)
     (gathers_truth c.args.kinds.now c.args.binders.now _ _ _ _ _ c.store_none.ensures refl c.if-kind-eq-VARIABLE.false c.if-kind-eq-TRANSITION.false
-        c.if-kind-eq-OUTPUT.false c.if-kind-eq-CONJUNCTION.false c.if-kind-eq-GREATEST.false)
+    c.if-kind-eq-OUTPUT.false c.if-kind-eq-CONJUNCTION.false c.if-kind-eq-GREATEST.false)

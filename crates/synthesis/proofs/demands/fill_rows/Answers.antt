@@ -11,18 +11,30 @@ use Rattle.synthesis.proofs.demands.fill_rows.Goals as goal
 use Rattle.synthesis.proofs.demands.fill_rows.Goals.{then-kinds-i-eq-TRANSITION, else-kinds-i-eq-TRANSITION}
 
 pub gather-requires : goal.gather-requires
-gather-requires c =
-    (search rules, search rules, search rules, search rules, search rules, subst (λ m. EndsFrom c.args.kinds.now m c.args.ends.now 0) (omega arith)
-        c.requires.5)
+gather-requires c = (
+  search rules,
+  search rules,
+  search rules,
+  search rules,
+  search rules,
+  subst (λ m. EndsFrom c.args.kinds.now m c.args.ends.now 0) (omega arith)
+      c.requires.5,
+)
 
 pub loop-i-init : goal.loop-i-init
 loop-i-init c =
     (search rules, c.gather.ensures.sized, rows_root c.args.kinds.now c.args.binders.now c.args.count _ _ _ c.gather.ensures)
 
 pub gather-requires-then-kinds-i-eq-TRANSITION : goal.gather-requires-then-kinds-i-eq-TRANSITION
-gather-requires-then-kinds-i-eq-TRANSITION c =
-    (search rules, search rules, search rules, search rules, search rules, subst (λ m. EndsFrom c.args.kinds.now m c.args.ends.now 0) (omega arith)
-        c.requires.5)
+gather-requires-then-kinds-i-eq-TRANSITION c = (
+  search rules,
+  search rules,
+  search rules,
+  search rules,
+  search rules,
+  subst (λ m. EndsFrom c.args.kinds.now m c.args.ends.now 0) (omega arith)
+      c.requires.5,
+)
 
 pub loop-i-preserved : goal.loop-i-preserved
 loop-i-preserved c =
@@ -32,7 +44,7 @@ loop-i-preserved c =
         ap length w.rows-is ∙ w.gather-then-kinds-i-eq-TRANSITION.ensures.sized,
         subst (λ x. RowsTo c.args.kinds.now c.args.binders.now c.args.count x (c.loop-i.i + 1)) (sym w.rows-is)
             (rows_part c.args.kinds.now c.args.binders.now c.args.count c.loop-i.rows _ c.loop-i.i _ w.if-kinds-i-eq-TRANSITION.true
-                w.gather-then-kinds-i-eq-TRANSITION.ensures c.loop-i.invariant.2),
+            w.gather-then-kinds-i-eq-TRANSITION.ensures c.loop-i.invariant.2),
       )
       | else-kinds-i-eq-TRANSITION w ↦ (
         search rules,

@@ -6,5 +6,9 @@ use Rattle.synthesis.proofs.demands.store_copy.Goals as goal
 
 pub returns : goal.returns
 returns c =
-    record { sized = c.store_union.ensures.sized; here = c.store_union.ensures.here ∙ union_same (row c.args.rows.now c.args.from); others =
-        c.store_union.ensures.others }
+    record {
+      sized = c.store_union.ensures.sized;
+      here = c.store_union.ensures.here ∙ union_same (row c.args.rows.now c.args.from);
+      others =
+          c.store_union.ensures.others;
+    }

@@ -17,9 +17,12 @@ loop-state-init c =
     (search rules, search rules, λ x h. absurd (omega (arith, h, zero-mul c.args.events)))
 
 pub open_row-requires : goal.open_row-requires
-open_row-requires c =
-    (omega (arith, c.loop-state-test.true, c.requires.1), search rules, omega
-        (arith, c.requires.7, c.loop-state.invariant.1, row_fits c.args.events c.args.n c.loop-state.state c.loop-state-test.true))
+open_row-requires c = (
+  omega (arith, c.loop-state-test.true, c.requires.1),
+  search rules,
+  omega
+      (arith, c.requires.7, c.loop-state.invariant.1, row_fits c.args.events c.args.n c.loop-state.state c.loop-state-test.true),
+)
 
 pub meet_row-requires : goal.meet_row-requires
 meet_row-requires c = (
@@ -37,10 +40,10 @@ loop-state-preserved c =
     let f = state_value (meet_of c.args.kind c.args.meet.now) c.args.top c.args.kinds.now c.args.firsts.now c.args.values.now c.args.count c.args.states.now in
     let r = row_again (f c.loop-state.state) _ c.args.events c.loop-state.state c.loop-state.to _ _ c.open_row.ensures
     (row_of_marked (meet_of c.args.kind c.args.meet.now) c.args.top c.args.kinds.now c.args.firsts.now c.args.values.now
-        (row c.args.states.now c.loop-state.state)
+    (row c.args.states.now c.loop-state.state)
     c.args.count c.args.events c.loop-state.state _ _ _ c.marks_of-marks.ensures.1 c.open_row.ensures.entries c.meet_row.ensures) in
     let z : c.loop-state.state * c.args.events + c.args.events ≡ (c.loop-state.state + 1) * c.args.events = omega
-        (arith, add-mul c.loop-state.state 1 c.args.events) in (
+    (arith, add-mul c.loop-state.state 1 c.args.events) in (
       search rules,
       r.sized ∙ c.loop-state.invariant.1,
       λ x h. row_filled f c.args.events c.loop-state.state _ _ r c.loop-state.invariant.2 x (omega (arith, h, z)),

@@ -11,6 +11,8 @@ returns-then-event-events c = (
 )
 
 pub returns-else-event-events : goal.returns-else-event-events
-returns-else-event-events c =
-    (search rules, passed_far c.args.firsts.now c.args.rows.now c.args.events c.args.node c.args.sets.now
-        (omega (arith, c.if-event-events.false, c.wide-event.ensures.0)))
+returns-else-event-events c = (
+  search rules,
+  passed_far c.args.firsts.now c.args.rows.now c.args.events c.args.node c.args.sets.now
+      (omega (arith, c.if-event-events.false, c.wide-event.ensures.0)),
+)

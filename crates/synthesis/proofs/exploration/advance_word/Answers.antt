@@ -29,9 +29,11 @@ loop-rest-smaller c =
     walk_less _ _ _ _ _ _ _ c.loop-rest.invariant.1 c.last_set-end.result c.last_set-end.ensures
 
 pub loop-rest-preserved : goal.loop-rest-preserved
-loop-rest-preserved c =
-    (c.advance_node.ensures.0, walk_next _ _ _ _ _ _ _ c.loop-rest.invariant.1 c.last_set-end.result c.last_set-end.ensures _ _ c.power-rest.ensures
-        c.advance_node.ensures.1)
+loop-rest-preserved c = (
+  c.advance_node.ensures.0,
+  walk_next _ _ _ _ _ _ _ c.loop-rest.invariant.1 c.last_set-end.result c.last_set-end.ensures _ _ c.power-rest.ensures
+      c.advance_node.ensures.1,
+)
 
 pub returns : goal.returns
 returns c = (c.loop-rest.invariant.0, walk_done _ _ _ _ _ _ _ c.loop-rest.invariant.1 (omega arith))

@@ -123,7 +123,7 @@ loop-event-preserved c =
         sized,
         ap (λ x. row x c.args.i) w.states-is
             ∙ set_else c.loop-event.states _ c.loop-event.k c.args.i w.store.ensures.below w.store.ensures.above
-                (λ e. omega (arith, e, c.loop-event.invariant.1, c.requires.0))
+            (λ e. omega (arith, e, c.loop-event.invariant.1, c.requires.0))
             ∙ c.loop-event.invariant.5,
         λ kinds count marked start P old. rw (w.states-is, w.k-is)
             (candidate_new kinds c.args.firsts.now c.args.rows.now count c.args.events c.args.i c.args.n c.loop-event.k c.loop-event.event c.args.states.now
@@ -141,7 +141,7 @@ loop-event-preserved c =
         rw (w.states-is, w.k-is, w.heads-is ∙ w.link.ensures.0, w.links-is ∙ w.link.ensures.1)
             (chained_more c.loop-event.k c.loop-event.states _ _ w.store.ensures c.loop-event.heads c.loop-event.links _ c.place_of-place.ensures
             (omega (arith, c.loop-event.invariant.7, place_below _ 0 _ c.place_of-place.ensures))
-                (omega (arith, c.loop-event.invariant.8, c.loop-event.invariant.2, w.if-k-limit.false, c.requires.2)) c.loop-event.invariant.10),
+            (omega (arith, c.loop-event.invariant.8, c.loop-event.invariant.2, w.if-k-limit.false, c.requires.2)) c.loop-event.invariant.10),
       )
       | else-j-k w ↦ (
         search rules,

@@ -16,7 +16,7 @@ loop-n-init c = (
   subst (λ x. x < c.args.n) (sym c.wide-j.ensures.0) (c.requires.7.heads_are c.args.place),
   λ i h e. subst (λ x. Linked c.args.links.now x i)
       (ap (λ p. get_or c.args.heads.now p 0) (place_same c.args.states.now c.args.set.now (i * 4) 0 e ∙ sym c.requires.3) ∙ sym c.wide-j.ensures.0)
-          (c.requires.7.linked i h),
+      (c.requires.7.linked i h),
 )
 
 pub returns-then-same : goal.returns-then-same

@@ -11,7 +11,7 @@ pub returns-then-a-b : goal.returns-then-a-b
 returns-then-a-b c =
     let z : 0 + c.loop-i.i ≡ c.loop-i.i = omega arith in
     let u : get_or c.args.states.now (c.args.base + c.loop-i.i) 0 < 18446744073709551616 = subst (λ x. x < 18446744073709551616) c.word-a.ensures.0
-        c.word-a.ensures.1 in
+    c.word-a.ensures.1 in
     let v : get_or c.args.set.now c.loop-i.i 0 < 18446744073709551616 = subst (λ x. x < 18446744073709551616) c.word-b.ensures.0 c.word-b.ensures.1 in (
       (λ e. absurd (true≢false (sym e))),
       λ e h. c.if-a-b.true
