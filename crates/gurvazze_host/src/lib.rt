@@ -1,4 +1,4 @@
-// What the static library gurvazze_host_c exports to programs in C and Rust. Each public function is an entry of the crates below with its
+// What the static library `gurvazze_host_c` exports to programs in C and Rust. Each public function is an entry of the crates below with its
 // answer in one number of 64 bits: the refusal's number in the low byte, 0 where there is none, and above it the refusal's place or what the
 // call yields.
 #![tactic(auto)]

@@ -68,7 +68,7 @@ abbrev pub MatchesRule : Setup → Formula ℕ → Machine ℕ ℕ → ℕ → T
 MatchesRule s φ m start = (w : List ℕ) → Word s.events w → (e : ℕ) → e < s.events →
     Answers (setup_meet s) (setup_top s) φ w e (m.value (after m start w) e)
 
--- F-6: distance with every event. Refusals 18 and 19 stand in DemandOne (`Setting-up`, `calling`, `replaying`); that each accepted event's
+-- F-6: distance with every event. Refusals 18 and 19 stand in DemandOne (`setting_up`, `calling`, `replaying`); that each accepted event's
 -- distance is that of the log's total, and that channels are independent, in DemandThree (`record_of_calls`, `independence`): an event there
 -- carries an occurrence and returns a reading.
 pub record DistanceWithEveryEvent : Type 0 where
