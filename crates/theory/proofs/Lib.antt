@@ -1,5 +1,6 @@
 -- In the order in which they build on each other.
 pub mod Order
+pub mod Pairs
 pub mod ValueSets
 pub mod Substitution
 pub mod Instantiation

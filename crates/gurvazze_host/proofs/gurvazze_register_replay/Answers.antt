@@ -5,14 +5,8 @@ use Rattle.gurvazze_host.proofs.Calls.{register_room, unmade_small, other_stoppe
 use Rattle.gurvazze_host.proofs.Calls.{register_setup_is}
 use native.Mathlib.Omega.{arith}
 use mathlib.Core.Path.{sym, ◌∙◌}
+use Rattle.theory.proofs.Pairs.{one_of, other_of}
 use Rattle.gurvazze_host.proofs.gurvazze_register_replay.Goals as goal
-
--- the parts of a pair, at a goal that shows them
-one_of : {A B : Type 0} → A × B → A
-one_of p = p.0
-
-other_of : {A B : Type 0} → A × B → B
-other_of p = p.1
 
 pub returns-then-lacks_room : goal.returns-then-lacks_room
 returns-then-lacks_room c =

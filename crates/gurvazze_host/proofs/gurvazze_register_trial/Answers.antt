@@ -3,14 +3,8 @@ use Rattle.channel_file.proofs.RegisterClaims.{register_form}
 use Rattle.channel_io.proofs.Callers.{register_unmade, register_made_of}
 use Rattle.gurvazze_host.proofs.Calls.{register_room, unmade_small, other_stopped, trial_stopped, triable, trial_made, register_setup_is}
 use mathlib.Core.Path.{sym, ◌∙◌}
+use Rattle.theory.proofs.Pairs.{one_of, other_of}
 use Rattle.gurvazze_host.proofs.gurvazze_register_trial.Goals as goal
-
--- the parts of a pair, at a goal that shows them
-one_of : {A B : Type 0} → A × B → A
-one_of p = p.0
-
-other_of : {A B : Type 0} → A × B → B
-other_of p = p.1
 
 pub returns-then-lacks_room : goal.returns-then-lacks_room
 returns-then-lacks_room c =

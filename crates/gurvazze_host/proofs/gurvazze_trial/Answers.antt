@@ -3,14 +3,8 @@ use Rattle.channel_file.proofs.Claims.{channel_form}
 use Rattle.channel_io.proofs.Callers.{unmade, made_of, limits}
 use Rattle.gurvazze_host.proofs.Calls.{number_room, unmade_small, other_stopped, trial_stopped, triable, trial_made, number_setup}
 use mathlib.Core.Path.{sym, ◌∙◌}
+use Rattle.theory.proofs.Pairs.{one_of, other_of}
 use Rattle.gurvazze_host.proofs.gurvazze_trial.Goals as goal
-
--- the parts of a pair, at a goal that shows them
-one_of : {A B : Type 0} → A × B → A
-one_of p = p.0
-
-other_of : {A B : Type 0} → A × B → B
-other_of p = p.1
 
 pub returns-then-lacks_room : goal.returns-then-lacks_room
 returns-then-lacks_room c =

@@ -7,14 +7,8 @@ use lib.ListN.{length-replicate}
 use native.Mathlib.Omega.{arith}
 use Prim.Native.Nat.{ℕ}
 use mathlib.Core.Path.{◌∙◌}
+use Rattle.theory.proofs.Pairs.{one_of, other_of}
 use Rattle.gurvazze_host.proofs.replay_large.Goals as goal
-
--- the parts of a pair, at a goal that shows them
-one_of : {A B : Type 0} → A × B → A
-one_of p = p.0
-
-other_of : {A B : Type 0} → A × B → B
-other_of p = p.1
 
 pub refusal_code-requires : goal.refusal_code-requires
 refusal_code-requires c = unmade_small channel_form (unmade c.compile_file-made.ensures

@@ -2,6 +2,7 @@
 use mathlib.Core.Path.{◌≡◌}
 use native.Mathlib.Omega.{arith}
 use lib.ListN.{length}
+use borrow.Author.Rules.{rules}
 use Rattle.limits.specs.Limits.{channel_limit}
 use Rattle.recorder.specs.Store.{store_of}
 use Rattle.recorder.proofs.Loads.{clear_refused, clear_storable, clear_stored}
@@ -16,7 +17,7 @@ returns-then-refusal-gt0 c =
 pub stored-requires : goal.stored-requires
 stored-requires c =
     let z : c.channel_refusal-refusal.result ≡ 0 = omega (arith, c.if-refusal-gt0.false) in
-    let sized : length c.args.tool.states ≡ channel_limit = c.well_formed.0.1.1.1.0.1.0.1 in (
+    let sized : length c.args.tool.states ≡ channel_limit = search rules in (
       clear_storable (store_of c.args.tool) c.args.channel c.tool_fault-fault.result (rw c.rows_start-at.ensures at c.tool_fault-fault.ensures)
           c.channel_refusal-refusal.result c.channel_refusal-refusal.ensures z sized,
       omega arith,

@@ -7,13 +7,6 @@ use Rattle.limits.specs.Limits.{meet_limit}
 use Rattle.values.proofs.Setups.{square_small}
 use Rattle.recorder.proofs.compile_for.Goals as goal
 
--- the parts of a pair, at a goal that shows them
-one_of : {A B : Type 0} → A × B → A
-one_of p = p.0
-
-other_of : {A B : Type 0} → A × B → B
-other_of p = p.1
-
 pub overflow_mul-count : goal.overflow_mul-count
 overflow_mul-count c =
     let h : c.wide-v.result * c.wide-v.result ≤ meet_limit = square_small (omega arith) in

@@ -39,7 +39,7 @@ pub rows_left-requires : goal.rows_left-requires
 rows_left-requires c =
     let t = store_of c.args.tool in
     let h = rw c.rows_start-at.ensures at c.tool_fault-fault.ensures in
-    let sized : length c.args.tool.states ≡ channel_limit = c.well_formed.0.1.1.1.0.1.0.1 in
+    let sized : length c.args.tool.states ≡ channel_limit = search rules in
     let z : c.channel_refusal-refusal.result ≡ 0 = omega (arith, c.if-refusal-gt0.false) in (
       search rules,
       small_count t c.args.channel c.tool_fault-fault.result h c.channel_refusal-refusal.result c.channel_refusal-refusal.ensures c.args.rule.now z _
@@ -51,7 +51,7 @@ pub returns-then-not-rows_left : goal.returns-then-not-rows_left
 returns-then-not-rows_left c =
     let t = store_of c.args.tool in
     let h = rw c.rows_start-at.ensures at c.tool_fault-fault.ensures in
-    let sized : length c.args.tool.states ≡ channel_limit = c.well_formed.0.1.1.1.0.1.0.1 in
+    let sized : length c.args.tool.states ≡ channel_limit = search rules in
     let z : c.channel_refusal-refusal.result ≡ 0 = omega (arith, c.if-refusal-gt0.false) in
     load_over t c.args.channel c.tool_fault-fault.result h c.channel_refusal-refusal.result c.channel_refusal-refusal.ensures c.args.rule.now z _
     (omega arith) c.compile_for-verdict.result c.compile_for-verdict.ensures.answer c.in-Count.n c.in-Count.is
@@ -61,7 +61,7 @@ pub stored-requires : goal.stored-requires
 stored-requires c =
     let t = store_of c.args.tool in
     let h = rw c.rows_start-at.ensures at c.tool_fault-fault.ensures in
-    let sized : length c.args.tool.states ≡ channel_limit = c.well_formed.0.1.1.1.0.1.0.1 in
+    let sized : length c.args.tool.states ≡ channel_limit = search rules in
     let y = c.if-not-rows_left.false in
     let z : c.channel_refusal-refusal.result ≡ 0 = omega (arith, c.if-refusal-gt0.false) in (
       load_storable t c.args.channel c.tool_fault-fault.result h c.channel_refusal-refusal.result c.channel_refusal-refusal.ensures c.args.rule.now z
@@ -76,7 +76,7 @@ pub returns : goal.returns
 returns c =
     let t = store_of c.args.tool in
     let h = rw c.rows_start-at.ensures at c.tool_fault-fault.ensures in
-    let sized : length c.args.tool.states ≡ channel_limit = c.well_formed.0.1.1.1.0.1.0.1 in
+    let sized : length c.args.tool.states ≡ channel_limit = search rules in
     let y = c.if-not-rows_left.false in
     let z : c.channel_refusal-refusal.result ≡ 0 = omega (arith, c.if-refusal-gt0.false) in
     load_stored t c.args.channel c.tool_fault-fault.result h c.channel_refusal-refusal.result c.channel_refusal-refusal.ensures c.args.rule.now z _

@@ -4,14 +4,8 @@ use native.Mathlib.Omega.{arith}
 use Rattle.limits.specs.Limits.{state_limit}
 use Rattle.values.specs.Setup.{setup}
 use Rattle.synthesis.proofs.LentTable.{case_setup, setup_fine, in_limits}
+use Rattle.theory.proofs.Pairs.{one_of, other_of}
 use Rattle.synthesis.proofs.compile.Goals as goal
-
--- the parts of a pair, at a goal that shows them
-one_of : {A B : Type 0} → A × B → A
-one_of p = p.0
-
-other_of : {A B : Type 0} → A × B → B
-other_of p = p.1
 
 pub returns-in-Refused : goal.returns-in-Refused
 returns-in-Refused c =

@@ -3,14 +3,8 @@ use mathlib.Core.Path.{sym, ◌∙◌}
 use borrow.Author.Rules.{rules}
 use Rattle.values.specs.Setup.{setup_of_kind}
 use Rattle.synthesis.proofs.{Compilation.{few_nodes}, LentTable.{few_events, rule_case, nodes_case}}
+use Rattle.theory.proofs.Pairs.{one_of, other_of}
 use Rattle.synthesis.proofs.compile_accepted.Goals as goal
-
--- the parts of a pair, at a goal that shows them
-one_of : {A B : Type 0} → A × B → A
-one_of p = p.0
-
-other_of : {A B : Type 0} → A × B → B
-other_of p = p.1
 
 pub returns-in-Refused : goal.returns-in-Refused
 returns-in-Refused c =

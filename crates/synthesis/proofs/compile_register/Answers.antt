@@ -4,14 +4,8 @@ use native.Mathlib.Omega.{arith}
 use Rattle.limits.specs.Limits.{state_limit}
 use Rattle.values.specs.Setup.{register_setup}
 use Rattle.synthesis.proofs.LentTable.{case_setup, few_lines, register_fine, top_is, register_answer}
+use Rattle.theory.proofs.Pairs.{one_of, other_of}
 use Rattle.synthesis.proofs.compile_register.Goals as goal
-
--- the parts of a pair, at a goal that shows them
-one_of : {A B : Type 0} → A × B → A
-one_of p = p.0
-
-other_of : {A B : Type 0} → A × B → B
-other_of p = p.1
 
 pub returns-in-Refused : goal.returns-in-Refused
 returns-in-Refused c =

@@ -2,6 +2,7 @@
 use mathlib.Core.Path.{◌≡◌}
 use native.Mathlib.Omega.{arith}
 use lib.ListN.{length}
+use borrow.Author.Rules.{rules}
 use Rattle.limits.specs.Limits.{channel_limit}
 use Rattle.recorder.specs.Store.{register_store}
 use Rattle.recorder.proofs.Loads.{clear_refused, clear_storable, clear_stored}
@@ -17,7 +18,7 @@ pub stored-requires : goal.stored-requires
 stored-requires c =
     let h = rw c.rows_start-at.ensures at c.tool_fault-fault.ensures in
     let z : c.channel_refusal-refusal.result ≡ 0 = omega (arith, c.if-refusal-gt0.false) in
-    let sized : length c.args.tool.states ≡ channel_limit = c.well_formed.0.1.1.1.0.1.0.1 in (
+    let sized : length c.args.tool.states ≡ channel_limit = search rules in (
       clear_storable (register_store c.args.tool) c.args.channel c.tool_fault-fault.result h c.channel_refusal-refusal.result
           c.channel_refusal-refusal.ensures z sized,
       omega arith,

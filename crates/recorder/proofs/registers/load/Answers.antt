@@ -31,7 +31,7 @@ rows_left-requires c =
     let h = rw c.rows_start-at.ensures at c.tool_fault-fault.ensures in
     let z : c.channel_refusal-refusal.result ≡ 0 = omega (arith, c.if-refusal-gt0.false) in
     let y = rw (c.wide.ensures, c.wide-2.ensures) at c.compile_register-verdict.ensures in
-    let sized : length c.args.tool.states ≡ channel_limit = c.well_formed.0.1.1.1.0.1.0.1 in (
+    let sized : length c.args.tool.states ≡ channel_limit = search rules in (
       search rules,
       small_count t c.args.channel c.tool_fault-fault.result h c.channel_refusal-refusal.result c.channel_refusal-refusal.ensures c.args.rule.now z _
           (omega arith) c.compile_register-verdict.result y.answer c.in-Count.n
@@ -45,7 +45,7 @@ returns-then-not-rows_left c =
     let h = rw c.rows_start-at.ensures at c.tool_fault-fault.ensures in
     let z : c.channel_refusal-refusal.result ≡ 0 = omega (arith, c.if-refusal-gt0.false) in
     let y = rw (c.wide.ensures, c.wide-2.ensures) at c.compile_register-verdict.ensures in
-    let sized : length c.args.tool.states ≡ channel_limit = c.well_formed.0.1.1.1.0.1.0.1 in
+    let sized : length c.args.tool.states ≡ channel_limit = search rules in
     load_over t c.args.channel c.tool_fault-fault.result h c.channel_refusal-refusal.result c.channel_refusal-refusal.ensures c.args.rule.now z _
     (omega arith) c.compile_register-verdict.result y.answer c.in-Count.n c.in-Count.is sized
     c.rows_left.result c.rows_left.ensures c.if-not-rows_left.true
@@ -56,7 +56,7 @@ stored-requires c =
     let h = rw c.rows_start-at.ensures at c.tool_fault-fault.ensures in
     let z : c.channel_refusal-refusal.result ≡ 0 = omega (arith, c.if-refusal-gt0.false) in
     let y = rw (c.wide.ensures, c.wide-2.ensures) at c.compile_register-verdict.ensures in
-    let sized : length c.args.tool.states ≡ channel_limit = c.well_formed.0.1.1.1.0.1.0.1 in
+    let sized : length c.args.tool.states ≡ channel_limit = search rules in
     let w = c.if-not-rows_left.false in (
       load_storable t c.args.channel c.tool_fault-fault.result h c.channel_refusal-refusal.result c.channel_refusal-refusal.ensures c.args.rule.now z
           _ (omega arith) c.compile_register-verdict.result y.answer c.in-Count.n c.in-Count.is sized
@@ -72,7 +72,7 @@ returns c =
     let h = rw c.rows_start-at.ensures at c.tool_fault-fault.ensures in
     let z : c.channel_refusal-refusal.result ≡ 0 = omega (arith, c.if-refusal-gt0.false) in
     let y = rw (c.wide.ensures, c.wide-2.ensures) at c.compile_register-verdict.ensures in
-    let sized : length c.args.tool.states ≡ channel_limit = c.well_formed.0.1.1.1.0.1.0.1
+    let sized : length c.args.tool.states ≡ channel_limit = search rules
     in
     let w = c.if-not-rows_left.false in
     load_stored t c.args.channel c.tool_fault-fault.result h c.channel_refusal-refusal.result c.channel_refusal-refusal.ensures c.args.rule.now z _

@@ -3,6 +3,7 @@ use mathlib.Core.Path.{◌≡◌, refl, subst⁻¹}
 use Prim.Native.Nat.{◌≤◌}
 use native.Mathlib.Omega.{arith}
 use lib.ListN.{length}
+use borrow.Author.Rules.{rules}
 use Rattle.limits.specs.Limits.{channel_limit, store_limit}
 use Rattle.recorder.specs.Store.{register_store}
 use Rattle.recorder.proofs.Replays.{replay_refused, runnable, fits_out, replay_measurable, replay_done}
@@ -20,8 +21,8 @@ pub run-last-requires : goal.run-last-requires
 run-last-requires c =
     let h = rw c.rows_start-at.ensures at c.tool_fault-fault.ensures in
     let z : c.replay_refusal-refusal.result ≡ 0 = omega (arith, c.if-refusal-gt0.false) in
-    let vl : length c.args.tool.value ≡ store_limit = c.well_formed.0.1.1.1.1.1.1.0.1.0.1 in
-    let nl : length c.args.tool.next ≡ store_limit = c.well_formed.0.1.1.1.1.1.1.1.0.1.0.1 in
+    let vl : length c.args.tool.value ≡ store_limit = search rules in
+    let nl : length c.args.tool.next ≡ store_limit = search rules in
     rw c.rows_start-at.ensures (runnable (register_store c.args.tool) c.args.channel c.args.word.now c.args.pulses.now c.args.values.now
     c.tool_fault-fault.result h c.word_in_order-allowed.result c.total_with_all-sum.result _
     c.word_in_order-allowed.ensures c.total_with_all-sum.ensures refl c.replay_refusal-refusal.result c.replay_refusal-refusal.ensures z vl nl)
@@ -46,8 +47,8 @@ pub returns : goal.returns
 returns c =
     let h = rw c.rows_start-at.ensures at c.tool_fault-fault.ensures in
     let z : c.replay_refusal-refusal.result ≡ 0 = omega (arith, c.if-refusal-gt0.false) in
-    let cl : length c.args.tool.current ≡ channel_limit = c.well_formed.0.1.1.1.1.0.1.0.1 in
-    let tl : length c.args.tool.total ≡ channel_limit = c.well_formed.0.1.1.1.1.1.0.1.0.1 in
+    let cl : length c.args.tool.current ≡ channel_limit = search rules in
+    let tl : length c.args.tool.total ≡ channel_limit = search rules in
     replay_done (register_store c.args.tool) c.args.channel c.args.word.now c.args.pulses.now c.args.values.now c.tool_fault-fault.result h
     c.word_in_order-allowed.result c.total_with_all-sum.result _
     c.word_in_order-allowed.ensures c.total_with_all-sum.ensures refl c.replay_refusal-refusal.result c.replay_refusal-refusal.ensures z _
