@@ -2,7 +2,6 @@
 use Rattle.formulas.proofs.Decoding.{decoded_refusal, rule_misfit}
 use Rattle.formulas.specs.{NodeWalks.{field}, RuleRefusal.{fields_refusal}}
 use Rattle.refusal.specs.RefusalAnswers.{judgement}
-use borrow.Author.{Tests.{not-true, not-false}}
 use mathlib.Core.Path.{sym, ◌∙◌, ap}
 use Rattle.values.specs.ValueTests.{value_fits}
 use Rattle.formulas.proofs.check_rule.Goals as goal

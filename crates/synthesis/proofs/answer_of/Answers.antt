@@ -1,5 +1,4 @@
 -- `answer_of` meets its contract, case by case.
-use borrow.Author.Tests.{not-true, not-false}
 use native.Mathlib.Omega.{arith}
 use Rattle.limits.specs.Limits.{state_limit}
 use Rattle.synthesis.proofs.Compilation.{answer_many, answer_short, answer_stored}

@@ -1,6 +1,5 @@
 -- `judge_nodes` meets its contract: 5 by the number of bytes, then what the nodes are judged by.
 use mathlib.Core.Path.{sym, ◌∙◌}
-use borrow.Author.{Tests.{not-true, not-false}}
 use Rattle.limits.specs.Limits.{node_limit}
 use Rattle.formulas.specs.RuleConditions.{node_width}
 use Rattle.formulas.specs.NodeWalks.{field}

@@ -1,6 +1,6 @@
 -- `recorder::decisions::replay_refusal` meets its contract: 17, 14 and 15, then 16, 19 and 13.
 use native.Mathlib.Omega.{arith}
-use borrow.Author.{Tests.{le-leb, lt-leb, not-true, not-false}}
+use borrow.Author.{Tests.{le-leb, lt-leb}}
 use Rattle.limits.specs.Limits.{total_limit}
 use Rattle.recorder.proofs.Numbers.{earlier_stands, later_stands, passes, fails}
 use Rattle.recorder.proofs.decisions.replay_refusal.Goals as goal

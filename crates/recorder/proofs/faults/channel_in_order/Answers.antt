@@ -2,7 +2,7 @@
 use mathlib.Core.Bool.{and-false}
 use Prim.Native.Nat.{◌≤◌}
 use native.Mathlib.{Nat.{mul-le-mul}, Omega.{arith}}
-use borrow.Author.{Rules.{rules}, Tests.{lt-ltb, le-ltb, le-leb, lt-leb, not-true, not-false}}
+use borrow.Author.{Rules.{rules}, Tests.{lt-ltb, le-ltb, le-leb, lt-leb}}
 use Rattle.limits.specs.Limits.{channel_limit, table_limit, total_limit}
 use Rattle.recorder.specs.Decisions.{channel_fits}
 use Rattle.recorder.proofs.faults.channel_in_order.Goals as goal
