@@ -1,59 +1,38 @@
--- What a caller of check_form knows; and the arrays that a text is read into.
+-- What a caller of check_form knows, of either form of file; and the arrays that a text is read into.
 use Prim.Native.Nat.{ℕ, ◌*◌}
 use mathlib.Core.{Path.{◌≡◌, refl, ap, ◌∙◌}, List.{List}}
-use native.Mathlib.Omega.{arith}
 use lib.ListN.{replicate}
+use Rattle.std.specs.Prelude.{Result, Ok, Err}
 use Rattle.limits.specs.Limits.{meet_limit, node_limit}
-use Rattle.refusal.specs.declared.{Refusal.{Refusal}, Refusal.TheVariants.{At}}
+use Rattle.refusal.specs.declared.{Refusal.{Refusal, TheVariants.{TextForm}}}
 use Rattle.text_format.specs.Format.{Outcome, contents, refused}
-use Rattle.channel_file.specs.ChannelFile.{Contents}
-use Rattle.channel_file.specs.Reading.{read_file, rule_start, checked}
-use Rattle.channel_file.specs.Bytes.{meet_bytes, rule_bytes, put_front, stored_reply, stored_meet, stored_rule, arrays_of}
-use Rattle.channel_file.specs.Steps.{ReadsForm, in_arrays}
-use Rattle.channel_file.specs.declared.{Checked.{Checked}, Stored.{Stored}}
+use Rattle.channel_file.specs.{ChannelFile.{Contents}, Reading.{form_of, checked_by, checked}}
+use Rattle.channel_file.specs.Bytes.{meet_bytes, rule_bytes, put_front, stored_meet, stored_rule, arrays_with, arrays_of}
+use Rattle.channel_file.specs.Steps.{ReadsForm}
+use Rattle.channel_file.specs.declared.{Form.{Form}}
 
--- A text is accepted, and its rule's items start at b; or it is refused.
-pub accepted : (t : List ℕ) {e v p m a n b : ℕ} → Checked.Form e v p m a n b ≡ checked (read_file t)
-    → (c : Contents) × (read_file t ≡ contents c) × (b ≡ rule_start c)
-accepted t {e} {v} {p} {m} {a} {n} {b} h = go (read_file t) refl h
-  where
-    go : (x : Outcome Contents) → read_file t ≡ x → Checked.Form e v p m a n b ≡ checked x
-        → (c : Contents) × (read_file t ≡ contents c) × (b ≡ rule_start c)
-    go (contents c) f g = (c, f, cc)
-    go (refused q) f g = let z : ◌≡◌ {A = ℕ} 0 1 = cc in absurd (omega arith)
+-- A text is accepted with the form of its contents; or it is refused.
+module _ {A F : Type 0} (form_of : A → F) where
+  pub accepted : (x : Outcome A) {f : F} → Ok f ≡ checked_by form_of x → (c : A) × (x ≡ contents c) × (f ≡ form_of c)
+  accepted (contents c) h = (c, refl, cc)
+  accepted (refused q) h = cc
 
-pub not_accepted : (t : List ℕ) (r : Refusal) → Checked.Refused r ≡ checked (read_file t) → (p : ℕ) × (read_file t ≡ refused p)
-not_accepted t r h = go (read_file t) refl h
-  where
-    go : (x : Outcome Contents) → read_file t ≡ x → Checked.Refused r ≡ checked x → (p : ℕ) × (read_file t ≡ refused p)
-    go (contents c) f g = let z : ◌≡◌ {A = ℕ} 0 1 = cc in absurd (omega arith)
-    go (refused q) f g = (q, f)
+  pub not_accepted : (x : Outcome A) {r : Refusal} → Err r ≡ checked_by form_of x → (p : ℕ) × (x ≡ refused p)
+  not_accepted (contents c) h = cc
+  not_accepted (refused q) h = (q, refl)
 
 -- ---- reading into arrays
 
-arrays_as : (x : Outcome Contents) (r : Stored) (meet rule : List ℕ) → r ≡ stored_reply x → meet ≡ stored_meet x (replicate meet_limit 0)
-    → rule ≡ stored_rule x (replicate (node_limit * 3) 0) → in_arrays r meet rule ≡ arrays_of x
-arrays_as x r meet rule e m n = λ i. in_arrays (e i) (m i) (n i)
+pub arrays_refused : (x : Outcome Contents) {r : Refusal} → Err r ≡ checked x → Err r ≡ arrays_of x
+arrays_refused x e = ap (λ (z : Result Form Refusal). arrays_with z (stored_meet x (replicate meet_limit 0)) (stored_rule x (replicate (node_limit * 3) 0))) e
 
--- beside a refusal they are cleared
-pub arrays_refused : (x : Outcome Contents) (r : Refusal) {meet rule meet' rule' : List ℕ} → ReadsForm x meet rule meet' rule' (Checked.Refused r)
-    → in_arrays (Stored.Refused r) (replicate meet_limit 0) (replicate (node_limit * 3) 0) ≡ arrays_of x
-arrays_refused x r f = go x f.reply
+pub arrays_read : (x : Outcome Contents) {f : Form} {meet rule meet' rule' : List ℕ} → meet ≡ replicate meet_limit 0
+    → rule ≡ replicate (node_limit * 3) 0 → ReadsForm TextForm x meet rule meet' rule' (Ok f)
+    → Ok (record { form = f; meet = meet'; rule = rule' }) ≡ arrays_of x
+arrays_read x {f} {meet} {rule} {meet'} {rule'} hm hr s = go (accepted form_of x s.reply)
   where
-    go : (y : Outcome Contents) → Checked.Refused r ≡ checked y
-        → in_arrays (Stored.Refused r) (replicate meet_limit 0) (replicate (node_limit * 3) 0) ≡ arrays_of y
-    go (contents c) e = let z : ◌≡◌ {A = ℕ} 0 1 = cc in absurd (omega arith)
-    go (refused p) e = let q : r ≡ At 4 p = cc in arrays_as (refused p) (Stored.Refused r) _ _ (ap (λ (z : Refusal). Stored.Refused z) q) refl refl
-
-pub arrays_read : (x : Outcome Contents) (e v p m a n b : ℕ) {meet rule meet' rule' : List ℕ} → meet ≡ replicate meet_limit 0
-    → rule ≡ replicate (node_limit * 3) 0 → ReadsForm x meet rule meet' rule' (Checked.Form e v p m a n b)
-    → in_arrays (Stored.Form e v p m n) meet' rule' ≡ arrays_of x
-arrays_read x e v p m a n b {meet} {rule} {meet'} {rule'} hm hr f = go x f.reply f.bytes
-  where
-    go : (y : Outcome Contents) → Checked.Form e v p m a n b ≡ checked y
-        → ((c : Contents) → y ≡ contents c → (meet' ≡ put_front (meet_bytes c) meet) × (rule' ≡ put_front (rule_bytes c) rule))
-        → in_arrays (Stored.Form e v p m n) meet' rule' ≡ arrays_of y
-    go (contents c) h g =
-        let q : Stored.Form e v p m n ≡ stored_reply (contents c) = cc in
-        arrays_as (contents c) _ _ _ q ((g c refl).0 ∙ ap (put_front (meet_bytes c)) hm) ((g c refl).1 ∙ ap (put_front (rule_bytes c)) hr)
-    go (refused q) h g = let z : ◌≡◌ {A = ℕ} 0 1 = cc in absurd (omega arith)
+    go : (c : Contents) × (x ≡ contents c) × (f ≡ form_of c) → Ok (record { form = f; meet = meet'; rule = rule' }) ≡ arrays_of x
+    go w =
+        let m : meet' ≡ put_front (meet_bytes w.0) (replicate meet_limit 0) = (s.bytes w.0 w.1).0 ∙ ap (put_front (meet_bytes w.0)) hm in
+        let n : rule' ≡ put_front (rule_bytes w.0) (replicate (node_limit * 3) 0) = (s.bytes w.0 w.1).1 ∙ ap (put_front (rule_bytes w.0)) hr in
+        rw (w.1, w.2, m, n)

@@ -4,7 +4,7 @@ use mathlib.Core.{Path.{◌≡◌, refl, sym, ap, ap₂, ◌∙◌}, List.{List,
 use mathlib.Core.Option.{some, some-ne-none}
 use native.Mathlib.{Omega.{arith}, Nat.{suc-mul}}
 use lib.ListN.{length, drop, length-append, length-drop}
-use Rattle.refusal.specs.declared.Refusal.{Refusal}
+use Rattle.refusal.specs.{declared.Refusal.{Refusal}, Refusal.{refusal_of}}
 use Rattle.limits.specs.Limits.{file_limit}
 use Rattle.text_format.specs.Format.{Parsed, ok, bad, Outcome, contents, refused}
 use Rattle.text_format.specs.Texts.{ascii, separated, OneOrMore}
@@ -13,14 +13,13 @@ use Rattle.text_format.proofs.{Decimal.{decimal_numeral}, Combinators.{not_both}
 use Rattle.channel_file.specs.ChannelFile.{RuleItem, token_T, token_A, token_V, token_X, token_G, token_O, Token, Contents, number, Small, item_text}
 use Rattle.channel_file.specs.ChannelFile.{SmallToken, token_text, rule_text, text, Shows}
 use Rattle.channel_file.specs.FileFormat.{tokens, file}
-use Rattle.channel_file.specs.Reading.{read_file, head_text, meet_text, rule_start, tokens_stretch, checked, refusal_checked}
-use Rattle.channel_file.specs.Bytes.{stored_reply, refusal_stored, stored_meet, stored_rule}
+use Rattle.channel_file.specs.Reading.{read_file, head_text, meet_text, rule_start, tokens_stretch, checked}
+use Rattle.channel_file.specs.Bytes.{arrays_of, stored_meet, stored_rule}
 use Rattle.channel_file.specs.Claims.{AnswerClaim, OneAnswerClaim, FormRefusalClaim, RewriteClaim, ReadBackClaim, LengthClaim}
 use Rattle.channel_file.specs.Claims.{TokensClaim, SomeTokensClaim, TokenListClaim, OneLineClaim, ClampClaim}
-use Rattle.channel_file.specs.declared.Number.{Number}
+use Rattle.std.specs.Prelude.{Ok, Err}
 use Rattle.channel_file.proofs.FileFormat.{tokens_laws, tokens_text, tokens_fit, tokens_of_fit, file_laws, file_renders}
-use Rattle.channel_file.proofs.Forms.{FormLaws, answer, one_answer, read_as, shown as shown_by, form_judged, stretch_is}
-use Rattle.channel_file.proofs.Forms.{items_read, items_shown, not_empty}
+use Rattle.channel_file.proofs.Forms.{FormLaws, answer, one_answer, read_as, shown as shown_by, form_judged, stretch_is, items_read, items_shown, not_empty}
 
 -- ---- the answer
 
@@ -60,7 +59,7 @@ one_answer_claim = one_answer channel_form
 -- ---- 4
 
 both_kept :
-    (meet rule : List ℕ) (x : Outcome Contents) (r : Refusal) → refusal_stored (stored_reply x) ≡ some r →
+    (meet rule : List ℕ) (x : Outcome Contents) (r : Refusal) → refusal_of (arrays_of x) ≡ some r →
     ◌≡◌ {A = List ℕ × List ℕ} (stored_meet x meet, stored_rule x rule) (meet, rule)
 both_kept meet rule (contents c) r e = absurd (some-ne-none r (sym e))
 both_kept meet rule (refused p) r e = refl
@@ -68,10 +67,10 @@ both_kept meet rule (refused p) r e = refl
 pub form_refusals : FormRefusalClaim
 form_refusals =
     record {
-      of_checking = form_judged channel_form (λ x. refusal_checked (checked x)) (λ c. refl) (λ p. refl);
+      of_checking = form_judged channel_form (λ x. refusal_of (checked x)) (λ c. refl) (λ p. refl);
       of_storing = λ t meet rule.
           record {
-            judged = form_judged channel_form (λ x. refusal_stored (stored_reply x)) (λ c. refl) (λ p. refl) t;
+            judged = form_judged channel_form (λ x. refusal_of (arrays_of x)) (λ c. refl) (λ p. refl) t;
             kept = both_kept meet rule (read_file t);
           };
     }
@@ -158,17 +157,17 @@ one_offset : (t : List ℕ) (n m : ℕ) → n ≤ length t → m ≤ length t �
 one_offset t n m h g e = omega (arith, ap length e, length-drop n t, length-drop m t)
 
 pub one_line_claim : OneLineClaim
-one_line_claim k t at (Number.Value v n) (Number.Value w m) x y =
-    let e : ok v (drop n t) ≡ ok w (drop m t) = sym x.same ∙ y.same in
-    let ev : v ≡ w = cc in
-    let er : drop n t ≡ drop m t = cc in
-    ap₂ (λ (i j : ℕ). Number.Value i j) ev (one_offset t n m x.within y.within er)
-one_line_claim k t at (Number.Value v n) (Number.Bad q) x y = not_both x.same y.same
-one_line_claim k t at (Number.Bad p) (Number.Value w m) x y = not_both y.same x.same
-one_line_claim k t at (Number.Bad p) (Number.Bad q) x y =
+one_line_claim parse t at (Ok r) (Ok q) x y =
+    let e : ok r.0 (drop r.1 t) ≡ ok q.0 (drop q.1 t) = sym x.same ∙ y.same in
+    let ev : r.0 ≡ q.0 = cc in
+    let er : drop r.1 t ≡ drop q.1 t = cc in
+    ap₂ (λ (i j : ℕ). Ok (i, j)) ev (one_offset t r.1 q.1 x.within y.within er)
+one_line_claim parse t at (Ok r) (Err q) x y = not_both x.same y.same
+one_line_claim parse t at (Err p) (Ok q) x y = not_both y.same x.same
+one_line_claim parse t at (Err p) (Err q) x y =
     let e : ◌≡◌ {A = Parsed ℕ} (bad (drop p t)) (bad (drop q t)) = sym x.same ∙ y.same in
     let er : drop p t ≡ drop q t = cc in
-    ap (λ (i : ℕ). Number.Bad i) (one_offset t p q x.within y.within er)
+    ap (λ (i : ℕ). Err i) (one_offset t p q x.within y.within er)
 
 -- ---- clamping
 

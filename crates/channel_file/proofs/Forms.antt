@@ -6,15 +6,15 @@ use native.Mathlib.Omega.{arith}
 use borrow.Author.Tests.{ltb-true, ltb-false}
 use lib.{Dec.{ltb}, ListN.{length, take, drop, length-append}, Seq.{take_at, drop_at}}
 use Rattle.limits.specs.Limits.{file_limit}
-use Rattle.refusal.specs.declared.{Refusal.{Refusal}, Refusal.TheVariants.{At}}
-use Rattle.refusal.specs.Refusal.{Condition, at_lowest, First, has_place, part_of, order, condition_numbers, right_places, Judged}
+use Rattle.refusal.specs.{declared.{Refusal.{Refusal}}, declared.Refusal.TheVariants.{TextForm}}
+use Rattle.refusal.specs.Refusal.{Condition, at_lowest, form_place, First, has_place, part_of, order, condition_numbers, right_places, Judged}
 use Rattle.refusal.proofs.Refusals.{only_place, judged}
 use Rattle.text_format.specs.Format.{Parsed, ok, bad, bind, Format, Laws, Outcome, contents, refused, at_end, outcome, read}
 use Rattle.text_format.specs.{Texts.{ascii, separated, OneOrMore, FormOf}, Claims.{AnswersText, FormatRenders}}
 use Rattle.text_format.proofs.Place.{place_claim, answers, one_answer as one_answer_of, one_contents as one_contents_of}
 use Rattle.channel_file.specs.ChannelFile.{RefusedBy, over_long, off_form, TokensBy, of_contents, of_refused}
 use Rattle.channel_file.specs.Reading.{AnswersBy, read_limited, read_closed, stretch, stretch_by}
-use Rattle.channel_file.specs.{Claims.{ShowsItems, AnswerOf, OneAnswerOf, conditions_by}, Steps.{SpansTokens}}
+use Rattle.channel_file.specs.Claims.{ShowsItems, AnswerOf, OneAnswerOf, conditions_by}
 
 -- A form of files: its format and the texts that it shows; and of a text the lines in front of the rule's, the rule's, and where that starts.
 pub record FormLaws (A : Type 0) : Type 1 where
@@ -95,18 +95,18 @@ module _ {A : Type 0} (K : FormLaws A) where
   -- ---- 4
 
   -- It is met, or it is not; further conditions may follow.
-  pub form_met : (t : List ℕ) (p : ℕ) → RefusedBy Shown t p → (ds : List Condition) → First (at_lowest 4 (RefusedBy Shown t) ∷ ds) (some (At 4 p))
+  pub form_met : (t : List ℕ) (p : ℕ) → RefusedBy Shown t p → (ds : List Condition) → First (at_lowest form_place (RefusedBy Shown t) ∷ ds) (some (TextForm p))
   unfolding First
   form_met t p a ds =
       inl (
-        At 4 p,
+        TextForm p,
         (p, only_place (RefusedBy Shown t) p a (λ q h. let e = one_answer t (refused q) (refused p) h a in cc), refl),
         refl,
       )
 
   pub form_unmet :
       (t : List ℕ) (c : A) → AnswersBy Shown t (contents c) → (ds : List Condition) (given : Option Refusal) → First ds given →
-      First (at_lowest 4 (RefusedBy Shown t) ∷ ds) given
+      First (at_lowest form_place (RefusedBy Shown t) ∷ ds) given
   unfolding First
   form_unmet t c a ds given later =
       inr (
@@ -118,7 +118,8 @@ module _ {A : Type 0} (K : FormLaws A) where
       )
 
   -- a reply to a text that has no refusal beside contents, and 4 at the place else
-  module _ (reply : Outcome A → Option Refusal) (accepts : (c : A) → reply (contents c) ≡ none) (refuses : (p : ℕ) → reply (refused p) ≡ some (At 4 p)) where
+  module _ (reply : Outcome A → Option Refusal) (accepts : (c : A) → reply (contents c) ≡ none) (refuses : (p : ℕ) → reply (refused p)
+      ≡ some (TextForm p)) where
     form_first : (t : List ℕ) (x : Outcome A) → AnswersBy Shown t x → First (conditions_by Shown t) (reply x)
     unfolding First
     form_first t (contents c) a = form_unmet t c a [] (reply (contents c)) (accepts c)
@@ -155,23 +156,9 @@ module _ {A : Type 0} (K : FormLaws A) where
       ap (stretch_by K.start t) e
       ∙ subst (λ (z : List ℕ). stretch_by K.start z (contents c) ≡ K.rule_text c) (K.printed c t (shown t c e).1) (tokens_between c)
 
-  -- its offsets
-  pub spans_refused : (t : List ℕ) (p : ℕ) → answer_to t ≡ refused p
-      → SpansTokens t (stretch_by K.start t (answer_to t)) (record { from = 0; to = 0 })
-  spans_refused t p e = record { ordered = omega arith; within = omega arith; same = sym (ap (stretch_by K.start t) e) }
-
-  pub some_text : (t : List ℕ) (c : A) → answer_to t ≡ contents c → K.start c + 1 ≤ length t
-  some_text t c e = omega (arith, text_length c, ap length (K.printed c t (shown t c e).1))
-
-  pub spans_tokens : (t : List ℕ) (c : A) (b : ℕ) → answer_to t ≡ contents c → b ≡ K.start c
-      → SpansTokens t (stretch_by K.start t (answer_to t)) (record { from = b; to = length t - 1 })
-  spans_tokens t c b e o =
-      let h = some_text t c e in
-      record {
-        ordered = omega arith;
-        within = omega arith;
-        same = ap (λ (i : ℕ). stretch i (length t - 1) t) o ∙ sym (ap (stretch_by K.start t) e);
-      }
+  -- its offsets are in order
+  pub starts_within : (t : List ℕ) (c : A) (b : ℕ) → answer_to t ≡ contents c → b ≡ K.start c → b ≤ length t - 1
+  starts_within t c b e o = omega (arith, text_length c, ap length (K.printed c t (shown t c e).1))
 
   -- and document 01's sentence on it
   tokens_there : (t : List ℕ) (x : Outcome A) → AnswersBy Shown t x → TokensBy Shown K.rule_text t (stretch_by K.start t (answer_to t))

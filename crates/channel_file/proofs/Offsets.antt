@@ -2,6 +2,10 @@
 use Prim.Native.Nat.{ℕ, ◌+◌, ◌≤◌, ◌<◌}
 use mathlib.Core.{Path.{◌≡◌, refl, sym, ap, ◌∙◌}, List.{List, [], ◌∷◌}}
 use native.Mathlib.{Omega.{arith}, Numerals.{add-one}}
+use Rattle.std.specs.Char.{is_ascii_digit}
+use Rattle.std.proofs.lemmas.Bool.Decides.{nat_tests}
+use Rattle.text_format.specs.Decimal.{is_digit}
+use mathlib.Core.Bool.{Bool}
 use lib.{ListN.{length, drop, get_or, drop_of_length-le, length-drop, length-append}, Seq.{drop-cons}}
 use Rattle.text_format.specs.{Format.{Parsed, ok, bad, bind, Format, Laws}, Combinators.{word, keyed}}
 use Rattle.text_format.specs.Series.{Separator, newline, number_item}
@@ -9,7 +13,7 @@ use Rattle.text_format.proofs.Combinators.{word_hit, word_miss}
 use Rattle.text_format.proofs.Series.{shorter, number_item_laws, number_item_solid}
 use Rattle.channel_file.specs.FileFormat.{field}
 use Rattle.channel_file.specs.Steps.{SawEnded, SawNumber, counted, count_of}
-use Rattle.channel_file.specs.declared.Number.{Number}
+use Rattle.std.specs.Prelude.{Result, Ok, Err}
 use Rattle.channel_file.proofs.FileFormat.{zero_fits}
 
 -- a byte and what is behind it
@@ -23,6 +27,10 @@ here_is t i b h e = here t i h ∙ ap (λ (z : ℕ). z ∷ drop (i + 1) t) e
 -- the end
 pub over : (t : List ℕ) (i : ℕ) → length t ≤ i → drop i t ≡ []
 over t i h = drop_of_length-le t h
+
+-- a digit, as std and as the form has it
+pub digit_as : (b : ℕ) (f : Bool) → is_ascii_digit b ≡ f → is_digit b ≡ f
+digit_as b f e = grind (arith, nat_tests)
 
 -- what a format reads from an offset to another is as long as its text
 pub forward_by : {A : Type 0} (F : Format A) → Laws F → (t : List ℕ) (i n : ℕ) (a : A) → i ≤ length t → n ≤ length t
@@ -57,10 +65,10 @@ pub entry_forward : (t : List ℕ) (i m : ℕ) (p : ℕ × Separator) → m ≤ 
 entry_forward = item_forward (number_item 2) 0 (number_item_laws 2) (number_item_solid 2) zero_fits
 
 -- a key's number
-pub fielded : (key t : List ℕ) (at a : ℕ) → (word key).parse (drop at t) ≡ ok tt (drop a t) → (r : Number) → SawEnded 2 10 t a r
+pub fielded : (key t : List ℕ) (at a : ℕ) → (word key).parse (drop at t) ≡ ok tt (drop a t) → (r : Result (ℕ × ℕ) ℕ) → SawEnded 2 10 t a r
     → SawNumber (field key).parse t at r
-fielded key t at a e (Number.Value v n) h = record { same = rw e (rw h.same); within = h.within }
-fielded key t at a e (Number.Bad p) h = record { same = rw e (rw h.same); within = h.within }
+fielded key t at a e (Ok r) h = record { same = rw e (rw h.same); within = h.within }
+fielded key t at a e (Err p) h = record { same = rw e (rw h.same); within = h.within }
 
 -- a key in front of a series
 bind_tt : {A : Type 0} (x : Parsed A) → ◌≡◌ {A = Parsed A} (bind {A = Unit {0} × A} {B = A} (bind {A = A} {B = Unit {0} × A} x (λ b r. ok (tt, b) r))
@@ -75,7 +83,7 @@ pub keyed_on : {A : Type 0} (key : List ℕ) (F : Format A) (s r : List ℕ) →
 keyed_on key F s r e = rw e (bind_tt (F.parse r))
 
 -- a key in front of a counted series
-pub listed : {A : Type 0} (key : List ℕ) (F : Format (List A)) (t : List ℕ) (at a : ℕ) → (word key).parse (drop at t) ≡ ok tt (drop a t) → (r : Number)
-    → SawNumber (count_of F) t a r → SawNumber (count_of (keyed key F)) t at r
-listed key F t at a e (Number.Value m n) h = record { same = ap (counted 0) (keyed_on key F (drop at t) (drop a t) e) ∙ h.same; within = h.within }
-listed key F t at a e (Number.Bad p) h = record { same = ap (counted 0) (keyed_on key F (drop at t) (drop a t) e) ∙ h.same; within = h.within }
+pub listed : {A : Type 0} (key : List ℕ) (F : Format (List A)) (t : List ℕ) (at a : ℕ) → (word key).parse (drop at t) ≡ ok tt (drop a t)
+    → (r : Result (ℕ × ℕ) ℕ) → SawNumber (count_of F) t a r → SawNumber (count_of (keyed key F)) t at r
+listed key F t at a e (Ok r) h = record { same = ap (counted 0) (keyed_on key F (drop at t) (drop a t) e) ∙ h.same; within = h.within }
+listed key F t at a e (Err p) h = record { same = ap (counted 0) (keyed_on key F (drop at t) (drop a t) e) ∙ h.same; within = h.within }

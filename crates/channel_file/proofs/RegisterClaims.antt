@@ -3,19 +3,17 @@ use Prim.Native.Nat.{ℕ, ◌≤◌}
 use mathlib.Core.{Path.{◌≡◌, refl, sym}, List.{List, ◌++◌, append_assoc}, Logic.{◌⊎◌}, Option.{some, some-ne-none}}
 use lib.ListN.{length}
 use Rattle.limits.specs.Limits.{file_limit}
-use Rattle.refusal.specs.declared.Refusal.{Refusal}
+use Rattle.refusal.specs.{declared.Refusal.{Refusal}, Refusal.{refusal_of}}
 use Rattle.text_format.specs.{Format.{Outcome, contents, refused}, Texts.{ascii}}
 use Rattle.channel_file.specs.ChannelFile.{line, number, TokensBy}
 use Rattle.channel_file.specs.RegisterFile.{Contents, masks_text, token_text, SmallToken, rule_text, text, Shows}
 use Rattle.channel_file.specs.RegisterFormat.{tokens, file}
-use Rattle.channel_file.specs.RegisterReading.{read_file, head_text, rule_start, tokens_stretch, checked, refusal_checked, stored_reply, stored_rule}
-use Rattle.channel_file.specs.RegisterReading.{refusal_stored}
+use Rattle.channel_file.specs.RegisterReading.{read_file, head_text, rule_start, tokens_stretch, checked, stored_rule, arrays_of}
 use Rattle.channel_file.specs.Claims.{StretchOf, RegisterClaim}
 use Rattle.channel_file.proofs.RegisterFormat.{tokens_laws, tokens_text, tokens_fit, tokens_of_fit, file_laws, file_renders}
 use Rattle.channel_file.proofs.Claims.{some_byte}
 use Rattle.channel_file.proofs.Forms.{FormLaws, answer, one_answer, read_as, shown as shown_by, form_judged, stretch_is}
-use Rattle.channel_file.proofs.Forms.{items_read, items_shown, not_empty}
-use Rattle.channel_file.proofs.Forms.{one_contents as one_contents_of, shows_or_not as shows_or_not_by, to_tokens}
+use Rattle.channel_file.proofs.Forms.{items_read, items_shown, not_empty, one_contents as one_contents_of, shows_or_not as shows_or_not_by, to_tokens}
 
 pub rule_last : (c : Contents) → text c ≡ head_text c ++ (ascii "rule=" ++ (rule_text c ++ ascii "\n"))
 rule_last c =
@@ -43,7 +41,7 @@ shown = shown_by register_form
 tokens_claim : StretchOf read_file (λ c. c.rule) token_text tokens_stretch
 tokens_claim = stretch_is register_form
 
-kept : (rule : List ℕ) (x : Outcome Contents) (r : Refusal) → refusal_stored (stored_reply x) ≡ some r → stored_rule x rule ≡ rule
+kept : (rule : List ℕ) (x : Outcome Contents) (r : Refusal) → refusal_of (arrays_of x) ≡ some r → stored_rule x rule ≡ rule
 kept rule (contents c) r e = absurd (some-ne-none r (sym e))
 kept rule (refused p) r e = refl
 
@@ -52,10 +50,10 @@ register_claim =
     record {
       answer = answer register_form;
       one_answer = one_answer register_form;
-      of_checking = form_judged register_form (λ x. refusal_checked (checked x)) (λ c. refl) (λ p. refl);
+      of_checking = form_judged register_form (λ x. refusal_of (checked x)) (λ c. refl) (λ p. refl);
       of_storing = λ t rule.
           record {
-            judged = form_judged register_form (λ x. refusal_stored (stored_reply x)) (λ c. refl) (λ p. refl) t;
+            judged = form_judged register_form (λ x. refusal_of (arrays_of x)) (λ c. refl) (λ p. refl) t;
             kept = kept rule (read_file t);
           };
       rewrite = λ t c e. (shown t c e).1.printed;

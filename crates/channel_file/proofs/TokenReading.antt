@@ -9,9 +9,9 @@ use Rattle.text_format.specs.Series.{Separator, separator, number_item}
 use Rattle.channel_file.specs.ChannelFile.{RuleItem, token_O}
 use Rattle.channel_file.specs.FileFormat.{Letter, letter_T, letter_O, letter_byte, letters, body}
 use Rattle.theory.specs.ValueSets.{Masks}
-use Rattle.channel_file.specs.Steps.{value_format, unused, item_format, value_of, token_of, left, with_separator}
-use Rattle.channel_file.specs.Steps.{SawNumber, SawEnded, SawValue, SawToken}
-use Rattle.channel_file.specs.declared.{Values.{Values}, Item.{Item}, Number.{Number}, Value.{Value}, Taken.{Taken}}
+use Rattle.channel_file.specs.Steps.{value_format, unused, item_format, value_of, token_of, left, with_separator, SawNumber, SawEnded, SawValue, SawToken}
+use Rattle.channel_file.specs.declared.{Values.{Values}, Item.{Item}}
+use Rattle.std.specs.Prelude.{Result, Ok, Err}
 use Rattle.channel_file.proofs.{RuleItems.{item_at, item_none}, Offsets.{here, here_is, over}}
 
 -- what was read, with byte 10 behind what is left
@@ -121,20 +121,20 @@ followed x y = bind y (λ e r. ok (x, e) r)
 -- ---- values
 
 -- a numeral, where values are numbers
-abbrev number_value : Number → Value
-number_value (Number.Value v n) = Value.Of v 0 n
-number_value (Number.Bad p) = Value.Bad p
+abbrev number_value : Result (ℕ × ℕ) ℕ → Result ((ℕ × ℕ) × ℕ) ℕ
+number_value (Ok r) = Ok ((r.0, 0), r.1)
+number_value (Err p) = Err p
 
-pub saw_number_value : (t : List ℕ) (at : ℕ) (r : Number) → SawNumber (numeral_parse 2) t at r → SawValue Values.Numbered t at (number_value r)
-saw_number_value t at (Number.Value v n) q =
-    record { same = λ closed. rw (left_read t closed (numeral_parse 2) (number_closed 2) at n v q.same); within = q.within }
-saw_number_value t at (Number.Bad p) q =
+pub saw_number_value : (t : List ℕ) (at : ℕ) (r : Result (ℕ × ℕ) ℕ) → SawNumber (numeral_parse 2) t at r → SawValue Values.Numbered t at (number_value r)
+saw_number_value t at (Ok r) q =
+    record { same = λ closed. rw (left_read t closed (numeral_parse 2) (number_closed 2) at r.1 r.0 q.same); within = q.within }
+saw_number_value t at (Err p) q =
     record { same = λ closed. rw (left_stuck t closed (numeral_parse 2) (number_closed 2) at p q.same); within = q.within }
 
 -- two masks and a dot between
-abbrev high_masks : ℕ → Number → Value
-high_masks low (Number.Value high n) = Value.Of low high n
-high_masks low (Number.Bad p) = Value.Bad p
+abbrev high_masks : ℕ → Result (ℕ × ℕ) ℕ → Result ((ℕ × ℕ) × ℕ) ℕ
+high_masks low (Ok r) = Ok ((low, r.0), r.1)
+high_masks low (Err p) = Err p
 
 abbrev mask_pair : ℕ → Parsed (ℕ × Separator) → Parsed (Masks × Separator)
 mask_pair low y =
@@ -145,20 +145,20 @@ behind_masks low high (ok e r) = refl
 behind_masks low high (bad r) = refl
 
 module _ (t : List ℕ) (at : ℕ) where
-  pub saw_no_mask : (p : ℕ) → SawEnded 4 46 t at (Number.Bad p) → SawValue Values.Register t at (Value.Bad p)
+  pub saw_no_mask : (p : ℕ) → SawEnded 4 46 t at (Err p) → SawValue Values.Register t at (Err p)
   saw_no_mask p q =
       record { same = λ closed. rw (left_stuck t closed (dot_parse 4) (dotted_closed 4) at p q.same); within = q.within }
 
-  pub saw_masks : (low m : ℕ) → SawEnded 4 46 t at (Number.Value low m) → (r : Number) → SawNumber (numeral_parse 4) t m r
+  pub saw_masks : (low m : ℕ) → SawEnded 4 46 t at (Ok (low, m)) → (r : Result (ℕ × ℕ) ℕ) → SawNumber (numeral_parse 4) t m r
       → SawValue Values.Register t at (high_masks low r)
-  saw_masks low m q (Number.Value high n) g =
+  saw_masks low m q (Ok r) g =
       record {
         same = λ closed.
             rw (left_read t closed (dot_parse 4) (dotted_closed 4) at m (low, tt) q.same)
-            (rw (left_read t closed (numeral_parse 4) (number_closed 4) m n high g.same) (behind_masks low high (separator.parse (left closed t n))));
+            (rw (left_read t closed (numeral_parse 4) (number_closed 4) m r.1 r.0 g.same) (behind_masks low r.0 (separator.parse (left closed t r.1))));
         within = g.within;
       }
-  saw_masks low m q (Number.Bad p) g =
+  saw_masks low m q (Err p) g =
       record {
         same = λ closed.
             rw (left_read t closed (dot_parse 4) (dotted_closed 4) at m (low, tt) q.same)
@@ -169,13 +169,13 @@ module _ (t : List ℕ) (at : ℕ) where
 -- ---- tokens by their letter
 
 -- a numeral-parse that was looked for behind a letter, as a token
-abbrev numbered_token : (ℕ → Item) → Number → Taken
-numbered_token item (Number.Value v n) = Taken.Of (item v) n
-numbered_token item (Number.Bad p) = Taken.Bad p
+abbrev numbered_token : (ℕ → Item) → Result (ℕ × ℕ) ℕ → Result (Item × ℕ) ℕ
+numbered_token item (Ok r) = Ok (item r.0, r.1)
+numbered_token item (Err p) = Err p
 
-abbrev output_token : ℕ → Value → Taken
-output_token v (Value.Of a b n) = Taken.Of (Item.Output v a b) n
-output_token v (Value.Bad p) = Taken.Bad p
+abbrev output_token : ℕ → Result ((ℕ × ℕ) × ℕ) ℕ → Result (Item × ℕ) ℕ
+output_token v (Ok r) = Ok (Item.Output v r.0.0 r.0.1, r.1)
+output_token v (Err p) = Err p
 
 module _ {B : Type 0} where
   -- a numeral-parse behind a letter, and the separator behind it
@@ -195,28 +195,28 @@ module _ {B : Type 0} where
   behind_value v w (bad r) = refl
 
 module _ (k : Values) (t : List ℕ) (at : ℕ) (h : at < length t) where
-  pub saw_none : find_in letter_byte (letter_T ∷ letters) (get_or t at 0) ≡ none → SawToken k t at (Taken.Bad at)
+  pub saw_none : find_in letter_byte (letter_T ∷ letters) (get_or t at 0) ≡ none → SawToken k t at (Err at)
   saw_none e = record { same = λ closed. unlettered t closed k at h e; within = omega arith }
 
   module _ (l : Letter) (here_l : get_or t at 0 ≡ letter_byte l) where
     -- a letter alone
     pub saw_letter : (x : Item) → ((s : List ℕ) → (body (value_format k) (unused k) l).parse s ≡ with_separator (token_of k x) s)
-        → SawToken k t at (Taken.Of x (at + 1))
+        → SawToken k t at (Ok (x, at + 1))
     saw_letter x e = record { same = λ closed. lettered t closed k l at h here_l ∙ e (left closed t (at + 1)); within = omega arith }
 
     -- a letter and a numeral-parse
     pub saw_number : (item : ℕ → Item)
         → ((s : List ℕ) → (body (value_format k) (unused k) l).parse s ≡ named (λ v. token_of k (item v)) ((number_item 2).parse s))
-        → (r : Number) → SawNumber (numeral_parse 2) t (at + 1) r → SawToken k t at (numbered_token item r)
-    saw_number item e (Number.Value v n) q =
+        → (r : Result (ℕ × ℕ) ℕ) → SawNumber (numeral_parse 2) t (at + 1) r → SawToken k t at (numbered_token item r)
+    saw_number item e (Ok r) q =
         record {
           same = λ closed.
               lettered t closed k l at h here_l ∙ e (left closed t (at + 1))
-              ∙ rw (left_read t closed (numeral_parse 2) (number_closed 2) (at + 1) n v q.same)
-              (behind_number (λ w. token_of k (item w)) v (separator.parse (left closed t n)));
+              ∙ rw (left_read t closed (numeral_parse 2) (number_closed 2) (at + 1) r.1 r.0 q.same)
+              (behind_number (λ w. token_of k (item w)) r.0 (separator.parse (left closed t r.1)));
           within = q.within;
         }
-    saw_number item e (Number.Bad p) q =
+    saw_number item e (Err p) q =
         record {
           same = λ closed.
               lettered t closed k l at h here_l ∙ e (left closed t (at + 1))
@@ -226,23 +226,23 @@ module _ (k : Values) (t : List ℕ) (at : ℕ) (h : at < length t) where
 
   -- O, a numeral-parse, a dot and a value
   module _ (here_O : get_or t at 0 ≡ letter_byte letter_O) where
-    pub saw_no_dot : (p : ℕ) → SawEnded 2 46 t (at + 1) (Number.Bad p) → SawToken k t at (Taken.Bad p)
+    pub saw_no_dot : (p : ℕ) → SawEnded 2 46 t (at + 1) (Err p) → SawToken k t at (Err p)
     saw_no_dot p q =
         record {
           same = λ closed. lettered t closed k letter_O at h here_O ∙ rw (left_stuck t closed (dot_parse 2) (dotted_closed 2) (at + 1) p q.same);
           within = q.within;
         }
 
-    pub saw_output : (v m : ℕ) → SawEnded 2 46 t (at + 1) (Number.Value v m) → (r : Value) → SawValue k t m r → SawToken k t at (output_token v r)
-    saw_output v m q (Value.Of a b n) g =
+    pub saw_output : (v m : ℕ) → SawEnded 2 46 t (at + 1) (Ok (v, m)) → (r : Result ((ℕ × ℕ) × ℕ) ℕ) → SawValue k t m r → SawToken k t at (output_token v r)
+    saw_output v m q (Ok r) g =
         record {
           same = λ closed.
               lettered t closed k letter_O at h here_O
               ∙ rw (left_read t closed (dot_parse 2) (dotted_closed 2) (at + 1) m (v, tt) q.same)
-              (ap (output v) (g.same closed) ∙ behind_value v (value_of k a b) (separator.parse (left closed t n)));
+              (ap (output v) (g.same closed) ∙ behind_value v (value_of k r.0.0 r.0.1) (separator.parse (left closed t r.1)));
           within = g.within;
         }
-    saw_output v m q (Value.Bad p) g =
+    saw_output v m q (Err p) g =
         record {
           same = λ closed.
               lettered t closed k letter_O at h here_O

@@ -1,14 +1,13 @@
 -- Twin of ChannelFile, pinned by channel_io ClampedClaim.
 -- The bytes stored from a file: one byte an entry of meet, three bytes a node of the rule (document 01, "Rules"). A number
 -- above 255 stands as 255, which every judgement on it takes as it takes the number (Claims, ClampClaim).
-use Rattle.std.specs.Prelude.{ℕ, min, ◌*◌}
-use mathlib.Core.{Path.{◌≡◌}, List.{List, [], ◌∷◌}, Option.{Option, none, some}}
-use Rattle.std.specs.Prelude.{length, take, replicate}
+use Rattle.std.specs.Prelude.{ℕ, min, ◌*◌, length, take, replicate, Option, Some, None, Result, Ok, Err}
+use mathlib.Core.{Path.{◌≡◌}, List.{List, [], ◌∷◌}}
 use Rattle.limits.specs.Limits.{meet_limit, node_limit}
-use Rattle.refusal.specs.{declared.Refusal.{Refusal}, declared.Refusal.TheVariants.{At}, Refusal.{put}}
+use Rattle.refusal.specs.{declared.Refusal.{Refusal}, Refusal.{put}}
 use Rattle.text_format.specs.Format.{Outcome, contents, refused}
 use Rattle.channel_file.specs.{ChannelFile.{Token, Contents, encoded}, FileFormat.{kind, first, second}}
-use Rattle.channel_file.specs.{declared.Stored.{Stored}, declared.ReadArrays.{ReadArrays}, declared.TokenList.{TokenList}}
+use Rattle.channel_file.specs.{Reading.{checked}, declared.Form.{Form}, declared.ReadArrays.{ReadArrays}}
 
 abbrev pub clamp : ℕ → ℕ
 clamp v = min v 255
@@ -32,16 +31,6 @@ rule_bytes c = encoded node c.rule
 abbrev pub put_front : List ℕ → List ℕ → List ℕ
 put_front output old = put (take (length old) output) old
 
--- The reply to a text: the file's numbers and how many entries and items it has, or 4.
-abbrev pub stored_reply : Outcome Contents → Stored
-stored_reply (contents c) = Stored.Form c.events c.values c.top (length c.meet) (length c.rule)
-stored_reply (refused p) = Stored.Refused (At 4 p)
-
--- Document 01's answer for each of its cases: the refusal, where there is one.
-abbrev pub refusal_stored : Stored → Option Refusal
-refusal_stored (Stored.Form events values top entries items) = none
-refusal_stored (Stored.Refused refusal) = some refusal
-
 -- The buffers afterwards.
 abbrev pub stored_meet : Outcome Contents → List ℕ → List ℕ
 stored_meet (contents c) meet = put_front (meet_bytes c) meet
@@ -51,20 +40,24 @@ abbrev pub stored_rule : Outcome Contents → List ℕ → List ℕ
 stored_rule (contents c) rule = put_front (rule_bytes c) rule
 stored_rule (refused p) rule = rule
 
--- What is read of a text: the reply, and two arrays that held 0 alone.
-abbrev pub arrays_of : Outcome Contents → ReadArrays
-arrays_of x = record { reply = stored_reply x; meet = stored_meet x (replicate meet_limit 0); rule = stored_rule x (replicate (node_limit * 3) 0) }
+-- What is read of a text: its form and two arrays that held 0 alone; or 4, and no array.
+abbrev pub arrays_with : Result Form Refusal → List ℕ → List ℕ → Result ReadArrays Refusal
+arrays_with (Ok form) meet rule = Ok (record { form = form; meet = meet; rule = rule })
+arrays_with (Err refusal) meet rule = Err refusal
 
--- The same of a text of tokens alone: how many nodes it has, or that it is no list of tokens.
-abbrev pub token_reply : {A : Type 0} → Outcome (List A) → TokenList
-token_reply (contents xs) = TokenList.Nodes (length xs)
-token_reply (refused p) = TokenList.Malformed
+abbrev pub arrays_of : Outcome Contents → Result ReadArrays Refusal
+arrays_of x = arrays_with (checked x) (stored_meet x (replicate meet_limit 0)) (stored_rule x (replicate (node_limit * 3) 0))
+
+-- The same of a text of tokens alone: how many nodes it has, and none where it is no list of tokens.
+abbrev pub token_reply : {A : Type 0} → Outcome (List A) → Option ℕ
+token_reply (contents xs) = Some (length xs)
+token_reply (refused p) = None
 
 abbrev pub stored_nodes : {A : Type 0} → (A → List ℕ) → Outcome (List A) → List ℕ → List ℕ
 stored_nodes code (contents xs) old = put_front (encoded code xs) old
 stored_nodes code (refused p) old = old
 
 -- Reply and buffer of a call that reads tokens, where code has the bytes of a token's node.
-pub record ReadsTokens {A : Type 0} (code : A → List ℕ) (x : Outcome (List A)) (old new : List ℕ) (r : TokenList) : Type 0 where
+pub record ReadsTokens {A : Type 0} (code : A → List ℕ) (x : Outcome (List A)) (old new : List ℕ) (r : Option ℕ) : Type 0 where
   pub reply : r ≡ token_reply x
   pub buffer : new ≡ stored_nodes code x old

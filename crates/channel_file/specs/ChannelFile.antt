@@ -1,7 +1,6 @@
 -- The form of a channel file (document 01, "Channel file"), without its length limit; numbers are the text's, neither judged nor clamped.
-use Rattle.std.specs.Prelude.{ℕ, ◌≤◌, ◌<◌}
+use Rattle.std.specs.Prelude.{ℕ, ◌≤◌, ◌<◌, length}
 use mathlib.Core.{Path.{◌≡◌}, List.{List, [], ◌∷◌, ◌++◌, map}}
-use Rattle.std.specs.Prelude.{length}
 use Rattle.limits.specs.Limits.{file_limit}
 use Rattle.text_format.specs.Texts.{ascii, decimal, separated, OneOrMore, Refused, FormOf}
 

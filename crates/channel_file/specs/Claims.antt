@@ -1,14 +1,12 @@
 -- What is claimed of a channel file; each claim is inhabited in proofs/Claims, and of a register's file in proofs/RegisterClaims.
-use Rattle.std.specs.Prelude.{ℕ, ◌≤◌, ◌<◌}
+use Rattle.std.specs.Prelude.{ℕ, ◌≤◌, ◌<◌, length, Result}
 use mathlib.Core.{Path.{◌≡◌}, List.{List, [], ◌∷◌, map}, Logic.{◌↔◌}}
-use Rattle.std.specs.Prelude.{length}
 use Rattle.limits.specs.Limits.{meet_limit, node_limit, file_limit}
-use Rattle.refusal.specs.Refusal.{Condition, at_lowest, Judged, JudgedCall}
-use Rattle.text_format.specs.{Format.{Outcome, contents}, Texts.{separated, OneOrMore}}
+use Rattle.refusal.specs.{Refusal.{Condition, at_lowest, form_place, Judged, JudgedCall, refusal_of}, declared.Refusal.TheVariants.{TextForm}}
+use Rattle.text_format.specs.{Format.{Parsed, Outcome, contents}, Texts.{separated, OneOrMore}}
 use Rattle.channel_file.specs.ChannelFile.{Token, token_text, Contents, text, SmallContents, SmallToken, RefusedBy, Shows}
-use Rattle.channel_file.specs.Reading.{AnswersBy, read_file, read_tokens, tokens_stretch, checked, refusal_checked}
-use Rattle.channel_file.specs.{Bytes.{clamp, stored_reply, refusal_stored, stored_meet, stored_rule}, Steps.{SawNumber, line_parse}}
-use Rattle.channel_file.specs.{declared.Line.{Line}, declared.Number.{Number}}
+use Rattle.channel_file.specs.Reading.{AnswersBy, read_file, read_tokens, tokens_stretch, checked}
+use Rattle.channel_file.specs.{Bytes.{clamp, arrays_of, stored_meet, stored_rule}, Steps.{SawNumber}}
 use Rattle.channel_file.specs.RegisterFile as register
 use Rattle.channel_file.specs.RegisterReading as register_reading
 
@@ -29,7 +27,7 @@ module _ {A : Type 0} (Shows : A → List ℕ → Type 0) (read_file : List ℕ 
 
 -- A text is judged by 4 alone.
 abbrev pub conditions_by : {A : Type 0} → (A → List ℕ → Type 0) → List ℕ → List Condition
-conditions_by Shows t = at_lowest 4 (RefusedBy Shows t) ∷ []
+conditions_by Shows t = at_lowest form_place (RefusedBy Shows t) ∷ []
 
 module _ {A : Type 0} (text : A → List ℕ) (read_file : List ℕ → Outcome A) where
   -- The text of the contents read is the text itself.
@@ -71,10 +69,10 @@ abbrev pub form_conditions : List ℕ → List Condition
 form_conditions t = conditions_by Shows t
 
 pub record FormRefusalClaim : Type 0 where
-  pub of_checking : (t : List ℕ) → Judged (form_conditions t) (refusal_checked (checked (read_file t)))
+  pub of_checking : (t : List ℕ) → Judged (form_conditions t) (refusal_of (checked (read_file t)))
   pub of_storing :
       (t meet rule : List ℕ) →
-      JudgedCall {M = List ℕ × List ℕ} (form_conditions t) (refusal_stored (stored_reply (read_file t))) (meet, rule)
+      JudgedCall {M = List ℕ × List ℕ} (form_conditions t) (refusal_of (arrays_of (read_file t))) (meet, rule)
       (stored_meet (read_file t) meet, stored_rule (read_file t) rule)
 
 abbrev pub RewriteClaim : Type 0
@@ -98,7 +96,9 @@ TokenListClaim = TokenListOf read_file (λ c. c.rule) token_text tokens_stretch 
 
 -- What the functions over a reader say of a line's answer leaves no other answer.
 abbrev pub OneLineClaim : Type 0
-OneLineClaim = (line : Line) (t : List ℕ) (at : ℕ) (x y : Number) → SawNumber (line_parse line) t at x → SawNumber (line_parse line) t at y → x ≡ y
+OneLineClaim =
+    (parse : List ℕ → Parsed ℕ) (t : List ℕ) (at : ℕ) (x y : Result (ℕ × ℕ) ℕ)
+    → SawNumber parse t at x → SawNumber parse t at y → x ≡ y
 
 -- A number above 255 is stored as 255. No judgement on it is lost: for every limit n up to 255, the number is below n exactly
 -- if its byte is. Limits of events, values and entries are at most 16. A variable at node i has at most i binders above it, so
@@ -111,10 +111,10 @@ pub record RegisterClaim : Type 0 where
   pub answer : AnswerOf register.Shows register_reading.read_file
   pub one_answer : OneAnswerOf register.Shows register_reading.read_file
   pub of_checking :
-      (t : List ℕ) → Judged (conditions_by register.Shows t) (register_reading.refusal_checked (register_reading.checked (register_reading.read_file t)))
+      (t : List ℕ) → Judged (conditions_by register.Shows t) (refusal_of (register_reading.checked (register_reading.read_file t)))
   pub of_storing :
       (t rule : List ℕ) →
-      JudgedCall (conditions_by register.Shows t) (register_reading.refusal_stored (register_reading.stored_reply (register_reading.read_file t))) rule
+      JudgedCall (conditions_by register.Shows t) (refusal_of (register_reading.arrays_of (register_reading.read_file t))) rule
       (register_reading.stored_rule (register_reading.read_file t) rule)
   pub rewrite : RewriteOf register.text register_reading.read_file
   pub read_back : ReadBackOf register.text register_reading.read_file register.SmallContents

@@ -1,14 +1,14 @@
 -- Twin of ChannelFile, pinned by channel_file AnswerClaim.
 -- The answer to a text (document 01, refusal 4), with the limit of 4,096 bytes tested first; where its items stand; and the
 -- stretch of the text that holds the rule's tokens.
-use Rattle.std.specs.Prelude.{ℕ, ◌+◌, ◌-◌, ◌≤◌}
-use mathlib.Core.{List.{List, [], ◌++◌, map}, Bool.{cond}, Option.{Option, none, some}}
+use Rattle.std.specs.Prelude.{ℕ, ◌+◌, ◌-◌, ◌≤◌, Result, Ok, Err}
+use mathlib.Core.{List.{List, [], ◌++◌, map}, Bool.{cond}}
 use lib.{Dec.{ltb}, ListN.{length, take, drop}}
 use Rattle.text_format.specs.{Format.{Format, Outcome, contents, refused, read}, Texts.{ascii, separated}}
 use Rattle.limits.specs.Limits.{file_limit}
-use Rattle.refusal.specs.{declared.Refusal.{Refusal}, declared.Refusal.TheVariants.{At}}
+use Rattle.refusal.specs.{declared.Refusal.{Refusal}, declared.Refusal.TheVariants.{TextForm}}
 use Rattle.channel_file.specs.{ChannelFile.{Token, Contents, number, line, Shows, RefusedBy}, FileFormat.{tokens, file}}
-use Rattle.channel_file.specs.declared.Checked.{Checked}
+use Rattle.channel_file.specs.declared.Form.{Form}
 
 -- What an answer says of a text, where texts show some contents.
 abbrev pub AnswersBy : {A : Type 0} → (A → List ℕ → Type 0) → List ℕ → Outcome A → Type 0
@@ -63,12 +63,25 @@ tokens_stretch t x = stretch_by rule_start t x
 
 -- ---- the answer as the code gives it: numbers, how many items there are, and where they start
 
-abbrev pub checked : Outcome Contents → Checked
-checked (contents c) =
-    Checked.Form c.events c.values c.top (length c.meet) (meet_start c) (length c.rule) (rule_start c)
-checked (refused p) = Checked.Refused (At 4 p)
+abbrev pub form_of : Contents → Form
+form_of c =
+    record {
+      events = c.events;
+      values = c.values;
+      top = c.top;
+      entries = length c.meet;
+      meet_at = meet_start c;
+      items = length c.rule;
+      rule_at = rule_start c;
+    }
 
--- Document 01's answer for each of its cases: the refusal, where there is one.
-abbrev pub refusal_checked : Checked → Option Refusal
-refusal_checked (Checked.Form events values top entries meet_at items rule_at) = none
-refusal_checked (Checked.Refused refusal) = some refusal
+-- Of either form of file: form_of has the answer to contents, refuses to a place of refusal; in the end 4.
+abbrev pub answer_by : {A F E : Type 0} → (ℕ → E) → (A → F) → Outcome A → Result F E
+answer_by refuses form_of (contents c) = Ok (form_of c)
+answer_by refuses form_of (refused p) = Err (refuses p)
+
+abbrev pub checked_by : {A F : Type 0} → (A → F) → Outcome A → Result F Refusal
+checked_by form_of x = answer_by TextForm form_of x
+
+abbrev pub checked : Outcome Contents → Result Form Refusal
+checked x = checked_by form_of x

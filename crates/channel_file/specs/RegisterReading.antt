@@ -1,15 +1,15 @@
 -- Twin of RegisterFile, pinned by channel_file RegisterClaim.
 -- The answer to the text of a register's file, where its items stand, and the bytes stored from it.
-use Rattle.std.specs.Prelude.{ℕ, ◌+◌, ◌*◌, ◌/◌, ◌%◌}
-use mathlib.Core.{List.{List, [], ◌∷◌, ◌++◌}, Bool.{◌&&◌, cond}, Option.{Option, none, some}}
+use Rattle.std.specs.Prelude.{ℕ, ◌+◌, ◌*◌, ◌/◌, ◌%◌, Result, Ok, Err}
+use mathlib.Core.{List.{List, [], ◌∷◌, ◌++◌}, Bool.{◌&&◌, cond}}
 use lib.{Dec.{leb}, ListN.{length, replicate}}
 use Rattle.limits.specs.Limits.{node_limit}
 use Rattle.theory.specs.ValueSets.{Masks}
-use Rattle.refusal.specs.{declared.Refusal.{Refusal}, declared.Refusal.TheVariants.{At}}
+use Rattle.refusal.specs.{declared.Refusal.{Refusal}}
 use Rattle.text_format.specs.{Format.{Outcome, contents, refused}, Texts.{ascii}}
-use Rattle.channel_file.specs.{ChannelFile.{number, line, item_fields, encoded}, Reading.{read_limited, read_closed, stretch_by, AnswersBy}}
+use Rattle.channel_file.specs.{ChannelFile.{number, line, item_fields, encoded}, Reading.{read_limited, read_closed, stretch_by, checked_by, AnswersBy}}
 use Rattle.channel_file.specs.{RegisterFile.{no_masks, Token, Contents, Shows}, RegisterFormat.{tokens, file}, Bytes.{clamp, put_front}}
-use Rattle.channel_file.specs.declared.registers.{Checked.{Checked}, Stored.{Stored}, ReadArrays.{ReadArrays}}
+use Rattle.channel_file.specs.declared.registers.{Form.{Form}, ReadArrays.{ReadArrays}}
 
 abbrev pub AnswersFile : List ℕ → Outcome Contents → Type 0
 AnswersFile = AnswersBy Shows
@@ -65,28 +65,21 @@ rule_bytes c = encoded node c.rule
 -- ---- the answers as the code gives them
 
 -- The numbers, how many items there are, and where they start.
-abbrev pub checked : Outcome Contents → Checked
-checked (contents c) = Checked.Form c.events c.lines (length c.rule) (rule_start c)
-checked (refused p) = Checked.Refused (At 4 p)
+abbrev pub form_of : Contents → Form
+form_of c = record { events = c.events; lines = c.lines; items = length c.rule; rule_at = rule_start c }
 
--- The reply to a text: the file's numbers and how many items it has, or 4; and the buffer afterwards.
-abbrev pub stored_reply : Outcome Contents → Stored
-stored_reply (contents c) = Stored.Form c.events c.lines (length c.rule)
-stored_reply (refused p) = Stored.Refused (At 4 p)
+abbrev pub checked : Outcome Contents → Result Form Refusal
+checked x = checked_by form_of x
 
+-- The buffer of the nodes afterwards.
 abbrev pub stored_rule : Outcome Contents → List ℕ → List ℕ
 stored_rule (contents c) rule = put_front (rule_bytes c) rule
 stored_rule (refused p) rule = rule
 
--- What is read of a text: the reply, and an array that held 0 alone.
-abbrev pub arrays_of : Outcome Contents → ReadArrays
-arrays_of x = record { reply = stored_reply x; rule = stored_rule x (replicate (node_limit * 6) 0) }
+-- What is read of a text: its form and an array that held 0 alone; or 4, and no array.
+abbrev pub arrays_with : Result Form Refusal → List ℕ → Result ReadArrays Refusal
+arrays_with (Ok form) rule = Ok (record { form = form; rule = rule })
+arrays_with (Err refusal) rule = Err refusal
 
--- Document 01's answer for each case of the enums: the refusal, where there is one.
-abbrev pub refusal_checked : Checked → Option Refusal
-refusal_checked (Checked.Form events lines items rule_at) = none
-refusal_checked (Checked.Refused refusal) = some refusal
-
-abbrev pub refusal_stored : Stored → Option Refusal
-refusal_stored (Stored.Form events lines items) = none
-refusal_stored (Stored.Refused refusal) = some refusal
+abbrev pub arrays_of : Outcome Contents → Result ReadArrays Refusal
+arrays_of x = arrays_with (checked x) (stored_rule x (replicate (node_limit * 6) 0))

@@ -1,22 +1,17 @@
 -- What the private functions of src/ say: each answer of the code as an answer of a parser, where an offset in the text
 -- stands for what is left of the text there.
-use Rattle.std.specs.Prelude.{ℕ, ◌+◌, ◌≤◌}
+use Rattle.std.specs.Prelude.{ℕ, ◌+◌, ◌≤◌, ◌<◌, length, drop, Option, Result, Ok, Err}
 use mathlib.Core.{Path.{◌≡◌}, List.{List, [], ◌∷◌, ◌++◌}, Bool.{Bool, true, false}}
-use Rattle.std.specs.Prelude.{length, drop}
-use Rattle.text_format.specs.{Format.{Parsed, ok, bad, bind, Format, Outcome, contents}, Texts.{ascii}, Combinators.{the, word}, Decimal.{numbered_parse}}
+use Rattle.text_format.specs.{Format.{Parsed, ok, bad, bind, Format, Outcome, contents}, Combinators.{the, word}, Decimal.{numbered_parse}}
 use Rattle.text_format.specs.Series.{Separator, space, newline, separator, number_item}
 use Rattle.channel_file.specs.ChannelFile.{RuleItem, token_T, token_A, token_V, token_X, token_G, token_O, Contents, encoded}
-use Rattle.channel_file.specs.FileFormat.{rule_item, rule_items, keyed_items, field, head, meet_line}
-use Rattle.channel_file.specs.Reading.{stretch, checked}
-use Rattle.channel_file.specs.Bytes.{node, entry, meet_bytes, rule_bytes, put_front, token_reply}
+use Rattle.channel_file.specs.FileFormat.{rule_item, rule_items, keyed_items}
+use Rattle.channel_file.specs.Reading.{form_of, answer_by}
+use Rattle.channel_file.specs.Bytes.{node, meet_bytes, rule_bytes, put_front, token_reply}
 use Rattle.theory.specs.ValueSets.{Masks}
 use Rattle.channel_file.specs.{RegisterFile.{no_masks}, RegisterFormat.{masks_item}}
 use Rattle.channel_file.specs.RegisterReading as register
-use Rattle.channel_file.specs.{declared.Item.{Item}, declared.Behind.{Behind}, declared.Number.{Number}, declared.Ended.{Ended}, declared.Entry.{Entry}}
-use Rattle.channel_file.specs.{declared.Values.{Values}, declared.Value.{Value}}
-use Rattle.channel_file.specs.{declared.Taken.{Taken}, declared.Scanned.{Scanned}, declared.Reached.{Reached}, declared.Head.{Head}}
-use Rattle.channel_file.specs.{declared.Line.{Line}, declared.Span.{Span}, declared.Checked.{Checked}, declared.Stored.{Stored}}
-use Rattle.channel_file.specs.{declared.ReadArrays.{ReadArrays}, declared.TokenList.{TokenList}}
+use Rattle.channel_file.specs.{declared.Item.{Item}, declared.Behind.{Behind}, declared.Values.{Values}, declared.Form.{Form}}
 
 -- ---- the kind of values
 
@@ -78,22 +73,36 @@ pub record Saw {A : Type 0} (parsed seen : Parsed A) (t : List ℕ) (n : ℕ) : 
   pub same : parsed ≡ seen
   pub within : n ≤ length t
 
-abbrev pub SawNumber : (List ℕ → Parsed ℕ) → List ℕ → ℕ → Number → Type 0
-SawNumber parse t at (Number.Value v n) = Saw (parse (drop at t)) (ok v (drop n t)) t n
-SawNumber parse t at (Number.Bad p) = Saw (parse (drop at t)) (bad (drop p t)) t p
+-- The answer of a parser at an offset of t: what was read stands for a value, and the offset behind it for what is left; or the offset where
+-- t cannot go on.
+abbrev pub Sees : {A B : Type 0} → (B → A) → (List ℕ → Parsed A) → List ℕ → ℕ → Result (B × ℕ) ℕ → Type 0
+Sees stands_for parse t at (Ok r) = Saw (parse (drop at t)) (ok (stands_for r.0) (drop r.1 t)) t r.1
+Sees stands_for parse t at (Err p) = Saw (parse (drop at t)) (bad (drop p t)) t p
+
+abbrev pub SawNumber : (List ℕ → Parsed ℕ) → List ℕ → ℕ → Result (ℕ × ℕ) ℕ → Type 0
+SawNumber parse = Sees (λ v. v) parse
 
 -- A number, with so many digits behind its first, and one certain byte behind it.
-abbrev pub SawEnded : ℕ → ℕ → List ℕ → ℕ → Number → Type 0
-SawEnded k e t at (Number.Value v n) = Saw (numbered_parse k (the e) (tt ∷ []) (drop at t)) (ok (v, tt) (drop n t)) t n
-SawEnded k e t at (Number.Bad p) = Saw (numbered_parse k (the e) (tt ∷ []) (drop at t)) (bad (drop p t)) t p
+abbrev pub SawEnded : ℕ → ℕ → List ℕ → ℕ → Result (ℕ × ℕ) ℕ → Type 0
+SawEnded k e = Sees (λ v. (v, tt)) (numbered_parse k (the e) (tt ∷ []))
 
-abbrev pub SawEnd : List ℕ → ℕ → Ended → Type 0
-SawEnd t at (Ended.By e n) = Saw (separator.parse (drop at t)) (ok (separator_of e) (drop n t)) t n
-SawEnd t at (Ended.Bad p) = Saw (separator.parse (drop at t)) (bad (drop p t)) t p
+abbrev pub SawEnd : List ℕ → ℕ → Result (Behind × ℕ) ℕ → Type 0
+SawEnd = Sees separator_of separator.parse
 
-abbrev pub SawEntry : List ℕ → ℕ → Entry → Type 0
-SawEntry t at (Entry.Of v e n) = Saw ((number_item 2).parse (drop at t)) (ok (v, separator_of e) (drop n t)) t n
-SawEntry t at (Entry.Bad p) = Saw ((number_item 2).parse (drop at t)) (bad (drop p t)) t p
+abbrev pub SawEntry : List ℕ → ℕ → Result ((ℕ × Behind) × ℕ) ℕ → Type 0
+SawEntry = Sees (λ p. (p.0, separator_of p.1)) (number_item 2).parse
+
+abbrev pub SawItem : Values → List ℕ → ℕ → Result ((Item × Behind) × ℕ) ℕ → Type 0
+SawItem k = Sees (λ p. (token_of k p.0, separator_of p.1)) (item_format k).parse
+
+abbrev pub SawWord : List ℕ → List ℕ → ℕ → Result ℕ ℕ → Type 0
+SawWord w t at (Ok n) = Saw ((word w).parse (drop at t)) (ok tt (drop n t)) t n
+SawWord w t at (Err p) = Saw ((word w).parse (drop at t)) (bad (drop p t)) t p
+
+-- The byte at an offset of t, or that t ends there.
+abbrev pub SawByte : List ℕ → ℕ → Result ℕ ℕ → Type 0
+SawByte t at (Ok b) = (at < length t) × (drop at t ≡ b ∷ drop (at + 1) t)
+SawByte t at (Err p) = (p ≡ at) × (drop at t ≡ [])
 
 -- What is left of a text at an offset; closed: where byte 10 stands behind the text.
 abbrev pub left : Bool → List ℕ → ℕ → List ℕ
@@ -109,21 +118,15 @@ pub record SawHere {A : Type 0} (F : Format (A × Separator)) (t : List ℕ) (at
   pub same : (closed : Bool) → F.parse (left closed t at) ≡ seen closed
   pub within : n ≤ length t
 
-abbrev pub SawValue : Values → List ℕ → ℕ → Value → Type 0
-SawValue k t at (Value.Of a b n) = SawHere (value_format k) t at (λ closed. with_separator (value_of k a b) (left closed t n)) n
-SawValue k t at (Value.Bad p) = SawHere (value_format k) t at (λ closed. bad (left closed t p)) p
+abbrev pub SeesHere : {A B : Type 0} → (B → A) → Format (A × Separator) → List ℕ → ℕ → Result (B × ℕ) ℕ → Type 0
+SeesHere stands_for F t at (Ok r) = SawHere F t at (λ closed. with_separator (stands_for r.0) (left closed t r.1)) r.1
+SeesHere stands_for F t at (Err p) = SawHere F t at (λ closed. bad (left closed t p)) p
 
-abbrev pub SawToken : Values → List ℕ → ℕ → Taken → Type 0
-SawToken k t at (Taken.Of x n) = SawHere (item_format k) t at (λ closed. with_separator (token_of k x) (left closed t n)) n
-SawToken k t at (Taken.Bad p) = SawHere (item_format k) t at (λ closed. bad (left closed t p)) p
+abbrev pub SawValue : Values → List ℕ → ℕ → Result ((ℕ × ℕ) × ℕ) ℕ → Type 0
+SawValue k = SeesHere (λ p. value_of k p.0 p.1) (value_format k)
 
-abbrev pub SawItem : Values → List ℕ → ℕ → Scanned → Type 0
-SawItem k t at (Scanned.Of x e n) = Saw ((item_format k).parse (drop at t)) (ok (token_of k x, separator_of e) (drop n t)) t n
-SawItem k t at (Scanned.Bad p) = Saw ((item_format k).parse (drop at t)) (bad (drop p t)) t p
-
-abbrev pub SawWord : List ℕ → List ℕ → ℕ → Reached → Type 0
-SawWord w t at (Reached.Past n) = Saw ((word w).parse (drop at t)) (ok tt (drop n t)) t n
-SawWord w t at (Reached.Bad p) = Saw ((word w).parse (drop at t)) (bad (drop p t)) t p
+abbrev pub SawToken : Values → List ℕ → ℕ → Result (Item × ℕ) ℕ → Type 0
+SawToken k = SeesHere (token_of k) (item_format k)
 
 -- How many values were read, behind n others.
 abbrev pub counted : {A : Type 0} → ℕ → Parsed (List A) → Parsed ℕ
@@ -133,56 +136,25 @@ counted n (bad r) = bad r
 abbrev pub count_of : {A : Type 0} → Format (List A) → List ℕ → Parsed ℕ
 count_of F s = counted 0 (F.parse s)
 
--- What is read of a line: the number of a field, or how many items a list has.
-abbrev pub line_parse : Line → List ℕ → Parsed ℕ
-line_parse Line.Events = (field (ascii "events=")).parse
-line_parse Line.Values = (field (ascii "values=")).parse
-line_parse Line.Top = (field (ascii "top=")).parse
-line_parse Line.Meet = count_of meet_line
-line_parse Line.Lines = (field (ascii "lines=")).parse
-line_parse (Line.Rule k) = count_of (rule_format k)
-
-abbrev pub SawHead : List ℕ → ℕ → Head → Type 0
-SawHead t at (Head.Numbers e v p n) = Saw (head.parse (drop at t)) (ok (e, (v, p)) (drop n t)) t n
-SawHead t at (Head.Bad p) = Saw (head.parse (drop at t)) (bad (drop p t)) t p
-
--- The offsets of a stretch of tokens; equal where 4 refuses.
-pub record SpansTokens (t tokens : List ℕ) (r : Span) : Type 0 where
-  pub ordered : r.from ≤ r.to
-  pub within : r.to ≤ length t
-  pub same : stretch r.from r.to t ≡ tokens
+-- The answer of a reader, which goes on to an offset where it is not at fault.
+abbrev pub reached : {A : Type 0} → ℕ → Result A ℕ → Result (A × ℕ) ℕ
+reached next (Ok a) = Ok (a, next)
+reached next (Err p) = Err p
 
 -- ---- series that are stored
 
 -- The answer to the items that stand in t at an offset; where they can be read, the buffer has their codes, as far as there is room.
-pub record StoresItems {A : Type 0} (F : Format (List A)) (code : A → List ℕ) (t : List ℕ) (at : ℕ) (old new : List ℕ) (r : Number) : Type 0 where
+pub record StoresItems {A : Type 0} (F : Format (List A)) (code : A → List ℕ) (t : List ℕ) (at : ℕ) (old new : List ℕ) (r : Result (ℕ × ℕ) ℕ) : Type 0 where
   pub reply : SawNumber (count_of F) t at r
   pub buffer : (xs : List A) (rest : List ℕ) → F.parse (drop at t) ≡ ok xs rest → new ≡ put_front (encoded code xs) old
 
--- A field is read, and nothing is stored.
-pub record ReadsField (parse : List ℕ → Parsed ℕ) (t : List ℕ) (at : ℕ) (old new : List ℕ) (r : Number) : Type 0 where
-  pub reply : SawNumber parse t at r
-  pub buffer : new ≡ old
-
--- The answer to a line, and what its buffer has.
-abbrev pub ReadsLine : Line → List ℕ → ℕ → List ℕ → List ℕ → Number → Type 0
-ReadsLine Line.Events = ReadsField (line_parse Line.Events)
-ReadsLine Line.Values = ReadsField (line_parse Line.Values)
-ReadsLine Line.Top = ReadsField (line_parse Line.Top)
-ReadsLine Line.Meet = StoresItems meet_line entry
-ReadsLine Line.Lines = ReadsField (line_parse Line.Lines)
-ReadsLine (Line.Rule k) = StoresItems (rule_format k) (code k)
-
 -- The answer to a text that is read as x; where it has contents, the buffers have their bytes, as far as there is room.
-pub record ReadsForm (x : Outcome Contents) (meet rule meet' rule' : List ℕ) (r : Checked) : Type 0 where
-  pub reply : r ≡ checked x
+pub record ReadsForm {E : Type 0} (refuses : ℕ → E) (x : Outcome Contents) (meet rule meet' rule' : List ℕ) (r : Result Form E)
+    : Type 0 where
+  pub reply : r ≡ answer_by refuses form_of x
   pub bytes : (c : Contents) → x ≡ contents c → (meet' ≡ put_front (meet_bytes c) meet) × (rule' ≡ put_front (rule_bytes c) rule)
 
--- A reply and two arrays, as what is read of a text.
-abbrev pub in_arrays : Stored → List ℕ → List ℕ → ReadArrays
-in_arrays r meet rule = record { reply = r; meet = meet; rule = rule }
-
 -- The answer to the tokens that a whole text shows, stored as the items above.
-pub record StoresTokens {A : Type 0} (code : A → List ℕ) (x : Outcome (List A)) (old new : List ℕ) (r : TokenList) : Type 0 where
+pub record StoresTokens {A : Type 0} (code : A → List ℕ) (x : Outcome (List A)) (old new : List ℕ) (r : Option ℕ) : Type 0 where
   pub reply : r ≡ token_reply x
   pub buffer : (xs : List A) → x ≡ contents xs → new ≡ put_front (encoded code xs) old

@@ -1,13 +1,13 @@
 -- What a caller of `compile_file` knows, of any form of files, and of both.
 use Prim.Native.Nat.{ℕ, ◌*◌, ◌≤◌, ◌<◌}
 use mathlib.Core.{Path.{◌≡◌, refl, sym, ap, ◌∙◌, subst}, List.{List, []}, Bool.{Bool, true, ◌&&◌}}
-use mathlib.Core.Option.{Option, none, some, some-ne-none}
+use mathlib.Core.Option.{Option, none, some}
 use native.Mathlib.Omega.{arith}
 use lib.{Dec.{leb}, ListN.{length, take, drop, length-append}, Seq.{take_at}}
 use borrow.Author.Tests.{le-leb}
 use Rattle.limits.specs.Limits.{event_limit, value_limit, line_limit, meet_limit, state_limit}
-use Rattle.refusal.specs.{declared.Refusal.{Refusal}, declared.Refusal.TheVariants.{At}, Refusal.{put}, RefusalAnswers.{or_else, plain_unless, put_unless}}
-use Rattle.refusal.proofs.Refusals.{or_else_none}
+use Rattle.refusal.specs.{declared.Refusal.{Refusal}, Refusal.{put}, RefusalAnswers.{or_else, plain_unless, put_unless}}
+use Rattle.refusal.proofs.Refusals.{or_else_none, answered_accepted, answered_refused}
 use Rattle.values.specs.Setup.{Setup}
 use Rattle.values.proofs.Setups.{square_small}
 use Rattle.machines.specs.TableBytes.{entry_width}
@@ -15,33 +15,12 @@ use Rattle.text_format.specs.Format.{Outcome, contents, refused}
 use Rattle.channel_file.specs.{ChannelFile.{Contents, rule_numbers}, Reading.{read_file}}
 use Rattle.channel_file.specs.RegisterReading.{read_file as read_register_file}
 use Rattle.channel_io.specs.{FileConditions.{FileForm, file_setup, number_file}, RegisterFiles.{register_file}, Claims.{table_room}}
-use Rattle.channel_io.specs.{FileTables.{refusal_made, table_made, register_refusal_made, register_table_made}, FileReading.{answer_or}}
-use Rattle.channel_io.specs.FileRefusals.{pair_states, pair_table, pair_table_refusal, has_table_room, pair_compile_refusal}
-use Rattle.channel_io.specs.FileRefusals.{file_table, contents_table_refusal}
-use Rattle.channel_io.specs.FileCompilation.{file_table_answer, entries_after, table_after, CompilesBy, makes_numbers, CompilesFile, makes_register}
-use Rattle.channel_io.specs.FileCompilation.{CompilesRegisterFile}
-use Rattle.channel_io.specs.declared.{FileNumbers.{FileNumbers}, FileTable.{FileTable}, FileTable.TheVariants.{Made, Refused}}
-use Rattle.channel_io.specs.declared.registers.{FileNumbers.{FileNumbers as RegisterNumbers}, FileTable.{FileTable as RegisterTable}}
+use Rattle.channel_io.specs.FileRefusals.{pair_states, pair_table, pair_table_refusal, has_table_room, pair_compile_refusal, file_table, contents_table_refusal}
+use Rattle.channel_io.specs.FileCompilation.{with_states, file_table_answer, entries_after, table_after, CompilesBy, CompilesFile, CompilesRegisterFile}
+use Rattle.channel_io.specs.declared.{FileNumbers.{FileNumbers}, FileTable.{FileTable}, registers.FileNumbers.{FileNumbers as RegisterNumbers}}
 use Rattle.channel_io.proofs.{TablePairs.{rows_length, setup_passed}, Claims.{file_table_made}}
-
--- ---- the two cases of an enum's answer
-
--- What is found in an answer: the refusal, or what an accepted call answers.
-pub record Cases {N R : Type 0} (accepts : N → R) (refuses : Refusal → R) (refusal_in : R → Option Refusal) (found_in : R → Option N) : Type 0 where
-  pub of_accepted : (n : N) → (refusal_in (accepts n) ≡ none) × (found_in (accepts n) ≡ some n)
-  pub of_refused : (q : Refusal) → (refusal_in (refuses q) ≡ some q) × (found_in (refuses q) ≡ none)
-
-module _ {N R : Type 0} {accepts : N → R} {refuses : Refusal → R} {refusal_in : R → Option Refusal} {found_in : R → Option N}
-    (cases : Cases accepts refuses refusal_in found_in) where
-  pub answer_refusal : (o : Option Refusal) (n : N) → refusal_in (answer_or accepts refuses o n) ≡ o
-  unfolding answer_or
-  answer_refusal none n = (cases.of_accepted n).0
-  answer_refusal (some q) n = (cases.of_refused q).0
-
-  pub answer_found : (o : Option Refusal) (n m : N) → found_in (answer_or accepts refuses o n) ≡ some m → (o ≡ none) × (m ≡ n)
-  unfolding answer_or
-  answer_found none n m e = let z : some n ≡ some m = sym (cases.of_accepted n).1 ∙ e in (refl, cc)
-  answer_found (some q) n m e = absurd (some-ne-none m (sym e ∙ (cases.of_refused q).1))
+use Rattle.refusal.specs.declared.Refusal.TheVariants.{BufferLength, TextForm}
+use Rattle.std.specs.Prelude.{Err, Ok, Result}
 
 -- ---- where the meet entries have room
 module _ (s : Setup) (nodes meet to : List ℕ) (wide : pair_table_refusal s nodes ≡ none → length s.meet ≤ length meet) where
@@ -52,10 +31,10 @@ module _ (s : Setup) (nodes meet to : List ℕ) (wide : pair_table_refusal s nod
   fits = leb (length (pair_table s nodes)) (length to)
 
   abbrev later : Bool → Option Refusal
-  later b = plain_unless (b && fits) 13
+  later b = plain_unless (b && fits) BufferLength
 
   -- 13 is decided by the table's buffer
-  pub meet_fits : pair_compile_refusal s nodes meet to ≡ or_else P (plain_unless fits 13)
+  pub meet_fits : pair_compile_refusal s nodes meet to ≡ or_else P (plain_unless fits BufferLength)
   unfolding pair_compile_refusal has_table_room or_else
   meet_fits = go P refl
     where
@@ -69,13 +48,13 @@ module _ (s : Setup) (nodes meet to : List ℕ) (wide : pair_table_refusal s nod
   unfolding or_else plain_unless
   table_fits h = meet_fits ∙ go P refl
     where
-      go : (o : Option Refusal) → P ≡ o → or_else P (plain_unless fits 13) ≡ P
+      go : (o : Option Refusal) → P ≡ o → or_else P (plain_unless fits BufferLength) ≡ P
       go none e =
-          ap (λ (o : Option Refusal). or_else o (plain_unless fits 13)) e
-          ∙ ap (λ (b : Bool). plain_unless b 13)
+          ap (λ (o : Option Refusal). or_else o (plain_unless fits BufferLength)) e
+          ∙ ap (λ (b : Bool). plain_unless b BufferLength)
           (le-leb (length (pair_table s nodes)) (length to) (let k = (file_table_made s nodes e).few_bytes in omega arith))
           ∙ sym e
-      go (some r) e = ap (λ (o : Option Refusal). or_else o (plain_unless fits 13)) e ∙ sym e
+      go (some r) e = ap (λ (o : Option Refusal). or_else o (plain_unless fits BufferLength)) e ∙ sym e
 
 -- an output at the front of a buffer
 pub front_in : (output old new : List ℕ) (n : ℕ) → n ≡ length output → new ≡ put output old → n ≤ length new
@@ -90,7 +69,7 @@ front_taken output old new n e h = ap (take n) h ∙ take_at output (drop (lengt
 module _ (F : FileForm) (read : List ℕ → Outcome F.Inside) where
   -- The table was not made: 4, or what the file's set-up and rule meet.
   pub data Unmade (t meet to : List ℕ) : Refusal → Type 0 where
-    off_form : (p : ℕ) → read t ≡ refused p → Unmade t meet to (At 4 p)
+    off_form : (p : ℕ) → read t ≡ refused p → Unmade t meet to (TextForm p)
     turned_away : (c : F.Inside) (r : Refusal) → read t ≡ contents c → pair_compile_refusal (F.setup_of c) (F.nodes_of c) meet to ≡ some r
         → Unmade t meet to r
 
@@ -142,39 +121,33 @@ module _ (F : FileForm) (read : List ℕ → Outcome F.Inside) where
       }
 
   -- from the answer of a call that makes the table
-  module _ {R : Type 0} {makes : F.Numbers × ℕ → R} {refuses : Refusal → R} {refusal_in : R → Option Refusal} {table_in : R → Option (F.Numbers × ℕ)}
-      (cases : Cases makes refuses refusal_in table_in) {t meet to meet' to' : List ℕ} {x : R} (k : CompilesBy F makes refuses read t meet to meet' to' x)
-    where
-      pub unmade_by : {r : Refusal} → refusal_in x ≡ some r → Unmade t meet to r × (to' ≡ to)
-      unfolding file_table_answer table_after put_unless
-      unmade_by {r} is = go (read t) refl (sym is ∙ ap refusal_in k.answer) k.table_is
-        where
-          go : (y : Outcome F.Inside) → read t ≡ y → some r ≡ refusal_in (file_table_answer F makes refuses y meet to) → to' ≡ table_after F y meet to
-              → Unmade t meet to r × (to' ≡ to)
-          go (refused p) e f g =
-              let h : some r ≡ some (At 4 p) = f ∙ (cases.of_refused (At 4 p)).0 in
-              let z : At 4 p ≡ r = cc in
-              (subst (Unmade t meet to) z (off_form p e), g)
-          go (contents c) e f g =
-              let a : pair_compile_refusal (F.setup_of c) (F.nodes_of c) meet to ≡ some r =
-              sym (answer_refusal cases (pair_compile_refusal (F.setup_of c) (F.nodes_of c) meet to)
-              (F.numbers_of c, pair_states (F.setup_of c) (F.nodes_of c))) ∙ sym f in
-              (turned_away c r e a, g ∙ ap (λ (o : Option Refusal). put_unless o (pair_table (F.setup_of c) (F.nodes_of c)) to) a)
+  module _ {t meet to meet' to' : List ℕ} {x : Result (FileTable F.Numbers) Refusal} (k : CompilesBy F read t meet to meet' to' x) where
+    pub unmade_by : {r : Refusal} → x ≡ Err r → Unmade t meet to r × (to' ≡ to)
+    unfolding file_table_answer table_after put_unless
+    unmade_by {r} is = go (read t) refl (sym is ∙ k.answer) k.table_is
+      where
+        go : (y : Outcome F.Inside) → read t ≡ y → Err r ≡ file_table_answer F y meet to → to' ≡ table_after F y meet to → Unmade t meet to r × (to' ≡ to)
+        go (refused p) e f g =
+            let z : TextForm p ≡ r = cc in
+            (subst (Unmade t meet to) z (off_form p e), g)
+        go (contents c) e f g =
+            let a = answered_refused (pair_compile_refusal (F.setup_of c) (F.nodes_of c) meet to) _ r (sym f) in
+            (turned_away c r e a, g ∙ ap (λ (o : Option Refusal). put_unless o (pair_table (F.setup_of c) (F.nodes_of c)) to) a)
 
-      pub made_of_by : {n : F.Numbers} {j : ℕ} → table_in x ≡ some (n, j) → MadeOf t meet to meet' to' n j
-      unfolding file_table_answer entries_after table_after put_unless
-      made_of_by {n} {j} is = go (read t) refl (sym (ap table_in k.answer) ∙ is) k.meet_is k.table_is
-        where
-          go : (y : Outcome F.Inside) → read t ≡ y → table_in (file_table_answer F makes refuses y meet to) ≡ some (n, j) → meet' ≡ entries_after F y meet to
-              → to' ≡ table_after F y meet to → MadeOf t meet to meet' to' n j
-          go (refused p) e f g h = absurd (some-ne-none {A = F.Numbers × ℕ} (n, j) (sym f ∙ (cases.of_refused (At 4 p)).1))
-          go (contents c) e f g h =
-              let s = F.setup_of c in
-              let nodes = F.nodes_of c in
-              let a = answer_found cases (pair_compile_refusal s nodes meet to) (F.numbers_of c, pair_states s nodes) (n, j) f in
-              made_by c e a.0 (ap (λ (p : F.Numbers × ℕ). p.0) a.1) (ap (λ (p : F.Numbers × ℕ). p.1) a.1)
-              (g ∙ ap (λ (o : Option Refusal). put_unless o s.meet meet) a.0)
-              (h ∙ ap (λ (o : Option Refusal). put_unless o (pair_table s nodes) to) a.0)
+    pub made_of_by : {made : FileTable F.Numbers} → x ≡ Ok made → MadeOf t meet to meet' to' made.numbers made.states
+    unfolding file_table_answer entries_after table_after put_unless
+    made_of_by {made} is = go (read t) refl (sym k.answer ∙ is) k.meet_is k.table_is
+      where
+        go : (y : Outcome F.Inside) → read t ≡ y → file_table_answer F y meet to ≡ Ok made → meet' ≡ entries_after F y meet to
+            → to' ≡ table_after F y meet to → MadeOf t meet to meet' to' made.numbers made.states
+        go (refused p) e f g h = let z : ◌≡◌ {A = ℕ} 0 1 = cc in absurd (omega arith)
+        go (contents c) e f g h =
+            let s = F.setup_of c in
+            let nodes = F.nodes_of c in
+            let a = answered_accepted (pair_compile_refusal s nodes meet to) (with_states (F.numbers_of c) (pair_states s nodes)) made f in
+            made_by c e a.0 (ap (λ (z : FileTable F.Numbers). z.numbers) (sym a.1)) (ap (λ (z : FileTable F.Numbers). z.states) (sym a.1))
+            (g ∙ ap (λ (o : Option Refusal). put_unless o s.meet meet) a.0)
+            (h ∙ ap (λ (o : Option Refusal). put_unless o (pair_table s nodes) to) a.0)
 
 -- ---- document 01's file
 
@@ -184,15 +157,12 @@ few_entries c ok =
     let w = setup_passed (file_setup c) (rule_numbers c) ok in
     omega (arith, w.of_kind.whole, square_small w.of_kind.few_values)
 
-pub number_tables : Cases makes_numbers Refused refusal_made table_made
-number_tables = record { of_accepted = λ n. (refl, refl); of_refused = λ q. (refl, refl) }
+module _ {t meet to meet' to' : List ℕ} {x : Result (FileTable FileNumbers) Refusal} (k : CompilesFile t meet to meet' to' x) where
+  pub unmade : {r : Refusal} → x ≡ Err r → Unmade number_file read_file t meet to r × (to' ≡ to)
+  unmade = unmade_by number_file read_file k
 
-module _ {t meet to meet' to' : List ℕ} {x : FileTable} (k : CompilesFile t meet to meet' to' x) where
-  pub unmade : {r : Refusal} → x ≡ Refused r → Unmade number_file read_file t meet to r × (to' ≡ to)
-  unmade is = unmade_by number_file read_file number_tables k (ap refusal_made is)
-
-  pub made_of : {n : FileNumbers} {j : ℕ} → x ≡ Made n j → MadeOf number_file read_file t meet to meet' to' n j
-  made_of is = made_of_by number_file read_file number_tables k (ap table_made is)
+  pub made_of : {made : FileTable FileNumbers} → x ≡ Ok made → MadeOf number_file read_file t meet to meet' to' made.numbers made.states
+  made_of = made_of_by number_file read_file k
 
 -- by the numbers that were answered
 module _ {t meet to meet' to' : List ℕ} {n : FileNumbers} {k : ℕ} (w : MadeOf number_file read_file t meet to meet' to' n k) where
@@ -233,15 +203,13 @@ module _ {t meet to meet' to' : List ℕ} {n : FileNumbers} {k : ℕ} (w : MadeO
 
 -- ---- a register's file
 
-pub register_tables : Cases makes_register (λ q. RegisterTable.Refused q) register_refusal_made register_table_made
-register_tables = record { of_accepted = λ n. (refl, refl); of_refused = λ q. (refl, refl) }
+module _ {t to to' : List ℕ} {x : Result (FileTable RegisterNumbers) Refusal} (k : CompilesRegisterFile t [] to [] to' x) where
+  pub register_unmade : {r : Refusal} → x ≡ Err r → Unmade register_file read_register_file t [] to r × (to' ≡ to)
+  register_unmade = unmade_by register_file read_register_file k
 
-module _ {t to to' : List ℕ} {x : RegisterTable} (k : CompilesRegisterFile t [] to [] to' x) where
-  pub register_unmade : {r : Refusal} → x ≡ RegisterTable.Refused r → Unmade register_file read_register_file t [] to r × (to' ≡ to)
-  register_unmade is = unmade_by register_file read_register_file register_tables k (ap register_refusal_made is)
-
-  pub register_made_of : {n : RegisterNumbers} {j : ℕ} → x ≡ RegisterTable.Made n j → MadeOf register_file read_register_file t [] to [] to' n j
-  register_made_of is = made_of_by register_file read_register_file register_tables k (ap register_table_made is)
+  pub register_made_of : {made : FileTable RegisterNumbers} → x ≡ Ok made
+      → MadeOf register_file read_register_file t [] to [] to' made.numbers made.states
+  register_made_of = made_of_by register_file read_register_file k
 
 -- by the numbers that were answered
 module _ {t to to' : List ℕ} {n : RegisterNumbers} {k : ℕ} (w : MadeOf register_file read_register_file t [] to [] to' n k) where

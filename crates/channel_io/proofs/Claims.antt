@@ -6,9 +6,8 @@ use lib.{Dec.{leb}, ListN.{length}}
 use borrow.Author.Tests.{leb-true, leb-false}
 use Rattle.limits.specs.Limits.{state_limit, table_limit}
 use Rattle.theory.proofs.{Claims.{table_values}, ValueSets.{and_left, and_right, and_cases}}
-use Rattle.refusal.specs.declared.Refusal.TheVariants.{Plain}
 use Rattle.refusal.specs.Refusal.{Condition, plain, First, has_place, part_of, order, condition_numbers, right_places}
-use Rattle.refusal.specs.RefusalClaims.{NoneMet}
+use Rattle.refusal.specs.{RefusalClaims.{NoneMet}, declared.Refusal.TheVariants.{BufferLength}}
 use Rattle.refusal.proofs.{Refusals.{plain_first, accepted_exactly, first_then, first_append}}
 use Rattle.values.specs.Setup.{Setup, SetupValue, setup_meet, setup_top, setup_conditions}
 use Rattle.values.proofs.Setups.{setup_first, judged_after_setup}
@@ -16,9 +15,8 @@ use Rattle.formulas.specs.RuleConditions.{byte_conditions}
 use Rattle.formulas.proofs.RuleClaims.{rule_judged}
 use Rattle.machines.specs.{TableBytes.{entry_width, entry_bytes, table_bytes, machine_of}, TableRefusal.{table_refusal}}
 use Rattle.machines.proofs.TableRefusals.{in_order_none, accepted_table}
-use Rattle.synthesis.specs.TableOfRule.{states_condition, buffer_condition}
+use Rattle.synthesis.specs.TableOfRule.{states_condition, buffer_condition, pair_conditions, pair_table_conditions, IsRuleTable}
 use Rattle.synthesis.proofs.CompileClaims.{setup_rule_first, compile_refusal_claim, printed_table}
-use Rattle.synthesis.specs.TableOfRule.{pair_conditions, pair_table_conditions, IsRuleTable}
 use Rattle.channel_io.specs.FileConditions.{ReadShort, short_meet, short_rule, read_conditions}
 use Rattle.channel_io.specs.FileTables.{CompileShort, short_entries, short_table, file_conditions}
 use Rattle.channel_io.specs.FileRefusals.{pair_refusal, has_room, stored_refusal, pair_states, pair_table, pair_table_refusal}
@@ -55,8 +53,8 @@ module _ (s : Setup) (nodes meet rule : List ℕ) where
   pub read_first : First (read_conditions meet rule s nodes) (stored_refusal s nodes meet rule)
   unfolding stored_refusal
   read_first =
-      first_append (pair_conditions s nodes) (plain 13 (ReadShort s nodes meet rule) ∷ []) _ _ (pair_first s nodes)
-      (plain_first 13 (ReadShort s nodes meet rule) (has_room s nodes meet rule) read_short read_room)
+      first_append (pair_conditions s nodes) (plain BufferLength (ReadShort s nodes meet rule) ∷ []) _ _ (pair_first s nodes)
+      (plain_first BufferLength (ReadShort s nodes meet rule) (has_room s nodes meet rule) read_short read_room)
 
 -- ---- a file's table is made
 
@@ -102,7 +100,7 @@ module _ (s : Setup) (nodes meet to : List ℕ) where
         let none_met = (accepted_exactly _ _ (compile_refusal_claim state_limit s nodes to).first).0 (compile_passed s nodes ok to l) in
         let last : NoneMet (ten ∷ thirteen ∷ []) =
         none_later (byte_conditions s.events s.kind nodes) (ten ∷ thirteen ∷ []) (none_later (setup_conditions s) _ none_met) in
-        last.1.0 (Plain 13) (h, refl)
+        last.1.0 BufferLength (h, refl)
 
     table_short : has_table_room s nodes meet to ≡ false → CompileShort s nodes meet to
     unfolding has_table_room
@@ -125,8 +123,8 @@ module _ (s : Setup) (nodes meet to : List ℕ) where
   pub file_first : First (file_conditions meet to s nodes) (pair_compile_refusal s nodes meet to)
   unfolding pair_compile_refusal
   file_first =
-      first_then (pair_table_conditions s nodes) (plain 13 (CompileShort s nodes meet to) ∷ []) (pair_table_refusal s nodes) _ (table_first s nodes)
-      (λ ok. plain_first 13 (CompileShort s nodes meet to) (has_table_room s nodes meet to) (table_short ok) (table_room ok))
+      first_then (pair_table_conditions s nodes) (plain BufferLength (CompileShort s nodes meet to) ∷ []) (pair_table_refusal s nodes) _ (table_first s nodes)
+      (λ ok. plain_first BufferLength (CompileShort s nodes meet to) (has_table_room s nodes meet to) (table_short ok) (table_room ok))
 
 -- It passes as a table handed in.
 pub file_table_accepted : (s : Setup) (nodes : List ℕ) → pair_table_refusal s nodes ≡ none →

@@ -13,7 +13,7 @@ use Rattle.theory.specs.Formula.{Node, truth_node, variable_node, transition_nod
 use Rattle.theory.specs.ValueSets.{Below}
 use Rattle.theory.specs.ValueSetTests.{every, lawful}
 use Rattle.theory.proofs.ValueSets.{every_at, and_left, and_right, and_false_right}
-use Rattle.refusal.specs.declared.Refusal.{Refusal}
+use Rattle.refusal.specs.{declared.Refusal.{Refusal}, declared.Refusal.TheVariants.{UnboundVariable, UnprotectedVariable}}
 use Rattle.refusal.specs.RefusalAnswers.{or_else, plain_unless, at_found}
 use Rattle.refusal.proofs.Refusals.{or_else_none, plain_none}
 use Rattle.values.specs.declared.ValueKind.{ValueKind}
@@ -23,19 +23,20 @@ use Rattle.values.specs.SetupInOrder.{AcceptedSetup}
 use Rattle.values.specs.SetupTests.{events_test, values_test, entries_test, meet_test, kind_refusal, setup_refusal}
 use Rattle.values.proofs.Setups.{values_small, setup_accepted}
 use Rattle.formulas.specs.RuleConditions.{node_bytes, encode_formula}
-use Rattle.formulas.specs.RuleReading.{Kind, kind_T, kind_X, kind_G, kind_O, kind_A, kind_V, unknown_kind, kind_of, fields_fit}
+use Rattle.formulas.specs.declared.NodeKind.{NodeKind, TheVariants.{Truth, Variable, Transition, Output, Conjunction, Greatest}}
+use Rattle.std.specs.Prelude.{Option as StdOption, Some, None}
+use Rattle.formulas.specs.RuleReading.{kind_of, fields_fit}
 use Rattle.formulas.specs.RuleReading.{end_fault, awaited, first_of, node_of, nodes_from, with_parts, formulas, first_formula, formula_read}
 use Rattle.formulas.specs.RuleReading.{Search, lowest_fault, unbound_below, bound_near, unbound_search, unprotected_search, lowest_unbound, lowest_unprotected}
 use Rattle.formulas.specs.RuleRefusal.{count_fits, depth_refusal, variables_refusal, structure_refusal, misfit_place, nodes_refusal, kind_at, first_at}
 use Rattle.formulas.specs.RuleRefusal.{value_at, rule_refusal, formula_of}
 use Rattle.formulas.proofs.{Search.{lowest_same}, Prefix.{length_from}, Decoding.{CountFits, count_facts}, RuleClaims.{accepted_formula_of}}
-use Rattle.channel_file.specs.ChannelFile.{Token, token_T, token_A, token_V, token_X, token_G, token_O, Contents}
+use Rattle.channel_file.specs.ChannelFile.{Token, token_T, token_A, token_V, token_X, token_G, token_O, Contents, encoded, node_numbers, rule_numbers}
 use Rattle.channel_file.specs.Bytes.{clamp, node, entry, meet_bytes, rule_bytes}
-use Rattle.channel_file.specs.ChannelFile.{encoded}
 use Rattle.channel_io.specs.FileConditions.{file_setup}
-use Rattle.channel_file.specs.ChannelFile.{node_numbers, rule_numbers}
 use Rattle.channel_io.specs.FileRefusals.{pair_refusal, contents_refusal}
 use Rattle.channel_io.specs.Claims.{ClampedClaim}
+use Rattle.refusal.specs.declared.Refusal.TheVariants.{BinderDepth, NodeCount, NodeFields, NodeTree, SetupEvents, SetupMeet, SetupValues}
 
 -- ---- one number
 
@@ -56,7 +57,7 @@ clamp_zero v = go (eqb v 0) refl
 clamp_small : (v : ℕ) → v ≤ 255 → clamp v ≡ v
 clamp_small v h = omega arith
 
-pub unknown : (k : ℕ) → 6 ≤ k → kind_of k ≡ unknown_kind
+pub unknown : (k : ℕ) → 6 ≤ k → kind_of k ≡ None
 unfolding kind_of
 unknown zero h = absurd (omega arith)
 unknown (suc zero) h = absurd (omega arith)
@@ -112,27 +113,27 @@ module _ (values top : ℕ) (meet : List ℕ) (small : values ≤ 255) where
 pub setup_same :
     (events values top : ℕ) (meet : List ℕ) → setup_refusal (setup events values top (map clamp meet)) ≡ setup_refusal (setup events values top meet)
 unfolding setup_refusal kind_refusal or_else plain_unless
-setup_same events values top meet = ap (or_else (plain_unless (events_test events) 1)) (go (values_test values top) refl)
+setup_same events values top meet = ap (or_else (plain_unless (events_test events) SetupEvents)) (go (values_test values top) refl)
   where
     go : (b : Bool) → values_test values top ≡ b → kind_refusal (Numbered values) top (map clamp meet) ≡ kind_refusal (Numbered values) top meet
     go true e =
-        ap (λ (b : Bool). or_else (plain_unless (values_test values top) 2) (plain_unless b 3))
+        ap (λ (b : Bool). or_else (plain_unless (values_test values top) SetupValues) (plain_unless b SetupMeet))
         (let h = values_small values top e in meet_same values top meet (omega arith))
     go false e = rw (e)
 
 -- ---- a rule: its nodes and its formula
 
 fit_same :
-    (events values : ℕ) → events ≤ 255 → values ≤ 255 → (k : Kind) (a v : ℕ)
+    (events values : ℕ) → events ≤ 255 → values ≤ 255 → (k : StdOption NodeKind) (a v : ℕ)
     → fields_fit events k (clamp a) (clamp v) (ltb (clamp v) values) ≡ fields_fit events k a v (ltb v values)
 unfolding fields_fit
-fit_same events values h g kind_T a v = ap₂ (λ (x y : Bool). x && y) (clamp_zero a) (clamp_zero v)
-fit_same events values h g kind_X a v = clamp_zero v
-fit_same events values h g kind_G a v = ap₂ (λ (x y : Bool). x && y) (clamp_below a events h) (clamp_zero v)
-fit_same events values h g kind_O a v = ap₂ (λ (x y : Bool). x && y) (clamp_below a events h) (clamp_below v values g)
-fit_same events values h g kind_A a v = ap₂ (λ (x y : Bool). x && y) (clamp_zero a) (clamp_zero v)
-fit_same events values h g kind_V a v = ap₂ (λ (x y : Bool). x && y) (clamp_zero a) (clamp_zero v)
-fit_same events values h g unknown_kind a v = refl
+fit_same events values h g (Some Truth) a v = ap₂ (λ (x y : Bool). x && y) (clamp_zero a) (clamp_zero v)
+fit_same events values h g (Some Variable) a v = clamp_zero v
+fit_same events values h g (Some Transition) a v = ap₂ (λ (x y : Bool). x && y) (clamp_below a events h) (clamp_zero v)
+fit_same events values h g (Some Output) a v = ap₂ (λ (x y : Bool). x && y) (clamp_below a events h) (clamp_below v values g)
+fit_same events values h g (Some Conjunction) a v = ap₂ (λ (x y : Bool). x && y) (clamp_zero a) (clamp_zero v)
+fit_same events values h g (Some Greatest) a v = ap₂ (λ (x y : Bool). x && y) (clamp_zero a) (clamp_zero v)
+fit_same events values h g None a v = refl
 
 -- clamped but for its value, of which g is held
 abbrev clamp_node : (ℕ → ℕ) → Node ℕ → Node ℕ
@@ -152,15 +153,15 @@ clamp_formula g (conjunction φ χ) = conjunction (clamp_formula g φ) (clamp_fo
 clamp_formula g (greatest φ) = greatest (clamp_formula g φ)
 
 module _ (g : ℕ → ℕ) where
-  node_same : (k : Kind) (a v : ℕ) → node_of k (clamp a) (g v) ≡ clamp_node g (node_of k a v)
+  node_same : (k : StdOption NodeKind) (a v : ℕ) → node_of k (clamp a) (g v) ≡ clamp_node g (node_of k a v)
   unfolding node_of
-  node_same kind_T a v = refl
-  node_same kind_X a v = refl
-  node_same kind_G a v = refl
-  node_same kind_O a v = refl
-  node_same kind_A a v = refl
-  node_same kind_V a v = refl
-  node_same unknown_kind a v = refl
+  node_same (Some Truth) a v = refl
+  node_same (Some Variable) a v = refl
+  node_same (Some Transition) a v = refl
+  node_same (Some Output) a v = refl
+  node_same (Some Conjunction) a v = refl
+  node_same (Some Greatest) a v = refl
+  node_same None a v = refl
 
   parts_same : (n : Node ℕ) (φs : List (Formula ℕ)) → with_parts (clamp_node g n) (map (clamp_formula g) φs) ≡ map (clamp_formula g) (with_parts n φs)
   unfolding with_parts
@@ -257,8 +258,9 @@ module _ (g : ℕ → ℕ) where
   variables_same : (φ : Formula ℕ) → size φ ≤ node_limit → variables_refusal (clamp_formula g φ) ≡ variables_refusal φ
   unfolding variables_refusal depth_refusal
   variables_same φ h =
-      ap₂ (λ (x : Option ℕ) (l : Option Refusal). or_else (at_found x 8) l) (unbound_same φ h)
-      (ap₂ (λ (d : ℕ) (y : Option ℕ). or_else (plain_unless (leb d binder_limit) 23) (at_found y 9)) (depth_same φ) (unprotected_same φ h))
+      ap₂ (λ (x : Option ℕ) (l : Option Refusal). or_else (at_found x UnboundVariable) l) (unbound_same φ h)
+      (ap₂ (λ (d : ℕ) (y : Option ℕ). or_else (plain_unless (leb d binder_limit) BinderDepth) (at_found y UnprotectedVariable))
+      (depth_same φ) (unprotected_same φ h))
 
 -- ---- nodes reached through accessors
 
@@ -277,7 +279,7 @@ module _ (g : ℕ → ℕ) (kind first value kind' first' value' : ℕ → ℕ) 
   from_same zero i = refl
   from_same (suc left) i =
       ap₂ (λ (n : Node ℕ) (ns : List (Node ℕ)). n ∷ ns)
-      (ap (λ (x : Kind). node_of x (first' i) (value' i)) (hk i)
+      (ap (λ (x : StdOption NodeKind). node_of x (first' i) (value' i)) (hk i)
       ∙ ap₂ (λ (x y : ℕ). node_of (kind_of (kind i)) x y) (hf i) (hv i)
       ∙ node_same g (kind_of (kind i)) (first i) (value i))
       (from_same left (suc i))
@@ -295,13 +297,13 @@ module _ (g : ℕ → ℕ) (kind first value kind' first' value' : ℕ → ℕ) 
   end_same zero (suc k) i = refl
   end_same (suc left) zero i = refl
   end_same (suc left) (suc k) i =
-      ap (λ (x : Kind). end_fault kind' (awaited x k) left (suc i)) (hk i) ∙ end_same left (awaited (kind_of (kind i)) k) (suc i)
+      ap (λ (x : StdOption NodeKind). end_fault kind' (awaited x k) left (suc i)) (hk i) ∙ end_same left (awaited (kind_of (kind i)) k) (suc i)
 
   pub structure_same : (count : ℕ) → count ≤ node_limit → structure_refusal kind' first' value' count ≡ structure_refusal kind first value count
   unfolding structure_refusal
   structure_same count h =
-      ap₂ (λ (o : Option ℕ) (φ : Formula ℕ). or_else (at_found o 7) (variables_refusal φ)) (end_same count 1 0) (read_same count)
-      ∙ ap (λ (l : Option Refusal). or_else (at_found (end_fault kind 1 count 0) 7) l) (variables_same g (formula_read kind first value count)
+      ap₂ (λ (o : Option ℕ) (φ : Formula ℕ). or_else (at_found o NodeTree) (variables_refusal φ)) (end_same count 1 0) (read_same count)
+      ∙ ap (λ (l : Option Refusal). or_else (at_found (end_fault kind 1 count 0) NodeTree) l) (variables_same g (formula_read kind first value count)
       (read_size kind first value count h))
 
 -- Numbers in the place of values: 6 to 9 are the same.
@@ -312,7 +314,7 @@ module _ (kind first value kind' first' value' : ℕ → ℕ) (hk : (i : ℕ) �
       → nodes_refusal kind' first' value' count (λ v. ltb v values) events ≡ nodes_refusal kind first value count (λ v. ltb v values) events
   unfolding nodes_refusal misfit_place
   nodes_same count events values h he hv' =
-      ap₂ (λ (o : Option ℕ) (l : Option Refusal). or_else (at_found o 6) l)
+      ap₂ (λ (o : Option ℕ) (l : Option Refusal). or_else (at_found o NodeFields) l)
       (lowest_same
       (λ j. not (fields_fit events (kind_of (kind' j)) (first' j) (value' j) (ltb (value' j) values)))
       (λ j. not (fields_fit events (kind_of (kind j)) (first j) (value j) (ltb (value j) values)))
@@ -320,7 +322,7 @@ module _ (kind first value kind' first' value' : ℕ → ℕ) (hk : (i : ℕ) �
       0
       (λ j l u.
       ap not
-      (ap (λ (x : Kind). fields_fit events x (first' j) (value' j) (ltb (value' j) values)) (hk j)
+      (ap (λ (x : StdOption NodeKind). fields_fit events x (first' j) (value' j) (ltb (value' j) values)) (hk j)
       ∙ ap₂ (λ (x y : ℕ). fields_fit events (kind_of (kind j)) x y (ltb y values)) (hf j) (hv j)
       ∙ fit_same events values he hv' (kind_of (kind j)) (first j) (value j))))
       (structure_same clamp kind first value kind' first' value' hk hf hv count h)
@@ -349,7 +351,7 @@ module _ (values : ℕ) (rule : List ℕ) where
   -- 5, then what the nodes of a rule meet
   abbrev judged : List ℕ → ℕ → ℕ → Bool → Option Refusal
   judged bytes events n b =
-      or_else (plain_unless b 5) (nodes_refusal (kind_at K bytes) (first_at K bytes) (value_at K bytes) (n / 3) (λ v. ltb v values) events)
+      or_else (plain_unless b NodeCount) (nodes_refusal (kind_at K bytes) (first_at K bytes) (value_at K bytes) (n / 3) (λ v. ltb v values) events)
 
   pub rule_same : (events : ℕ) → events ≤ 255 → values ≤ 255 → rule_refusal events K clamped ≡ rule_refusal events K rule
   unfolding rule_refusal or_else plain_unless
@@ -360,7 +362,7 @@ module _ (values : ℕ) (rule : List ℕ) where
           → judged clamped events (length rule) (count_fits 3 node_limit (length rule))
           ≡ judged rule events (length rule) (count_fits 3 node_limit (length rule))
       go true e =
-          ap (or_else (plain_unless (count_fits 3 node_limit (length rule)) 5))
+          ap (or_else (plain_unless (count_fits 3 node_limit (length rule)) NodeCount))
           (nodes_same (kind_at K rule) (first_at K rule) (value_at K rule) (kind_at K clamped) (first_at K clamped) (value_at K clamped)
           kind_same (λ i. at_same (i * 3 + 1)) (λ i. at_same (i * 3 + 2)) (length rule / 3) events values
           (let w : CountFits 3 node_limit (length rule) = count_facts 3 node_limit (length rule) e in w.within) he hv)
@@ -445,9 +447,9 @@ pub meet_kept : (events values top : ℕ) (meet : List ℕ) → setup_refusal (s
 unfolding setup_refusal kind_refusal meet_test
 meet_kept events values top meet e =
     let h = limits events values top meet e in
-    let later = (or_else_none (plain_unless (events_test events) 1) _ e).1 in
-    let last = (or_else_none (plain_unless (values_test values top) 2) _ later).1 in
-    let passed = plain_none (meet_test values top meet) 3 last in
+    let later = (or_else_none (plain_unless (events_test events) SetupEvents) _ e).1 in
+    let last = (or_else_none (plain_unless (values_test values top) SetupValues) _ later).1 in
+    let passed = plain_none (meet_test values top meet) SetupMeet last in
     entries_kept values top meet (omega (arith, h.1))
     (and_left (entries_test values meet) _ (and_right (eqb (length meet) (values * values)) _ passed))
 

@@ -2,25 +2,22 @@
 use Prim.Native.Nat.{ℕ, ◌*◌, ◌≤◌}
 use mathlib.Core.{Path.{◌≡◌, refl, sym, ap, ap₂, ◌∙◌, subst}, List.{List, [], ◌∷◌}, Option.{none, some}}
 use lib.ListN.{length, take}
-use Rattle.refusal.specs.declared.Counted.{Counted}
-use Rattle.refusal.specs.Refusal.{has_place, part_of, order, condition_numbers, right_places, JudgedCall, counted_refusal, count_of, put}
+use Rattle.refusal.specs.Refusal.{has_place, part_of, order, condition_numbers, right_places, JudgedCall, refusal_of, yield_of, put}
 use Rattle.values.specs.{declared.ValueKind.TheVariants.{Numbered}, Setup.{Setup, setup, setup_conditions, kind_conditions}}
 use Rattle.text_format.specs.Format.{contents}
 use Rattle.channel_file.specs.{ChannelFile.{Token, Contents, text, encoded, node_numbers, rule_numbers}, Reading.{read_file}}
 use Rattle.channel_file.proofs.Claims.{channel_form, shown, rewrite_claim}
 use Rattle.channel_writer.specs.Writing.{with_token, node_tokens}
 use Rattle.channel_writer.proofs.Claims.{node_claim}
-use Rattle.channel_io.specs.FileConditions.{file_setup, number_file, refusal_read, numbers_read}
-use Rattle.channel_io.specs.FileConditions.{JudgedText, read_conditions, ReadsAs, IsFileOf, write_file_conditions, WritesAs}
-use Rattle.channel_io.specs.{FileTables.{file_conditions, refusal_made, table_made, MakesTableOf}, FileRefusals.{pair_refusal}}
+use Rattle.channel_io.specs.FileConditions.{file_setup, number_file, JudgedText, read_conditions, ReadsAs, IsFileOf, write_file_conditions, WritesAs}
+use Rattle.channel_io.specs.{FileTables.{file_conditions, MakesTableOf}, FileRefusals.{pair_refusal}}
 use Rattle.channel_io.specs.{FileReading.{ReadsFile}, FileCompilation.{CompilesFile}, FileWriting.{text_or_empty, file_text, WritesFile}}
-use Rattle.channel_io.specs.declared.{FileNumbers.{FileNumbers}, FileRead.{FileRead}, FileRead.TheVariants.{Accepted, Refused}, FileTable.{FileTable}}
-use Rattle.channel_io.proofs.{ShownBytes.{numbers_length}, Callers.{Cases, number_tables, front_taken}, WriteAnswers.{textual}}
+use Rattle.channel_io.specs.declared.{FileNumbers.{FileNumbers}, FileTable.{FileTable}}
+use Rattle.channel_io.proofs.{ShownBytes.{numbers_length}, Callers.{front_taken}, WriteAnswers.{textual}}
 use Rattle.channel_io.proofs.FormDemands as form
 use Rattle.channel_io.proofs.FormDemands.{WrittenAs}
-
-number_reads : Cases Accepted Refused refusal_read numbers_read
-number_reads = record { of_accepted = λ n. (refl, refl); of_refused = λ q. (refl, refl) }
+use Rattle.refusal.specs.declared.Refusal.{Refusal}
+use Rattle.std.specs.Prelude.{Result}
 
 shows : (t : List ℕ) (c : Contents) → read_file t ≡ contents c → number_file.Shown c t
 shows t c e = (shown t c e).1
@@ -28,26 +25,26 @@ shows t c e = (shown t c e).1
 -- ---- a file is read, and its table is made
 
 pub reading_a_file :
-    (t meet rule meet' rule' : List ℕ) (r : FileRead) → ReadsFile t meet rule meet' rule' r →
-    JudgedText {M = List ℕ × List ℕ} number_file t (read_conditions meet rule) (refusal_read r) (meet, rule) (meet', rule')
+    (t meet rule meet' rule' : List ℕ) (r : Result FileNumbers Refusal) → ReadsFile t meet rule meet' rule' r →
+    JudgedText {M = List ℕ × List ℕ} number_file t (read_conditions meet rule) (refusal_of r) (meet, rule) (meet', rule')
 unfolding setup_conditions kind_conditions condition_numbers right_places has_place part_of order
-reading_a_file = form.reading_a_file number_file channel_form shows number_reads (λ meet rule c. refl) (λ meet rule c. refl)
+reading_a_file = form.reading_a_file number_file channel_form shows (λ meet rule c. refl) (λ meet rule c. refl)
 
 pub file_to_rule :
-    (t meet rule meet' rule' : List ℕ) (r : FileRead) → ReadsFile t meet rule meet' rule' r →
-    (found : FileNumbers) → numbers_read r ≡ some found → ReadsAs number_file t meet rule meet' rule' found
-file_to_rule = form.file_to_rule number_file channel_form shows number_reads
+    (t meet rule meet' rule' : List ℕ) (r : Result FileNumbers Refusal) → ReadsFile t meet rule meet' rule' r →
+    (found : FileNumbers) → yield_of r ≡ some found → ReadsAs number_file t meet rule meet' rule' found
+file_to_rule = form.file_to_rule number_file channel_form shows
 
 pub compiling_a_file :
-    (t meet to meet' to' : List ℕ) (r : FileTable) → CompilesFile t meet to meet' to' r →
-    JudgedText {M = List ℕ × List ℕ} number_file t (file_conditions meet to) (refusal_made r) (meet, to) (meet', to')
+    (t meet to meet' to' : List ℕ) (r : Result (FileTable FileNumbers) Refusal) → CompilesFile t meet to meet' to' r →
+    JudgedText {M = List ℕ × List ℕ} number_file t (file_conditions meet to) (refusal_of r) (meet, to) (meet', to')
 unfolding setup_conditions kind_conditions condition_numbers right_places has_place part_of order
-compiling_a_file = form.compiling_a_file number_file channel_form shows number_tables (λ meet to c. refl) (λ meet to c. refl)
+compiling_a_file = form.compiling_a_file number_file channel_form shows (λ meet to c. refl) (λ meet to c. refl)
 
 pub file_to_table :
-    (t meet to meet' to' : List ℕ) (r : FileTable) → CompilesFile t meet to meet' to' r →
-    (found : FileNumbers) (n : ℕ) → table_made r ≡ some (found, n) → MakesTableOf number_file t meet to meet' to' found n
-file_to_table = form.file_to_table number_file channel_form shows number_tables
+    (t meet to meet' to' : List ℕ) (r : Result (FileTable FileNumbers) Refusal) → CompilesFile t meet to meet' to' r →
+    (found : FileTable FileNumbers) → yield_of r ≡ some found → MakesTableOf number_file t meet to meet' to' found.numbers found.states
+file_to_table = form.file_to_table number_file channel_form shows
 
 -- ---- a file is written
 
@@ -88,24 +85,24 @@ module _ (events values top : ℕ) (meet rule : List ℕ) where
         within = w.short;
       }
 
-  pub writing_a_file : (old new : List ℕ) (r : Counted) → WritesFile events values top meet rule old new r
-      → JudgedCall (write_file_conditions number_file s rule old) (counted_refusal r) old new
+  pub writing_a_file : (old new : List ℕ) (r : Result ℕ Refusal) → WritesFile events values top meet rule old new r
+      → JudgedCall (write_file_conditions number_file s rule old) (refusal_of r) old new
   unfolding setup_conditions kind_conditions condition_numbers right_places has_place part_of order
   writing_a_file old new r = form.writing_a_file number_file s rule T written old new r refl refl
 
-  pub rule_to_file : (old new : List ℕ) (r : Counted) → WritesFile events values top meet rule old new r
-      → (n : ℕ) → count_of r ≡ some n → WritesAs number_file s rule old new n
+  pub rule_to_file : (old new : List ℕ) (r : Result ℕ Refusal) → WritesFile events values top meet rule old new r
+      → (n : ℕ) → yield_of r ≡ some n → WritesAs number_file s rule old new n
   rule_to_file = form.rule_to_file number_file s rule T written
 
 -- ---- what was read is written again
 
 pub file_to_rule_to_file :
-    (t meet rule meet' rule' : List ℕ) (r : FileRead) → ReadsFile t meet rule meet' rule' r →
-    (found : FileNumbers) → numbers_read r ≡ some found → (old new : List ℕ) (w : Counted) →
+    (t meet rule meet' rule' : List ℕ) (r : Result FileNumbers Refusal) → ReadsFile t meet rule meet' rule' r →
+    (found : FileNumbers) → yield_of r ≡ some found → (old new : List ℕ) (w : Result ℕ Refusal) →
     WritesFile found.events found.values found.top (take found.entries meet') (take (3 * found.nodes) rule') old new w →
-    length t ≤ length old → (count_of w ≡ some (length t)) × (new ≡ put t old)
+    length t ≤ length old → (yield_of w ≡ some (length t)) × (new ≡ put t old)
 file_to_rule_to_file t meet rule meet' rule' r k found is old new w x room =
-    let a = form.read_of number_file channel_form shows number_reads k is in
+    let a = form.read_of number_file channel_form shows k is in
     let c = a.inside in
     let numbers = a.numbers_are in
     let entries = front_taken c.meet meet meet' found.entries (ap (λ (z : FileNumbers). z.entries) numbers) a.meet_put in
@@ -117,6 +114,6 @@ file_to_rule_to_file t meet rule meet' rule' r k found is old new w x room =
     let y = subst (λ (z : List ℕ). WritesFile c.events c.values c.top c.meet z old new w) nodes x₂ in
     let same = rewrite_claim t c a.reads in
     let room' = subst (λ (z : List ℕ). length z ≤ length old) (sym same) room in
-    subst (λ (z : List ℕ). (count_of w ≡ some (length z)) × (new ≡ put z old)) same
+    subst (λ (z : List ℕ). (yield_of w ≡ some (length z)) × (new ≡ put z old)) same
     (form.again number_file (file_setup c) (rule_numbers c) _ (written c.events c.values c.top c.meet (rule_numbers c)) c (refl, refl)
     a.accepted old new w y room')

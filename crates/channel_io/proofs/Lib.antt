@@ -11,6 +11,7 @@ pub mod Claims
 pub mod Callers
 pub mod WriteAnswers
 pub mod RegisterWrites
+pub mod HandedIn
 pub mod FormDemands
 pub mod FileDemands
 pub mod RegisterDemands

@@ -10,14 +10,16 @@ use borrow.Author.Tests.{leb-true, leb-false, le-leb, le-ltb, ltb-true, ltb-fals
 use Rattle.limits.specs.Limits.{event_limit, line_limit, node_limit}
 use Rattle.theory.specs.Formula.{size}
 use Rattle.theory.proofs.ValueSets.{and_left, and_right, and_failed, and_false_right}
-use Rattle.refusal.specs.declared.Refusal.{Refusal}
+use Rattle.refusal.specs.{declared.Refusal.{Refusal}, declared.Refusal.TheVariants.{NodeCount, NodeFields}}
 use Rattle.refusal.specs.RefusalAnswers.{or_else, plain_unless, at_found}
 use Rattle.refusal.proofs.Refusals.{or_else_none, plain_none}
 use Rattle.values.specs.{declared.ValueKind.{ValueKind}, declared.ValueKind.TheVariants.{Register}}
 use Rattle.values.specs.{Setup.{ValueIn, register_setup, masks_value}, SetupInOrder.{AcceptedSetup}, SetupTests.{setup_refusal}, ValueTests.{masks_fit}}
 use Rattle.values.proofs.Setups.{setup_accepted}
 use Rattle.formulas.specs.RuleConditions.{node_bytes, encode_formula}
-use Rattle.formulas.specs.RuleReading.{Kind, kind_T, kind_X, kind_G, kind_O, kind_A, kind_V, unknown_kind, kind_of, fields_fit, formula_read}
+use Rattle.formulas.specs.declared.NodeKind.{NodeKind, TheVariants.{Truth, Variable, Transition, Output, Conjunction, Greatest}}
+use Rattle.std.specs.Prelude.{Option as StdOption, Some, None}
+use Rattle.formulas.specs.RuleReading.{kind_of, fields_fit, formula_read}
 use Rattle.formulas.specs.RuleRefusal.{count_fits, structure_refusal, misfit_place, nodes_refusal, kind_at, first_at, value_at, rule_refusal, formula_of}
 use Rattle.formulas.proofs.{Search.{lowest_same, lowest_clear}, Decoding.{CountFits, count_facts}, RuleClaims.{accepted_formula_of}}
 use Rattle.channel_file.specs.ChannelFile.{token_T, token_A, token_V, token_X, token_G, token_O, encoded}
@@ -134,15 +136,15 @@ module _ (events lines : ℕ) where
   abbrev byte_fit : Token → Bool
   byte_fit x = fields_fit events (kind_of (byte_kind x)) (clamp (first x)) (byte_value x) (masks_fit lines (byte_value x))
 
-  first_fit : events ≤ 255 → (k : Kind) (a v : ℕ) (b : Bool) → fields_fit events k (clamp a) v b ≡ fields_fit events k a v b
+  first_fit : events ≤ 255 → (k : StdOption NodeKind) (a v : ℕ) (b : Bool) → fields_fit events k (clamp a) v b ≡ fields_fit events k a v b
   unfolding fields_fit
-  first_fit h kind_T a v b = ap (λ (x : Bool). x && eqb v 0) (clamp_zero a)
-  first_fit h kind_X a v b = refl
-  first_fit h kind_G a v b = ap (λ (x : Bool). x && eqb v 0) (clamp_below a events h)
-  first_fit h kind_O a v b = ap (λ (x : Bool). x && b) (clamp_below a events h)
-  first_fit h kind_A a v b = ap (λ (x : Bool). x && eqb v 0) (clamp_zero a)
-  first_fit h kind_V a v b = ap (λ (x : Bool). x && eqb v 0) (clamp_zero a)
-  first_fit h unknown_kind a v b = refl
+  first_fit h (Some Truth) a v b = ap (λ (x : Bool). x && eqb v 0) (clamp_zero a)
+  first_fit h (Some Variable) a v b = refl
+  first_fit h (Some Transition) a v b = ap (λ (x : Bool). x && eqb v 0) (clamp_below a events h)
+  first_fit h (Some Output) a v b = ap (λ (x : Bool). x && b) (clamp_below a events h)
+  first_fit h (Some Conjunction) a v b = ap (λ (x : Bool). x && eqb v 0) (clamp_zero a)
+  first_fit h (Some Greatest) a v b = ap (λ (x : Bool). x && eqb v 0) (clamp_zero a)
+  first_fit h None a v b = refl
 
   -- where 16 bits do not hold the masks, 6 refuses the numbers
   wide_numbers : (x : Token) → (65535 < (masks x).low) ⊎ (65535 < (masks x).high) → number_fit x ≡ false
@@ -180,7 +182,7 @@ module _ (events lines : ℕ) where
   unfolding fields_fit
   wide_bytes x w =
       ap (λ (k : ℕ). fields_fit events (kind_of k) (clamp (first x)) (byte_value x) (masks_fit lines (byte_value x))) (wide_kind x w)
-      ∙ ap (λ (k : Kind). fields_fit events k (clamp (first x)) (byte_value x) (masks_fit lines (byte_value x))) (unknown 255 (omega arith))
+      ∙ ap (λ (k : StdOption NodeKind). fields_fit events k (clamp (first x)) (byte_value x) (masks_fit lines (byte_value x))) (unknown 255 (omega arith))
 
   fit_same : events ≤ 255 → (x : Token) → byte_fit x ≡ number_fit x
   fit_same h x = go (narrow_or_not x)
@@ -298,19 +300,19 @@ module _ (events lines : ℕ) (xs : List Token) where
       ≡ nodes_refusal (kind_at K N) (first_at K N) (value_at K N) count (masks_fit lines) events
   unfolding nodes_refusal or_else at_found
   nodes_same h few =
-      ap (λ (o : Option ℕ). or_else (at_found o 6) (structure_refusal (kind_at K B) (first_at K B) (value_at K B) count)) (misfit_same h)
+      ap (λ (o : Option ℕ). or_else (at_found o NodeFields) (structure_refusal (kind_at K B) (first_at K B) (value_at K B) count)) (misfit_same h)
       ∙ go (misfit N) refl
     where
       go : (o : Option ℕ) → misfit N ≡ o
-          → or_else (at_found (misfit N) 6) (structure_refusal (kind_at K B) (first_at K B) (value_at K B) count)
-          ≡ or_else (at_found (misfit N) 6) (structure_refusal (kind_at K N) (first_at K N) (value_at K N) count)
-      go none e = ap (or_else (at_found (misfit N) 6)) (rest_same e few)
+          → or_else (at_found (misfit N) NodeFields) (structure_refusal (kind_at K B) (first_at K B) (value_at K B) count)
+          ≡ or_else (at_found (misfit N) NodeFields) (structure_refusal (kind_at K N) (first_at K N) (value_at K N) count)
+      go none e = ap (or_else (at_found (misfit N) NodeFields)) (rest_same e few)
       go (some p) e = rw e
 
   -- 5, then what the nodes meet
   abbrev judged : List ℕ → ℕ → Bool → Option Refusal
   judged bytes n b =
-      or_else (plain_unless b 5) (nodes_refusal (kind_at K bytes) (first_at K bytes) (value_at K bytes) (n / 6) (masks_fit lines) events)
+      or_else (plain_unless b NodeCount) (nodes_refusal (kind_at K bytes) (first_at K bytes) (value_at K bytes) (n / 6) (masks_fit lines) events)
 
   pub rule_same : events ≤ 255 → rule_refusal events K B ≡ rule_refusal events K N
   unfolding rule_refusal or_else plain_unless
@@ -320,7 +322,7 @@ module _ (events lines : ℕ) (xs : List Token) where
       go : (b : Bool) → count_fits 6 node_limit (length N) ≡ b
           → judged B (length N) (count_fits 6 node_limit (length N)) ≡ judged N (length N) (count_fits 6 node_limit (length N))
       go true e =
-          ap (or_else (plain_unless (count_fits 6 node_limit (length N)) 5))
+          ap (or_else (plain_unless (count_fits 6 node_limit (length N)) NodeCount))
           (nodes_same h (let w : CountFits 6 node_limit (length N) = count_facts 6 node_limit (length N) e in w.within))
       go false e = ap (judged B (length N)) e ∙ sym (ap (judged N (length N)) e)
 
@@ -328,8 +330,8 @@ module _ (events lines : ℕ) (xs : List Token) where
   pub rule_kept : events ≤ 255 → rule_refusal events K N ≡ none → B ≡ N
   unfolding rule_refusal nodes_refusal at_found
   rule_kept h e =
-      let later = (or_else_none (plain_unless (count_fits 6 node_limit (length N)) 5) _ e).1 in
-      let clear = found_none (misfit N) (or_else_none (at_found (misfit N) 6) _ later).0 in
+      let later = (or_else_none (plain_unless (count_fits 6 node_limit (length N)) NodeCount) _ e).1 in
+      let clear = found_none (misfit N) (or_else_none (at_found (misfit N) NodeFields) _ later).0 in
       let w = accepted_formula_of events K N e in
       let v = accepted_formula_of events K B (rule_same h ∙ e) in
       let f = w.accepted.well_formed in
@@ -339,7 +341,7 @@ module _ (events lines : ℕ) (xs : List Token) where
       (formula_same clear ∙ formula_kept (λ v. v) (ValueIn K) (λ v b. refl) events 0 h (formula_of K N) (omega arith) f.closed f.fits)
       ∙ sym w.written
     where
-      found_none : (o : Option ℕ) → at_found o 6 ≡ none → o ≡ none
+      found_none : (o : Option ℕ) → at_found o NodeFields ≡ none → o ≡ none
       found_none none e = refl
       found_none (some p) e = let z : ◌≡◌ {A = ℕ} 0 1 = cc in absurd (omega arith)
 
@@ -405,8 +407,8 @@ all_shown c e =
     let p = or_else_none (setup_refusal (file_setup c)) (rule_refusal c.events (Register c.lines) (rule_numbers c)) e in
     let fits : CountFits 6 node_limit (length (rule_numbers c)) =
     count_facts 6 node_limit (length (rule_numbers c))
-    (plain_none (count_fits 6 node_limit (length (rule_numbers c))) 5 (or_else_none (plain_unless (count_fits 6 node_limit (length (rule_numbers c))) 5) _
-    p.1).0) in
+    (plain_none (count_fits 6 node_limit (length (rule_numbers c))) NodeCount
+    (or_else_none (plain_unless (count_fits 6 node_limit (length (rule_numbers c))) NodeCount) _ p.1).0) in
     let few : length c.rule ≤ node_limit = omega (arith, fits.within, numbers_length c.events c.lines c.rule) in
     ap (λ (b : Bool). cond b (rule_bytes c) []) (le-leb (length c.rule) node_limit few)
     ∙ nothing_changed c e

@@ -7,8 +7,7 @@ use Rattle.theory.specs.ValueSets.{Masks, unpack}
 use Rattle.theory.specs.Formula.{Formula, truth, variable, transition, output, conjunction, greatest, size}
 use Rattle.theory.specs.Formula.{Node, truth_node, variable_node, transition_node, output_node, conjunction_node, greatest_node, nodes}
 use Rattle.theory.specs.FormulaClasses.{FreeBelow, Fits}
-use Rattle.refusal.specs.declared.{Refusal.{Refusal}, Counted.{Counted}}
-use Rattle.refusal.specs.declared.Judgement.TheVariants.{Accepted as Passed}
+use Rattle.refusal.specs.declared.{Refusal.{Refusal}}
 use Rattle.refusal.specs.RefusalAnswers.{judgement}
 use Rattle.refusal.proofs.Refusals.{judgement_accepted, or_else_none}
 use Rattle.limits.specs.Limits.{event_limit, line_limit, node_limit, file_limit}
@@ -20,8 +19,7 @@ use Rattle.formulas.proofs.RuleClaims.{accepted_formula_of}
 use Rattle.text_format.specs.{Texts.{separated}, Decimal.{Numeral}}
 use Rattle.text_format.proofs.Decimal.{decimal_numeral}
 use Rattle.channel_file.specs.ChannelFile.{token_T, token_A, token_V, token_X, token_G, token_O, number, encoded}
-use Rattle.channel_file.specs.RegisterFile.{Token, Contents, mask, SmallMasks, token_text, SmallToken, text, SmallContents, node_numbers}
-use Rattle.channel_file.specs.RegisterFile.{rule_numbers}
+use Rattle.channel_file.specs.RegisterFile.{Token, Contents, mask, SmallMasks, token_text, SmallToken, text, SmallContents, node_numbers, rule_numbers}
 use Rattle.channel_writer.specs.Writing.{with_token}
 use Rattle.channel_writer.specs.RegisterWriting.{mask_of, masks_of, node_tokens, contents_of, WritesContents}
 use Rattle.channel_writer.specs.Claims.{All, none_left, one_more}
@@ -30,6 +28,7 @@ use Rattle.channel_writer.proofs.Claims.{one_or_more}
 use Rattle.channel_io.specs.FileRefusals.{pair_refusal}
 use Rattle.channel_io.specs.FileWriting.{text_or_empty, register_file_text, WritesRegisterFile}
 use Rattle.channel_io.proofs.{RegisterBytes.{limits}, WriteAnswers.{writes_judged}}
+use Rattle.std.specs.Prelude.{Ok, Result}
 
 -- ---- the tokens of a formula's nodes
 
@@ -206,13 +205,13 @@ module _ (events lines : ℕ) (rule : List ℕ) where
   abbrev P : Option Refusal
   P = pair_refusal (register_setup events lines) rule
 
-  pub small_numbers : judgement P ≡ Passed → (events ≤ event_limit) × (lines ≤ line_limit)
+  pub small_numbers : judgement P ≡ (Ok tt) → (events ≤ event_limit) × (lines ≤ line_limit)
   unfolding pair_refusal
   small_numbers e =
       limits events lines (or_else_none (setup_refusal (register_setup events lines)) (rule_refusal events (Register lines) rule) (judgement_accepted P e)).0
 
-  pub writes_contents : (old new : List ℕ) (r : Counted) → judgement P ≡ Passed → WritesContents (contents_of events lines (node_tokens rule)) old new r
-      → WritesRegisterFile events lines rule old new r
+  pub writes_contents : (old new : List ℕ) (r : Result ℕ Refusal) → judgement P ≡ (Ok tt)
+      → WritesContents (contents_of events lines (node_tokens rule)) old new r → WritesRegisterFile events lines rule old new r
   unfolding register_file_text
   writes_contents old new r e w =
       let c = textual events lines rule (judgement_accepted P e) in

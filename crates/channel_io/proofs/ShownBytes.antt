@@ -1,12 +1,12 @@
 -- The bytes of a file that are judged: entries and nodes above the limits are not, and yet the refusal is that of the file's numbers.
 use Prim.Native.Nat.{ℕ, ◌*◌, ◌/◌, ◌≤◌, ◌<◌}
-use mathlib.Core.{Path.{◌≡◌, refl, sym, ap, ◌∙◌}, List.{List, []}, Bool.{Bool, true, false, cond}, Option.{Option, none, some}}
+use mathlib.Core.{Path.{◌≡◌, refl, sym, ap, ◌∙◌, subst⁻¹}, List.{List, []}, Bool.{Bool, true, false, cond}, Option.{Option, none, some}}
 use native.Mathlib.{Omega.{arith}, Nat.{mul-le-mul}}
 use borrow.Author.Tests.{le-leb, leb-true, leb-false}
 use lib.{Dec.{leb}, ListN.{length, take, drop, replicate, length-replicate}, Seq.{take_at}}
 use Rattle.theory.proofs.ValueSets.{and_left}
 use Rattle.limits.specs.Limits.{meet_limit, node_limit}
-use Rattle.refusal.specs.declared.Refusal.{Refusal}
+use Rattle.refusal.specs.{declared.Refusal.{Refusal}, declared.Refusal.TheVariants.{NodeCount, SetupEvents}}
 use Rattle.refusal.specs.RefusalAnswers.{or_else, plain_unless}
 use Rattle.refusal.specs.Refusal.{put}
 use Rattle.refusal.proofs.Refusals.{or_else_none, plain_none}
@@ -19,16 +19,16 @@ use Rattle.formulas.specs.{RuleConditions.{node_width}, RuleRefusal.{count_fits,
 use Rattle.formulas.proofs.Decoding.{CountFits, count_facts}
 use Rattle.text_format.specs.Format.{Outcome, contents, refused}
 use Rattle.channel_file.specs.{ChannelFile.{Contents}, Reading.{read_file}}
-use Rattle.channel_file.specs.{Bytes.{entry, node, meet_bytes, rule_bytes, put_front, stored_reply, arrays_of}, declared.ReadArrays.{ReadArrays}}
-use Rattle.channel_file.proofs.Buffers.{encoded_length, front_whole, front_length}
+use Rattle.channel_file.specs.{Bytes.{entry, node, meet_bytes, rule_bytes, put_front, stored_meet, stored_rule, arrays_of}, Reading.{form_of}}
+use Rattle.channel_file.specs.declared.ReadArrays.{ReadArrays}
+use Rattle.channel_file.proofs.Buffers.{encoded_length, front_whole}
 use Rattle.channel_io.specs.FileConditions.{file_setup, file_numbers, number_file}
 use Rattle.channel_file.specs.ChannelFile.{node_numbers, rule_numbers}
 use Rattle.channel_io.specs.FileRefusals.{pair_refusal, contents_refusal}
-use Rattle.channel_io.specs.FileReading.{numbers}
-use Rattle.channel_io.specs.Steps.{shown_entries, shown_nodes, held_by, held_setup}
-use Rattle.channel_io.specs.declared.{FileNumbers.{FileNumbers}, Held.{Held}, Held.TheVariants.{File, Refused}}
-use Rattle.channel_io.proofs.Pairs.{OffForm, Judging}
+use Rattle.channel_io.specs.Steps.{shown_entries, shown_nodes, numbers_in, held_setup, held_nodes}
+use Rattle.channel_io.proofs.Pairs.{OffForm, Judging, judging_as}
 use Rattle.channel_io.proofs.Clamping.{meet_clamped, rule_clamped, setup_same, rule_same, limits, nothing_clamped}
+use Rattle.std.specs.Prelude.{Err, Ok}
 
 -- ---- lengths
 
@@ -49,7 +49,7 @@ length_at_fault :
     → (values_test values top ≡ true → meet_test values top other ≡ false) → setup_refusal (setup events values top meet)
     ≡ setup_refusal (setup events values top other)
 unfolding setup_refusal kind_refusal or_else plain_unless
-length_at_fault events values top meet other h g = ap (or_else (plain_unless (events_test events) 1)) (go (values_test values top) refl)
+length_at_fault events values top meet other h g = ap (or_else (plain_unless (events_test events) SetupEvents)) (go (values_test values top) refl)
   where
     go : (b : Bool) → values_test values top ≡ b → kind_refusal (Numbered values) top meet ≡ kind_refusal (Numbered values) top other
     go true e = rw (h e, g e)
@@ -132,8 +132,8 @@ all_shown c e =
     let few = square_small w.of_kind.few_values in
     let fits : CountFits 3 node_limit (length (rule_numbers c)) =
     count_facts 3 node_limit (length (rule_numbers c))
-    (plain_none (count_fits 3 node_limit (length (rule_numbers c))) 5 (or_else_none (plain_unless (count_fits 3 node_limit (length (rule_numbers c))) 5) _
-    p.1).0) in
+    (plain_none (count_fits 3 node_limit (length (rule_numbers c))) NodeCount
+    (or_else_none (plain_unless (count_fits 3 node_limit (length (rule_numbers c))) NodeCount) _ p.1).0) in
     let n = nothing_clamped c e in (
       ap (λ (b : Bool). cond b (meet_bytes c) []) (le-leb (length c.meet) meet_limit (omega arith)) ∙ n.0,
       ap (λ (b : Bool). cond b (rule_bytes c) []) (le-leb (length c.rule) node_limit (omega (arith, fits.within, numbers_length c))) ∙ n.1,
@@ -141,16 +141,9 @@ all_shown c e =
 
 -- ---- what is held of a text
 
--- Two arrays hold what is judged of a text at their fronts, of m and k bytes.
-pub record Holding (t entries nodes : List ℕ) (n : FileNumbers) (m k : ℕ) : Type 0 where
-  pub few_entries : m ≤ length entries
-  pub few_nodes : k ≤ length nodes
-  pub judging : Judging number_file (read_file t) n (held_setup n (take m entries)) (take k nodes)
-
 -- the set-up and the nodes that are judged of contents
 contents_judging : (t : List ℕ) (c : Contents) → read_file t ≡ contents c
-    → Judging number_file (read_file t) (file_numbers c) (held_setup (file_numbers c) (shown_entries c)) (shown_nodes c)
-unfolding numbers
+    → Judging number_file (read_file t) (file_numbers c) (setup c.events c.values c.top (shown_entries c)) (shown_nodes c)
 contents_judging t c e =
     record {
       inside = c;
@@ -159,7 +152,7 @@ contents_judging t c e =
       judged =
           record {
             same = file_shown c;
-            setups = λ ok. ap (λ (l : List ℕ). held_setup (file_numbers c) l) (all_shown c ok).0;
+            setups = λ ok. ap (λ (l : List ℕ). setup c.events c.values c.top l) (all_shown c ok).0;
             rules = λ ok. (all_shown c ok).1;
           };
     }
@@ -170,8 +163,8 @@ unfolding put
 front s old n h l = ap (take n) (front_whole s old h) ∙ take_at s (drop (length s) old) n (sym l)
 
 module _ (c : Contents) where
-  held_entries : take (cond (leb (length c.meet) meet_limit) (length c.meet) 0) (put_front (meet_bytes c) (replicate meet_limit 0)) ≡ shown_entries c
-  held_entries = go (leb (length c.meet) meet_limit) refl
+  entries_held : take (cond (leb (length c.meet) meet_limit) (length c.meet) 0) (put_front (meet_bytes c) (replicate meet_limit 0)) ≡ shown_entries c
+  entries_held = go (leb (length c.meet) meet_limit) refl
     where
       go : (b : Bool) → leb (length c.meet) meet_limit ≡ b
           → take (cond b (length c.meet) 0) (put_front (meet_bytes c) (replicate meet_limit 0)) ≡ cond b (meet_bytes c) []
@@ -181,9 +174,9 @@ module _ (c : Contents) where
           (sym (entries_length c))
       go false f = refl
 
-  held_nodes : take (3 * cond (leb (length c.rule) node_limit) (length c.rule) 0) (put_front (rule_bytes c) (replicate (node_limit * 3) 0))
+  nodes_held : take (3 * cond (leb (length c.rule) node_limit) (length c.rule) 0) (put_front (rule_bytes c) (replicate (node_limit * 3) 0))
       ≡ shown_nodes c
-  held_nodes = go (leb (length c.rule) node_limit) refl
+  nodes_held = go (leb (length c.rule) node_limit) refl
     where
       go : (b : Bool) → leb (length c.rule) node_limit ≡ b
           → take (3 * cond b (length c.rule) 0) (put_front (rule_bytes c) (replicate (node_limit * 3) 0)) ≡ cond b (rule_bytes c) []
@@ -193,46 +186,31 @@ module _ (c : Contents) where
           (omega (arith, nodes_length c, length-replicate {A = ℕ} (node_limit * 3) 0)) (sym (nodes_length c))
       go false f = refl
 
--- a count that is judged is within its limit
-pub shown_few : (count limit r : ℕ) → r ≡ cond (leb count limit) count 0 → r ≤ limit
-shown_few count limit r e = go (leb count limit) refl e
+-- a text that was read into arrays is refused with 4,
+pub off_form : (t : List ℕ) {q : Refusal} → Err q ≡ arrays_of (read_file t) → OffForm (read_file t) q
+off_form t {q} e = go (read_file t) refl e
   where
-    go : (b : Bool) → leb count limit ≡ b → r ≡ cond b count 0 → r ≤ limit
-    go true f d = let h = leb-true count limit f in omega arith
-    go false f d = omega arith
-
--- what is held of a text that was read into arrays: 4
-pub off_form : (t : List ℕ) {a : ReadArrays} {h : Held} {q : Refusal} → a ≡ arrays_of (read_file t) → h ≡ held_by a.reply → h ≡ Refused q
-    → OffForm (read_file t) q
-off_form t {q = q} e d f = go (read_file t) refl (sym f ∙ d ∙ ap (λ (z : ReadArrays). held_by z.reply) e)
-  where
-    go : (x : Outcome Contents) → read_file t ≡ x → Refused q ≡ held_by (stored_reply x) → OffForm (read_file t) q
+    go : (x : Outcome Contents) → read_file t ≡ x → Err q ≡ arrays_of x → OffForm (read_file t) q
     go (contents c) r g = let z : ◌≡◌ {A = ℕ} 0 1 = cc in absurd (omega arith)
     go (refused p) r g = record { place = p; answer = r; is = cc }
 
--- or what is judged
-pub holds : (t : List ℕ) {a : ReadArrays} {h : Held} {n : FileNumbers} {m k : ℕ} → a ≡ arrays_of (read_file t) → h ≡ held_by a.reply
-    → h ≡ File n m k → Holding t a.meet a.rule n m k
-unfolding numbers
-holds t {a = a} {n = n} {m = m} {k = k} e d f = go (read_file t) refl e (sym f ∙ d ∙ ap (λ (z : ReadArrays). held_by z.reply) e)
+-- or judged by what the arrays hold
+abbrev stored : Contents → ReadArrays
+stored c =
+    record {
+      form = form_of c;
+      meet = stored_meet (contents c) (replicate meet_limit 0);
+      rule = stored_rule (contents c) (replicate (node_limit * 3) 0);
+    }
+
+pub holds : (t : List ℕ) {a : ReadArrays} → Ok a ≡ arrays_of (read_file t)
+    → Judging number_file (read_file t) (numbers_in a.form) (held_setup a) (held_nodes a)
+holds t {a} e = go (read_file t) refl e
   where
-    go : (x : Outcome Contents) → read_file t ≡ x → a ≡ arrays_of x → File n m k ≡ held_by (stored_reply x) → Holding t a.meet a.rule n m k
-    go (contents c) r e g =
-        let em : m ≡ cond (leb (length c.meet) meet_limit) (length c.meet) 0 = cc in
-        let ek : k ≡ 3 * cond (leb (length c.rule) node_limit) (length c.rule) 0 = cc in
-        let lm : length a.meet ≡ meet_limit =
-        ap (λ (z : ReadArrays). length z.meet) e ∙ front_length (meet_bytes c) (replicate meet_limit 0) ∙ length-replicate {A = ℕ} meet_limit 0 in
-        let ln : length a.rule ≡ node_limit * 3 =
-        ap (λ (z : ReadArrays). length z.rule) e ∙ front_length (rule_bytes c) (replicate (node_limit * 3) 0) ∙ length-replicate {A = ℕ}
-        (node_limit * 3) 0 in
-        let ni : n ≡ file_numbers c = cc in
-        let entries_are : take m a.meet ≡ shown_entries c =
-        ap (λ (z : ReadArrays). take m z.meet) e ∙ ap (λ (i : ℕ). take i (put_front (meet_bytes c) (replicate meet_limit 0))) em ∙ held_entries c in
-        let nodes_are : take k a.rule ≡ shown_nodes c =
-        ap (λ (z : ReadArrays). take k z.rule) e ∙ ap (λ (i : ℕ). take i (put_front (rule_bytes c) (replicate (node_limit * 3) 0))) ek ∙ held_nodes c in
-        record {
-          few_entries = omega (arith, shown_few (length c.meet) meet_limit m em);
-          few_nodes = omega (arith, shown_few (length c.rule) node_limit _ refl);
-          judging = rw (ni, entries_are, nodes_are) (contents_judging t c r);
-        }
-    go (refused p) r e g = let z : ◌≡◌ {A = ℕ} 0 1 = cc in absurd (omega arith)
+    go : (x : Outcome Contents) → read_file t ≡ x → Ok a ≡ arrays_of x
+        → Judging number_file (read_file t) (numbers_in a.form) (held_setup a) (held_nodes a)
+    go (contents c) r g =
+        let is : a ≡ stored c = cc in
+        subst⁻¹ (λ (z : ReadArrays). Judging number_file (read_file t) (numbers_in z.form) (held_setup z) (held_nodes z)) is
+        (judging_as refl (ap (λ (l : List ℕ). setup c.events c.values c.top l) (entries_held c)) (nodes_held c) (contents_judging t c r))
+    go (refused p) r g = let z : ◌≡◌ {A = ℕ} 0 1 = cc in absurd (omega arith)

@@ -2,7 +2,7 @@
 use Prim.Native.Nat.{ℕ}
 use mathlib.Core.{Path.{◌≡◌, refl, subst, subst⁻¹}, Logic.{◌⊎◌, inl, inr}, List.{List, [], ◌∷◌}, Bool.{true}, Option.{Option, some}}
 use Rattle.refusal.specs.declared.Refusal.{Refusal}
-use Rattle.refusal.specs.Refusal.{Condition, at_lowest, First, has_place, part_of, order, condition_numbers, right_places}
+use Rattle.refusal.specs.Refusal.{Condition, at_lowest, form_place, First, has_place, part_of, order, condition_numbers, right_places}
 use Rattle.refusal.proofs.Refusals.{judged}
 use Rattle.text_format.specs.Format.{Outcome, contents, refused}
 use Rattle.channel_file.specs.{ChannelFile.{RefusedBy}, Reading.{AnswersBy}}
@@ -17,8 +17,8 @@ module _ {A : Type 0} (K : FormLaws A) (conditions : A → List Condition) (t : 
   listed_by = go (shows_or_not K t)
     where
       go : ((c : A) × K.Shows c t) ⊎ ((c : A) → ¬ K.Shows c t) → (cs : List Condition) × ConditionsBy K.Shows t conditions cs
-      go (inl (c, s)) = (at_lowest 4 (RefusedBy K.Shows t) ∷ conditions c, of_contents c s)
-      go (inr none_shown) = (at_lowest 4 (RefusedBy K.Shows t) ∷ [], no_contents none_shown)
+      go (inl (c, s)) = (at_lowest form_place (RefusedBy K.Shows t) ∷ conditions c, of_contents c s)
+      go (inr none_shown) = (at_lowest form_place (RefusedBy K.Shows t) ∷ [], no_contents none_shown)
 
   module _ (refusal : A → Option Refusal) (first : (c : A) → First (conditions c) (refusal c)) where
     -- Every such list gives the answer that the reader's answer yields.
@@ -26,7 +26,7 @@ module _ {A : Type 0} (K : FormLaws A) (conditions : A → List Condition) (t : 
     unfolding text_refusal
     call_first_by cs (of_contents c s) = go (answer_to K t) (answer K t)
       where
-        go : (x : Outcome A) → AnswersBy K.Shows t x → First (at_lowest 4 (RefusedBy K.Shows t) ∷ conditions c) (text_refusal refusal x)
+        go : (x : Outcome A) → AnswersBy K.Shows t x → First (at_lowest form_place (RefusedBy K.Shows t) ∷ conditions c) (text_refusal refusal x)
         go (contents d) a =
             let e = one_answer K t (contents c) (contents d) (a.0, s) a in
             let same : c ≡ d = cc in
@@ -34,7 +34,7 @@ module _ {A : Type 0} (K : FormLaws A) (conditions : A → List Condition) (t : 
         go (refused p) a = form_met K t p a (conditions c)
     call_first_by cs (no_contents none_shown) = go (answer_to K t) (answer K t)
       where
-        go : (x : Outcome A) → AnswersBy K.Shows t x → First (at_lowest 4 (RefusedBy K.Shows t) ∷ []) (text_refusal refusal x)
+        go : (x : Outcome A) → AnswersBy K.Shows t x → First (at_lowest form_place (RefusedBy K.Shows t) ∷ []) (text_refusal refusal x)
         go (contents d) a = absurd (none_shown d a.1)
         go (refused p) a = form_met K t p a []
 

@@ -6,13 +6,9 @@ use lib.{Dec.{leb, ltb}, ListN.{length, length-map}}
 use borrow.Author.Tests.{le-leb, lt-leb, ltb-true, ltb-false}
 use Rattle.theory.specs.Formula.{Formula, truth, variable, transition, output, conjunction, greatest, size}
 use Rattle.theory.specs.Formula.{Node, truth_node, variable_node, transition_node, output_node, conjunction_node, greatest_node, nodes}
-use Rattle.refusal.specs.declared.{Refusal.{Refusal}, Counted.{Counted}}
-use Rattle.refusal.specs.declared.Refusal.TheVariants.{Plain}
-use Rattle.refusal.specs.declared.Judgement.TheVariants.{Accepted as Passed, Refused as Judged}
-use Rattle.refusal.specs.declared.Counted.TheVariants.{Count, Refused}
-use Rattle.refusal.specs.RefusalAnswers.{or_else, plain_unless, judgement, counted}
+use Rattle.refusal.specs.{declared.{Refusal.{Refusal}}, declared.Refusal.TheVariants.{BufferLength}}
+use Rattle.refusal.specs.RefusalAnswers.{or_else, plain_unless, judgement, answered, put_unless}
 use Rattle.refusal.specs.Refusal.{put}
-use Rattle.refusal.specs.RefusalAnswers.{put_unless}
 use Rattle.refusal.proofs.Refusals.{judgement_accepted, judgement_refused, or_else_none}
 use Rattle.limits.specs.Limits.{event_limit, value_limit, node_limit, file_limit}
 use Rattle.values.specs.declared.ValueKind.TheVariants.{Numbered}
@@ -24,9 +20,8 @@ use Rattle.formulas.specs.NodeCode.{three_bytes}
 use Rattle.formulas.specs.RuleConditions.{encode_all}
 use Rattle.formulas.specs.RuleRefusal.{rule_refusal, formula_of}
 use Rattle.formulas.proofs.{Prefix.{length_nodes}, RuleClaims.{accepted_formula_of}}
-use Rattle.channel_file.specs.ChannelFile.{Token, token_T, token_A, token_V, token_X, token_G, token_O, Contents, text, SmallContents}
+use Rattle.channel_file.specs.ChannelFile.{Token, token_T, token_A, token_V, token_X, token_G, token_O, Contents, text, SmallContents, encoded}
 use Rattle.channel_file.specs.Bytes.{clamp}
-use Rattle.channel_file.specs.ChannelFile.{encoded}
 use Rattle.channel_file.proofs.Claims.{length_claim}
 use Rattle.channel_writer.specs.Writing.{with_token, node_tokens, contents_of, reply_by, buffer_by, WritesBy, WritesContents}
 use Rattle.channel_writer.specs.Claims.{All, none_left, one_more, Byte}
@@ -34,6 +29,7 @@ use Rattle.channel_writer.proofs.Claims.{written_claim}
 use Rattle.channel_file.specs.ChannelFile.{node_numbers, rule_numbers}
 use Rattle.channel_io.specs.{FileRefusals.{pair_refusal}, FileWriting.{text_or_empty, write_refusal, WritesText, file_text, WritesFile}}
 use Rattle.channel_io.proofs.Clamping.{limits, meet_kept, rule_kept}
+use Rattle.std.specs.Prelude.{Err, Ok, Result}
 
 -- ---- the tokens of a formula's nodes
 
@@ -152,44 +148,45 @@ textual events values top meet rule e =
 -- ---- the answer to a call
 
 -- What is answered where contents c were written, whose text T is within the limit: 13, or all is put.
-module _ {A : Type 0} (text : A → List ℕ) (c : A) (P : Option Refusal) (T old new : List ℕ) (r : Counted) where
+module _ {A : Type 0} (text : A → List ℕ) (c : A) (P : Option Refusal) (T old new : List ℕ) (r : Result ℕ Refusal) where
   abbrev later : Bool → Option Refusal
-  later b = or_else P (plain_unless b 13)
+  later b = or_else P (plain_unless b BufferLength)
 
   pub written_as : P ≡ none → T ≡ text c → length (text c) ≤ file_limit → r ≡ reply_by text old (some c) → new ≡ buffer_by text old (some c)
-      → (r ≡ counted (later (leb (length T) (length old))) (length T)) × (new ≡ put_unless (later (leb (length T) (length old))) T old)
-  unfolding or_else counted put_unless plain_unless
+      → (r ≡ answered (later (leb (length T) (length old))) (length T)) × (new ≡ put_unless (later (leb (length T) (length old))) T old)
+  unfolding or_else answered put_unless plain_unless
   written_as p t s a b = go (ltb (min file_limit (length old)) (length (text c))) refl
     where
       go : (q : Bool) → ltb (min file_limit (length old)) (length (text c)) ≡ q
-          → (r ≡ counted (later (leb (length T) (length old))) (length T)) × (new ≡ put_unless (later (leb (length T) (length old))) T old)
+          → (r ≡ answered (later (leb (length T) (length old))) (length T)) × (new ≡ put_unless (later (leb (length T) (length old))) T old)
       go true f =
           let h = ltb-true (min file_limit (length old)) (length (text c)) f in
-          let o : later (leb (length T) (length old)) ≡ some (Plain 13) =
-          ap₂ (λ (x : Option Refusal) (z : Bool). or_else x (plain_unless z 13)) p (lt-leb (length T) (length old) (omega (arith, ap length t))) in (
-            a ∙ ap (λ (z : Bool). cond z (Refused (Plain 13)) (Count (length (text c)))) f ∙ ap (λ (x : Option Refusal). counted x (length T)) (sym o),
+          let o : later (leb (length T) (length old)) ≡ some BufferLength =
+          ap₂ (λ (x : Option Refusal) (z : Bool). or_else x (plain_unless z BufferLength)) p (lt-leb (length T) (length old) (omega (arith, ap length t))) in (
+            a ∙ ap (λ (z : Bool). cond z (Err BufferLength) (Ok (length (text c)))) f ∙ ap (λ (x : Option Refusal). answered x (length T)) (sym o),
             b ∙ ap (λ (z : Bool). cond z old (put (text c) old)) f ∙ ap (λ (x : Option Refusal). put_unless x T old) (sym o),
           )
       go false f =
           let h = ltb-false (min file_limit (length old)) (length (text c)) f in
           let o : later (leb (length T) (length old)) ≡ none =
-          ap₂ (λ (x : Option Refusal) (z : Bool). or_else x (plain_unless z 13)) p (le-leb (length T) (length old) (omega (arith, ap length t))) in (
-            a ∙ ap (λ (z : Bool). cond z (Refused (Plain 13)) (Count (length (text c)))) f ∙ ap (λ (l : List ℕ). Count (length l)) (sym t)
-                ∙ ap (λ (x : Option Refusal). counted x (length T)) (sym o),
+          ap₂ (λ (x : Option Refusal) (z : Bool). or_else x (plain_unless z BufferLength)) p (le-leb (length T) (length old) (omega (arith, ap length t))) in (
+            a ∙ ap (λ (z : Bool). cond z (Err BufferLength) (Ok (length (text c)))) f ∙ ap (λ (l : List ℕ). Ok (length l)) (sym t)
+                ∙ ap (λ (x : Option Refusal). answered x (length T)) (sym o),
             b ∙ ap (λ (z : Bool). cond z old (put (text c) old)) f ∙ ap (λ (l : List ℕ). put l old) (sym t)
                 ∙ ap (λ (x : Option Refusal). put_unless x T old) (sym o),
           )
 
 -- The set-up and the rule are refused; or there are contents to write, whose text is this.
 module _ (s : Setup) (rule T old : List ℕ) where
-  pub writes_refused : (r : Refusal) → judgement (pair_refusal s rule) ≡ Judged r → WritesText s rule T old old (Refused r)
-  unfolding write_refusal or_else counted put_unless
-  writes_refused r e =
+  pub writes_refused : {r : Refusal} {answer : Result ℕ Refusal} → answer ≡ Err r → judgement (pair_refusal s rule) ≡ Err r
+      → WritesText s rule T old old answer
+  unfolding write_refusal or_else answered put_unless
+  writes_refused {r} passed e =
       let f = judgement_refused (pair_refusal s rule) r e in
-      record { answer = rw f; buffer = rw f }
+      record { answer = rw f passed; buffer = rw f }
 
-  pub writes_judged : {A : Type 0} (text : A → List ℕ) (c : A) (o : Option A) (new : List ℕ) (r : Counted) → o ≡ some c
-      → judgement (pair_refusal s rule) ≡ Passed → T ≡ text c → length (text c) ≤ file_limit → WritesBy text o old new r → WritesText s rule T old new r
+  pub writes_judged : {A : Type 0} (text : A → List ℕ) (c : A) (o : Option A) (new : List ℕ) (r : Result ℕ Refusal) → o ≡ some c
+      → judgement (pair_refusal s rule) ≡ (Ok tt) → T ≡ text c → length (text c) ≤ file_limit → WritesBy text o old new r → WritesText s rule T old new r
   unfolding write_refusal
   writes_judged text c o new r is e t short w =
       let a = written_as text c (pair_refusal s rule) T old new r (judgement_accepted (pair_refusal s rule) e) t short (w.reply ∙ ap (reply_by text old) is)
@@ -198,7 +195,7 @@ module _ (s : Setup) (rule T old : List ℕ) where
 
 -- ---- document 01's file
 module _ (events values top : ℕ) (meet rule : List ℕ) where
-  pub small_numbers : judgement (pair_refusal (setup events values top meet) rule) ≡ Passed → (events ≤ event_limit) × (values ≤ value_limit) × (top < values)
+  pub small_numbers : judgement (pair_refusal (setup events values top meet) rule) ≡ (Ok tt) → (events ≤ event_limit) × (values ≤ value_limit) × (top < values)
   unfolding pair_refusal
   small_numbers e =
       let a = or_else_none (setup_refusal (setup events values top meet)) (rule_refusal events (Numbered values) rule)
@@ -206,7 +203,7 @@ module _ (events values top : ℕ) (meet rule : List ℕ) where
       let w : AcceptedSetup (setup events values top meet) = (setup_accepted (setup events values top meet)).0 a.0 in
       (w.few_events, w.of_kind.few_values, w.laws.top_in)
 
-  pub writes_contents : (old new : List ℕ) (r : Counted) → judgement (pair_refusal (setup events values top meet) rule) ≡ Passed
+  pub writes_contents : (old new : List ℕ) (r : Result ℕ Refusal) → judgement (pair_refusal (setup events values top meet) rule) ≡ (Ok tt)
       → WritesContents (contents_of events values top meet (node_tokens rule)) old new r → WritesFile events values top meet rule old new r
   unfolding file_text
   writes_contents old new r e w =

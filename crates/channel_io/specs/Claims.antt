@@ -1,7 +1,6 @@
 -- What is claimed of reading, writing and compiling files; each claim is inhabited in proofs/.
-use Rattle.std.specs.Prelude.{ℕ, ◌≤◌, ◌*◌}
+use Rattle.std.specs.Prelude.{ℕ, ◌≤◌, ◌*◌, length}
 use mathlib.Core.{Path.{◌≡◌}, List.{List, map}, Option.{none}}
-use Rattle.std.specs.Prelude.{length}
 use Rattle.limits.specs.Limits.{state_limit, entry_limit}
 use Rattle.refusal.specs.Refusal.{Judged}
 use Rattle.values.specs.{declared.ValueKind.{ValueKind}, declared.ValueKind.TheVariants.{Numbered}}

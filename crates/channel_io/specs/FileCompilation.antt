@@ -1,16 +1,18 @@
 -- Twin of FileTables, pinned by product_claims Extras.
 -- The table of a file's rule (refusals 4, those of a set-up, 5 to 10 and 13): the answer, and what two lent buffers hold afterwards. For any form of
 -- files.
-use Rattle.std.specs.Prelude.{ℕ}
+use Rattle.std.specs.Prelude.{ℕ, Result, Err}
 use mathlib.Core.{Path.{◌≡◌}, List.{List}}
-use Rattle.refusal.specs.{declared.Refusal.{Refusal}, declared.Refusal.TheVariants.{At}, RefusalAnswers.{put_unless}}
+use Rattle.refusal.specs.{declared.Refusal.{Refusal}, RefusalAnswers.{answered, put_unless}, declared.Refusal.TheVariants.{TextForm}}
 use Rattle.text_format.specs.Format.{Outcome, contents, refused}
 use Rattle.channel_file.specs.Reading.{read_file}
 use Rattle.channel_file.specs.RegisterReading.{read_file as read_register_file}
-use Rattle.channel_io.specs.{declared.FileNumbers.{FileNumbers}, declared.FileTable.{FileTable}, declared.FileTable.TheVariants.{Made, Refused}}
-use Rattle.channel_io.specs.declared.registers.{FileNumbers.{FileNumbers as RegisterNumbers}, FileTable.{FileTable as RegisterTable}}
-use Rattle.channel_io.specs.{FileConditions.{FileForm, number_file}, RegisterFiles.{register_file}, FileReading.{answer_or}}
+use Rattle.channel_io.specs.declared.{FileNumbers.{FileNumbers}, FileTable.{FileTable}, registers.FileNumbers.{FileNumbers as RegisterNumbers}}
+use Rattle.channel_io.specs.{FileConditions.{FileForm, number_file}, RegisterFiles.{register_file}}
 use Rattle.channel_io.specs.FileRefusals.{pair_states, pair_table, pair_compile_refusal}
+
+abbrev pub with_states : {N : Type 0} → N → ℕ → FileTable N
+with_states numbers states = record { numbers = numbers; states = states }
 
 module _ (F : FileForm) where
   -- The buffers afterwards: the meet entries, and the table.
@@ -23,29 +25,22 @@ module _ (F : FileForm) where
   table_after (contents c) meet to =
       put_unless (pair_compile_refusal (F.setup_of c) (F.nodes_of c) meet to) (pair_table (F.setup_of c) (F.nodes_of c)) to
 
-  module _ {R : Type 0} (makes : F.Numbers × ℕ → R) (refuses : Refusal → R) where
-    -- The answer to a text: the numbers of the file and the states of its rule's table.
-    unfoldable pub file_table_answer : Outcome F.Inside → List ℕ → List ℕ → R
-    file_table_answer (refused p) meet to = refuses (At 4 p)
-    file_table_answer (contents c) meet to =
-        answer_or makes refuses (pair_compile_refusal (F.setup_of c) (F.nodes_of c) meet to)
-        (F.numbers_of c, pair_states (F.setup_of c) (F.nodes_of c))
+  -- The answer to a text: the numbers of the file and the states of its rule's table.
+  unfoldable pub file_table_answer : Outcome F.Inside → List ℕ → List ℕ → Result (FileTable F.Numbers) Refusal
+  file_table_answer (refused p) meet to = Err (TextForm p)
+  file_table_answer (contents c) meet to =
+      answered (pair_compile_refusal (F.setup_of c) (F.nodes_of c) meet to)
+      (with_states (F.numbers_of c) (pair_states (F.setup_of c) (F.nodes_of c)))
 
-    -- Answer and later contents of a call that makes the table of the text t, by what the file reader says of it.
-    pub record CompilesBy (read : List ℕ → Outcome F.Inside) (t meet to meet' to' : List ℕ) (r : R) : Type 0 where
-      pub answer : r ≡ file_table_answer (read t) meet to
-      pub meet_is : meet' ≡ entries_after (read t) meet to
-      pub table_is : to' ≡ table_after (read t) meet to
+  -- Answer and later contents of a call that makes the table of the text t, by what the file reader says of it.
+  pub record CompilesBy (read : List ℕ → Outcome F.Inside) (t meet to meet' to' : List ℕ) (r : Result (FileTable F.Numbers) Refusal) : Type 0 where
+    pub answer : r ≡ file_table_answer (read t) meet to
+    pub meet_is : meet' ≡ entries_after (read t) meet to
+    pub table_is : to' ≡ table_after (read t) meet to
 
 -- Document 01's file, and a register's, of which `registers::compile_file` is this with [] for the meet entries.
-abbrev pub makes_numbers : FileNumbers × ℕ → FileTable
-makes_numbers p = Made p.0 p.1
+abbrev pub CompilesFile : List ℕ → List ℕ → List ℕ → List ℕ → List ℕ → Result (FileTable FileNumbers) Refusal → Type 0
+CompilesFile = CompilesBy number_file read_file
 
-abbrev pub CompilesFile : List ℕ → List ℕ → List ℕ → List ℕ → List ℕ → FileTable → Type 0
-CompilesFile = CompilesBy number_file makes_numbers Refused read_file
-
-abbrev pub makes_register : RegisterNumbers × ℕ → RegisterTable
-makes_register p = RegisterTable.Made p.0 p.1
-
-abbrev pub CompilesRegisterFile : List ℕ → List ℕ → List ℕ → List ℕ → List ℕ → RegisterTable → Type 0
-CompilesRegisterFile = CompilesBy register_file makes_register (λ q. RegisterTable.Refused q) read_register_file
+abbrev pub CompilesRegisterFile : List ℕ → List ℕ → List ℕ → List ℕ → List ℕ → Result (FileTable RegisterNumbers) Refusal → Type 0
+CompilesRegisterFile = CompilesBy register_file read_register_file

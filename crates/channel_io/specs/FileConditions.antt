@@ -1,14 +1,13 @@
 -- Reading and writing a channel file (document 01, "Channel file"; document 02, F-7): the conditions of a text and of its contents, 4, then those of
 -- a set-up and 5 to 9 on the file's own numbers, none of them cut, then 13; and what an accepted call yields. For any form of files.
-use Rattle.std.specs.Prelude.{ℕ, ◌<◌, ◌≤◌}
-use mathlib.Core.{List.{List, [], ◌∷◌, ◌++◌}, Path.{◌≡◌}, Option.{Option, none, some}}
-use Rattle.std.specs.Prelude.{length}
+use Rattle.std.specs.Prelude.{ℕ, ◌<◌, ◌≤◌, length}
+use mathlib.Core.{List.{List, [], ◌∷◌, ◌++◌}, Path.{◌≡◌}, Option.{Option}}
 use Rattle.limits.specs.Limits.{file_limit}
-use Rattle.refusal.specs.{Refusal.{Condition, plain, at_lowest, JudgedCall, put}, declared.Refusal.{Refusal}}
+use Rattle.refusal.specs.{Refusal.{Condition, plain, at_lowest, form_place, JudgedCall, put}, declared.Refusal.{Refusal, TheVariants.{BufferLength}}}
 use Rattle.values.specs.Setup.{Setup, setup}
 use Rattle.synthesis.specs.TableOfRule.{pair_conditions}
 use Rattle.channel_file.specs.ChannelFile.{Contents, rule_numbers, rule_text, text, Shows, RefusedBy}
-use Rattle.channel_io.specs.{declared.FileNumbers.{FileNumbers}, declared.FileRead.{FileRead}, declared.FileRead.TheVariants.{Accepted, Refused}}
+use Rattle.channel_io.specs.declared.FileNumbers.{FileNumbers}
 
 -- A form of files: what its texts show; the text of contents, and of their rule alone; the set-up and the rule's nodes that they say; and the
 -- numbers that a call answers of them.
@@ -26,8 +25,8 @@ pub record FileForm : Type 1 where
 
 -- 4 first, then the conditions on what the text shows; none of them where it shows nothing.
 pub data ConditionsBy {A : Type 0} (Shows : A → List ℕ → Type 0) (t : List ℕ) (conditions : A → List Condition) : List Condition → Type 1 where
-  of_contents : (c : A) → Shows c t → ConditionsBy Shows t conditions (at_lowest 4 (RefusedBy Shows t) ∷ conditions c)
-  no_contents : ((c : A) → ¬ Shows c t) → ConditionsBy Shows t conditions (at_lowest 4 (RefusedBy Shows t) ∷ [])
+  of_contents : (c : A) → Shows c t → ConditionsBy Shows t conditions (at_lowest form_place (RefusedBy Shows t) ∷ conditions c)
+  no_contents : ((c : A) → ¬ Shows c t) → ConditionsBy Shows t conditions (at_lowest form_place (RefusedBy Shows t) ∷ [])
 
 -- A call on a text is judged by such a list: there is one, and it gives the answer.
 pub record JudgedBy {A M : Type 0} (Shows : A → List ℕ → Type 0) (t : List ℕ) (conditions : A → List Condition) (answer : Option Refusal)
@@ -46,7 +45,7 @@ pub data ReadShort (s : Setup) (nodes meet rule : List ℕ) : Type 0 where
 
 -- The conditions of reading a text with this set-up and these nodes into two buffers.
 abbrev pub read_conditions : List ℕ → List ℕ → Setup → List ℕ → List Condition
-read_conditions meet rule s nodes = pair_conditions s nodes ++ (plain 13 (ReadShort s nodes meet rule) ∷ [])
+read_conditions meet rule s nodes = pair_conditions s nodes ++ (plain BufferLength (ReadShort s nodes meet rule) ∷ [])
 
 -- ---- what accepted calls yield
 module _ (F : FileForm) where
@@ -65,7 +64,7 @@ module _ (F : FileForm) where
   -- The conditions of a set-up, 5 to 9, then 13: "lent buffer shorter than the output".
   abbrev pub write_file_conditions : Setup → List ℕ → List ℕ → List Condition
   write_file_conditions s rule old =
-      pair_conditions s rule ++ (plain 13 ((c : F.Inside) × IsFileOf s rule c × (length old < length (F.text_of c))) ∷ [])
+      pair_conditions s rule ++ (plain BufferLength ((c : F.Inside) × IsFileOf s rule c × (length old < length (F.text_of c))) ∷ [])
 
   -- A writing puts their text, which is of the form and within the limit, and answers its length.
   pub record WritesAs (s : Setup) (rule old new : List ℕ) (n : ℕ) : Type 0 where
@@ -98,12 +97,3 @@ number_file =
       Numbers = FileNumbers;
       numbers_of = file_numbers;
     }
-
--- Document 01's answer for each case of the enum: the refusal, and the numbers of the file.
-abbrev pub refusal_read : FileRead → Option Refusal
-refusal_read (Accepted numbers) = none
-refusal_read (Refused refusal) = some refusal
-
-abbrev pub numbers_read : FileRead → Option FileNumbers
-numbers_read (Accepted numbers) = some numbers
-numbers_read (Refused refusal) = none

@@ -4,7 +4,7 @@ use Rattle.std.specs.Prelude.{ℕ}
 use mathlib.Core.{List.{List}, Bool.{Bool, ◌&&◌}, Option.{Option, some}}
 use lib.{Dec.{leb}, ListN.{length}}
 use Rattle.limits.specs.Limits.{state_limit}
-use Rattle.refusal.specs.{declared.Refusal.{Refusal}, declared.Refusal.TheVariants.{At}, RefusalAnswers.{or_else, plain_unless}}
+use Rattle.refusal.specs.{declared.Refusal.{Refusal}, RefusalAnswers.{or_else, plain_unless}, declared.Refusal.TheVariants.{BufferLength, TextForm}}
 use Rattle.values.specs.{Setup.{Setup, setup_top}, SetupTests.{setup_refusal}}
 use Rattle.formulas.specs.RuleRefusal.{rule_refusal}
 use Rattle.machines.specs.TableBytes.{table_bytes, entry_bytes}
@@ -25,7 +25,7 @@ module _ (s : Setup) (rule : List ℕ) where
 
   -- Then 13.
   unfoldable pub stored_refusal : List ℕ → List ℕ → Option Refusal
-  stored_refusal old_meet old_rule = or_else pair_refusal (plain_unless (has_room old_meet old_rule) 13)
+  stored_refusal old_meet old_rule = or_else pair_refusal (plain_unless (has_room old_meet old_rule) BufferLength)
 
   -- The states of the rule's table, and the table in bytes.
   abbrev pub pair_states : ℕ
@@ -45,7 +45,7 @@ module _ (s : Setup) (rule : List ℕ) where
 
   -- Then 13.
   unfoldable pub pair_compile_refusal : List ℕ → List ℕ → Option Refusal
-  pair_compile_refusal old_meet old_table = or_else pair_table_refusal (plain_unless (has_table_room old_meet old_table) 13)
+  pair_compile_refusal old_meet old_table = or_else pair_table_refusal (plain_unless (has_table_room old_meet old_table) BufferLength)
 
 -- ---- the same of the contents of document 01's file
 module _ (c : Contents) where
@@ -64,5 +64,5 @@ module _ (c : Contents) where
 
 -- ---- a text, by what the file reader says of it: 4, or what its contents meet
 unfoldable pub text_refusal : {A : Type 0} → (A → Option Refusal) → Outcome A → Option Refusal
-text_refusal refusal (refused p) = some (At 4 p)
+text_refusal refusal (refused p) = some (TextForm p)
 text_refusal refusal (contents c) = refusal c

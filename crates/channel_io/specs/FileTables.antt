@@ -1,16 +1,12 @@
 -- The table of a channel file's rule by one call: its conditions, and what an accepted call yields. For any form of files.
-use Rattle.std.specs.Prelude.{ℕ, ◌<◌}
-use mathlib.Core.{List.{List, [], ◌∷◌, ◌++◌}, Path.{◌≡◌}, Option.{Option, none, some}}
-use Rattle.std.specs.Prelude.{length}
-use Rattle.refusal.specs.{Refusal.{Condition, plain, put}, declared.Refusal.{Refusal}}
+use Rattle.std.specs.Prelude.{ℕ, ◌<◌, length}
+use mathlib.Core.{List.{List, [], ◌∷◌, ◌++◌}, Path.{◌≡◌}}
+use Rattle.refusal.specs.{Refusal.{Condition, plain, put}, declared.Refusal.TheVariants.{BufferLength}}
 use Rattle.values.specs.Setup.{Setup, setup_meet, setup_top}
 use Rattle.formulas.specs.RuleConditions.{node_bytes, OfFormula}
 use Rattle.synthesis.specs.TableOfRule.{pair_table_conditions, TableShort, IsRuleTable}
 use Rattle.theory.specs.MealyMachine.{Machine}
 use Rattle.machines.specs.TableBytes.{table_bytes, entry_bytes}
-use Rattle.channel_io.specs.{declared.FileNumbers.{FileNumbers}, declared.FileTable.{FileTable}}
-use Rattle.channel_io.specs.declared.registers.{FileNumbers.{FileNumbers as RegisterNumbers}, FileTable.{FileTable as RegisterTable}}
-use Rattle.channel_io.specs.declared.FileTable.TheVariants.{Made, Refused as Unmade}
 use Rattle.channel_io.specs.FileConditions.{FileForm}
 
 -- 13: a lent buffer shorter than the output, that for the meet entries, of which a register has none, or that for the table.
@@ -21,7 +17,7 @@ pub data CompileShort (s : Setup) (nodes meet to : List ℕ) : Type 0 where
 
 -- The conditions of making the table of a text with this set-up and these nodes.
 abbrev pub file_conditions : List ℕ → List ℕ → Setup → List ℕ → List Condition
-file_conditions meet to s nodes = pair_table_conditions s nodes ++ (plain 13 (CompileShort s nodes meet to) ∷ [])
+file_conditions meet to s nodes = pair_table_conditions s nodes ++ (plain BufferLength (CompileShort s nodes meet to) ∷ [])
 
 -- An accepted call yields the numbers of the file, its meet entries, and the table of its rule.
 pub record MakesTableOf (F : FileForm) (t meet to meet' to' : List ℕ) (found : F.Numbers) (states : ℕ) : Type 0 where
@@ -32,20 +28,3 @@ pub record MakesTableOf (F : FileForm) (t meet to meet' to' : List ℕ) (found :
   pub table : Machine ℕ ℕ
   pub is_table : IsRuleTable (F.setup_of contents) (F.nodes_of contents) states table
   pub table_put : to' ≡ put (table_bytes (entry_bytes (F.setup_of contents).kind) (F.setup_of contents).events table states) to
-
--- Document 01's answer for each case of the enums: the refusal, the numbers of the file, and the states of its table.
-abbrev pub refusal_made : FileTable → Option Refusal
-refusal_made (Made numbers states) = none
-refusal_made (Unmade refusal) = some refusal
-
-abbrev pub table_made : FileTable → Option (FileNumbers × ℕ)
-table_made (Made numbers states) = some (numbers, states)
-table_made (Unmade refusal) = none
-
-abbrev pub register_refusal_made : RegisterTable → Option Refusal
-register_refusal_made (RegisterTable.Made numbers states) = none
-register_refusal_made (RegisterTable.Refused refusal) = some refusal
-
-abbrev pub register_table_made : RegisterTable → Option (RegisterNumbers × ℕ)
-register_table_made (RegisterTable.Made numbers states) = some (numbers, states)
-register_table_made (RegisterTable.Refused refusal) = none

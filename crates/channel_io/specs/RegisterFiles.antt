@@ -1,11 +1,9 @@
 -- A register's channel file (document 02, F-7), as the second form of files.
-use Rattle.std.proofs.Math.Option.{Option, none, some}
 use Rattle.std.specs.Prelude.{length}
-use Rattle.refusal.specs.declared.Refusal.{Refusal}
 use Rattle.values.specs.Setup.{Setup, register_setup}
 use Rattle.channel_file.specs.RegisterFile.{Contents, rule_numbers, rule_text, text, Shows}
 use Rattle.channel_io.specs.FileConditions.{FileForm}
-use Rattle.channel_io.specs.declared.registers.{FileNumbers.{FileNumbers}, FileRead.{FileRead}}
+use Rattle.channel_io.specs.declared.registers.FileNumbers.{FileNumbers}
 
 -- Its set-up, and its numbers: those of the set-up, and how many nodes it has.
 abbrev pub file_setup : Contents → Setup
@@ -26,12 +24,3 @@ register_file =
       Numbers = FileNumbers;
       numbers_of = file_numbers;
     }
-
--- Document 01's answer for each case of the enum: the refusal, and the numbers of the file.
-abbrev pub refusal_read : FileRead → Option Refusal
-refusal_read (FileRead.Accepted numbers) = none
-refusal_read (FileRead.Refused refusal) = some refusal
-
-abbrev pub numbers_read : FileRead → Option FileNumbers
-numbers_read (FileRead.Accepted numbers) = some numbers
-numbers_read (FileRead.Refused refusal) = none

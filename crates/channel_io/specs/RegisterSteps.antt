@@ -1,28 +1,22 @@
--- What the private functions of src/registers.rt say: what is held of a text, and what is answered of a rule that is held.
+-- What the private functions of src/registers.rt say: what is judged of a register's text that was read.
 use Rattle.std.specs.Prelude.{ℕ, ◌*◌}
 use mathlib.Core.{List.{List, []}, Bool.{cond}}
-use lib.{Dec.{leb}, ListN.{length}}
+use lib.{Dec.{leb}, ListN.{length, take}}
 use Rattle.limits.specs.Limits.{node_limit}
 use Rattle.values.specs.Setup.{Setup, register_setup}
-use Rattle.channel_file.specs.{RegisterFile.{Contents}, RegisterReading.{rule_bytes}, declared.registers.Stored.{Stored}}
-use Rattle.channel_io.specs.Steps.{KeepsBy}
-use Rattle.channel_io.specs.declared.registers.{FileNumbers.{FileNumbers}, FileRead.{FileRead}, Held.{Held}}
+use Rattle.channel_file.specs.{RegisterFile.{Contents}, RegisterReading.{rule_bytes}, declared.registers.{Form.{Form}, ReadArrays.{ReadArrays}}}
+use Rattle.channel_io.specs.declared.registers.FileNumbers.{FileNumbers}
 
 -- The nodes that are judged: those of a file within the limit, and none above it.
 abbrev pub shown_nodes : Contents → List ℕ
 shown_nodes c = cond (leb (length c.rule) node_limit) (rule_bytes c) []
 
-abbrev pub numbers : ℕ → ℕ → ℕ → FileNumbers
-numbers events lines nodes = record { events = events; lines = lines; nodes = nodes }
+-- The numbers of a file, and its set-up and nodes that are judged, in what is read of a text.
+abbrev pub numbers_in : Form → FileNumbers
+numbers_in f = record { events = f.events; lines = f.lines; nodes = f.items }
 
--- What is held of a text, by the reply to it: its numbers, and how many bytes of its nodes are judged.
-abbrev pub held_by : Stored → Held
-held_by (Stored.Form events lines n) = Held.File (numbers events lines n) (6 * cond (leb n node_limit) n 0)
-held_by (Stored.Refused r) = Held.Refused r
+abbrev pub held_setup : ReadArrays → Setup
+held_setup a = register_setup a.form.events a.form.lines
 
-abbrev pub held_setup : FileNumbers → Setup
-held_setup n = register_setup n.events n.lines
-
--- Answer and later contents where nodes are put into a buffer; there is none for meet entries.
-abbrev pub Keeps : FileNumbers → (nodes rule rule' : List ℕ) → FileRead → Type 0
-Keeps n nodes rule rule' = KeepsBy (λ q. FileRead.Refused q) (held_setup n) nodes (λ m. FileRead.Accepted m) n [] rule [] rule'
+abbrev pub held_nodes : ReadArrays → List ℕ
+held_nodes a = take (6 * cond (leb a.form.items node_limit) a.form.items 0) a.rule

@@ -12,25 +12,21 @@ use Rattle.theory.specs.FormulaClasses.{WellFormed}
 use Rattle.theory.specs.MealyMachine.{Word, after}
 use Rattle.theory.specs.ReachableStates.{IsTableOf}
 use Rattle.theory.proofs.{SemanticsEquality.{only_answer}, WordOrder.{word_append}, ReachableStates.{after_append}, Claims.{table_values}}
-use Rattle.refusal.specs.declared.Refusal.{Refusal}
-use Rattle.refusal.specs.declared.Refusal.TheVariants.{Plain}
+use Rattle.refusal.specs.{declared.Refusal.{Refusal}, declared.Refusal.TheVariants.{ChannelNumber, EventNumber, PulseTotal, RowTotal}}
 use Rattle.limits.specs.Limits.{channel_limit, total_limit, row_limit}
-use Rattle.refusal.specs.Refusal.{Condition, plain, at_lowest, Gives, First, part_of, condition_numbers}
-use Rattle.refusal.specs.RefusalClaims.{refusal_number}
+use Rattle.refusal.specs.Refusal.{Condition, plain, at_lowest, PlacedRefusal, at_place, form_place, fields_place}
+use Rattle.refusal.specs.Refusal.{tree_place, unbound_place, unprotected_place, Gives, First, part_of, condition_numbers}
+use Rattle.refusal.specs.Refusal.{refusal_number}
 use Rattle.refusal.specs.RefusalAnswers.{or_else}
 use Rattle.refusal.proofs.Refusals.{or_else_none}
 use Rattle.channel_log.specs.Calls.{Call, load, event, restart, restart_all, clear, Reply, accepted, returned, refused, Channels, all_empty}
-use Rattle.channel_log.specs.CallSteps.{channel_refusal, Content, empty_refusal, on_event, call_refusal, event_reply, accepted_reply}
-use Rattle.channel_log.specs.CallSteps.{effect, settled, step}
-use Rattle.channel_log.specs.Calls.{replies, final, History}
+use Rattle.channel_log.specs.CallSteps.{channel_refusal, Content, empty_refusal, on_event, call_refusal, event_reply, accepted_reply, effect, settled, step}
+use Rattle.channel_log.specs.Calls.{replies, final, History, Loaded, map_option, accepted_on, replies_on, StandsAs}
 use Rattle.channel_log.specs.Distance.{Wheel, Occurrence, Reading, reading}
 use Rattle.channel_log.specs.Log.{large_event, large_total, occurrence_refusal, rows_refusal, load_rows_refusal, value_after, log}
-use Rattle.channel_log.specs.Calls.{Loaded}
 use Rattle.channel_log.specs.Recorded.{recorded}
-use Rattle.channel_log.specs.Calls.{map_option, accepted_on, replies_on}
 use Rattle.channel_log.specs.Rows.{other_rows}
 use Rattle.channel_log.specs.Claims.{Never, RecordClaim, OwnCallsClaim, OtherRowsClaim}
-use Rattle.channel_log.specs.Calls.{StandsAs}
 use Rattle.channel_log.proofs.Simulation.{run_related, Related, AllRelated, Matches, step_related}
 use Rattle.channel_log.proofs.Independence.{channel_after, channel_replies, runs_alone, same_event, same_load}
 
@@ -41,10 +37,10 @@ test_passed false r h = absurd (some-ne-none r h)
 
 -- 16, and 19.
 pub not_large : (events e : ℕ) → large_event events e ≡ none → e < events
-not_large events e h = ltb-true e events (test_passed (ltb e events) (Plain 16) h)
+not_large events e h = ltb-true e events (test_passed (ltb e events) EventNumber h)
 
 pub total_fits : (total : ℕ) → large_total total ≡ none → total ≤ total_limit
-total_fits total h = leb-true total total_limit (test_passed (leb total total_limit) (Plain 19) h)
+total_fits total h = leb-true total total_limit (test_passed (leb total total_limit) PulseTotal h)
 
 -- An occurrence that 16 and 19 do not refuse has an event below the count.
 pub event_fits : (events total : ℕ) (i : Occurrence) → occurrence_refusal events total i ≡ none → i.event < events
@@ -65,13 +61,21 @@ absent n m ms h = go (eqb n m) refl h
     go true e h = absurd (true≢false h)
     go false e h = (λ q. eqb-false n m e (sym q), h)
 
+-- A refusal has one number at whatever place.
+place_number : (given : PlacedRefusal) (p : ℕ) → refusal_number (at_place given p) ≡ refusal_number (at_place given 0)
+place_number form_place p = refl
+place_number fields_place p = refl
+place_number tree_place p = refl
+place_number unbound_place p = refl
+place_number unprotected_place p = refl
+
 -- A condition gives refusals of one refusal-number.
 given_number :
     (C : Condition) (cs : List Condition) →
     (m : ℕ) × (condition_numbers (C ∷ cs) ≡ m ∷ condition_numbers cs) × ((r : Refusal) → Gives C r → refusal_number r ≡ m)
-unfolding condition_numbers refusal_number
-given_number (plain m Met) cs = (m, refl, λ r met. ap refusal_number met.1)
-given_number (at_lowest m Met) cs = (m, refl, λ r met. ap refusal_number met.2)
+unfolding condition_numbers
+given_number (plain m Met) cs = (refusal_number m, refl, λ r met. ap refusal_number met.1)
+given_number (at_lowest m Met) cs = (refusal_number (at_place m 0), refl, λ r met. ap refusal_number met.2 ∙ place_number m met.0)
 
 -- Where no condition of a list has a refusal-number, what the list gives has another.
 pub first_not : (n : ℕ) (cs : List Condition) (a : Option Refusal) → part_of (n ∷ []) (condition_numbers cs) ≡ false → First cs a → Not n a
@@ -82,10 +86,9 @@ first_not n (C ∷ cs) a h x =
     let p = absent n g.0 (condition_numbers cs) (subst (λ l. part_of (n ∷ []) l ≡ false) g.1 h) in
     ⊎_elim (λ y. subst⁻¹ (Not n) y.2 (λ q. p.0 (sym (g.2 y.0 y.1) ∙ q))) (λ y. first_not n cs a p.1 y.1) x
 
-plain_not_17 : (t : Bool) (k : ℕ) → ¬ (k ≡ 17) → Not 17 (cond t none (some (Plain k)))
-unfolding refusal_number
-plain_not_17 true k h = tt
-plain_not_17 false k h = h
+plain_not_17 : (t : Bool) (given : Refusal) → ¬ (refusal_number given ≡ 17) → Not 17 (cond t none (some given))
+plain_not_17 true given h = tt
+plain_not_17 false given h = h
 
 first_not_17 : (a b : Option Refusal) → Not 17 a → Not 17 b → Not 17 (or_else a b)
 unfolding or_else
@@ -186,25 +189,23 @@ module _ {B : Type 0} (In : B → Type 0) (meet : B → B → B) (top : B) (laws
 
   -- 17 never arises in the log.
   event_not_17 : (h : Option (History B)) (i : Occurrence) → Not 17 (on_event logged h i)
-  unfolding refusal_number
   event_not_17 none i = λ q. omega arith
   event_not_17 (some h) i =
-      first_not_17 (large_event events i.event) (large_total (h.total + i.pulses)) (plain_not_17 (ltb i.event events) 16 (λ q. omega arith))
-      (plain_not_17 (leb (h.total + i.pulses) total_limit) 19 (λ q. omega arith))
+      first_not_17 (large_event events i.event) (large_total (h.total + i.pulses)) (plain_not_17 (ltb i.event events) EventNumber (λ q. omega arith))
+      (plain_not_17 (leb (h.total + i.pulses) total_limit) PulseTotal (λ q. omega arith))
 
   empty_not_17 : (h : Option (History B)) → Not 17 (empty_refusal h)
-  unfolding refusal_number
   empty_not_17 none = λ q. omega arith
   empty_not_17 (some h) = tt
 
   channel_not_17 : (c : ℕ) → Not 17 (channel_refusal c)
-  channel_not_17 c = plain_not_17 (ltb c channel_limit) 14 (λ q. omega arith)
+  channel_not_17 c = plain_not_17 (ltb c channel_limit) ChannelNumber (λ q. omega arith)
 
   refusal_not_17 : (L : Channels (History B)) (call : Call Occurrence) → Not 17 (call_refusal logged L call)
   refusal_not_17 L (load c r) =
       first_not_17 (channel_refusal c) (logged.load_refusal L c r) (channel_not_17 c)
       (first_not_17 (judged r) (load_rows_refusal c (log_rows L) (states_of (formula_of r))) (not_17 r)
-      (plain_not_17 (leb (other_rows c (log_rows L) + states_of (formula_of r)) row_limit) 25 (λ q. omega arith)))
+      (plain_not_17 (leb (other_rows c (log_rows L) + states_of (formula_of r)) row_limit) RowTotal (λ q. omega arith)))
   refusal_not_17 L (event c i) = first_not_17 (channel_refusal c) (on_event logged (L c) i) (channel_not_17 c) (event_not_17 (L c) i)
   refusal_not_17 L (restart c) = first_not_17 (channel_refusal c) (empty_refusal (L c)) (channel_not_17 c) (empty_not_17 (L c))
   refusal_not_17 L restart_all = tt

@@ -4,11 +4,8 @@ use Prim.Native.Nat.{ℕ}
 use lib.Dec.{eqb}
 use Rattle.refusal.specs.declared.Refusal.{Refusal}
 use Rattle.refusal.specs.RefusalAnswers.{or_else}
-use Rattle.channel_log.specs.Calls.{Call, load, event, restart, restart_all, clear, returned, Channels, with_channel}
-use Rattle.channel_log.specs.CallSteps.{channel_refusal, Content, empty_refusal, on_event, call_refusal, event_reply, accepted_reply}
-use Rattle.channel_log.specs.Calls.{map_option}
-use Rattle.channel_log.specs.CallSteps.{effect, settled, step}
-use Rattle.channel_log.specs.Calls.{replies, final}
+use Rattle.channel_log.specs.Calls.{Call, load, event, restart, restart_all, clear, returned, Channels, with_channel, map_option, replies, final}
+use Rattle.channel_log.specs.CallSteps.{channel_refusal, Content, empty_refusal, on_event, call_refusal, event_reply, accepted_reply, effect, settled, step}
 
 -- One step after another: related, with equal replies.
 pub run_related :

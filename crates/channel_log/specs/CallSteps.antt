@@ -4,9 +4,8 @@
 use mathlib.Core.{Bool.{cond}, List.{List}, Option.{Option, none, some}}
 use Rattle.std.specs.Prelude.{ℕ, ltb}
 use Rattle.limits.specs.Limits.{channel_limit}
-use Rattle.refusal.specs.{declared.Refusal.{Refusal}, declared.Refusal.TheVariants.{Plain}, RefusalAnswers.{or_else}}
-use Rattle.channel_log.specs.Calls.{Call, load, event, restart, restart_all, clear, Reply, accepted, returned, refused, Channels, with_channel}
-use Rattle.channel_log.specs.Calls.{map_option}
+use Rattle.refusal.specs.{declared.Refusal.{Refusal}, RefusalAnswers.{or_else}, declared.Refusal.TheVariants.{ChannelEmpty, ChannelNumber}}
+use Rattle.channel_log.specs.Calls.{Call, load, event, restart, restart_all, clear, Reply, accepted, returned, refused, Channels, with_channel, map_option}
 
 -- What a loaded channel holds, and what becomes of it.
 pub record Content (X Input Output : Type 0) : Type 0 where
@@ -24,17 +23,17 @@ pub record Content (X Input Output : Type 0) : Type 0 where
 
 -- 14: channel above 7.
 abbrev pub channel_refusal : ℕ → Option Refusal
-channel_refusal c = cond (ltb c channel_limit) none (some (Plain 14))
+channel_refusal c = cond (ltb c channel_limit) none (some ChannelNumber)
 
 -- 15: channel empty.
 abbrev pub empty_refusal : {X : Type 0} → Option X → Option Refusal
-empty_refusal none = some (Plain 15)
+empty_refusal none = some ChannelEmpty
 empty_refusal (some x) = none
 
 module _ {X Input Output : Type 0} (K : Content X Input Output) where
   -- 15, then 16 and 19.
   abbrev pub on_event : Option X → Input → Option Refusal
-  on_event none i = some (Plain 15)
+  on_event none i = some ChannelEmpty
   on_event (some x) i = K.event_refusal x i
 
   -- The first refusal in document 01's order: 14, 15, 16, 19, then 5 to 10 and 25. A call meets only those that concern its inputs.

@@ -2,7 +2,7 @@
 use mathlib.Core.{Path.{◌≡◌}, List.{List, [], ◌∷◌}, Option.{Option}}
 use Rattle.std.specs.Prelude.{ℕ, ◌<◌}
 use Rattle.limits.specs.Limits.{channel_limit}
-use Rattle.refusal.specs.RefusalClaims.{refusal_number}
+use Rattle.refusal.specs.Refusal.{refusal_number}
 use Rattle.channel_log.specs.Calls.{Call, load, event, Reply, accepted, returned, refused, Channels, all_empty, map_option, replies, final}
 use Rattle.channel_log.specs.{Calls.{accepted_on, replies_on}, Rows.{other_rows}}
 use Rattle.channel_log.specs.CallSteps.{Content, step}

@@ -5,17 +5,17 @@ use mathlib.Core.{Bool.{cond}, List.{List, [], ◌∷◌, ◌++◌}, Option.{Opt
 use Rattle.std.specs.Prelude.{ℕ, zero, ◌+◌, ltb, leb}
 use Rattle.limits.specs.Limits.{total_limit, row_limit}
 use Rattle.theory.specs.{Formula.{Formula}, MealyMachine.{after}, Evaluation.{value, formulas}}
-use Rattle.refusal.specs.{declared.Refusal.{Refusal}, declared.Refusal.TheVariants.{Plain}, RefusalAnswers.{or_else}}
+use Rattle.refusal.specs.{declared.Refusal.{Refusal}, RefusalAnswers.{or_else}, declared.Refusal.TheVariants.{EventNumber, PulseTotal, RowTotal}}
 use Rattle.channel_log.specs.{Calls.{Channels, map_option, History}, CallSteps.{Content}, Distance.{Wheel, Occurrence, Reading, reading}}
 use Rattle.channel_log.specs.Rows.{other_rows}
 
 -- 16: event too large.
 abbrev pub large_event : ℕ → ℕ → Option Refusal
-large_event events e = cond (ltb e events) none (some (Plain 16))
+large_event events e = cond (ltb e events) none (some EventNumber)
 
 -- 19: a total above the limit.
 abbrev pub large_total : ℕ → Option Refusal
-large_total total = cond (leb total total_limit) none (some (Plain 19))
+large_total total = cond (leb total total_limit) none (some PulseTotal)
 
 -- 16, then 19 of the total with the event's pulses.
 abbrev pub occurrence_refusal : ℕ → ℕ → Occurrence → Option Refusal
@@ -23,7 +23,7 @@ occurrence_refusal events total i = or_else (large_event events i.event) (large_
 
 -- 25: more rows than the tool has.
 abbrev pub rows_refusal : ℕ → Option Refusal
-rows_refusal rows = cond (leb rows row_limit) none (some (Plain 25))
+rows_refusal rows = cond (leb rows row_limit) none (some RowTotal)
 
 -- 25 of a load into channel c, whose own old rows are free: `rows`, those of the channels; `new`, those of the new table.
 abbrev pub load_rows_refusal : ℕ → Channels ℕ → ℕ → Option Refusal

@@ -6,9 +6,8 @@ use native.Mathlib.Omega.{arith}
 use lib.{Dec.{eqb, ltb}, ListN.{length}}
 use borrow.Author.Tests.{eqb-true, ltb-true, ltb-false, le-leb}
 use Rattle.limits.specs.Limits.{file_limit}
-use Rattle.refusal.specs.declared.{Refusal.{Refusal}, Refusal.TheVariants.{Plain}, Counted.TheVariants.{Count, Refused}}
-use Rattle.refusal.specs.Refusal.{plain, First, has_place, part_of, order, condition_numbers, right_places, counted_refusal}
-use Rattle.refusal.specs.Refusal.{put}
+use Rattle.refusal.specs.{declared.{Refusal.{Refusal}}, declared.Refusal.TheVariants.{BufferLength, NodeCount}}
+use Rattle.refusal.specs.Refusal.{plain, First, has_place, part_of, order, condition_numbers, right_places, refusal_of, put}
 use Rattle.refusal.proofs.Refusals.{judged}
 use Rattle.text_format.specs.Format.{contents}
 use Rattle.text_format.specs.Texts.{OneOrMore}
@@ -27,19 +26,20 @@ use Rattle.channel_writer.specs.RegisterWriting.{mask_of, masks_of, no_mask, nod
 use Rattle.channel_writer.specs.RegisterWriting.{contents_of as register_contents_of}
 use Rattle.channel_writer.specs.Claims.{All, none_left, one_more, Byte, ByteToken, ByteContents, NodeClaim, WrittenTextClaim, AgainClaim}
 use Rattle.channel_writer.specs.Claims.{text_written_conditions, WrittenRefusalClaim, FittingToken, RegisterNodeClaim, RegisterWrittenClaim}
+use Rattle.std.specs.Prelude.{Err, Ok}
 
 -- ---- refusals
 
 module _ {A : Type 0} (text : A → List ℕ) (old : List ℕ) where
-  written_first : (o : Option A) → First (text_written_conditions text o old) (counted_refusal (reply_by text old o))
+  written_first : (o : Option A) → First (text_written_conditions text o old) (refusal_of (reply_by text old o))
   unfolding First
-  written_first none = inl (Plain 5, (refl, refl), refl)
+  written_first none = inl (NodeCount, (refl, refl), refl)
   written_first (some c) = inr ((λ r g. some-ne-none c g.0), go (ltb (min file_limit (length old)) (length (text c))) refl)
     where
       go : (b : Bool) → ltb (min file_limit (length old)) (length (text c)) ≡ b
-          → First (plain 13 ((d : A) × (some c ≡ some d) × (min file_limit (length old) < length (text d))) ∷ [])
-          (counted_refusal (cond b (Refused (Plain 13)) (Count (length (text c)))))
-      go true e = inl (Plain 13, ((c, refl, ltb-true (min file_limit (length old)) (length (text c)) e), refl), refl)
+          → First (plain BufferLength ((d : A) × (some c ≡ some d) × (min file_limit (length old) < length (text d))) ∷ [])
+          (refusal_of (cond b (Err BufferLength) (Ok (length (text c)))))
+      go true e = inl (BufferLength, ((c, refl, ltb-true (min file_limit (length old)) (length (text c)) e), refl), refl)
       go false e =
           inr (
             (λ r g.
@@ -50,11 +50,11 @@ module _ {A : Type 0} (text : A → List ℕ) (old : List ℕ) where
             refl,
           )
 
-  written_kept : (o : Option A) (r : Refusal) → counted_refusal (reply_by text old o) ≡ some r → buffer_by text old o ≡ old
+  written_kept : (o : Option A) (r : Refusal) → refusal_of (reply_by text old o) ≡ some r → buffer_by text old o ≡ old
   written_kept none r e = refl
   written_kept (some c) r e = go (ltb (min file_limit (length old)) (length (text c))) e
     where
-      go : (b : Bool) → counted_refusal (cond b (Refused (Plain 13)) (Count (length (text c)))) ≡ some r → cond b old (put (text c) old) ≡ old
+      go : (b : Bool) → refusal_of (cond b (Err BufferLength) (Ok (length (text c)))) ≡ some r → cond b old (put (text c) old) ≡ old
       go true e = refl
       go false e = absurd (some-ne-none r (sym e))
 

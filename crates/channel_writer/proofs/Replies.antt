@@ -2,17 +2,15 @@
 use Prim.Native.Nat.{ℕ, ◌+◌, ◌≤◌, ◌<◌, min}
 use mathlib.Core.{Path.{◌≡◌, refl, sym, ap, ap₂, ◌∙◌}, List.{List, [], ◌∷◌, ◌++◌, map}, Bool.{Bool, false, cond}, Option.{Option, some, none}}
 use native.Mathlib.Omega.{arith}
-use borrow.Author.Tests.{lt-ltb, le-ltb}
+use borrow.Author.Tests.{lt-ltb, le-ltb, eq-eqb}
 use lib.ListN.{length}
 use Rattle.limits.specs.Limits.{file_limit}
-use Rattle.refusal.specs.declared.Refusal.TheVariants.{Plain}
-use Rattle.refusal.specs.declared.Counted.TheVariants.{Count, Refused}
-use Rattle.refusal.specs.Refusal.{put}
+use Rattle.refusal.specs.{Refusal.{put}, declared.Refusal.TheVariants.{BufferLength, NodeCount}}
 use Rattle.text_format.specs.Texts.{ascii, separated, OneOrMore}
 use Rattle.text_format.specs.Series.{number_item}
 use Rattle.text_format.proofs.Series.{series_text}
 use Rattle.text_output.specs.Output.{offset_limit, Puts}
-use Rattle.text_output.proofs.Outputs.{puts_as, puts_long, puts_again}
+use Rattle.text_output.proofs.Outputs.{puts_as, puts_again}
 use Rattle.channel_file.specs.ChannelFile.{RuleItem, Token, number, item_text, line, text}
 use Rattle.channel_file.specs.{FileFormat.{entries}, RegisterFile.{text as register_contents_text}}
 use Rattle.channel_file.specs.{Steps.{ValueOf, item_format, items_format}, declared.Values.{Values}}
@@ -21,6 +19,8 @@ use Rattle.channel_writer.specs.Writing.{node_tokens, contents_of, reply_by, buf
 use Rattle.channel_writer.specs.RegisterWriting.{node_tokens as register_tokens, contents_of as register_contents_of}
 use Rattle.channel_writer.specs.Steps.{is_some, IsSome, items_of, value_text, tokens_of, nodes_text, lines_text, register_text}
 use Rattle.channel_writer.proofs.Texts.{none_left, token_print}
+use lib.Dec.{eqb}
+use Rattle.std.specs.Prelude.{Err, Ok}
 
 -- ---- the contents
 
@@ -81,6 +81,10 @@ fine_register e l nodes g i =
           (sym (rule_printed Values.Register nodes f.0 f.1 f.2));
     }
 
+-- a list that was tested
+pub not_none : (n : ℕ) → false ≡ eqb n 0 → n ≡ 0 → ⊥
+not_none n e z = let t = eq-eqb n 0 z in cc
+
 -- nothing to write
 pub no_entries : (e v p : ℕ) (meet : List ℕ) (y : Option (List Token)) → length meet ≡ 0 → contents_of e v p meet y ≡ none
 no_entries e v p [] y h = refl
@@ -107,23 +111,23 @@ no_register_tokens e l (some xs) h = let z : ◌≡◌ {A = ℕ} 0 1 = ap (λ (b
 -- ---- the reply
 
 module _ {A : Type 0} (text : A → List ℕ) (o : Option A) where
-  pub writes_none : (old : List ℕ) → o ≡ none → WritesBy text o old old (Refused (Plain 5))
+  pub writes_none : (old : List ℕ) → o ≡ none → WritesBy text o old old (Err NodeCount)
   writes_none old e = record { reply = sym (ap (reply_by text old) e); buffer = sym (ap (buffer_by text old) e) }
 
-  writes_long : (old : List ℕ) (c : A) → o ≡ some c → min file_limit (length old) < length (text c) → WritesBy text o old old (Refused (Plain 13))
+  writes_long : (old : List ℕ) (c : A) → o ≡ some c → min file_limit (length old) < length (text c) → WritesBy text o old old (Err BufferLength)
   writes_long old c e h =
       record {
-        reply = sym (ap (reply_by text old) e ∙ ap (λ (b : Bool). cond b (Refused (Plain 13)) (Count (length (text c))))
+        reply = sym (ap (reply_by text old) e ∙ ap (λ (b : Bool). cond b (Err BufferLength) (Ok (length (text c))))
             (lt-ltb (min file_limit (length old)) (length (text c)) h));
         buffer = sym (ap (buffer_by text old) e ∙ ap (λ (b : Bool). cond b old (put (text c) old)) (lt-ltb (min file_limit (length old)) (length (text c)) h));
       }
 
   writes_all : (old new : List ℕ) (c : A) (n : ℕ) → o ≡ some c → length (text c) ≤ min file_limit (length old) → n ≡ length (text c)
-      → new ≡ put (text c) old → WritesBy text o old new (Count n)
+      → new ≡ put (text c) old → WritesBy text o old new (Ok n)
   writes_all old new c n e h l w =
       record {
-        reply = ap Count l
-            ∙ sym (ap (reply_by text old) e ∙ ap (λ (b : Bool). cond b (Refused (Plain 13)) (Count (length (text c))))
+        reply = ap Ok l
+            ∙ sym (ap (reply_by text old) e ∙ ap (λ (b : Bool). cond b (Err BufferLength) (Ok (length (text c))))
             (le-ltb (min file_limit (length old)) (length (text c)) h));
         buffer = w
             ∙ sym (ap (buffer_by text old) e ∙ ap (λ (b : Bool). cond b old (put (text c) old)) (le-ltb (min file_limit (length old)) (length (text c)) h));
@@ -137,17 +141,14 @@ module _ {A : Type 0} (text : A → List ℕ) (o : Option A) where
     put_all : Puts l t l' 0 n
     put_all = puts_as (sym f.same_text) w
 
-    pub over_limit : (old : List ℕ) → file_limit < n → WritesBy text o old old (Refused (Plain 13))
-    over_limit old h =
+    pub over_room : (old : List ℕ) → min file_limit (length old) < n → WritesBy text o old old (Err BufferLength)
+    over_room old h =
         let q : n ≡ min (0 + length t) offset_limit = put_all.next in
         writes_long old f.inside f.is (omega arith)
 
-    pub over_buffer : (old : List ℕ) → length old < n → WritesBy text o old old (Refused (Plain 13))
-    over_buffer old h = writes_long old f.inside f.is (omega (arith, puts_long put_all old h))
-
-    pub written : (old new : List ℕ) (r : ℕ) → n ≤ file_limit → n ≤ length old → Puts old lines new 0 r → WritesBy text o old new (Count n)
+    pub written : (old new : List ℕ) (r : ℕ) → n ≤ min file_limit (length old) → Puts old lines new 0 r → WritesBy text o old new (Ok n)
     unfolding put
-    written old new r h g k =
-        let a = puts_again put_all g (puts_as (sym f.same_text) k) in
+    written old new r h k =
+        let a = puts_again put_all (omega arith) (puts_as (sym f.same_text) k) in
         let m : n ≡ length t = a.0.behind in
         writes_all old new f.inside n f.is (omega (arith, a.1)) m a.0.whole

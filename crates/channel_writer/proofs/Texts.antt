@@ -15,8 +15,7 @@ use Rattle.channel_file.specs.declared.Values.{Values}
 use Rattle.channel_file.proofs.{RuleItems.{item_print}, RegisterFormat.{masks_print}, Offsets.{here, over}}
 use Rattle.channel_writer.specs.Writing.{bare_token, token_of_one, token_with, node_token, with_token}
 use Rattle.channel_writer.specs.RegisterWriting.{mask_of, masks_of, node_token as register_token}
-use Rattle.channel_writer.specs.Steps.{node_text, IsSome, items_of, width, value_at, value_text, is_unused, token_at, tokens_of, node_at, nodes_text}
-use Rattle.channel_writer.specs.Steps.{behind}
+use Rattle.channel_writer.specs.Steps.{node_text, IsSome, items_of, width, value_at, value_text, is_unused, token_at, tokens_of, node_at, nodes_text, behind}
 use Rattle.channel_writer.proofs.Nodes.{tokens_step, tokens_none, node_left}
 
 -- ---- the byte behind an item

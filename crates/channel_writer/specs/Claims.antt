@@ -1,10 +1,9 @@
 -- What is claimed of writing; each claim is inhabited in proofs/Claims.
-use Rattle.std.specs.Prelude.{ℕ, ◌≤◌, ◌<◌, min}
+use Rattle.std.specs.Prelude.{ℕ, ◌≤◌, ◌<◌, min, length}
 use mathlib.Core.{Path.{◌≡◌}, List.{List, [], ◌∷◌}, Option.{Option, none, some}}
-use Rattle.std.specs.Prelude.{length}
 use Rattle.theory.specs.ValueSets.{Masks}
 use Rattle.limits.specs.Limits.{file_limit}
-use Rattle.refusal.specs.Refusal.{Condition, plain, JudgedCall, counted_refusal}
+use Rattle.refusal.specs.{Refusal.{Condition, plain, JudgedCall, refusal_of}, declared.Refusal.TheVariants.{BufferLength, NodeCount}}
 use Rattle.text_format.specs.Format.{contents}
 use Rattle.channel_file.specs.ChannelFile.{Token, Contents, text, SmallContents}
 use Rattle.channel_file.specs.FileFormat.{first, second, kind}
@@ -19,13 +18,13 @@ use Rattle.channel_writer.specs.RegisterWriting as register_writing
 -- over 4,096 bytes or longer than the buffer.
 abbrev pub text_written_conditions : {A : Type 0} → (A → List ℕ) → Option A → List ℕ → List Condition
 text_written_conditions {A} text o old =
-    plain 5 (o ≡ none) ∷ plain 13 ((c : A) × (o ≡ some c) × (min file_limit (length old) < length (text c))) ∷ []
+    plain NodeCount (o ≡ none) ∷ plain BufferLength ((c : A) × (o ≡ some c) × (min file_limit (length old) < length (text c))) ∷ []
 
 -- The reply gives the first of them, and beside it the buffer is as before.
 abbrev pub WrittenRefusalClaim : Type 1
 WrittenRefusalClaim =
     (A : Type 0) (text : A → List ℕ) (o : Option A) (old : List ℕ) →
-    JudgedCall (text_written_conditions text o old) (counted_refusal (reply_by text old o)) old (buffer_by text old o)
+    JudgedCall (text_written_conditions text o old) (refusal_of (reply_by text old o)) old (buffer_by text old o)
 
 -- All of a list as P says.
 pub data All {A : Type 0} (P : A → Type 0) : List A → Type 0 where

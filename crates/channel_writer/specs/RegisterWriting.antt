@@ -1,12 +1,11 @@
 -- Twin of RegisterFile, pinned by channel_writer RegisterNodeClaim.
 -- Writing a register's channel file from numbers and node bytes, six a node.
-use Rattle.std.specs.Prelude.{ℕ, ◌+◌, ◌*◌}
+use Rattle.std.specs.Prelude.{ℕ, ◌+◌, ◌*◌, eqb, Result}
 use mathlib.Core.{List.{List, [], ◌∷◌}, Bool.{Bool, ◌&&◌}, Option.{Option, some, none}}
-use Rattle.std.specs.Prelude.{eqb}
-use Rattle.refusal.specs.declared.Counted.{Counted}
 use Rattle.theory.specs.ValueSets.{Masks}
 use Rattle.channel_file.specs.RegisterFile.{Token, Contents, text}
 use Rattle.channel_writer.specs.Writing.{token_with, with_token, WritesBy}
+use Rattle.refusal.specs.declared.Refusal.{Refusal}
 
 -- A mask of two bytes, its low byte first.
 abbrev pub mask_of : ℕ → ℕ → ℕ
@@ -38,5 +37,5 @@ contents_of e l none = none
 contents_of e l (some []) = none
 contents_of e l (some (x ∷ xs)) = some (record { events = e; lines = l; rule = x ∷ xs })
 
-abbrev pub WritesContents : Option Contents → List ℕ → List ℕ → Counted → Type 0
+abbrev pub WritesContents : Option Contents → List ℕ → List ℕ → Result ℕ Refusal → Type 0
 WritesContents = WritesBy text

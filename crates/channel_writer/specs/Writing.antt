@@ -1,12 +1,12 @@
 -- Twin of ChannelFile, pinned by channel_writer NodeClaim.
 -- Writing a channel file from numbers, meet entries and node bytes.
-use Rattle.std.specs.Prelude.{ℕ, min}
+use Rattle.std.specs.Prelude.{ℕ, min, Err, Ok, Result}
 use mathlib.Core.{Path.{◌≡◌}, List.{List, [], ◌∷◌}, Bool.{Bool, cond}, Option.{Option, some, none}}
 use lib.{Dec.{ltb, eqb}, ListN.{length}}
 use Rattle.limits.specs.Limits.{file_limit}
-use Rattle.refusal.specs.{declared.Refusal.TheVariants.{Plain}, declared.Counted.{Counted}, declared.Counted.TheVariants.{Count, Refused}}
-use Rattle.refusal.specs.Refusal.{put}
+use Rattle.refusal.specs.{Refusal.{put}, declared.Refusal.TheVariants.{BufferLength, NodeCount}}
 use Rattle.channel_file.specs.ChannelFile.{RuleItem, token_T, token_A, token_V, token_X, token_G, token_O, Token, Contents, text}
+use Rattle.refusal.specs.declared.Refusal.{Refusal}
 
 -- The item of a node: none for an unknown kind, or where an unused field is not 0 (Claims, NodeClaim).
 abbrev pub bare_token : {B : Type 0} → ℕ → Option (RuleItem B)
@@ -44,9 +44,9 @@ contents_of e v p (m ∷ ms) (some (x ∷ xs)) = some (record { events = e; valu
 -- ---- the text of contents, written into a buffer that held old
 module _ {A : Type 0} (text : A → List ℕ) (old : List ℕ) where
   -- The reply: 5 where there is nothing to write, 13 for a text longer than 4,096 bytes or than the buffer, or the text's length.
-  abbrev pub reply_by : Option A → Counted
-  reply_by none = Refused (Plain 5)
-  reply_by (some c) = cond (ltb (min file_limit (length old)) (length (text c))) (Refused (Plain 13)) (Count (length (text c)))
+  abbrev pub reply_by : Option A → Result ℕ Refusal
+  reply_by none = Err NodeCount
+  reply_by (some c) = cond (ltb (min file_limit (length old)) (length (text c))) (Err BufferLength) (Ok (length (text c)))
 
   -- The buffer afterwards; it is as before unless the text was written.
   abbrev pub buffer_by : Option A → List ℕ
@@ -54,15 +54,15 @@ module _ {A : Type 0} (text : A → List ℕ) (old : List ℕ) where
   buffer_by (some c) = cond (ltb (min file_limit (length old)) (length (text c))) old (put (text c) old)
 
 -- Reply and buffer of a call that writes a file.
-pub record WritesBy {A : Type 0} (text : A → List ℕ) (c : Option A) (old new : List ℕ) (r : Counted) : Type 0 where
+pub record WritesBy {A : Type 0} (text : A → List ℕ) (c : Option A) (old new : List ℕ) (r : Result ℕ Refusal) : Type 0 where
   pub reply : r ≡ reply_by text old c
   pub buffer : new ≡ buffer_by text old c
 
-abbrev pub written_reply : List ℕ → Option Contents → Counted
+abbrev pub written_reply : List ℕ → Option Contents → Result ℕ Refusal
 written_reply old o = reply_by text old o
 
 abbrev pub written_buffer : List ℕ → Option Contents → List ℕ
 written_buffer old o = buffer_by text old o
 
-abbrev pub WritesContents : Option Contents → List ℕ → List ℕ → Counted → Type 0
+abbrev pub WritesContents : Option Contents → List ℕ → List ℕ → Result ℕ Refusal → Type 0
 WritesContents = WritesBy text

@@ -10,57 +10,23 @@ ghost use Rattle.channel_file.specs.ChannelFile.{number, line};
 ghost use Rattle.channel_file.specs.FileFormat.{entries};
 ghost use Rattle.channel_file.specs.RegisterFile.{mask};
 ghost use Rattle.channel_writer.specs.Writing.{node_tokens, contents_of, WritesContents};
-ghost use Rattle.channel_writer.specs.Steps.{is_some, IsSome, has_bare, has_one, has_with, width, mask_at, value_at, value_text};
+ghost use Rattle.channel_writer.specs.Steps.{is_some, IsSome, has_with, width, mask_at, value_at, value_text};
 ghost use Rattle.channel_writer.specs.Steps.{is_unused, tokens_of, node_at, nodes_text, lines_text};
 
 use channel_file::Values;
 use limits::FILE_LIMIT;
-use refusal::{BUFFER_LENGTH, Counted, NODE_COUNT, Refusal};
+use refusal::Refusal;
 use text_output::{put, put_field, put_word};
 
-fn wide(x: u8) -> usize
-    ensures { (result ≡ x) × (result < 256) }
-{
-    x as usize
-}
-
-// Whether a kind alone has a token.
-fn has_bare_token(k: u8) -> bool
-    ensures { result ≡ has_bare k }
-{
-    if k == 0 {
-        return true;
-    }
-    if k == 4 {
-        return true;
-    }
-    if k == 5 { true } else { false }
-}
-
-// Whether a kind and a first field have a token.
-fn has_token_of_one(k: u8, a: u8) -> bool
-    ensures { result ≡ has_one k a }
-{
-    if k == 1 {
-        return true;
-    }
-    if k == 2 {
-        return true;
-    }
-    if a == 0 { has_bare_token(k) } else { false }
-}
-
-// Whether these have a token with a value, by whether the value is unused: 0.
+// Whether a kind and a first field have a token, by whether the value is unused: 0.
 fn has_token(k: u8, a: u8, unused: bool) -> bool
     ensures { result ≡ has_with unused k a }
 {
-    if k == 3 {
-        return true;
-    }
-    if unused {
-        has_token_of_one(k, a)
-    } else {
-        false
+    match k {
+        0 | 4 | 5 => unused && a == 0,
+        1 | 2 => unused,
+        3 => true,
+        _ => false,
     }
 }
 
@@ -79,7 +45,7 @@ fn mask_of(nodes: &[u8], i: usize) -> usize
     requires { i + 2 ≤ length nodes.now }
     ensures { (result ≡ mask_at nodes.now i) × (result < 65536) }
 {
-    wide(nodes[i]) + 256 * wide(nodes[i + 1])
+    usize::from(nodes[i]) + 256 * usize::from(nodes[i + 1])
 }
 
 // Whether the value of the node at an offset is 0.
@@ -90,13 +56,7 @@ fn unused_at(nodes: &[u8], i: usize, values: Values) -> bool
     let j = i + 2;
     match values {
         Values::Numbered => nodes[j] == 0,
-        Values::Register => {
-            if mask_of(nodes, j) == 0 {
-                mask_of(nodes, j + 2) == 0
-            } else {
-                false
-            }
-        }
+        Values::Register => mask_of(nodes, j) == 0 && mask_of(nodes, j + 2) == 0,
     }
 }
 
@@ -122,21 +82,21 @@ fn has_tokens(nodes: &[u8], values: Values) -> bool
 fn behind(i: usize, n: usize) -> u8
     ensures { result ≡ cond (ltb i n) 32 10 }
 {
-    if i < n { 32 } else { 10 }
+    if i < n { b' ' } else { b'\n' }
 }
 
 // A key and a number. This and the functions below put their texts into a buffer as those of text_output do.
 fn put_keyed(out: &mut [u8], at: usize, key: &[u8], v: u8) -> usize
     ensures { Puts out.old (key.now ++ number v) out.new at result }
 {
-    put_field(out, at, key, wide(v))
+    put_field(out, at, key, usize::from(v))
 }
 
 fn put_line(out: &mut [u8], at: usize, key: &[u8], v: u8) -> usize
     ensures { Puts out.old (line key.now (number v)) out.new at result }
 {
     let n = put_keyed(out, at, key, v);
-    put(out, n, 10)
+    put(out, n, b'\n')
 }
 
 // A dot and a mask.
@@ -188,11 +148,9 @@ fn put_meet(out: &mut [u8], at: usize, meet: &[u8]) -> usize
     ensures { Puts out.old (ascii "meet=" ++ entries.print meet.now) out.new at result }
 {
     let mut n = put_word(out, at, b"meet=");
-    let mut i = 0;
-    while i < meet.len() {
-        let m = put_keyed(out, n, b"", meet[i]);
-        i += 1;
-        n = put(out, m, behind(i, meet.len()));
+    for (i, v) in meet.iter().enumerate() {
+        let m = put_keyed(out, n, b"", *v);
+        n = put(out, m, behind(i + 1, meet.len()));
     }
     n
 }
@@ -233,28 +191,18 @@ pub fn write_text(
     meet: &[u8],
     nodes: &[u8],
     out: &mut [u8],
-) -> Counted
+) -> Result<usize, Refusal>
     ensures { WritesContents (contents_of events values top meet.now (node_tokens nodes.now))
         out.old out.new result }
 {
-    if meet.len() == 0 {
-        return Counted::Refused(Refusal::Plain(NODE_COUNT));
-    }
-    if nodes.len() == 0 {
-        return Counted::Refused(Refusal::Plain(NODE_COUNT));
-    }
-    if !has_tokens(nodes, Values::Numbered) {
-        return Counted::Refused(Refusal::Plain(NODE_COUNT));
+    if meet.is_empty() || nodes.is_empty() || !has_tokens(nodes, Values::Numbered) {
+        return Err(Refusal::NodeCount);
     }
     // into no buffer first, for its length
-    let mut none = [0u8; 0];
-    let size = put_lines(&mut none, events, values, top, meet, nodes);
-    if FILE_LIMIT < size {
-        return Counted::Refused(Refusal::Plain(BUFFER_LENGTH));
-    }
-    if out.len() < size {
-        return Counted::Refused(Refusal::Plain(BUFFER_LENGTH));
+    let size = put_lines(&mut [], events, values, top, meet, nodes);
+    if FILE_LIMIT.min(out.len()) < size {
+        return Err(Refusal::BufferLength);
     }
     put_lines(out, events, values, top, meet, nodes);
-    Counted::Count(size)
+    Ok(size)
 }

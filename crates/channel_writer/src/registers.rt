@@ -6,7 +6,7 @@ ghost use Rattle.channel_writer.specs.Steps.{IsSome, register_text};
 use crate::{has_tokens, put_line, put_rule};
 use channel_file::Values;
 use limits::FILE_LIMIT;
-use refusal::{BUFFER_LENGTH, Counted, NODE_COUNT, Refusal};
+use refusal::Refusal;
 
 fn put_lines(out: &mut [u8], events: u8, lines: u8, nodes: &[u8]) -> usize
     requires { IsSome (node_tokens nodes.now) }
@@ -19,24 +19,17 @@ fn put_lines(out: &mut [u8], events: u8, lines: u8, nodes: &[u8]) -> usize
 
 // Writes the text of a set-up's numbers and a rule's nodes, six bytes each: 5 without nodes, or where a node has no token; 13 for a text
 // over 4,096 bytes or longer than the buffer; else its length.
-pub fn write_text(events: u8, lines: u8, nodes: &[u8], out: &mut [u8]) -> Counted
+pub fn write_text(events: u8, lines: u8, nodes: &[u8], out: &mut [u8]) -> Result<usize, Refusal>
     ensures { WritesContents (contents_of events lines (node_tokens nodes.now)) out.old out.new result }
 {
-    if nodes.len() == 0 {
-        return Counted::Refused(Refusal::Plain(NODE_COUNT));
-    }
-    if !has_tokens(nodes, Values::Register) {
-        return Counted::Refused(Refusal::Plain(NODE_COUNT));
+    if nodes.is_empty() || !has_tokens(nodes, Values::Register) {
+        return Err(Refusal::NodeCount);
     }
     // into no buffer first, for its length
-    let mut none = [0u8; 0];
-    let size = put_lines(&mut none, events, lines, nodes);
-    if FILE_LIMIT < size {
-        return Counted::Refused(Refusal::Plain(BUFFER_LENGTH));
-    }
-    if out.len() < size {
-        return Counted::Refused(Refusal::Plain(BUFFER_LENGTH));
+    let size = put_lines(&mut [], events, lines, nodes);
+    if FILE_LIMIT.min(out.len()) < size {
+        return Err(Refusal::BufferLength);
     }
     put_lines(out, events, lines, nodes);
-    Counted::Count(size)
+    Ok(size)
 }

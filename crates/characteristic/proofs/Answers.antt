@@ -1,5 +1,5 @@
 -- The answer of a call and the buffer afterwards, from the answers of its parts; the rule of an accepted table is the written one.
-use mathlib.Core.{Path.{◌≡◌, sym, ◌∙◌, ap}, Option.{Option, none, some}, List.{List}}
+use mathlib.Core.{Path.{◌≡◌, sym, ◌∙◌, ap, subst}, Option.{Option, none, some}, List.{List}}
 use Prim.Native.Nat.{ℕ, suc, ◌-◌, ◌≤◌, ◌<◌}
 use native.Mathlib.Omega.{arith}
 use lib.ListN.{length}
@@ -7,14 +7,12 @@ use Rattle.limits.specs.Limits.{event_limit, table_limit, node_limit}
 use Rattle.theory.specs.Formula.{size}
 use Rattle.theory.specs.MealyMachine.{States, Runs}
 use Rattle.theory.proofs.CharacteristicFormula.{written_writes}
-use Rattle.refusal.specs.declared.{Refusal.{Refusal}, Counted.{Counted}}
-use Rattle.refusal.specs.declared.Judgement.TheVariants.{Accepted, Refused}
-use Rattle.refusal.specs.declared.Counted.TheVariants.{Refused as Uncounted}
-use Rattle.refusal.specs.RefusalAnswers.{or_else, judgement, counted}
-use Rattle.refusal.specs.RefusalAnswers.{put_unless}
+use Rattle.refusal.specs.declared.{Refusal.{Refusal}}
+use Rattle.refusal.specs.RefusalAnswers.{or_else, judgement, answered, put_unless}
 use Rattle.refusal.proofs.Refusals.{judgement_accepted, judgement_refused}
-use Rattle.values.specs.declared.ValueKind.{ValueKind}
-use Rattle.values.specs.Setup.{Setup, setup_of_kind, SetupValue}
+use Rattle.values.specs.declared.ValueSet.{ValueSet}
+use Rattle.values.specs.HandedIn.{setup_of_set}
+use Rattle.values.specs.Setup.{Setup, SetupValue}
 use Rattle.values.specs.SetupInOrder.{AcceptedSetup}
 use Rattle.values.specs.SetupTests.{setup_refusal}
 use Rattle.values.proofs.Setups.{setup_accepted}
@@ -23,8 +21,9 @@ use Rattle.machines.specs.{TableBytes.{entry_width, machine_of, TableInOrder}, T
 use Rattle.machines.proofs.TableRefusals.{none_in_order, accepted_table}
 use Rattle.characteristic.specs.RuleOfTable.{IsRuleOf}
 use Rattle.characteristic.specs.RuleWriting.{output_refusal, rule_of, write_refusal, write_answer, write_contents}
-use Rattle.characteristic.specs.NodeOutput.{Answered, Concluded}
+use Rattle.characteristic.specs.NodeOutput.{Answered}
 use Rattle.characteristic.proofs.Outputs.{refused_answer}
+use Rattle.std.specs.Prelude.{Err, Ok, Result}
 
 module _ (table_most node_most : ℕ) (s : Setup) (states start : ℕ) (table : List ℕ) where
   -- The first refusal, one part after the other.
@@ -57,21 +56,21 @@ module _ (table_most node_most : ℕ) (s : Setup) (states start : ℕ) (table : 
 
   -- The answer of a call and the buffer afterwards.
   module _ (old : List ℕ) where
-    abbrev Call : Counted → List ℕ → Type 0
+    abbrev pub Call : Result ℕ Refusal → List ℕ → Type 0
     Call r after =
         (r ≡ write_answer table_most node_most s states start table old)
         × (after ≡ write_contents table_most node_most s states start table old)
 
-    reason_given : (reason : Refusal) → write_refusal table_most node_most s states start table (length old) ≡ some reason → Call (Uncounted reason) old
+    reason_given : (reason : Refusal) → write_refusal table_most node_most s states start table (length old) ≡ some reason → Call (Err reason) old
     unfolding write_answer write_contents
     reason_given reason e = refused_answer reason _ _ old e
 
-    pub setup_refused : (reason : Refusal) → judgement (setup_refusal s) ≡ Refused reason → Call (Uncounted reason) old
-    setup_refused reason e = reason_given reason (setup_first (length old) reason (judgement_refused (setup_refusal s) reason e))
+    pub setup_refused : {r : Result ℕ Refusal} (reason : Refusal) → setup_refusal s ≡ some reason → r ≡ Err reason → Call r old
+    setup_refused reason e r_is = let given = reason_given reason (setup_first (length old) reason e) in (r_is ∙ given.0, given.1)
 
     table_refused :
         (reason : Refusal) → setup_refusal s ≡ none → table_refusal table_most s.events s.kind states start table ≡ some reason
-        → Call (Uncounted reason) old
+        → Call (Err reason) old
     table_refused reason e d = reason_given reason (table_reason (length old) reason e d)
 
   -- What is accepted: a table of at least one event with the start among its states, whose rule is the written one.
@@ -104,36 +103,49 @@ module _ (table_most node_most : ℕ) (s : Setup) (states start : ℕ) (table : 
         written_writes (machine_of s.kind s.events table) s.events (SetupValue s) states runs (s.events - 1) last_event start
         in_order.start_in
 
-  -- The answer of a call whose set-up and table are in order.
-  answered :
-      (old : List ℕ) {after : List ℕ} {r : Counted} → setup_refusal s ≡ none
-      → table_refusal table_most s.events s.kind states start table ≡ none
-      → Answered s.kind node_most s.events start table old after r → Call old r after
-  unfolding write_answer write_contents
-  answered old setup_in_order table_in_order a =
-      let last = output_last (length old) setup_in_order table_in_order in
-      let rule = is_rule setup_in_order table_in_order in (
-        a.answer (rule_of s states start table) rule ∙ ap (λ o. counted o (size (rule_of s states start table))) (sym last),
-        a.contents (rule_of s states start table) rule
-            ∙ ap (λ o. put_unless o (encode_formula (node_bytes s.kind) (rule_of s states start table)) old) (sym last),
-      )
+-- The answer of a call whose set-up and table are in order.
+call_answered :
+    (s : Setup) (states start : ℕ) (table old : List ℕ) {after : List ℕ} {r : Result ℕ Refusal} → setup_refusal s ≡ none
+    → table_refusal table_limit s.events s.kind states start table ≡ none
+    → Answered s.kind s.events start table old after r → Call table_limit node_limit s states start table old r after
+unfolding write_answer write_contents
+call_answered s states start table old setup_in_order table_in_order a =
+    let last = output_last table_limit node_limit s states start table (length old) setup_in_order table_in_order in
+    let rule = is_rule table_limit node_limit s states start table setup_in_order table_in_order in (
+      a.answer (rule_of s states start table) rule ∙ ap (λ o. answered o (size (rule_of s states start table))) (sym last),
+      a.contents (rule_of s states start table) rule
+          ∙ ap (λ o. put_unless o (encode_formula (node_bytes s.kind) (rule_of s states start table)) old) (sym last),
+    )
 
--- Over an accepted set-up of a kind: from the judgement of the table, and from the walk.
-module _ (events : ℕ) (kind : ValueKind) (states start : ℕ) (table old : List ℕ) where
+-- Over an accepted set-up: from the judgement of the table, and from the walk.
+module _ (s : Setup) (events : ℕ) (v : ValueSet) (accepted : setup_refusal s ≡ none) (yields : s ≡ setup_of_set events v) (states start : ℕ)
+    (table old : List ℕ) where
+  set_accepted : setup_refusal (setup_of_set events v) ≡ none
+  set_accepted = ap setup_refusal (sym yields) ∙ accepted
+
+  on_set : (P : Setup → Type 0) → P (setup_of_set events v) → P s
+  on_set P = subst P (sym yields)
+
   pub refused_table :
-      (reason : Refusal) → judgement (table_refusal table_limit events kind states start table) ≡ Refused reason
-      → Concluded events kind states start table old old (Uncounted reason)
-  refused_table reason d top meet e =
-      table_refused table_limit node_limit (setup_of_kind events kind top meet) states start table old reason e (judgement_refused _ reason d)
+      {r : Result ℕ Refusal} (reason : Refusal) → judgement (table_refusal table_limit events v.kind states start table) ≡ Err reason → r ≡ Err reason
+      → Call table_limit node_limit s states start table old r old
+  refused_table {r} reason d r_is =
+      on_set (λ t. Call table_limit node_limit t states start table old r old)
+      (let given = table_refused table_limit node_limit (setup_of_set events v) states start table old reason set_accepted (judgement_refused _ reason d) in
+      (r_is ∙ given.0, given.1))
 
-  module _ (d : judgement (table_refusal table_limit events kind states start table) ≡ Accepted) where
-    pub written_table : {after : List ℕ} {r : Counted} → Answered kind node_limit events start table old after r
-        → Concluded events kind states start table old after r
-    written_table a top meet e =
-        answered table_limit node_limit (setup_of_kind events kind top meet) states start table old e (judgement_accepted _ d) a
+  pub in_limits : (0 < events) × (events ≤ event_limit)
+  in_limits = let w = (setup_accepted (setup_of_set events v)).0 set_accepted in (omega (arith, w.some_events), omega (arith, w.few_events))
+
+  module _ (d : judgement (table_refusal table_limit events v.kind states start table) ≡ (Ok tt)) where
+    pub written_table : {after : List ℕ} {r : Result ℕ Refusal} → Answered v.kind events start table old after r
+        → Call table_limit node_limit s states start table old r after
+    written_table {after} {r} a =
+        on_set (λ t. Call table_limit node_limit t states start table old r after)
+        (call_answered (setup_of_set events v) states start table old set_accepted (judgement_accepted _ d) a)
 
     -- What the walk asks of the start.
-    pub small_start : start < 256
+    pub small_start : start < table_limit
     small_start =
-        let ok = none_in_order table_limit events kind states start table (judgement_accepted _ d) in
+        let ok = none_in_order table_limit events v.kind states start table (judgement_accepted _ d) in
         omega (arith, ok.start_in, ok.few_states)

@@ -1,8 +1,9 @@
--- Nodes appended to a buffer one after the other, up to a limit.
-use mathlib.Core.{Path.{◌≡◌, refl, sym, ◌∙◌, ap, subst}, List.{List, [], ◌∷◌, ◌++◌, append_assoc, append-nil}}
+-- Nodes appended to a list one after the other.
+use mathlib.Core.{Path.{◌≡◌, sym, ◌∙◌, ap}, List.{List, [], ◌∷◌, ◌++◌, append_assoc, append-nil}}
 use Prim.Native.Nat.{ℕ, suc, ◌+◌, ◌*◌, ◌≤◌, ◌<◌}
-use native.Mathlib.{Nat.{mul-le-mul, mul-le-mul_right}, Omega.{arith}}
-use lib.{ListN.{length, get_or, take, set, length-append, length-take}, Seq.{take_at, sets, length-sets, sets-eq}}
+use native.Mathlib.{Omega.{arith}}
+use lib.{ListN.{length, get_or, take, set, length-append, length-take}, Seq.{take_at, sets, sets-eq}}
+use Rattle.limits.specs.Limits.{node_limit}
 use Rattle.theory.specs.Formula.{Node}
 use Rattle.values.specs.declared.ValueKind.{ValueKind}
 use Rattle.values.specs.declared.ValueKind.TheVariants.{Numbered, Register}
@@ -11,93 +12,68 @@ use Rattle.formulas.specs.RuleConditions.{encode_all, node_width, node_bytes}
 use Rattle.formulas.proofs.{Encoding.{encode_append}, NodeCodes.{fields_same, node_code, next_node, width_is}}
 use Rattle.machines.specs.TableRefusal.{entry_value}
 use Rattle.machines.specs.Claims.{OfBytes}
-use Rattle.characteristic.specs.NodeOutput.{Appends, AppendsOne, HasRoom}
+use Rattle.characteristic.specs.declared.nodes.NodeList.{NodeList}
+use Rattle.characteristic.specs.NodeOutput.{Appended, listed}
 use Rattle.formulas.specs.NodeCode.{kind_number, first_field, value_field}
 
--- What is stored fits: 0, and what is read from bytes.
-pub zero_fits : (kind : ValueKind) → OfBytes kind 0
-zero_fits (Numbered n) = omega arith
-zero_fits (Register lines) = tt
-
+-- What is read from bytes fits them.
 pub read_fits : (kind : ValueKind) (bytes : List ℕ) (i : ℕ) → ((j : ℕ) → get_or bytes j 0 < 256) → OfBytes kind (entry_value kind bytes i)
 read_fits (Numbered n) bytes i small = small (i * 2)
 read_fits (Register lines) bytes i small = tt
 
-module _ (kind : ValueKind) {limit at : ℕ} where
-  -- Nothing fits any more.
-  pub nothing_fits :
-      (ns : List (Node ℕ)) (l : List ℕ) → limit ≤ at → at ≤ limit + 1 → 0 < length ns → Appends kind limit at ns l l (limit + 1)
-  nothing_fits ns l full within some_node =
-      record { position = omega arith; contents = λ h. absurd (omega arith); same_length = refl }
+-- The bytes of one node more lie within those of all nodes that a rule may have.
+pub node_room : (kind : ValueKind) {at : ℕ} → at < node_limit → at * node_width kind + 2 + value_width kind ≤ node_limit * 6
+node_room (Numbered n) below = omega arith
+node_room (Register lines) below = omega arith
 
-  -- The place of a node, and those of its bytes.
-  pub node_place : (l : List ℕ) → HasRoom kind limit at l → at < limit → at * node_width kind + 2 + value_width kind ≤ length l
-  node_place l h below =
-      let same : suc at ≡ at + 1 = omega arith in
-      omega (arith, h.room, mul-le-mul_right (node_width kind) below, ap (λ n. n * node_width kind) same, next_node kind at, width_is kind)
+-- One node.
+module _ (l : NodeList) (after : NodeList) (n : Node ℕ) {number first value place : ℕ} (room : length l.bytes ≡ node_limit * 6)
+    (below : l.count < node_limit) (kind_is : after.kind ≡ l.kind) (count_is : after.count ≡ l.count + 1) (place_is : place ≡ l.count * node_width l.kind)
+    (number_is : number ≡ kind_number n) (first_is : first ≡ first_field n) (value_is : value ≡ value_field n)
+    (stored : after.bytes ≡ sets (set (set l.bytes place number) (place + 1) first) (place + 2) (value_bytes l.kind value)) where
+  whole : after.bytes ≡ sets l.bytes (l.count * node_width l.kind) (node_bytes l.kind n)
+  whole =
+      let one : place + 1 ≡ suc (l.count * node_width l.kind) = omega (arith, place_is) in
+      let two : place + 2 ≡ suc (suc (l.count * node_width l.kind)) = omega (arith, place_is) in
+      let fields : after.bytes ≡ sets l.bytes (l.count * node_width l.kind) (kind_number n ∷ first_field n ∷ value_bytes l.kind (value_field n))
+      = stored ∙ cc (one, two, place_is, number_is, first_is, value_is) in
+      fields ∙ ap (sets l.bytes (l.count * node_width l.kind)) (sym (fields_same l.kind n))
 
-  pub stored_place :
-      (l : List ℕ) (w : ℕ) → HasRoom kind limit at l → at < limit → (w ≡ node_width kind) × (1 < w) × (w ≤ 6)
-      → (at * w < 1536) × (at * w + 2 + value_width kind ≤ length l)
-  stored_place l w h below (w_is, w_least, w_most) =
-      let few : at ≤ 255 = omega (arith, below, h.small_limit) in
-      let same : at * w ≡ at * node_width kind = ap (λ n. at * n) w_is in
-      (omega (arith, mul-le-mul few w_most), omega (arith, same, node_place l h below))
+  long : length (node_bytes l.kind n) ≡ node_width l.kind
+  long = (node_code l.kind).length_is n
 
-  -- One node.
-  pub one_node :
-      (l : List ℕ) (tag first value place : ℕ) (after : List ℕ) → HasRoom kind limit at l → at < limit → place ≡ at * node_width kind
-      → after ≡ sets (set (set l place tag) (place + 1) first) (place + 2) (value_bytes kind value)
-      → AppendsOne kind limit at tag first value l after (at + 1)
-  one_node l tag first value place after h below place_is stored n tag_is first_is value_is =
-      record { position = omega arith; contents = λ fits. contents'; same_length = ap length whole ∙ length-sets l _ (node_bytes kind n) }
-    where
-      whole : after ≡ sets l (at * node_width kind) (node_bytes kind n)
-      whole =
-          let one : place + 1 ≡ suc (at * node_width kind) = omega (arith, place_is) in
-          let two : place + 2 ≡ suc (suc (at * node_width kind)) = omega (arith, place_is) in
-          let fields : after ≡ sets l (at * node_width kind) (kind_number n ∷ first_field n ∷ value_bytes kind (value_field n))
-          = stored ∙ cc (one, two, place_is, tag_is, first_is, value_is) in
-          fields ∙ ap (sets l (at * node_width kind)) (sym (fields_same kind n))
+  fits : l.count * node_width l.kind + length (node_bytes l.kind n) ≤ length l.bytes
+  fits = omega (arith, long, node_room l.kind below, width_is l.kind, room)
 
-      long : length (node_bytes kind n) ≡ node_width kind
-      long = (node_code kind).length_is n
+  taken : length (listed l ++ node_bytes l.kind n) ≡ (l.count + 1) * node_width l.kind
+  taken =
+      length-append (listed l) (node_bytes l.kind n)
+      ∙ omega (arith, long, length-take (l.count * node_width l.kind) l.bytes, fits, next_node l.kind l.count)
 
-      room : at * node_width kind + length (node_bytes kind n) ≤ length l
-      room = omega (arith, long, node_place l h below, width_is kind)
-
-      taken : length (take (at * node_width kind) l ++ node_bytes kind n) ≡ (at + 1) * node_width kind
-      taken =
-          length-append (take (at * node_width kind) l) (node_bytes kind n)
-          ∙ omega (arith, long, length-take (at * node_width kind) l, room, next_node kind at)
-
-      contents' :
-          take ((at + 1) * node_width kind) after ≡ take (at * node_width kind) l ++ encode_all (node_bytes kind) (n ∷ [])
-      contents' =
-          ap (take ((at + 1) * node_width kind))
-          (whole ∙ sets-eq (node_bytes kind n) l (at * node_width kind) room)
-          ∙ take_at (take (at * node_width kind) l ++ node_bytes kind n) _ ((at + 1) * node_width kind) taken
-          ∙ ap (λ b. take (at * node_width kind) l ++ b) (sym (append-nil (node_bytes kind n)))
+  pub one_node : Appended (n ∷ []) l after
+  one_node =
+      record {
+        same_kind = kind_is;
+        count_is = omega (arith, count_is);
+        bytes_are =
+            cc (kind_is, count_is)
+            ∙ ap (take ((l.count + 1) * node_width l.kind)) (whole ∙ sets-eq (node_bytes l.kind n) l.bytes (l.count * node_width l.kind) fits)
+            ∙ take_at (listed l ++ node_bytes l.kind n) _ ((l.count + 1) * node_width l.kind) taken
+            ∙ ap (λ b. listed l ++ b) (sym (append-nil (node_bytes l.kind n)));
+      }
 
 -- Some nodes and then more.
 pub both :
-    {kind : ValueKind} {limit at p r : ℕ} {xs ys : List (Node ℕ)} {before between after : List ℕ}
-    → Appends kind limit at xs before between p → Appends kind limit p ys between after r
-    → Appends kind limit at (xs ++ ys) before after r
-both {kind} {limit} {at} {p} {r} {xs} {ys} {before} {between} {after} x y =
+    {xs ys : List (Node ℕ)} {before between after : NodeList} → Appended xs before between → Appended ys between after
+    → Appended (xs ++ ys) before after
+both {xs} {ys} {before} {between} {after} x y =
     record {
-      position = omega (arith, x.position, y.position, length-append xs ys);
-      contents = λ h.
-          let fits : p ≤ limit = omega (arith, x.position, y.position) in
-          y.contents h
-          ∙ ap (λ l. l ++ encode_all (node_bytes kind) ys) (x.contents fits)
-          ∙ append_assoc (take (at * node_width kind) before) (encode_all (node_bytes kind) xs) (encode_all (node_bytes kind) ys)
-          ∙ ap (λ l. take (at * node_width kind) before ++ l) (sym (encode_append (node_width kind) (node_bytes kind) (node_code kind) xs ys));
-      same_length = y.same_length ∙ x.same_length;
+      same_kind = y.same_kind ∙ x.same_kind;
+      count_is = omega (arith, x.count_is, y.count_is, length-append xs ys);
+      bytes_are =
+          y.bytes_are
+          ∙ ap (λ k. listed between ++ encode_all (node_bytes k) ys) x.same_kind
+          ∙ ap (λ l. l ++ encode_all (node_bytes before.kind) ys) x.bytes_are
+          ∙ append_assoc (listed before) (encode_all (node_bytes before.kind) xs) (encode_all (node_bytes before.kind) ys)
+          ∙ ap (λ l. listed before ++ l) (sym (encode_append (node_width before.kind) (node_bytes before.kind) (node_code before.kind) xs ys));
     }
-
--- The same nodes.
-pub same_nodes :
-    {kind : ValueKind} {limit at r : ℕ} {xs ys : List (Node ℕ)} {before after : List ℕ} → xs ≡ ys
-    → Appends kind limit at xs before after r → Appends kind limit at ys before after r
-same_nodes {kind} {limit} {at} {r} {xs} {ys} {before} {after} e x = subst (λ ns. Appends kind limit at ns before after r) e x

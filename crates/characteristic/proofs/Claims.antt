@@ -11,9 +11,8 @@ use Rattle.theory.specs.BinderDepth.{binder_depth}
 use Rattle.theory.specs.ReachableStates.{StatesAtMost}
 use Rattle.theory.proofs.{Claims.{characteristic}, CharacteristicFormula.{writes_one, writes_accepted, few_binders}}
 use Rattle.refusal.specs.Refusal.{plain, First, has_place, condition_numbers, right_places, part_of, order}
-use Rattle.refusal.specs.RefusalAnswers.{or_else, plain_unless, counted}
+use Rattle.refusal.specs.{RefusalAnswers.{or_else, plain_unless, answered, put_unless}, declared.Refusal.TheVariants.{BinderDepth, BufferLength, WrittenSize}}
 use Rattle.refusal.proofs.Refusals.{plain_first, first_then, first_append, or_else_none, plain_none}
-use Rattle.refusal.specs.RefusalAnswers.{put_unless}
 use Rattle.values.specs.{Setup.{Setup, SetupValue, setup_meet, setup_top, setup_conditions}, SetupTests.{setup_refusal}}
 use Rattle.values.proofs.Setups.{setup_first, judged_after_setup, setup_accepted}
 use Rattle.formulas.specs.{RuleConditions.{encode_formula, node_width, node_bytes}, RuleRefusal.{depth_refusal}}
@@ -21,8 +20,7 @@ use Rattle.formulas.proofs.{Encoding.{formula_length}, NodeCodes.{node_code}, Ru
 use Rattle.machines.specs.{TableBytes.{entry_width, machine_of, table_condition}, TableRefusal.{table_refusal}}
 use Rattle.machines.proofs.TableRefusals.{table_refusal_first}
 use Rattle.characteristic.specs.RuleOfTable.{IsRuleOf, TooManyNodes, WrittenTooDeep, BufferTooShort, write_conditions}
-use Rattle.characteristic.specs.RuleWriting.{output_refusal, rule_of, write_refusal}
-use Rattle.characteristic.specs.RuleWriting.{write_answer, write_contents}
+use Rattle.characteristic.specs.RuleWriting.{output_refusal, rule_of, write_refusal, write_answer, write_contents}
 use Rattle.characteristic.specs.Claims.{WriteRefusalClaim, RefusedClaim, RuleWritten, Written, WrittenClaim}
 use Rattle.characteristic.proofs.{Outputs.{refused_answer}, Answers.{is_rule, runs, last_event, start_within}}
 
@@ -36,32 +34,32 @@ module _ (table_most node_most : ℕ) (s : Setup) (states start : ℕ) (table : 
     bytes_of χ = formula_length (node_width s.kind) (node_bytes s.kind) (node_code s.kind) χ
 
     output_first :
-        First (plain 12 (TooManyNodes table_most node_most s states start table)
-        ∷ plain 23 (WrittenTooDeep table_most node_most s states start table)
-        ∷ plain 13 (BufferTooShort table_most node_most s states start table room)
+        First (plain WrittenSize (TooManyNodes table_most node_most s states start table)
+        ∷ plain BinderDepth (WrittenTooDeep table_most node_most s states start table)
+        ∷ plain BufferLength (BufferTooShort table_most node_most s states start table room)
         ∷ [])
         (output_refusal s.kind node_most φ room)
     unfolding output_refusal depth_refusal
     output_first =
         first_append
-        (plain 12 (TooManyNodes table_most node_most s states start table) ∷ [])
-        (plain 23 (WrittenTooDeep table_most node_most s states start table)
-        ∷ plain 13 (BufferTooShort table_most node_most s states start table room)
+        (plain WrittenSize (TooManyNodes table_most node_most s states start table) ∷ [])
+        (plain BinderDepth (WrittenTooDeep table_most node_most s states start table)
+        ∷ plain BufferLength (BufferTooShort table_most node_most s states start table room)
         ∷ [])
-        (plain_unless (leb (size φ) node_most) 12)
-        (or_else (depth_refusal φ) (plain_unless (leb (size φ * node_width s.kind) room) 13))
-        (plain_first 12 _ (leb (size φ) node_most)
+        (plain_unless (leb (size φ) node_most) WrittenSize)
+        (or_else (depth_refusal φ) (plain_unless (leb (size φ * node_width s.kind) room) BufferLength))
+        (plain_first WrittenSize _ (leb (size φ) node_most)
         (λ e. (φ, w, leb-false (size φ) node_most e))
         (λ e (χ, v, h). omega (arith, leb-true (size φ) node_most e, h, ap size (same_rule χ v))))
         (first_append
-        (plain 23 (WrittenTooDeep table_most node_most s states start table) ∷ [])
-        (plain 13 (BufferTooShort table_most node_most s states start table room) ∷ [])
+        (plain BinderDepth (WrittenTooDeep table_most node_most s states start table) ∷ [])
+        (plain BufferLength (BufferTooShort table_most node_most s states start table room) ∷ [])
         (depth_refusal φ)
-        (plain_unless (leb (size φ * node_width s.kind) room) 13)
-        (plain_first 23 _ (leb (binder_depth φ) binder_limit)
+        (plain_unless (leb (size φ * node_width s.kind) room) BufferLength)
+        (plain_first BinderDepth _ (leb (binder_depth φ) binder_limit)
         (λ e. (φ, w, (depth_claim ℕ φ binder_limit).1 (leb-false (binder_depth φ) binder_limit e)))
         (λ e (χ, v, h). omega (arith, leb-true (binder_depth φ) binder_limit e, (depth_claim ℕ χ binder_limit).0 h, ap binder_depth (same_rule χ v))))
-        (plain_first 13 _ (leb (size φ * node_width s.kind) room)
+        (plain_first BufferLength _ (leb (size φ * node_width s.kind) room)
         (λ e. (φ, w, omega (arith, leb-false (size φ * node_width s.kind) room e, bytes_of φ)))
         (λ e (χ, v, h).
         omega (arith, leb-true (size φ * node_width s.kind) room e, h, bytes_of χ, ap (λ y. size y * node_width s.kind) (same_rule χ v)))))
@@ -90,13 +88,13 @@ module _ (table_most node_most : ℕ) (s : Setup) (states start : ℕ) (table : 
   passed room e =
       let one = or_else_none (setup_refusal s) _ e in
       let two = or_else_none (table_refusal table_most s.events s.kind states start table) _ one.1 in
-      let three = or_else_none (plain_unless (leb (size (rule_of s states start table)) node_most) 12) _ two.1 in
+      let three = or_else_none (plain_unless (leb (size (rule_of s states start table)) node_most) WrittenSize) _ two.1 in
       let four = or_else_none (depth_refusal (rule_of s states start table)) _ three.1 in
       record {
         setup_passed = one.0;
         table_passed = two.0;
-        few_nodes = leb-true _ _ (plain_none _ 12 three.0);
-        shallow = leb-true _ _ (plain_none _ 23 four.0);
+        few_nodes = leb-true _ _ (plain_none _ WrittenSize three.0);
+        shallow = leb-true _ _ (plain_none _ BinderDepth four.0);
       }
 
 pub write_refusal_claim : WriteRefusalClaim
@@ -156,12 +154,12 @@ module _ (s : Setup) (states start : ℕ) (table old : List ℕ)
       at_most few (m, first, is_machine, (W, numbering, count)) = (m, first, is_machine, (W, numbering, omega arith))
 
   written : Written s states start table old
-  unfolding rule write_answer write_contents counted put_unless
+  unfolding rule write_answer write_contents answered put_unless
   written =
       record {
         rule = rule;
         rule_written = rule_written;
-        count_is_size = ap (λ o. counted o (size (rule_of s states start table))) passes;
+        count_is_size = ap (λ o. answered o (size (rule_of s states start table))) passes;
         bytes_put = ap (λ o. put_unless o (encode_formula (node_bytes s.kind) (rule_of s states start table)) old) passes;
       }
 

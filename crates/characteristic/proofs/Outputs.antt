@@ -1,88 +1,34 @@
--- The nodes listed in a buffer of the walk's own, judged by refusals 12, 23 and 13, and copied to the front of the lent buffer.
-use mathlib.Core.{Path.{◌≡◌, refl, sym, ◌∙◌, ap, ap₂}, Option.{Option, none, some}, List.{List, [], ◌++◌}}
-use Prim.Native.Nat.{ℕ, ◌+◌, ◌*◌, ◌≤◌, ◌<◌}
-use native.Mathlib.{Nat.{zero-mul, mul-le-mul}, Numerals.{add-one}, Omega.{arith}}
-use lib.{ListN.{length, get_or, take, set, replicate, length-take, length-replicate}, Seq.{take-suc}}
+-- The nodes that the walk lists, judged by refusals 12, 23 and 13, and copied to the front of the lent buffer.
+use mathlib.Core.{Path.{◌≡◌, sym, ◌∙◌, ap, subst}, Option.{Option as MathOption, none, some}, List.{List, [], ◌++◌}}
+use Prim.Native.Nat.{ℕ, ◌*◌, ◌≤◌, ◌<◌}
+use native.Mathlib.{Nat.{zero-mul}, Omega.{arith}}
+use lib.ListN.{length, take, replicate}
 use borrow.Author.Tests.{le-leb, lt-leb}
-use Rattle.limits.specs.Limits.{node_limit, binder_limit}
-use Rattle.theory.specs.{Formula.{Formula, size}, BinderDepth.{binder_depth}, CharacteristicFormula.{Writes}}
-use Rattle.refusal.specs.declared.Refusal.{Refusal}
-use Rattle.refusal.specs.declared.Refusal.TheVariants.{Plain}
-use Rattle.refusal.specs.declared.Counted.TheVariants.{Count, Refused}
-use Rattle.refusal.specs.declared.Counted.{Counted}
-use Rattle.refusal.specs.{Refusal.{put}, RefusalAnswers.{or_else, plain_unless, counted, put_unless}}
+use Rattle.std.specs.Prelude.{Err, Ok, Result, Option, None, Some}
+use Rattle.limits.specs.Limits.{table_limit, node_limit, binder_limit}
+use Rattle.theory.specs.{Formula.{Formula, size}, BinderDepth.{binder_depth}}
+use Rattle.refusal.specs.{declared.Refusal.{Refusal}, declared.Refusal.TheVariants.{BinderDepth, BufferLength, WrittenSize}}
+use Rattle.refusal.specs.{Refusal.{put}, RefusalAnswers.{or_else, plain_unless, answered, put_unless}}
 use Rattle.values.specs.declared.ValueKind.{ValueKind}
-use Rattle.values.specs.declared.ValueKind.TheVariants.{Numbered, Register}
 use Rattle.formulas.specs.{RuleConditions.{encode_formula, node_width, node_bytes}, RuleRefusal.{depth_refusal}}
-use Rattle.formulas.proofs.Prefix.{length_nodes}
-use Rattle.machines.specs.TableBytes.{machine_of}
-use Rattle.machines.proofs.Stores.{put_snoc}
+use Rattle.formulas.proofs.{Prefix.{length_nodes}, Encoding.{formula_length}, NodeCodes.{node_code}}
+use Rattle.characteristic.specs.declared.{machine.Machine.{Machine}, nodes.NodeList.{NodeList}, path.Path.{Path as OpenStates}}
 use Rattle.characteristic.specs.RuleOfTable.{IsRuleOf}
 use Rattle.characteristic.specs.RuleWriting.{output_refusal}
-use Rattle.characteristic.specs.NodeOutput.{HasRoom, Ready, Walked, Listed, Answered}
-use Rattle.characteristic.proofs.OpenPath.{path_empty}
-
--- ---- a copy, byte by byte
-pub copy_none : (from old : List ℕ) → old ≡ put (take 0 from) old
-unfolding put
-copy_none from old = refl
-
--- One byte more is copied.
-pub copy_more :
-    (from old : List ℕ) (i : ℕ) → i < length from → i < length old
-    → set (put (take i from) old) i (get_or from i 0) ≡ put (take (i + 1) from) old
-copy_more from old i inside room =
-    let long : length (take i from) ≡ i = length-take i from ∙ omega arith in
-    let stored = put_snoc (take i from) old (get_or from i 0) (omega (arith, long)) in
-    cc (long, stored, take-suc from i 0 inside, add-one i)
-
--- ---- the walk from the start, with no state open
-pub start_ready :
-    {kind : ValueKind} {limit events start : ℕ} {to : List ℕ} (n : ℕ) → 256 ≤ n → HasRoom kind limit 0 to → events ≤ 256 → start < 256
-    → {longest : ℕ} → Ready kind limit events 0 start 0 longest (replicate n 0) to
-start_ready n long h few small =
-    record {
-      has_room = h;
-      depths_room = omega (arith, length-replicate {A = ℕ} n 0);
-      path = [];
-      held = path_empty n;
-      shallow = omega arith;
-      counted = omega arith;
-      few_events = few;
-      small_state = small;
-    }
-
-pub walk_listed :
-    {kind : ValueKind} {limit start longest longest_after r : ℕ} {table depths_after before after : List ℕ} (events n : ℕ) → longest ≡ 0
-    → Walked kind limit (λ ps. Writes (machine_of kind events table) events ps start) 0 0 longest longest_after (replicate n 0) depths_after before after r
-    → Listed kind limit events start longest_after table before after r
-walk_listed events n none_yet w =
-    record {
-      same_length = w.same_length;
-      cut_off = w.within;
-      listed = w.written [] (path_empty n);
-      depth = λ φ x few. omega (arith, none_yet, w.longest_is [] (path_empty n) φ x few);
-    }
-
--- The bytes of a rule within the limit fit the buffer of the walk's own.
-pub rule_room : (kind : ValueKind) {to : List ℕ} → length to ≡ node_limit * 6 → HasRoom kind node_limit 0 to
-rule_room (Numbered n) e = record { room = omega (arith, e); small_limit = omega arith; at_within = omega arith }
-rule_room (Register lines) e = record { room = omega (arith, e); small_limit = omega arith; at_within = omega arith }
-
-pub rule_bytes : {count width : ℕ} → count ≤ node_limit → width ≤ 6 → count * width ≤ node_limit * 6
-rule_bytes few narrow = mul-le-mul few narrow
+use Rattle.characteristic.specs.NodeOutput.{IsPath, Ready, WalksState, Answered, WritesRule, listed}
+use Rattle.characteristic.proofs.{OpenPath.{path_empty}, Walks.{same_path}}
 
 -- ---- 12, 23 and 13
 module _ (kind : ValueKind) (limit : ℕ) (φ : Formula ℕ) (room : ℕ) where
-  pub over_limit : limit < size φ → output_refusal kind limit φ room ≡ some (Plain 12)
+  pub over_limit : limit < size φ → output_refusal kind limit φ room ≡ some WrittenSize
   unfolding output_refusal or_else plain_unless
   over_limit h = rw (lt-leb (size φ) limit h)
 
-  pub over_depth : size φ ≤ limit → binder_limit < binder_depth φ → output_refusal kind limit φ room ≡ some (Plain 23)
+  pub over_depth : size φ ≤ limit → binder_limit < binder_depth φ → output_refusal kind limit φ room ≡ some BinderDepth
   unfolding output_refusal depth_refusal or_else plain_unless
   over_depth h d = rw (le-leb (size φ) limit h, lt-leb (binder_depth φ) binder_limit d)
 
-  pub over_room : size φ ≤ limit → binder_depth φ ≤ binder_limit → room < size φ * node_width kind → output_refusal kind limit φ room ≡ some (Plain 13)
+  pub over_room : size φ ≤ limit → binder_depth φ ≤ binder_limit → room < size φ * node_width kind → output_refusal kind limit φ room ≡ some BufferLength
   unfolding output_refusal depth_refusal or_else plain_unless
   over_room h d k = rw (le-leb (size φ) limit h, le-leb (binder_depth φ) binder_limit d, lt-leb (size φ * node_width kind) room k)
 
@@ -92,71 +38,101 @@ module _ (kind : ValueKind) (limit : ℕ) (φ : Formula ℕ) (room : ℕ) where
 
 -- A refusal leaves the buffer.
 pub refused_answer :
-    {answer : Option Refusal} (refusal : Refusal) (count : ℕ) (output old : List ℕ) → answer ≡ some refusal
-    → (Refused refusal ≡ counted answer count) × (old ≡ put_unless answer output old)
-unfolding counted put_unless
-refused_answer refusal count output old e = (ap (λ o. counted o count) (sym e), ap (λ o. put_unless o output old) (sym e))
+    {answer : MathOption Refusal} (refusal : Refusal) (count : ℕ) (output old : List ℕ) → answer ≡ some refusal
+    → (Err refusal ≡ answered answer count) × (old ≡ put_unless answer output old)
+unfolding answered put_unless
+refused_answer refusal count output old e = (ap (λ o. answered o count) (sym e), ap (λ o. put_unless o output old) (sym e))
 
 accepted_answer :
-    {answer : Option Refusal} (count : ℕ) (output old : List ℕ) → answer ≡ none
-    → (Count count ≡ counted answer count) × (put output old ≡ put_unless answer output old)
-unfolding counted put_unless
-accepted_answer count output old e = (ap (λ o. counted o count) (sym e), ap (λ o. put_unless o output old) (sym e))
+    {answer : MathOption Refusal} (count : ℕ) (output old : List ℕ) → answer ≡ none
+    → (Ok count ≡ answered answer count) × (put output old ≡ put_unless answer output old)
+unfolding answered put_unless
+accepted_answer count output old e = (ap (λ o. answered o count) (sym e), ap (λ o. put_unless o output old) (sym e))
 
-module _ {kind : ValueKind} {limit events start : ℕ} {table : List ℕ} (old : List ℕ) where
+module _ {kind : ValueKind} {events start : ℕ} {table : List ℕ} (old : List ℕ) where
   -- The answer and the buffer, from what is said of the rule of the table.
   given :
-      {r : Counted} {after : List ℕ}
+      {r : Result ℕ Refusal} {after : List ℕ}
       → ((φ : Formula ℕ) → IsRuleOf events kind start table φ
-      → (r ≡ counted (output_refusal kind limit φ (length old)) (size φ))
-      × (after ≡ put_unless (output_refusal kind limit φ (length old)) (encode_formula (node_bytes kind) φ) old))
-      → Answered kind limit events start table old after r
+      → (r ≡ answered (output_refusal kind node_limit φ (length old)) (size φ))
+      × (after ≡ put_unless (output_refusal kind node_limit φ (length old)) (encode_formula (node_bytes kind) φ) old))
+      → Answered kind events start table old after r
   given both = record { answer = λ φ w. (both φ w).0; contents = λ φ w. (both φ w).1 }
 
   refused_by :
-      (r : Refusal) → ((φ : Formula ℕ) → IsRuleOf events kind start table φ → output_refusal kind limit φ (length old) ≡ some r)
-      → Answered kind limit events start table old old (Refused r)
+      (r : Refusal) → ((φ : Formula ℕ) → IsRuleOf events kind start table φ → output_refusal kind node_limit φ (length old) ≡ some r)
+      → Answered kind events start table old old (Err r)
   refused_by r meets = given λ φ w. refused_answer r (size φ) (encode_formula (node_bytes kind) φ) old (meets φ w)
 
-module _ {kind : ValueKind} {limit events start count longest : ℕ} {table blank listed : List ℕ}
-    (l : Listed kind limit events start longest table blank listed count) where
-  pub too_many : {old : List ℕ} → limit < count → Answered kind limit events start table old old (Refused (Plain 12))
-  too_many {old} h = refused_by old (Plain 12) λ φ w. over_limit kind limit φ (length old) (omega (arith, (l.listed φ w).position, length_nodes φ))
+-- What the walk asks of the start, with no state open and no nodes yet.
+pub start_ready :
+    (m : Machine) (start : ℕ) {p : OpenStates} {l : NodeList} → p.opened ≡ replicate table_limit None → p.depth ≡ 0 → l.kind ≡ m.kind → start < table_limit
+    → Ready m start p l
+start_ready m start none_open no_depth kind_is small =
+    record {
+      same_kind = kind_is;
+      held = record { states = []; is_path = same_path (sym no_depth) (sym none_open) (path_empty table_limit) };
+      shallow = omega (arith, no_depth);
+      small_state = small;
+    }
+
+-- The walk from the start, and what is made of it.
+module _ (m : Machine) (start : ℕ) {p p_after : OpenStates} {l l_after : NodeList} {walk : Option (Unit {0})}
+    (none_open : p.opened ≡ replicate table_limit None) (no_depth : p.depth ≡ 0) (kind_is : l.kind ≡ m.kind) (no_nodes : l.count ≡ 0)
+    (y : WalksState m start p p_after l l_after walk) (old : List ℕ) where
+  abbrev Ends : List ℕ → Result ℕ Refusal → Type 0
+  Ends after r = WritesRule m start old after r
+
+  abbrev IsRule : Formula ℕ → Type 0
+  IsRule φ = IsRuleOf m.events m.kind start m.entries.now φ
+
+  started : IsPath p.depth p.opened []
+  started = same_path (sym no_depth) (sym none_open) (path_empty table_limit)
+
+  pub too_many : {r : Result ℕ Refusal} → walk ≡ None → r ≡ Err WrittenSize → Ends old r
+  too_many {r} d r_is =
+      subst (Ends old) (sym r_is)
+      (refused_by old WrittenSize λ φ w. over_limit m.kind node_limit φ (length old) (omega (arith, no_nodes, y.too_many d [] started φ w)))
 
   -- Past 12 what is listed is the rule, and the longest path is its own.
-  module _ (h : count ≤ limit) where
-    same : (φ : Formula ℕ) → IsRuleOf events kind start table φ → count ≡ size φ
-    same φ w = omega (arith, h, (l.listed φ w).position, length_nodes φ)
+  module _ (done : walk ≡ Some tt) where
+    same : (φ : Formula ℕ) → IsRule φ → l_after.count ≡ size φ
+    same φ w = omega (arith, ((y.walked done).written [] started φ w).count_is, length_nodes φ, no_nodes)
 
-    pub path_too_long : {old : List ℕ} → binder_limit < longest → Answered kind limit events start table old old (Refused (Plain 23))
-    path_too_long {old} k =
-        refused_by old (Plain 23) λ φ w.
-        over_depth kind limit φ (length old) (omega (arith, h, same φ w)) (omega (arith, k, l.depth φ w h))
+    few : (φ : Formula ℕ) → IsRule φ → size φ ≤ node_limit
+    few φ w = omega (arith, l_after.within, same φ w)
 
-    module _ (few : longest ≤ binder_limit) {width : ℕ} (width_is : width ≡ node_width kind) where
-      shallow : (φ : Formula ℕ) → IsRuleOf events kind start table φ → binder_depth φ ≤ binder_limit
-      shallow φ w = omega (arith, few, l.depth φ w h)
+    its_bytes : (φ : Formula ℕ) → IsRule φ → listed l_after ≡ encode_formula (node_bytes m.kind) φ
+    its_bytes φ w =
+        ((y.walked done).written [] started φ w).bytes_are
+        ∙ ap (λ n. take (n * node_width l.kind) l.bytes ++ encode_formula (node_bytes l.kind) φ) no_nodes
+        ∙ ap (λ n. take n l.bytes ++ encode_formula (node_bytes l.kind) φ) (zero-mul (node_width l.kind))
+        ∙ ap (λ k. encode_formula (node_bytes k) φ) kind_is
 
-      bytes : (φ : Formula ℕ) → IsRuleOf events kind start table φ → count * width ≡ size φ * node_width kind
-      bytes φ w = ap₂ ◌*◌ (same φ w) width_is
+    byte_count : (φ : Formula ℕ) → IsRule φ → length (listed l_after) ≡ size φ * node_width m.kind
+    byte_count φ w = ap length (its_bytes φ w) ∙ formula_length (node_width m.kind) (node_bytes m.kind) (node_code m.kind) φ
 
-      pub too_short : {old : List ℕ} → length old < count * width → Answered kind limit events start table old old (Refused (Plain 13))
-      too_short {old} k =
-          refused_by old (Plain 13) λ φ w.
-          over_room kind limit φ (length old) (omega (arith, h, same φ w)) (shallow φ w) (omega (arith, k, bytes φ w))
+    module _ (no_longest : p.longest ≡ 0) where
+      depth_is : (φ : Formula ℕ) → IsRule φ → p_after.longest ≡ binder_depth φ
+      depth_is φ w = omega (arith, (y.walked done).longest_is [] started φ w, no_longest, no_depth)
 
-      pub all_copied :
-          {old after : List ℕ} → count * width ≤ length old → after ≡ put (take (count * width) listed) old
-          → Answered kind limit events start table old after (Count count)
-      all_copied {old} k copied =
-          given old λ φ w.
-          let done =
-          accepted_answer (size φ) (encode_formula (node_bytes kind) φ) old
-          (fits_room kind limit φ (length old) (omega (arith, h, same φ w)) (shallow φ w) (omega (arith, k, bytes φ w))) in (
-            ap Count (same φ w) ∙ done.0,
-            copied
-                ∙ ap (λ n. put (take (count * n) listed) old) width_is
-                ∙ ap (λ b. put b old)
-                ((l.listed φ w).contents h ∙ ap (λ n. take n blank ++ encode_formula (node_bytes kind) φ) (zero-mul (node_width kind)))
-                ∙ done.1,
-          )
+      pub path_too_long : binder_limit < p_after.longest → Ends old (Err BinderDepth)
+      path_too_long k =
+          refused_by old BinderDepth λ φ w. over_depth m.kind node_limit φ (length old) (few φ w) (omega (arith, k, depth_is φ w))
+
+      module _ (shallow : p_after.longest ≤ binder_limit) where
+        not_deep : (φ : Formula ℕ) → IsRule φ → binder_depth φ ≤ binder_limit
+        not_deep φ w = omega (arith, shallow, depth_is φ w)
+
+        pub too_short : length old < length (listed l_after) → Ends old (Err BufferLength)
+        too_short k =
+            refused_by old BufferLength λ φ w.
+            over_room m.kind node_limit φ (length old) (few φ w) (not_deep φ w) (omega (arith, k, byte_count φ w))
+
+        pub all_copied : {after : List ℕ} → length (listed l_after) ≤ length old → after ≡ put (listed l_after) old → Ends after (Ok l_after.count)
+        all_copied k copied =
+            given old λ φ w.
+            let done =
+            accepted_answer (size φ) (encode_formula (node_bytes m.kind) φ) old
+            (fits_room m.kind node_limit φ (length old) (few φ w) (not_deep φ w) (omega (arith, k, byte_count φ w))) in
+            (ap Ok (same φ w) ∙ done.0, copied ∙ ap (λ b. put b old) (its_bytes φ w) ∙ done.1)

@@ -5,9 +5,8 @@ use native.Mathlib.Omega.{arith}
 use lib.{Dec.{lit≤}, ListN.{length}}
 use Rattle.limits.specs.Limits.{node_limit, binder_limit, table_limit}
 use Rattle.theory.specs.{Formula.{Formula, size}, BinderDepth.{binder_depth}, ValueSetTests.{every}}
-use Rattle.refusal.specs.declared.{Refusal.{Refusal}, Refusal.TheVariants.{Plain}}
-use Rattle.refusal.specs.declared.Counted.TheVariants.{Count, Refused}
-use Rattle.refusal.specs.RefusalAnswers.{counted, plain_unless}
+use Rattle.refusal.specs.{declared.{Refusal.{Refusal}}, declared.Refusal.TheVariants.{BinderDepth, WrittenSize}}
+use Rattle.refusal.specs.RefusalAnswers.{answered, plain_unless}
 use Rattle.values.specs.declared.ValueKind.TheVariants.{Numbered}
 use Rattle.values.specs.{Setup.{Setup}, SetupTests.{setup_refusal}}
 use Rattle.values.proofs.Setups.{four_value_setup}
@@ -16,6 +15,7 @@ use Rattle.machines.specs.TableRefusal.{table_test, entry_test, table_refusal}
 use Rattle.characteristic.specs.RuleWriting.{output_refusal, rule_of, write_answer}
 use Rattle.characteristic.specs.WrittenCases.{four_values, chain_rows, ChainClaim}
 use Rattle.characteristic.proofs.{Outputs.{over_limit, over_depth, fits_room}, Answers.{output_last}}
+use Rattle.std.specs.Prelude.{Err, Ok}
 
 -- The answer for a set-up and a table that are in order, from the size and the depth of the rule.
 module _ (s : Setup) (states start : ℕ) (rows old : List ℕ) (setup_passed : setup_refusal s ≡ none)
@@ -25,28 +25,28 @@ module _ (s : Setup) (states start : ℕ) (rows old : List ℕ) (setup_passed : 
 
   answer :
       {o : Option Refusal} → output_refusal s.kind node_limit rule (length old) ≡ o
-      → write_answer table_limit node_limit s states start rows old ≡ counted o (size rule)
+      → write_answer table_limit node_limit s states start rows old ≡ answered o (size rule)
   unfolding write_answer rule
   answer e =
-      ap (λ o. counted o (size (rule_of s states start rows)))
+      ap (λ o. answered o (size (rule_of s states start rows)))
       (output_last table_limit node_limit s states start rows (length old) setup_passed table_passed ∙ e)
 
   answer_fits :
       (k : ℕ) → size rule ≡ k → k ≤ node_limit → binder_depth rule ≤ binder_limit → k * node_width s.kind ≤ length old
-      → write_answer table_limit node_limit s states start rows old ≡ Count k
-  unfolding counted
+      → write_answer table_limit node_limit s states start rows old ≡ Ok k
+  unfolding answered
   answer_fits k e few shallow room =
       answer (fits_room s.kind node_limit rule (length old) (omega (arith, e)) shallow
       (omega (arith, room, ap (λ n. n * node_width s.kind) e)))
-      ∙ ap Count e
+      ∙ ap Ok e
 
   answer_deep :
-      size rule ≤ node_limit → binder_limit < binder_depth rule → write_answer table_limit node_limit s states start rows old ≡ Refused (Plain 23)
-  unfolding counted
+      size rule ≤ node_limit → binder_limit < binder_depth rule → write_answer table_limit node_limit s states start rows old ≡ Err BinderDepth
+  unfolding answered
   answer_deep few deep = answer (over_depth s.kind node_limit rule (length old) few deep)
 
-  answer_over : node_limit < size rule → write_answer table_limit node_limit s states start rows old ≡ Refused (Plain 12)
-  unfolding counted
+  answer_over : node_limit < size rule → write_answer table_limit node_limit s states start rows old ≡ Err WrittenSize
+  unfolding answered
   answer_over many = answer (over_limit s.kind node_limit rule (length old) many)
 
 one_event : setup_refusal (four_values 1) ≡ none

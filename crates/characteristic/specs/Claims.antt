@@ -1,9 +1,9 @@
 -- What is claimed of the rule of a table (document 01, "Rule of a table" and refusals 12 and 13; document 02, F-7 and F-9); proofs/Claims has a proof of each.
 use mathlib.Core.{Path.{◌≡◌}, Option.{none, some}, List.{List}}
-use Rattle.std.specs.Prelude.{ℕ, suc, ◌+◌, ◌*◌, ◌≤◌, ◌<◌, length}
+use Rattle.std.specs.Prelude.{ℕ, suc, ◌+◌, ◌*◌, ◌≤◌, ◌<◌, length, Err, Ok}
 use Rattle.theory.specs.{Formula.{Formula, size, Answers}, FormulaClasses.{binders, Accepted}, MealyMachine.{Machine, Word, after}}
 use Rattle.theory.specs.ReachableStates.{IsTableOf, StatesAtMost}
-use Rattle.refusal.specs.{declared.Refusal.{Refusal}, declared.Counted.TheVariants.{Count, Refused}, Refusal.{Judged, put}}
+use Rattle.refusal.specs.{declared.Refusal.{Refusal}, Refusal.{Judged, put}}
 use Rattle.values.specs.Setup.{Setup, SetupValue, setup_meet, setup_top}
 use Rattle.formulas.specs.{RuleConditions.{encode_formula, node_width, node_bytes}, RuleRefusal.{rule_refusal}}
 use Rattle.machines.specs.TableBytes.{machine_of}
@@ -40,14 +40,14 @@ abbrev pub RefusedClaim : Type 0
 RefusedClaim =
     (table_most node_most : ℕ) (s : Setup) (states start : ℕ) (table old : List ℕ) (refusal : Refusal)
     → write_refusal table_most node_most s states start table (length old) ≡ some refusal
-    → (write_answer table_most node_most s states start table old ≡ Refused refusal)
+    → (write_answer table_most node_most s states start table old ≡ Err refusal)
     × (write_contents table_most node_most s states start table old ≡ old)
 
 -- An accepted call answers the node count of the written rule, and the buffer gets its nodes.
 pub record Written (s : Setup) (states start : ℕ) (table old : List ℕ) : Type 0 where
   pub rule : Formula ℕ
   pub rule_written : RuleWritten s start table rule
-  pub count_is_size : write_answer table_limit node_limit s states start table old ≡ Count (size rule)
+  pub count_is_size : write_answer table_limit node_limit s states start table old ≡ Ok (size rule)
   pub bytes_put : write_contents table_limit node_limit s states start table old ≡ put (encode_formula (node_bytes s.kind) rule) old
 
 abbrev pub WrittenClaim : Type 0

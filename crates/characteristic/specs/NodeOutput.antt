@@ -1,84 +1,110 @@
--- What the parts of the walk over a table promise: nodes appended to a buffer up to a limit, and the path of open states.
-use mathlib.Core.{Path.{◌≡◌}, Option.{none}, List.{List, [], ◌∷◌, ◌++◌}}
-use Rattle.std.specs.Prelude.{ℕ, ◌+◌, ◌*◌, ◌-◌, ◌≤◌, ◌<◌, min, max, length, get_or, take}
+-- What the parts of the walk over a table promise: nodes appended to a list up to the limit, and the path of open states.
+use mathlib.Core.{Path.{◌≡◌}, List.{List, [], ◌∷◌, ◌++◌}}
+use Rattle.std.specs.Prelude.{ℕ, ◌+◌, ◌*◌, ◌-◌, ◌≤◌, ◌<◌, max, length, get_or, take, Option, None, Some, option_map, Result}
 use Rattle.limits.specs.Limits.{table_limit, node_limit}
-use Rattle.theory.specs.{Formula.{Formula, size, Node, nodes}, BinderDepth.{binder_depth}, CharacteristicFormula.{OpenAt}}
-use Rattle.refusal.specs.{declared.Counted.{Counted}, RefusalAnswers.{counted, put_unless}}
-use Rattle.values.specs.{declared.ValueKind.{ValueKind}, Setup.{setup_of_kind}, SetupTests.{setup_refusal}}
-use Rattle.formulas.specs.{NodeCode.{kind_number, first_field, value_field}, RuleConditions.{encode_all, encode_formula, node_width, node_bytes}}
-use Rattle.characteristic.specs.{RuleOfTable.{IsRuleOf}, RuleWriting.{output_refusal, write_answer, write_contents}}
+use Rattle.theory.specs.MealyMachine.{Machine as MealyMachine}
+use Rattle.theory.specs.{Formula.{Formula, size, Node, nodes}, BinderDepth.{binder_depth}, CharacteristicFormula.{OpenAt, Writes, Rows}}
+use Rattle.theory.specs.Formula.{variable_node, transition_node, output_node, conjunction_node, greatest_node}
+use Rattle.refusal.specs.{RefusalAnswers.{answered, put_unless}}
+use Rattle.refusal.specs.declared.Refusal.{Refusal}
+use Rattle.values.specs.declared.ValueKind.{ValueKind}
+use Rattle.formulas.specs.{NodeCode.{first_field, value_field}, RuleConditions.{encode_all, encode_formula, node_width, node_bytes}}
+use Rattle.machines.specs.{TableBytes.{machine_of}, Claims.{OfBytes}}
+use Rattle.characteristic.specs.{RuleOfTable.{IsRuleOf}, RuleWriting.{output_refusal}}
+use Rattle.characteristic.specs.declared.{machine.Machine.{Machine}, nodes.NodeList.{NodeList}, path.Path.{Path as OpenStates}}
+use Rattle.characteristic.specs.declared.nodes.Node.{Node as WrittenNode}
+use Rattle.characteristic.specs.declared.nodes.Node.TheVariants.{Variable, Transition, Output, Conjunction, Greatest}
 
--- Nodes with values of a kind, in so many bytes each.
-module _ (kind : ValueKind) (limit at : ℕ) where
-  -- After `at` nodes, more nodes are appended; `r` is the node count afterwards. One more than the limit says that the nodes do not
-  -- fit, and then the buffer's contents are no matter.
-  pub record Appends (ns : List (Node ℕ)) (before after : List ℕ) (r : ℕ) : Type 0 where
-    pub position : r ≡ min (at + length ns) (limit + 1)
-    pub contents : r ≤ limit → take (r * node_width kind) after ≡ take (at * node_width kind) before ++ encode_all (node_bytes kind) ns
-    pub same_length : length after ≡ length before
+-- The machine of a table that is read.
+abbrev pub mealy_of : Machine → MealyMachine ℕ ℕ
+mealy_of m = machine_of m.kind m.events m.entries.now
 
-  -- The node with these fields is appended.
-  abbrev pub AppendsOne : (tag first value : ℕ) (before after : List ℕ) → ℕ → Type 0
-  AppendsOne tag first value before after r =
-      (n : Node ℕ) → tag ≡ kind_number n → first ≡ first_field n → value ≡ value_field n → Appends (n ∷ []) before after r
+-- The node that is appended.
+abbrev pub node_of : WrittenNode → Node ℕ
+node_of (Variable binders) = variable_node binders
+node_of (Transition event) = transition_node event
+node_of (Output event value) = output_node event value
+node_of Conjunction = conjunction_node
+node_of Greatest = greatest_node
 
-  -- A buffer with room for `limit` nodes, of which `at` are there; the limit lets a node number fit a byte.
-  pub record HasRoom (to : List ℕ) : Type 0 where
-    pub room : limit * node_width kind ≤ length to
-    pub small_limit : limit ≤ 256
-    pub at_within : at ≤ limit + 1
+-- Its fields fit the bytes of a node.
+abbrev pub FitsBytes : ValueKind → Node ℕ → Type 0
+FitsBytes kind n = (first_field n < 256) × OfBytes kind (value_field n)
 
--- The array holds the path of `depth` open states, the innermost first: of each open state its depth on the path, from 1 on; of
--- each other state 0.
-pub record OpenPath (depth : ℕ) (depths path : List ℕ) : Type 0 where
-  pub at_most : (s : ℕ) → get_or depths s 0 ≤ depth
-  pub open_there : (s : ℕ) → 0 < get_or depths s 0 → OpenAt s path (depth - get_or depths s 0)
-  pub not_open : (s : ℕ) → get_or depths s 0 ≡ 0 → (i : ℕ) → ¬ OpenAt s path i
+-- The bytes of the nodes of a list.
+abbrev pub listed : NodeList → List ℕ
+listed l = take (l.count * node_width l.kind) l.bytes
 
-module _ (kind : ValueKind) (limit : ℕ) where
-  -- What the walk asks: room for the nodes and for each state's depth, an open path, no longer than the longest so far, and states and
-  -- events that index the table.
-  pub record Ready (events depth state at longest : ℕ) (depths to : List ℕ) : Type 0 where
-    pub has_room : HasRoom kind limit at to
-    pub depths_room : 256 ≤ length depths
-    pub path : List ℕ
-    pub held : OpenPath depth depths path
-    pub shallow : depth ≤ at
-    pub counted : depth ≤ longest
-    pub few_events : events ≤ 256
-    pub small_state : state < 256
+-- Nodes are appended to a list.
+pub record Appended (ns : List (Node ℕ)) (before after : NodeList) : Type 0 where
+  pub same_kind : after.kind ≡ before.kind
+  pub count_is : after.count ≡ before.count + length ns
+  pub bytes_are : listed after ≡ listed before ++ encode_all (node_bytes before.kind) ns
 
-  -- What the walk yields: the nodes of each formula that is the one to be written below the open path are appended, the depths are as
-  -- they were, and the longest path of open states so far is kept.
-  pub record Walked (Of : List ℕ → Formula ℕ → Type 0) (depth at longest longest_after : ℕ) (depths depths_after before after : List ℕ) (r : ℕ) : Type 0 where
-    pub rises : at ≤ r
-    pub within : r ≤ limit + 1
-    pub same_length : length after ≡ length before
-    pub same_depths : depths_after ≡ depths
-    pub longer : longest ≤ longest_after
+-- A node is appended, or there are too many.
+pub record Appends (n : Node ℕ) (before after : NodeList) (r : Option (Unit {0})) : Type 0 where
+  pub appended : r ≡ Some tt → Appended (n ∷ []) before after
+  pub too_many : r ≡ None → node_limit ≤ before.count
+
+-- These states are open, the innermost first: of each open state the array has how many were open with it when it was opened.
+pub record IsPath (depth : ℕ) (opened : List (Option ℕ)) (states : List ℕ) : Type 0 where
+  pub inside : (s d : ℕ) → get_or opened s None ≡ Some d → (0 < d) × (d ≤ depth)
+  pub open_there : (s d : ℕ) → get_or opened s None ≡ Some d → OpenAt s states (depth - d)
+  pub not_open : (s : ℕ) → get_or opened s None ≡ None → (i : ℕ) → ¬ OpenAt s states i
+
+-- How many states were opened after a state, if it is open.
+abbrev pub place_of : OpenStates → ℕ → Option ℕ
+place_of p s = option_map (λ d. p.depth - d) (get_or p.opened s None)
+
+-- Some states are open.
+pub record Held (p : OpenStates) : Type 0 where
+  pub states : List ℕ
+  pub is_path : IsPath p.depth p.opened states
+
+-- What the walk asks: values of the machine's kind, a path no longer than the list, and a state that indexes the table.
+pub record Ready (m : Machine) (state : ℕ) (p : OpenStates) (l : NodeList) : Type 0 where
+  pub same_kind : l.kind ≡ m.kind
+  pub held : Held p
+  pub shallow : p.depth ≤ l.count
+  pub small_state : state < table_limit
+
+-- A formula for each path of open states.
+module _ (Of : List ℕ → Formula ℕ → Type 0) (p p_after : OpenStates) (l l_after : NodeList) where
+  -- The nodes of each formula that is the one to be written below the open path are appended, the path is as it was, and the
+  -- longest path of open states so far is kept.
+  pub record Walked : Type 0 where
+    pub same_kind : l_after.kind ≡ l.kind
+    pub rises : l.count ≤ l_after.count
+    pub same_opened : p_after.opened ≡ p.opened
+    pub same_depth : p_after.depth ≡ p.depth
+    pub longer : p.longest ≤ p_after.longest
     pub longest_is :
-        (path : List ℕ) → OpenPath depth depths path → (φ : Formula ℕ) → Of path φ → r ≤ limit → longest_after ≡ max longest (depth + binder_depth φ)
-    pub written :
-        (path : List ℕ) → OpenPath depth depths path → (φ : Formula ℕ) → Of path φ → Appends kind limit at (nodes φ) before after r
+        (states : List ℕ) → IsPath p.depth p.opened states → (φ : Formula ℕ) → Of states φ
+        → p_after.longest ≡ max p.longest (p.depth + binder_depth φ)
+    pub written : (states : List ℕ) → IsPath p.depth p.opened states → (φ : Formula ℕ) → Of states φ → Appended (nodes φ) l l_after
 
-  -- The nodes of the rule of a table in a buffer, from its front; their count is cut off at one more than the limit. Where they fit,
-  -- the longest path of open states is the most V nodes on a path.
-  pub record Listed (events start longest : ℕ) (table before after : List ℕ) (r : ℕ) : Type 0 where
-    pub same_length : length after ≡ length before
-    pub cut_off : r ≤ limit + 1
-    pub listed : (φ : Formula ℕ) → IsRuleOf events kind start table φ → Appends kind limit 0 (nodes φ) before after r
-    pub depth : (φ : Formula ℕ) → IsRuleOf events kind start table φ → r ≤ limit → longest ≡ binder_depth φ
+  -- Each such formula has too many nodes.
+  abbrev pub Outgrown : Type 0
+  Outgrown = (states : List ℕ) → IsPath p.depth p.opened states → (φ : Formula ℕ) → Of states φ → node_limit < l.count + size φ
 
-  -- The answer and the buffer after the rule of a table is written, 12, 23 and 13 judged.
-  pub record Answered (events start : ℕ) (table before after : List ℕ) (r : Counted) : Type 0 where
-    pub answer : (φ : Formula ℕ) → IsRuleOf events kind start table φ → r ≡ counted (output_refusal kind limit φ (length before)) (size φ)
-    pub contents :
-        (φ : Formula ℕ) → IsRuleOf events kind start table φ
-        → after ≡ put_unless (output_refusal kind limit φ (length before)) (encode_formula (node_bytes kind) φ) before
+  -- What the walk yields.
+  pub record Walks (r : Option (Unit {0})) : Type 0 where
+    pub walked : r ≡ Some tt → Walked
+    pub too_many : r ≡ None → Outgrown
 
--- The answer and the buffer after a call over an accepted set-up, whatever its top and meet.
-abbrev pub Concluded : (events : ℕ) → ValueKind → (states start : ℕ) (table before after : List ℕ) → Counted → Type 0
-Concluded events kind states start table before after r =
-    (top : ℕ) (meet : List ℕ) → setup_refusal (setup_of_kind events kind top meet) ≡ none
-    → (r ≡ write_answer table_limit node_limit (setup_of_kind events kind top meet) states start table before)
-    × (after ≡ write_contents table_limit node_limit (setup_of_kind events kind top meet) states start table before)
+-- The rule of a state; and the rows of a state from an event on.
+abbrev pub WalksState : Machine → ℕ → (p p_after : OpenStates) (l l_after : NodeList) → Option (Unit {0}) → Type 0
+WalksState m state = Walks (λ states. Writes (mealy_of m) m.events states state)
+
+abbrev pub WalksRows : Machine → (state event : ℕ) (p p_after : OpenStates) (l l_after : NodeList) → Option (Unit {0}) → Type 0
+WalksRows m state event = Walks (λ states. Rows (mealy_of m) m.events states state event)
+
+-- The answer and the buffer after the rule of a table is written, 12, 23 and 13 judged.
+pub record Answered (kind : ValueKind) (events start : ℕ) (table before after : List ℕ) (r : Result ℕ Refusal) : Type 0 where
+  pub answer : (φ : Formula ℕ) → IsRuleOf events kind start table φ → r ≡ answered (output_refusal kind node_limit φ (length before)) (size φ)
+  pub contents :
+      (φ : Formula ℕ) → IsRuleOf events kind start table φ
+      → after ≡ put_unless (output_refusal kind node_limit φ (length before)) (encode_formula (node_bytes kind) φ) before
+
+abbrev pub WritesRule : Machine → (start : ℕ) (before after : List ℕ) → Result ℕ Refusal → Type 0
+WritesRule m start = Answered m.kind m.events start m.entries.now

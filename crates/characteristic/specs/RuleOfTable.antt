@@ -2,7 +2,7 @@
 use mathlib.Core.{Path.{◌≡◌}, List.{List, [], ◌∷◌, ◌++◌}, Option.{none}}
 use Rattle.std.specs.Prelude.{ℕ, ◌<◌, length}
 use Rattle.theory.specs.{Formula.{Formula, size, Answers}, MealyMachine.{Word, after}, CharacteristicFormula.{Writes}}
-use Rattle.refusal.specs.Refusal.{Condition, plain, First}
+use Rattle.refusal.specs.{Refusal.{Condition, plain, First}, declared.Refusal.TheVariants.{BinderDepth, BufferLength, WrittenSize}}
 use Rattle.values.specs.{declared.ValueKind.{ValueKind}, Setup.{Setup, SetupValue, setup_meet, setup_top, setup_conditions}}
 use Rattle.limits.specs.Limits.{binder_limit}
 use Rattle.formulas.specs.RuleConditions.{encode_formula, node_bytes, TooDeep, byte_conditions}
@@ -29,9 +29,9 @@ module _ (table_most node_most : ℕ) (s : Setup) (states start : ℕ) (table : 
   unfoldable pub write_conditions : ℕ → List Condition
   write_conditions room = setup_conditions s
       ++ (table_condition (entry_width s.kind) table_most s.events (SetupValue s) states start table (machine_of s.kind s.events table)
-      ∷ plain 12 TooManyNodes
-      ∷ plain 23 WrittenTooDeep
-      ∷ plain 13 (BufferTooShort room)
+      ∷ plain WrittenSize TooManyNodes
+      ∷ plain BinderDepth WrittenTooDeep
+      ∷ plain BufferLength (BufferTooShort room)
       ∷ [])
 
 -- "Each rule so written is accepted as a rule and its values are the start state's on every event sequence."

@@ -2,18 +2,21 @@
 use Prim.Native.Nat.{ℕ, zero, suc, ◌≤◌}
 use mathlib.Core.Path.{◌≡◌, refl, sym, ap, ap₂, ◌∙◌, subst}
 use mathlib.Core.List.{List, [], ◌∷◌, ◌++◌, append_assoc, Memᴰ}
-use mathlib.Core.Bool.{Bool, true, false, cond, ◌&&◌}
+use mathlib.Core.Bool.{Bool, true, false, cond}
 use native.Mathlib.Omega.{arith}
-use lib.{Dec.{eqb}, ListN.{length, take, take-append-drop, length-drop}}
+use lib.{ListN.{length, take, take-append-drop, length-drop}}
 use borrow.Author.Tests.{eqb-true, eqb-false, ne_eqb}
+use Rattle.std.specs.Prelude.{Some}
+use Rattle.std.specs.Str.{bytes_eq}
+use Rattle.std.proofs.lemmas.Slice.Eq.{bytes_eq-Decides}
 use Rattle.command_line.specs.declared.Command.{Command}
 use Rattle.command_line.specs.Words.{NoSpace, Ends, Words, at_end, at_space, end, space, next_word, is_space, words, led, lengthened}
 use Rattle.command_line.specs.{Words.{before, after_spaces, after_word, rest}, Lists.{Items}}
-use Rattle.command_line.specs.{Names.{names, equal, found, named}, Steps.{gap, letters}}
+use Rattle.command_line.specs.Names.{names, found, named}
 use Rattle.command_line.specs.Claims.{WordsClaim, EndOf, RestClaim, NumberClaim, ListsClaim, NamesClaim}
 use Rattle.command_line.specs.Words as W
 use Rattle.command_line.proofs.Items.{number_only, number_answered, items_only, items_found}
-use Rattle.command_line.proofs.Words.{words_of, led_first, rest_led, rest_words, drop_gap, drop_letters}
+use Rattle.command_line.proofs.WordLemmas.{words_of, led_first, rest_led, rest_words, letters, gap, drop_gap, drop_letters}
 
 -- ---- words
 
@@ -136,26 +139,16 @@ lists_claim =
 
 -- ---- names
 
-both_true : (x y : Bool) → (x && y) ≡ true → (x ≡ true) × (y ≡ true)
-both_true true y e = (refl, e)
-both_true false y e = let z : ◌≡◌ {A = ℕ} 0 1 = cc in absurd (omega arith)
+listed₁ : (t : Bool) (p : List ℕ × Command) (ps : List (List ℕ × Command)) (w : List ℕ) (c : Command) → bytes_eq w p.0 ≡ t
+    → (found ps w ≡ Some c → Memᴰ (w, c) ps) → cond t (Some p.1) (found ps w) ≡ Some c → Memᴰ (w, c) (p ∷ ps)
+listed₁ true p ps w c e f h =
+    let d : p.1 ≡ c = cc in
+    Memᴰ.head (ap₂ (λ (z : List ℕ) (k : Command). (z, k)) ((bytes_eq-Decides w p.0).0 e) (sym d))
+listed₁ false p ps w c e f h = Memᴰ.tail (f h)
 
-pub equal_said : (a b : List ℕ) → equal a b ≡ true → a ≡ b
-unfolding equal
-equal_said [] [] e = refl
-equal_said [] (y ∷ b) e = let z : ◌≡◌ {A = ℕ} 0 1 = cc in absurd (omega arith)
-equal_said (x ∷ a) [] e = let z : ◌≡◌ {A = ℕ} 0 1 = cc in absurd (omega arith)
-equal_said (x ∷ a) (y ∷ b) e = let p = both_true (eqb x y) (equal a b) e in ap₂ (λ (h : ℕ) (t : List ℕ). h ∷ t) (eqb-true x y p.0) (equal_said a b p.1)
-
-listed₁ : (t : Bool) (p : List ℕ × Command) (ps : List (List ℕ × Command)) (w : List ℕ) → equal w p.0 ≡ t
-    → ((found ps w ≡ Command.Unknown → ⊥) → Memᴰ (w, found ps w) ps)
-    → (cond t p.1 (found ps w) ≡ Command.Unknown → ⊥) → Memᴰ (w, cond t p.1 (found ps w)) (p ∷ ps)
-listed₁ true p ps w e f n = Memᴰ.head (ap (λ (z : List ℕ). (z, p.1)) (equal_said w p.0 e))
-listed₁ false p ps w e f n = Memᴰ.tail (f n)
-
-listed_in : (ps : List (List ℕ × Command)) (w : List ℕ) → (found ps w ≡ Command.Unknown → ⊥) → Memᴰ (w, found ps w) ps
-listed_in [] w n = absurd (n refl)
-listed_in (p ∷ ps) w n = listed₁ (equal w p.0) p ps w refl (listed_in ps w) n
+listed_in : (ps : List (List ℕ × Command)) (w : List ℕ) (c : Command) → found ps w ≡ Some c → Memᴰ (w, c) ps
+listed_in [] w c h = absurd (cc)
+listed_in (p ∷ ps) w c h = listed₁ (bytes_eq w p.0) p ps w c refl (listed_in ps w c) h
 
 -- each pair of a list
 abbrev Each : (List ℕ × Command → Type 0) → List (List ℕ × Command) → Type 0
@@ -166,9 +159,8 @@ each_one : (P : List ℕ × Command → Type 0) (p : List ℕ × Command) (ps : 
 each_one P p ps a (Memᴰ.head e) = subst P (sym e) a.0
 each_one P p ps a (Memᴰ.tail m) = each_one P p _ a.1 m
 
-names_right : Each (λ p. named p.0 ≡ p.1) names
-unfolding equal
+names_right : Each (λ p. named p.0 ≡ Some p.1) names
 names_right = (refl, (refl, (refl, (refl, (refl, (refl, (refl, (refl, (refl, (refl, (refl, (refl, (refl, (refl, (refl, (refl, tt))))))))))))))))
 
 pub names_claim : NamesClaim
-names_claim = record { named_so = λ p m. each_one (λ q. named q.0 ≡ q.1) p names names_right m; listed_so = listed_in names }
+names_claim = record { named_so = λ p m. each_one (λ q. named q.0 ≡ Some q.1) p names names_right m; listed_so = listed_in names }

@@ -1,9 +1,7 @@
--- Words, numbers, lists, names and parts, then the claims.
-pub mod Words
+-- Words, numbers and lists, then the claims and the parts.
+pub mod WordLemmas
 pub mod Numbers
 pub mod Items
 pub mod Lists
-pub mod Large
-pub mod Names
 pub mod Claims
 pub mod Parts

@@ -2,17 +2,13 @@
 use Prim.Native.Nat.{ℕ, suc, ◌+◌, ◌-◌, ◌≤◌, ◌<◌}
 use mathlib.Core.{Path.{◌≡◌, refl, sym, ap, ◌∙◌, subst⁻¹}, List.{List, [], ◌∷◌, ◌++◌}, Bool.{Bool, true, false, cond}}
 use native.Mathlib.Omega.{arith}
-use lib.{Dec.{ltb}, ListN.{length, take, drop, length-append, length-drop, take-append-drop}}
+use lib.{Dec.{ltb}, ListN.{length, take, drop, length-append, take-append-drop}}
 use lib.Seq.{take_all, length-take-le, take-append_seam, drop-append_seam}
 use borrow.Author.Tests.{ltb-true, ltb-false}
+use Rattle.std.proofs.lemmas.List.{take_rest}
 use Rattle.channel_file.proofs.Offsets.{here, over}
-use Rattle.command_line.specs.{Names.{equal}, Parts.{divider, Divided, at_divider, before_divider, first_part, second_part}, Claims.{PartsClaim}}
-use Rattle.command_line.proofs.Claims.{equal_said}
-
--- ---- a text from an offset on, as slices have it
-
-pub from_offset : (text : List ℕ) (i : ℕ) → take (length text - i) (drop i text) ≡ drop i text
-from_offset text i = take_all (length text - i) (drop i text) (omega (arith, length-drop i text))
+use Rattle.command_line.specs.{Parts.{divider, Divided, at_divider, before_divider, first_part, second_part}, Claims.{PartsClaim}}
+use Rattle.std.proofs.lemmas.Slice.Eq.{bytes_eq-Decides}
 
 -- ---- the loop
 
@@ -22,7 +18,7 @@ module _ (text : List ℕ) (i : ℕ) (t : Bool) (e : t ≡ at_divider (take (len
   ahead h =
       ap before_divider (here text i h)
       ∙ ap (λ (b : Bool). cond b 0 (suc (before_divider (drop (i + 1) text))))
-      (ap at_divider (sym (here text i h)) ∙ sym (ap at_divider (from_offset text i)) ∙ sym e)
+      (ap at_divider (sym (here text i h)) ∙ sym (ap at_divider (take_rest text i)) ∙ sym e)
 
   pub divider_here : i < length text → t ≡ true → before_divider (drop i text) ≡ 0
   divider_here h d = ahead h ∙ ap (λ (b : Bool). cond b 0 (suc (before_divider (drop (i + 1) text)))) d
@@ -42,7 +38,7 @@ one_more false n k h = omega arith
 
 -- Where a divider stands, the first stands no later.
 no_later : (before behind : List ℕ) → before_divider (before ++ (divider ++ behind)) ≤ length before
-unfolding before_divider equal
+unfolding before_divider
 no_later [] behind = omega arith
 no_later (b ∷ before) behind =
     one_more (at_divider (b ∷ (before ++ (divider ++ behind)))) (before_divider (before ++ (divider ++ behind))) (length before) (no_later before behind)
@@ -52,7 +48,7 @@ there₁ :
     (t : Bool) (b : ℕ) (s : List ℕ) → at_divider (b ∷ s) ≡ t →
     (before_divider s < length s → s ≡ first_part s ++ (divider ++ second_part s)) → cond t 0 (suc (before_divider s)) < suc (length s) →
     b ∷ s ≡ take (cond t 0 (suc (before_divider s))) (b ∷ s) ++ (divider ++ drop 3 (drop (cond t 0 (suc (before_divider s))) (b ∷ s)))
-there₁ true b s e f h = sym (take-append-drop 3 (b ∷ s)) ∙ ap (λ (z : List ℕ). z ++ drop 3 (b ∷ s)) (equal_said (take 3 (b ∷ s)) divider e)
+there₁ true b s e f h = sym (take-append-drop 3 (b ∷ s)) ∙ ap (λ (z : List ℕ). z ++ drop 3 (b ∷ s)) (sym ((bytes_eq-Decides divider (take 3 (b ∷ s))).0 e))
 there₁ false b s e f h = ap (λ (z : List ℕ). b ∷ z) (f (omega arith))
 
 there : (text : List ℕ) → before_divider text < length text → text ≡ first_part text ++ (divider ++ second_part text)
@@ -60,7 +56,7 @@ unfolding before_divider
 there [] h = absurd (omega arith)
 there (b ∷ s) h = there₁ (at_divider (b ∷ s)) b s refl (there s) h
 
-not_over : (text : List ℕ) → before_divider text ≤ length text
+pub not_over : (text : List ℕ) → before_divider text ≤ length text
 unfolding before_divider
 not_over [] = omega arith
 not_over (b ∷ s) = one_more (at_divider (b ∷ s)) (before_divider s) (length s) (not_over s)

@@ -1,9 +1,7 @@
 -- What is claimed of lines; each claim is inhabited in proofs/Claims.
-use Rattle.std.specs.Prelude.{ℕ, ◌≡◌}
+use Rattle.std.specs.Prelude.{ℕ, ◌≡◌, drop, Option, Some}
 use mathlib.Core.List.{List, [], ◌∷◌, ◌++◌, Memᴰ}
-use mathlib.Core.{Bool.{Bool}, Option.{Option, some}}
-use Rattle.std.specs.Prelude.{drop}
-use Rattle.command_line.specs.declared.Command.{Command}
+use Rattle.command_line.specs.declared.{Command.{Command}, Item.{Item}}
 use Rattle.command_line.specs.Words.{Words, words, rest}
 use Rattle.command_line.specs.Parts.{divider, Divided, first_part, second_part}
 use Rattle.command_line.specs.Numbers.{IsNumber, number_of}
@@ -38,10 +36,10 @@ pub record NumberClaim : Type 0 where
 
 -- Words stand in bytes exactly where the computed answer is those bytes.
 pub record ListsClaim : Type 0 where
-  pub found : (this that : Bool) (ws : List (List ℕ)) (bytes : List ℕ) → items_from this that [] ws ≡ some bytes → Items this that ws bytes
-  pub only : (this that : Bool) (ws : List (List ℕ)) (bytes : List ℕ) → Items this that ws bytes → items_from this that [] ws ≡ some bytes
+  pub found : (this that : Item) (ws : List (List ℕ)) (bytes : List ℕ) → items_from this that [] ws ≡ Some bytes → Items this that ws bytes
+  pub only : (this that : Item) (ws : List (List ℕ)) (bytes : List ℕ) → Items this that ws bytes → items_from this that [] ws ≡ Some bytes
 
 -- A word names a command exactly if the two stand beside each other in the list of names.
 pub record NamesClaim : Type 0 where
-  pub named_so : (p : List ℕ × Command) → Memᴰ p names → named p.0 ≡ p.1
-  pub listed_so : (w : List ℕ) → (named w ≡ Command.Unknown → ⊥) → Memᴰ (w, named w) names
+  pub named_so : (p : List ℕ × Command) → Memᴰ p names → named p.0 ≡ Some p.1
+  pub listed_so : (w : List ℕ) (c : Command) → named w ≡ Some c → Memᴰ (w, c) names

@@ -1,7 +1,6 @@
 -- The names of the commands.
-use Rattle.std.specs.Prelude.{ℕ}
-use mathlib.Core.{List.{List, [], ◌∷◌}, Bool.{Bool, true, false, cond, ◌&&◌}}
-use Rattle.std.specs.Prelude.{eqb}
+use Rattle.std.specs.Prelude.{ℕ, List, [], ◌∷◌, cond, Option, Some, None}
+use Rattle.std.specs.Str.{bytes_eq}
 use Rattle.text_format.specs.Texts.{ascii}
 use Rattle.command_line.specs.declared.Command.{Command}
 
@@ -25,17 +24,10 @@ names =
     ∷ (ascii "help", Command.Help)
     ∷ []
 
--- Whether two lists are the same.
-unfoldable pub equal : List ℕ → List ℕ → Bool
-equal [] [] = true
-equal [] (b ∷ t) = false
-equal (a ∷ s) [] = false
-equal (a ∷ s) (b ∷ t) = eqb a b && equal s t
+-- The command that stands beside a word; none where the word is no name.
+abbrev pub found : List (List ℕ × Command) → List ℕ → Option Command
+found [] w = None
+found (p ∷ ps) w = cond (bytes_eq w p.0) (Some p.1) (found ps w)
 
--- The command that stands beside a word; unknown where the word is no name.
-abbrev pub found : List (List ℕ × Command) → List ℕ → Command
-found [] w = Command.Unknown
-found (p ∷ ps) w = cond (equal w p.0) p.1 (found ps w)
-
-abbrev pub named : List ℕ → Command
+abbrev pub named : List ℕ → Option Command
 named w = found names w

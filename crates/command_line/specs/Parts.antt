@@ -1,9 +1,8 @@
 -- The two parts of a text, on both sides of its first ` / `.
-use Rattle.std.specs.Prelude.{ℕ, suc, ◌≤◌}
+use Rattle.std.specs.Prelude.{ℕ, suc, ◌≤◌, length, take, drop, eqb}
 use mathlib.Core.{Path.{◌≡◌}, List.{List, [], ◌∷◌, ◌++◌}, Bool.{Bool, cond}}
-use Rattle.std.specs.Prelude.{length, take, drop}
+use Rattle.std.specs.List.{starts_with}
 use Rattle.text_format.specs.Texts.{ascii}
-use Rattle.command_line.specs.Names.{equal}
 
 -- ---- the sentence
 
@@ -18,7 +17,7 @@ pub record Divided (text first second : List ℕ) : Type 0 where
 
 -- Whether a text begins with a divider.
 abbrev pub at_divider : List ℕ → Bool
-at_divider s = equal (take 3 s) divider
+at_divider s = starts_with eqb s divider
 
 -- How many bytes stand before the first divider; all where there is none.
 unfoldable pub before_divider : List ℕ → ℕ

@@ -1,40 +1,31 @@
 // A line of commands: its words, its numbers and lists, and the command that it names.
 #![tactic(auto)]
 
-ghost use Rattle.std.specs.Prelude.{◌≡◌, ◌+◌, ◌-◌, ◌*◌, ◌≤◌, ◌<◌, true, false, length, take, drop};
+ghost use Rattle.std.specs.Prelude.{◌≡◌, ◌<◌, take, drop, option_map};
 ghost use Rattle.values.specs.Setup.{mask_bytes};
-ghost use Rattle.text_format.specs.Decimal.{is_digit};
 ghost use Rattle.text_output.specs.Output.{Puts};
-ghost use Rattle.channel_file.specs.Bytes.{clamp};
-ghost use Rattle.command_line.specs.Words.{words, before, rest, word};
-ghost use Rattle.command_line.specs.Parts.{at_divider, before_divider, first_part, second_part};
-ghost use Rattle.command_line.specs.Numbers.{number_of, number_limit, capped, number_answer};
+ghost use Rattle.command_line.specs.declared.Item.TheVariants.{Value, Number};
+ghost use Rattle.command_line.specs.Words.{words, before, after_spaces, rest, word};
+ghost use Rattle.command_line.specs.Parts.{before_divider, first_part, second_part};
+ghost use Rattle.command_line.specs.Numbers.{number_of, number_limit, capped};
 ghost use Rattle.command_line.specs.Lists.{clamp_mask, low_part, high_part, item_of, list_of, Lists, large, large_item, any_large};
-ghost use Rattle.command_line.specs.Names.{equal, named};
-ghost use Rattle.command_line.specs.Steps.{gap, letters, Skips, Starts, PutsAny, place, command_at};
+ghost use Rattle.command_line.specs.Names.{named};
+ghost use Rattle.command_line.specs.Steps.{PutsAny};
 
-use text_output::put;
+use text_output::{put, put_word};
 
 // A number above this one stands as this one, which is one more than the most pulses of an event and legal in no place of a line.
 pub const NUMBER_LIMIT: usize = 4294967296;
 
-// The answer to a word: its number, or that it is none.
-#[derive(Clone, Copy)]
-pub enum Number {
-    Value(usize),
-    Malformed,
-}
-
-// The answer to a list: how many bytes were stored, that a word is malformed, or that the buffer is too short.
-#[derive(Clone, Copy)]
-pub enum Listed {
-    Count(usize),
+// Why no list is stored: a word is malformed, or the buffer is too short.
+#[derive(Clone, Copy, Debug, PartialEq, Eq)]
+pub enum ListError {
     Malformed,
     Short,
 }
 
 // The commands.
-#[derive(Clone, Copy)]
+#[derive(Clone, Copy, Debug, PartialEq, Eq)]
 pub enum Command {
     Setup,
     Register,
@@ -52,259 +43,180 @@ pub enum Command {
     Write,
     Dot,
     Help,
-    Unknown,
 }
 
-fn wide(b: u8) -> usize
-    ensures { result ≡ b }
-{
-    b as usize
+// What a word of a list is: a register's value LOW.HIGH, or a number.
+#[derive(Clone, Copy)]
+enum Item {
+    Value,
+    Number,
 }
 
-fn digit(b: u8) -> bool
-    ensures { result ≡ is_digit b }
-{
-    if b < 48 { false } else { b < 58 }
-}
+// The words of a text.
+#[derive(Drop)]
+struct Words<'a>(&'a [u8]);
 
-// The offset behind the spaces at an offset.
-fn skip_spaces(line: &[u8], at: usize) -> usize
-    requires { at ≤ length line.now }
-    ensures { Skips gap line.now at result }
-{
-    let mut i = at;
-    while i < line.len() {
-        if line[i] != 32 {
-            return i;
-        }
-        i += 1;
+impl<'a> Iterator for Words<'a> {
+    ghost use Rattle.std.specs.Iterator.{YieldsFirstBy, item_count};
+    ghost use Rattle.command_line.specs.Words.{words};
+
+    type Item = &'a [u8];
+
+    ghost next_gives = { YieldsFirstBy (λ w. w.now) (λ s. words s.0.now) };
+
+    ghost remaining = { item_count (λ s. words s.0.now) };
+
+    fn next(&mut self) -> Option<&'a [u8]> {
+        let (word, behind) = split_once(skip_spaces(self.0), b' ');
+        self.0 = behind;
+        if word.is_empty() { None } else { Some(word) }
     }
-    i
 }
 
-// The offset of the first byte `stop` from an offset on; the length where there is none.
-fn skip_until(line: &[u8], at: usize, stop: u8) -> usize
-    requires { at ≤ length line.now }
-    ensures { Skips (before stop) line.now at result }
+// What stands before the first byte `stop` of a text, all of it where there is none; and what stands behind that byte.
+fn split_once(text: &[u8], stop: u8) -> (&[u8], &[u8])
+    ensures before { result.0.now ≡ take (before stop text.now) text.now }
+    ensures behind { result.1.now ≡ drop 1 (drop (before stop text.now) text.now) }
 {
-    let mut i = at;
-    while i < line.len() {
-        if line[i] == stop {
-            return i;
-        }
-        i += 1;
+    match text.iter().position(|&b| b == stop) {
+        Some(i) => (&text[..i], &text[i + 1..]),
+        None => (text, &[]),
     }
-    i
 }
 
-// The offset of the first space from an offset on.
-fn skip_word(line: &[u8], at: usize) -> usize
-    requires { at ≤ length line.now }
-    ensures { Skips letters line.now at result }
+fn skip_spaces(text: &[u8]) -> &[u8]
+    ensures { result.now ≡ after_spaces text.now }
 {
-    skip_until(line, at, 32)
-}
-
-// The offset where word n starts; the length where there is none.
-fn start_of(line: &[u8], n: usize) -> usize
-    ensures { Starts line.now n result }
-{
-    let mut at = skip_spaces(line, 0);
-    let mut left = n;
-    while 0 < left {
-        if line.len() <= at {
-            return at;
-        }
-        at = skip_spaces(line, skip_word(line, at));
-        left -= 1;
+    match text.iter().position(|&b| b != b' ') {
+        Some(i) => &text[i..],
+        None => &[],
     }
-    at
 }
 
 // The line from its word n on.
 pub fn rest(line: &[u8], n: usize) -> &[u8]
     ensures { result.now ≡ rest n line.now }
 {
-    let at = start_of(line, n);
-    &line[at..]
+    let mut text = skip_spaces(line);
+    for _ in 0..n {
+        if text.is_empty() {
+            return text;
+        }
+        text = skip_spaces(split_once(text, b' ').1);
+    }
+    text
 }
 
 // Word n of a line; empty where there is none.
+#[tactic(auto, using(crate::proofs::WordLemmas::word_is))]
 pub fn word(line: &[u8], n: usize) -> &[u8]
     ensures { result.now ≡ word n line.now }
 {
-    let from = start_of(line, n);
-    let to = skip_word(line, from);
-    &line[from..to]
+    split_once(rest(line, n), b' ').0
 }
 
 // The first n bytes; all where there are fewer.
 pub fn front(bytes: &[u8], n: usize) -> &[u8]
     ensures { result.now ≡ take n bytes.now }
 {
-    if n <= bytes.len() {
-        return &bytes[..n];
-    }
-    bytes
-}
-
-// All but the first n bytes; none where there are fewer.
-fn behind(bytes: &[u8], n: usize) -> &[u8]
-    ensures { result.now ≡ drop n bytes.now }
-{
-    if bytes.len() < n {
-        return &bytes[bytes.len()..];
-    }
-    &bytes[n..]
-}
-
-// The number behind the digits of v and one digit more.
-fn add_digit(v: usize, b: u8) -> usize
-    requires { (v ≤ number_limit) × (48 ≤ b) × (b < 58) }
-    ensures { result ≡ capped (v * 10 + (b - 48)) }
-{
-    let n = v * 10 + (wide(b) - 48);
-    if n < NUMBER_LIMIT { n } else { NUMBER_LIMIT }
+    &bytes[..n.min(bytes.len())]
 }
 
 // The number that a word is.
-pub fn read_number(word: &[u8]) -> Number
-    ensures { result ≡ number_answer (number_of word.now) }
+pub fn read_number(word: &[u8]) -> Option<usize>
+    ensures { result ≡ option_map capped (number_of word.now) }
 {
-    if word.len() == 0 {
-        return Number::Malformed;
+    if word.is_empty() {
+        return None;
     }
-    let mut v: usize = 0;
-    let mut i: usize = 0;
-    while i < word.len() {
-        let b = word[i];
-        if !digit(b) {
-            return Number::Malformed;
+    let mut v = 0;
+    for b in word {
+        if !b.is_ascii_digit() {
+            return None;
         }
-        v = add_digit(v, b);
-        i += 1;
+        v = (v * 10 + usize::from(*b - b'0')).min(NUMBER_LIMIT);
     }
-    Number::Value(v)
-}
-
-fn clip(v: usize) -> u8
-    ensures { result ≡ clamp v }
-{
-    if v < 255 { v as u8 } else { 255 }
-}
-
-fn clip_mask(v: usize) -> usize
-    ensures { (result ≡ clamp_mask v) × (result < 65536) }
-{
-    if v < 65535 { v } else { 65535 }
+    Some(v)
 }
 
 // A mask in two bytes. This and the functions below put bytes into a buffer as text_output does.
 fn put_mask(out: &mut [u8], at: usize, v: usize) -> usize
     ensures { Puts out.old (mask_bytes (clamp_mask v)) out.new at result }
 {
-    let mask = clip_mask(v);
-    let n = put(out, at, (mask % 256) as u8);
-    put(out, n, (mask / 256) as u8)
+    let mask = v.min(65535) as u16;
+    put_word(out, at, &mask.to_le_bytes())
 }
 
-// What stands before the first dot of a word; all of it where there is none.
-fn low_part(word: &[u8]) -> &[u8]
-    ensures { result.now ≡ low_part word.now }
+// The two sides of a word LOW.HIGH.
+fn sides(word: &[u8]) -> (&[u8], &[u8])
+    ensures low { result.0.now ≡ low_part word.now }
+    ensures high { result.1.now ≡ high_part word.now }
 {
-    front(word, skip_until(word, 0, 46))
-}
-
-// What stands behind it; nothing where there is none.
-fn high_part(word: &[u8]) -> &[u8]
-    ensures { result.now ≡ high_part word.now }
-{
-    behind(behind(word, skip_until(word, 0, 46)), 1)
+    split_once(word, b'.')
 }
 
 // The bytes of a word LOW.HIGH, unless it is malformed.
-fn put_value(out: &mut [u8], at: usize, word: &[u8]) -> Number
-    ensures { PutsAny out.old out.new at (item_of true word.now) result }
+fn put_value(out: &mut [u8], at: usize, word: &[u8]) -> Option<usize>
+    ensures { PutsAny out.old out.new at (item_of Value word.now) result }
 {
-    let first = read_number(low_part(word));
-    let Number::Value(low) = first else {
-        return Number::Malformed;
-    };
-    let second = read_number(high_part(word));
-    let Number::Value(high) = second else {
-        return Number::Malformed;
-    };
+    let (low, high) = sides(word);
+    let low = read_number(low)?;
+    let high = read_number(high)?;
     let n = put_mask(out, at, low);
-    Number::Value(put_mask(out, n, high))
+    Some(put_mask(out, n, high))
 }
 
-// The bytes of a word that is a value, or else a number.
-fn put_item(out: &mut [u8], at: usize, value: bool, word: &[u8]) -> Number
-    ensures { PutsAny out.old out.new at (item_of value word.now) result }
+fn put_item(out: &mut [u8], at: usize, item: Item, word: &[u8]) -> Option<usize>
+    ensures { PutsAny out.old out.new at (item_of item word.now) result }
 {
-    if value {
-        return put_value(out, at, word);
+    match item {
+        Item::Value => put_value(out, at, word),
+        Item::Number => {
+            let v = read_number(word)?;
+            Some(put(out, at, v.min(255) as u8))
+        }
     }
-    let found = read_number(word);
-    let Number::Value(v) = found else {
-        return Number::Malformed;
-    };
-    Number::Value(put(out, at, clip(v)))
 }
 
-// The bytes of a list, unless a word is malformed. Here and below the words are numbers, or by turns values and numbers: `this` says
-// whether the next word is a value, `that` whether the one behind it is.
-fn put_list(out: &mut [u8], values: bool, text: &[u8]) -> Number
-    ensures { PutsAny out.old out.new 0 (list_of values text.now) result }
+// The bytes of a list, unless a word is malformed. Here and below the words are by turns `first` and a number.
+fn put_list(out: &mut [u8], first: Item, text: &[u8]) -> Option<usize>
+    ensures { PutsAny out.old out.new 0 (list_of first text.now) result }
 {
-    let mut at = skip_spaces(text, 0);
-    let mut this = values;
-    let mut that = false;
-    let mut n: usize = 0;
-    while at < text.len() {
-        let end = skip_word(text, at);
-        let reached = put_item(out, n, this, &text[at..end]);
-        let Number::Value(m) = reached else {
-            return Number::Malformed;
-        };
-        n = m;
-        at = skip_spaces(text, end);
-        let was = this;
-        this = that;
-        that = was;
+    let mut this = first;
+    let mut that = Item::Number;
+    let mut n = 0;
+    for word in Words(text) {
+        n = put_item(out, n, this, word)?;
+        (this, that) = (that, this);
     }
-    Number::Value(n)
+    Some(n)
 }
 
 // The bytes of a list, first into an empty array, which tells how many there are.
-fn read_list(values: bool, text: &[u8], to: &mut [u8]) -> Listed
-    ensures { Lists values text.now to.old to.new result }
+fn read_list(first: Item, text: &[u8], to: &mut [u8]) -> Result<usize, ListError>
+    ensures { Lists first text.now to.old to.new result }
 {
-    let mut none = [0u8; 0];
-    let counted = put_list(&mut none, values, text);
-    let Number::Value(n) = counted else {
-        return Listed::Malformed;
-    };
+    let n = put_list(&mut [], first, text).ok_or(ListError::Malformed)?;
     if to.len() < n {
-        return Listed::Short;
+        return Err(ListError::Short);
     }
-    put_list(to, values, text);
-    Listed::Count(n)
+    put_list(to, first, text);
+    Ok(n)
 }
 
 // The numbers of a text into a lent buffer, a number above 255 as 255.
-pub fn read_numbers(text: &[u8], to: &mut [u8]) -> Listed
-    ensures { Lists false text.now to.old to.new result }
+pub fn read_numbers(text: &[u8], to: &mut [u8]) -> Result<usize, ListError>
+    ensures { Lists Number text.now to.old to.new result }
 {
-    read_list(false, text, to)
+    read_list(Item::Number, text, to)
 }
 
 // The entries of a register's table, LOW.HIGH NEXT LOW.HIGH NEXT.., into a lent buffer, five bytes each: the masks, each mask's low byte first, a
 // mask above 65,535 as 65,535; then the next state, one above 255 as 255.
-pub fn read_masked(text: &[u8], to: &mut [u8]) -> Listed
-    ensures { Lists true text.now to.old to.new result }
+pub fn read_masked(text: &[u8], to: &mut [u8]) -> Result<usize, ListError>
+    ensures { Lists Value text.now to.old to.new result }
 {
-    read_list(true, text, to)
+    read_list(Item::Value, text, to)
 }
 
 // Whether a word is a number above a limit.
@@ -312,95 +224,61 @@ fn is_above(limit: usize, word: &[u8]) -> bool
     requires { limit < number_limit }
     ensures { result ≡ large limit (number_of word.now) }
 {
-    let found = read_number(word);
-    let Number::Value(v) = found else {
-        return false;
-    };
-    limit < v
+    read_number(word).is_some_and(|v| limit < v)
 }
 
-// Whether a word, a value or else a number, has a number that its bytes do not hold.
-fn is_large(value: bool, word: &[u8]) -> bool
-    ensures { result ≡ large_item value word.now }
+// Whether a word has a number that its bytes do not hold.
+fn is_large(item: Item, word: &[u8]) -> bool
+    ensures { result ≡ large_item item word.now }
 {
-    if !value {
-        return is_above(255, word);
+    match item {
+        Item::Value => {
+            let (low, high) = sides(word);
+            is_above(65535, low) || is_above(65535, high)
+        }
+        Item::Number => is_above(255, word),
     }
-    if is_above(65535, low_part(word)) {
-        return true;
-    }
-    is_above(65535, high_part(word))
 }
 
-fn any_large(values: bool, text: &[u8]) -> bool
-    ensures { result ≡ any_large values false (words text.now) }
+#[tactic(auto, unfolding(crate::specs::Lists::any_large))]
+fn any_large(first: Item, text: &[u8]) -> bool
+    ensures { result ≡ any_large first Number (words text.now) }
 {
-    let mut at = skip_spaces(text, 0);
-    let mut this = values;
-    let mut that = false;
-    while at < text.len() {
-        let end = skip_word(text, at);
-        if is_large(this, &text[at..end]) {
+    let mut this = first;
+    let mut that = Item::Number;
+    for word in Words(text) {
+        if is_large(this, word) {
             return true;
         }
-        at = skip_spaces(text, end);
-        let was = this;
-        this = that;
-        that = was;
+        (this, that) = (that, this);
     }
     false
 }
 
 // Whether a word of a text is a number above 255, which no byte holds.
 pub fn has_large(text: &[u8]) -> bool
-    ensures { result ≡ any_large false false (words text.now) }
+    ensures { result ≡ any_large Number Number (words text.now) }
 {
-    any_large(false, text)
+    any_large(Item::Number, text)
 }
 
 // Whether the entries of a register's table have a mask above 65,535 or a next state above 255.
 pub fn has_large_masked(text: &[u8]) -> bool
-    ensures { result ≡ any_large true false (words text.now) }
+    ensures { result ≡ any_large Value Number (words text.now) }
 {
-    any_large(true, text)
-}
-
-// Whether two lists of bytes are the same.
-pub fn equal(a: &[u8], b: &[u8]) -> bool
-    ensures { result ≡ equal a.now b.now }
-{
-    if a.len() != b.len() {
-        return false;
-    }
-    let mut i: usize = 0;
-    while i < a.len() {
-        if a[i] != b[i] {
-            return false;
-        }
-        i += 1;
-    }
-    true
-}
-
-// Whether a text begins with ` / `.
-fn starts_divider(text: &[u8]) -> bool
-    ensures { result ≡ at_divider text.now }
-{
-    equal(front(text, 3), b" / ")
+    any_large(Item::Value, text)
 }
 
 // The offset of the first ` / ` of a text; its length where there is none.
 fn find_divider(text: &[u8]) -> usize
     ensures { result ≡ before_divider text.now }
 {
-    let mut i: usize = 0;
-    while i < text.len() {
-        if starts_divider(&text[i..]) {
+    for i in 0..text.len() {
+        if text[i..].starts_with(b" / ") {
             return i;
         }
-        i += 1;
     }
-    i
+    text.len()
 }
 
 // What stands before the first ` / ` of a text; all of it where there is none.
@@ -414,61 +292,30 @@ pub fn first_part(text: &[u8]) -> &[u8]
 pub fn second_part(text: &[u8]) -> &[u8]
     ensures { result.now ≡ second_part text.now }
 {
-    behind(behind(text, find_divider(text)), 3)
-}
-
-// The place of a word among the words of a line; their count where it is none of them.
-fn place_of(w: &[u8], line: &[u8]) -> usize
-    ensures { result ≡ place w.now (words line.now) }
-{
-    let mut at = skip_spaces(line, 0);
-    let mut n: usize = 0;
-    while at < line.len() {
-        let end = skip_word(line, at);
-        if equal(w, &line[at..end]) {
-            return n;
-        }
-        at = skip_spaces(line, end);
-        n += 1;
-    }
-    n
-}
-
-// The command at a place in the list of names.
-fn command_at(place: usize) -> Command
-    ensures { result ≡ command_at place }
-{
-    let commands = [
-        Command::Setup,
-        Command::Register,
-        Command::Wheel,
-        Command::Table,
-        Command::Load,
-        Command::Event,
-        Command::Events,
-        Command::Restart,
-        Command::Clear,
-        Command::Show,
-        Command::Device,
-        Command::Trial,
-        Command::Covers,
-        Command::Write,
-        Command::Dot,
-        Command::Help,
-    ];
-    if place < 16 {
-        return commands[place];
-    }
-    Command::Unknown
+    text.get(find_divider(text) + 3..).unwrap_or(&[])
 }
 
 // The command that a word names.
-pub fn read_command(word: &[u8]) -> Command
+pub fn read_command(word: &[u8]) -> Option<Command>
     ensures { result ≡ named word.now }
 {
-    let place = place_of(
-        word,
-        b"setup register wheel table load event events restart clear show device trial covers write dot help",
-    );
-    command_at(place)
+    match word {
+        b"setup" => Some(Command::Setup),
+        b"register" => Some(Command::Register),
+        b"wheel" => Some(Command::Wheel),
+        b"table" => Some(Command::Table),
+        b"load" => Some(Command::Load),
+        b"event" => Some(Command::Event),
+        b"events" => Some(Command::Events),
+        b"restart" => Some(Command::Restart),
+        b"clear" => Some(Command::Clear),
+        b"show" => Some(Command::Show),
+        b"device" => Some(Command::Device),
+        b"trial" => Some(Command::Trial),
+        b"covers" => Some(Command::Covers),
+        b"write" => Some(Command::Write),
+        b"dot" => Some(Command::Dot),
+        b"help" => Some(Command::Help),
+        _ => None,
+    }
 }

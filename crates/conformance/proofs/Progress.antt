@@ -1,20 +1,19 @@
 -- The search over the queue is breadth-first exploration: it stops at the first failing word, or has looked at all pairs and knows whether
 -- some word ends in different values.
-use mathlib.Core.{Path.{◌≡◌, refl, sym, ◌∙◌, ap, ap₂, subst, subst⁻¹}, Bool.{Bool, true, false, not, cond, ◌&&◌, and_assoc, and-true}, List.{List, [], ◌∷◌}}
+use mathlib.Core.{Path.{◌≡◌, refl, sym, ◌∙◌, ap, ap₂, subst}, Bool.{Bool, true, false, not, cond, ◌&&◌, and_assoc, and-true}, List.{List, [], ◌∷◌}}
 use mathlib.Core.Option.{Option, none, some}
 use Prim.Native.Nat.{ℕ, zero, suc, ◌+◌, ◌*◌, ◌-◌, ◌≤◌, ◌<◌}
 use native.Mathlib.{Numerals.{add-one}, Omega.{arith}}
 use borrow.Author.Tests.{eqb-true, eqb-false, lt-ltb, le-ltb}
 use lib.{Dec.{eqb}, ListN.{length, get_or, drop, drop_of_length-le}, Seq.{drop-cons}}
-use Rattle.theory.specs.{MealyMachine.{Machine}, Exploration.{reached, add_events, explore, explored}}
-use Rattle.theory.specs.ConformanceCheck.{same_pair, next_pair, bad_event, first_found, first_bad, bad_pair, is_none, in_play_order, counterexample}
+use Rattle.theory.specs.Exploration.{reached, add_events, explore, explored}
+use Rattle.theory.specs.ConformanceCheck.{same_pair, next_pair, bad_event, first_found, first_bad, bad_pair, is_none, in_play_order}
 use Rattle.theory.proofs.{Exploration.{Grows, explore_grows}, Conformance.{same_pair_iff, few_pairs}}
-use Rattle.values.specs.declared.ValueKind.{ValueKind}
-use Rattle.machines.specs.TableBytes.{machine_of}
-use Rattle.conformance.specs.PairQueue.{Queue, Sized, HoldsPairs, below_on, equal_on, BadOn, GoodOn, successors, Expandable, Expanded, FailsAt}
-use Rattle.conformance.specs.PairQueue.{Searchable}
+use Rattle.conformance.specs.Trial.{TrialInput, device_machine, table_machine}
+use Rattle.conformance.specs.TrialAnswer.{below, first_failure, ends_same}
+use Rattle.conformance.specs.declared.{Queue.{Queue}}
+use Rattle.conformance.specs.PairQueue.{pair_at, HoldsPairs, Ready, pair_after, below_on, equal_on, BadOn, GoodOn, successors, Expandable, Expanded, FailsAt}
 use Rattle.conformance.proofs.{Places.{product_bounded}, Successors.{part_grows}}
-use Rattle.values.specs.ValueTests.{at_or_below}
 
 -- What exploration and the first bad word compute, step by step.
 module _ {S : Type 0} (next : S → ℕ → S) (start : S) (bad : S → ℕ → Bool) where
@@ -64,8 +63,7 @@ module _ {S : Type 0} (next : S → ℕ → S) (start : S) (bad : S → ℕ → 
         where
           by_case : (b : Bool) → eqb e a ≡ b → suc e ≤ a
           by_case true y =
-              let c : ◌≡◌ {A = Bool} false true = sym z ∙ ap (bad (reached next start w)) (eqb-true e a y) ∙ t in
-              let c' : ◌≡◌ {A = ℕ} 0 1 = ap (λ x. cond x 1 0) c in absurd (omega arith)
+              let c : ◌≡◌ {A = Bool} false true = sym z ∙ ap (bad (reached next start w)) (eqb-true e a y) ∙ t in absurd cc
           by_case false y = let other : ¬ (e ≡ a) = eqb-false e a y in omega arith
 
   -- The words from number i on.
@@ -102,59 +100,55 @@ module _ {S : Type 0} (same : S → S → Bool) (next : S → ℕ → S) (start 
       (le-ltb i (length P) h)
 
 -- What holds when i pairs have been taken from the queue and none of them failed.
-module _ {size events : ℕ} {kind : ValueKind} {k : ℕ} {device table : List ℕ} {a₀ : Queue} (meet : List ℕ)
-    (x : Searchable size events kind k device table a₀) where
+module _ {size : ℕ} {x : TrialInput} {a₀ : Queue size} (ready : Ready size x) (held₀ : HoldsPairs x ([] ∷ []) a₀) where
   abbrev limit : ℕ
-  limit = x.n * k
+  limit = x.device_states * x.states
 
-  abbrev below : ℕ → ℕ → Bool
-  below = at_or_below kind meet
-
-  abbrev m : Machine ℕ ℕ
-  m = machine_of kind events device
-
-  abbrev q : Machine ℕ ℕ
-  q = machine_of kind events table
+  abbrev next : ℕ × ℕ → ℕ → ℕ × ℕ
+  next = next_pair (device_machine x) (table_machine x)
 
   abbrev start : ℕ × ℕ
-  start = (x.s, zero)
+  start = (x.device_start, zero)
+
+  abbrev bad : (ℕ → ℕ → Bool) → ℕ × ℕ → ℕ → Bool
+  bad related = bad_pair related (device_machine x) (table_machine x)
 
   abbrev Q : List (List ℕ)
-  Q = explored same_pair (next_pair m q) start events limit
+  Q = explored same_pair next start x.set_up.events limit
 
   -- The first of the words after which a test of two values fails.
   abbrev first_from : (ℕ → ℕ → Bool) → List (List ℕ) → Option (List ℕ)
-  first_from related P = first_bad (next_pair m q) start (bad_pair related m q) events P
+  first_from related P = first_bad next start (bad related) x.set_up.events P
 
-  pub record Progress (i count : ℕ) (same : Bool) (a : Queue) : Type 0 where
+  pub record Progress (i : ℕ) (same : Bool) (a : Queue size) : Type 0 where
     pub words : List (List ℕ)
-    pub held : HoldsPairs x.n k m q start words a
-    pub counted : count ≡ length words
-    pub at_most : i ≤ count
-    pub on_way : explore same_pair (next_pair m q) start events (limit - i) i words ≡ Q
-    pub passed : first_from below (drop i Q) ≡ first_from below Q
+    pub held : HoldsPairs x words a
+    pub at_most : i ≤ a.count
+    pub on_way : explore same_pair next start x.set_up.events (limit - i) i words ≡ Q
+    pub passed : first_from (below x) (drop i Q) ≡ first_from (below x) Q
     pub graded : is_none (first_from eqb Q) ≡ (same && is_none (first_from eqb (drop i Q)))
 
   Q_few : length Q ≤ limit
-  Q_few = few_pairs events x.n k m q x.ready.device_nexts x.ready.table_nexts x.s zero x.start_in x.some_states
+  Q_few =
+      few_pairs x.set_up.events x.device_states x.states (device_machine x) (table_machine x) ready.device_nexts ready.table_nexts
+      x.device_start zero ready.start_in ready.some_states
 
-  grows : (c i : ℕ) (P : List (List ℕ)) → Grows P (explore same_pair (next_pair m q) start events c i P)
-  grows c i P = explore_grows same_pair same_pair_iff (next_pair m q) start events c i P
+  grows : (c i : ℕ) (P : List (List ℕ)) → Grows P (explore same_pair next start x.set_up.events c i P)
+  grows c i P = explore_grows same_pair same_pair_iff next start x.set_up.events c i P
 
-  pub progress_start : Progress zero 1 true a₀
+  pub progress_start : Progress zero true a₀
   progress_start =
       let z : limit - zero ≡ limit = omega arith in
       record {
         words = [] ∷ [];
-        held = x.held;
-        counted = refl;
+        held = held₀;
         at_most = omega arith;
-        on_way = ap (λ c. explore same_pair (next_pair m q) start events c zero ([] ∷ [])) z;
+        on_way = ap (λ c. explore same_pair next start x.set_up.events c zero ([] ∷ [])) z;
         passed = refl;
         graded = refl;
       }
 
-  module _ (i count : ℕ) (same : Bool) (a : Queue) (p : Progress i count same a) where
+  module _ (i : ℕ) (same : Bool) (a : Queue size) (p : Progress i same a) where
     words_grow : Grows p.words Q
     words_grow = subst (Grows p.words) p.on_way (grows (limit - i) i p.words)
 
@@ -162,72 +156,54 @@ module _ {size events : ℕ} {kind : ValueKind} {k : ℕ} {device table : List �
     words_few = omega (arith, words_grow.0, Q_few)
 
     -- No pair is left.
-    pub found_none :
-        count ≤ i →
-        (counterexample below m q events x.n k x.s zero ≡ none) × (same ≡ is_none (counterexample eqb m q events x.n k x.s zero))
+    pub found_none : a.count ≤ i → (first_failure x ≡ none) × (same ≡ ends_same x)
+    unfolding first_failure ends_same
     found_none h =
-        let z : length p.words ≤ i = omega (arith, p.counted) in
-        let is : p.words ≡ Q = sym (explore_end same_pair (next_pair m q) start events (limit - i) i p.words z) ∙ p.on_way in
+        let z : length p.words ≤ i = omega (arith, p.held.counted) in
+        let is : p.words ≡ Q = sym (explore_end same_pair next start x.set_up.events (limit - i) i p.words z) ∙ p.on_way in
         let rest : drop i Q ≡ [] = ap (drop i) (sym is) ∙ drop_of_length-le p.words z in (
-          ap in_play_order (sym p.passed ∙ ap (first_from below) rest),
+          ap in_play_order (sym p.passed ∙ ap (first_from (below x)) rest),
           sym (none_in_play_order (first_from eqb Q) ∙ p.graded ∙ ap (λ l. same && is_none (first_from eqb l)) rest ∙ and-true same),
         )
 
-    module _ (h : i < count) where
+    module _ (h : i < a.count) where
       i_in : i < length p.words
-      i_in = subst (λ c. i < c) p.counted h
+      i_in = subst (λ c. i < c) p.held.counted h
 
       pub taken_small : i < size
-      taken_small = omega (arith, i_in, words_few, x.ready.few_pairs)
+      taken_small = omega (arith, i_in, words_few, ready.few_pairs)
 
       pub taken_few : i < 65536
-      taken_few = omega (arith, i_in, words_few, product_bounded x.ready.few_device_states x.ready.few_table_states)
+      taken_few = omega (arith, i_in, words_few, product_bounded ready.few_device_states ready.few_table_states)
 
       abbrev after : List (List ℕ)
-      after = successors events kind device table start p.words i
+      after = successors x p.words i
 
-      step_way : explore same_pair (next_pair m q) start events (limit - suc i) (suc i) after ≡ Q
-      step_way =
-          sym (explore_step same_pair (next_pair m q) start events limit i p.words i_in (omega (arith, i_in, words_few))) ∙ p.on_way
+      step_way : explore same_pair next start x.set_up.events (limit - suc i) (suc i) after ≡ Q
+      step_way = sym (explore_step same_pair next start x.set_up.events limit i p.words i_in (omega (arith, i_in, words_few))) ∙ p.on_way
 
       after_grow : Grows after Q
       after_grow = subst (Grows after) step_way (grows (limit - suc i) (suc i) after)
 
-      after_fits : length after ≤ limit
-      after_fits = omega (arith, after_grow.0, Q_few)
+      pub expandable : Expandable x a i
+      expandable = record { words = p.words; held = p.held; taken = i_in; room = omega (arith, after_grow.0, Q_few) }
 
-      unfoldable expandable : Expandable size events kind k device table i count a
-      expandable =
-          record {
-            n = x.n;
-            ready = x.ready;
-            start = start;
-            words = p.words;
-            held = p.held;
-            counted = p.counted;
-            taken = h;
-            room = after_fits;
-          }
-
-      pub own_expandable : Sized size a → Sized (length a.flags) a × Expandable (length a.flags) events kind k device table i count a
-      own_expandable sized =
-          subst⁻¹ (λ c. Sized c a × Expandable c events kind k device table i count a) sized.flags_size (sized, expandable)
-
-      module _ (s t : ℕ) (s_is : s ≡ get_or a.device_queue i 0) (t_is : t ≡ get_or a.table_queue i 0) where
+      module _ (s t : ℕ) (s_is : s ≡ (pair_at a.pairs i).device) (t_is : t ≡ (pair_at a.pairs i).table) where
         pub s_small : s < 256
-        s_small = omega (arith, s_is, p.held.device_in i i_in, x.ready.few_device_states)
+        s_small = omega (arith, s_is, p.held.device_in i i_in, ready.few_device_states)
 
         pub t_small : t < 256
-        t_small = omega (arith, t_is, p.held.table_in i i_in, x.ready.few_table_states)
+        t_small = omega (arith, t_is, p.held.table_in i i_in, ready.few_table_states)
 
         abbrev w : List ℕ
         w = get_or p.words i []
 
         bad_is :
-            (related : ℕ → ℕ → Bool) (e : ℕ) (b : Bool) → related (m.value s e) (q.value t e) ≡ b →
-            bad_pair related m q (reached (next_pair m q) start w) e ≡ not b
+            (related : ℕ → ℕ → Bool) (e : ℕ) (b : Bool) → related ((device_machine x).value s e) ((table_machine x).value t e) ≡ b →
+            bad related (pair_after x w) e ≡ not b
         bad_is related e b z =
-            ap₂ (λ u v. not (related (m.value u e) (q.value v e))) (sym (s_is ∙ p.held.device_at i i_in)) (sym (t_is ∙ p.held.table_at i i_in))
+            ap (λ p. bad related p e) (sym (p.held.reached i i_in))
+            ∙ ap₂ (λ u v. not (related ((device_machine x).value u e) ((table_machine x).value v e))) (sym s_is) (sym t_is)
             ∙ ap not z
 
         taken_word : get_or Q i [] ≡ w
@@ -235,76 +211,64 @@ module _ {size events : ℕ} {kind : ValueKind} {k : ℕ} {device table : List �
 
         -- What a test finds on the events of the pair.
         abbrev on_pair : (ℕ → ℕ → Bool) → Option (List ℕ)
-        on_pair related = bad_event (next_pair m q) start (bad_pair related m q) events zero w
+        on_pair related = bad_event next start (bad related) x.set_up.events zero w
 
         here : (related : ℕ → ℕ → Bool) → first_from related (drop i Q) ≡ first_found (on_pair related) (first_from related (drop (suc i) Q))
         here related =
-            first_at (next_pair m q) start (bad_pair related m q) events Q i (omega (arith, i_in, words_grow.0))
-            ∙ ap (λ u. first_found (bad_event (next_pair m q) start (bad_pair related m q) events zero u) (first_from related (drop (suc i) Q))) taken_word
+            first_at next start (bad related) x.set_up.events Q i (omega (arith, i_in, words_grow.0))
+            ∙ ap (λ u. first_found (bad_event next start (bad related) x.set_up.events zero u) (first_from related (drop (suc i) Q))) taken_word
 
-        abbrev good : ℕ → Bool
-        good = below_on events kind meet device table s t
+        -- The pair fails.
+        pub found_at :
+            (e : ℕ) → BadOn x.set_up.events (below_on x s t) (equal_on x s t) e → FailsAt x (record { place = i; event = e }) a
+        unfolding below_on first_failure
+        found_at e judged =
+            record {
+              reaches =
+                  record {
+                    words = p.words;
+                    linked = p.held.linked;
+                    room = omega (arith, words_few, ready.few_pairs, p.held.sized.pairs_size);
+                    has = i_in;
+                  };
+              few = omega (arith, words_few, ready.few_pairs);
+              event_in = judged.event_in;
+              is_first =
+                  ap in_play_order
+                  (sym p.passed ∙ here (below x)
+                  ∙ ap (λ o. first_found o (first_from (below x) (drop (suc i) Q)))
+                  (bad_first next start (bad (below x)) e w (bad_is (below x) e false judged.bad) x.set_up.events zero (omega arith)
+                  (omega (arith, judged.event_in)) (λ c u v. bad_is (below x) c true (judged.before c v))));
+            }
 
-        abbrev equal : ℕ → Bool
-        equal = equal_on events kind meet device table s t
-
-        module _ (e : ℕ) (judged : BadOn events good equal e) where
-          -- The pair fails.
-          pub found_at :
-              Sized size a →
-              FailsAt size events (counterexample below m q events x.n k x.s zero) i e a.parents a.last_events
-          unfolding below_on
-          found_at sized =
-              record {
-                reaches =
-                    record {
-                      words = p.words;
-                      linked = p.held.linked;
-                      parents_room = omega (arith, words_few, x.ready.few_pairs, sized.parents_size);
-                      last_events_room = omega (arith, words_few, x.ready.few_pairs, sized.last_events_size);
-                      has = i_in;
-                    };
-                few = omega (arith, words_few, x.ready.few_pairs);
-                event_in = judged.event_in;
-                is_first =
-                    ap in_play_order
-                    (sym p.passed ∙ here below
-                    ∙ ap (λ o. first_found o (first_from below (drop (suc i) Q)))
-                    (bad_first (next_pair m q) start (bad_pair below m q) e w (bad_is below e false judged.bad) events zero (omega arith)
-                    (omega (arith, judged.event_in)) (λ c u v. bad_is below c true (judged.before c v))));
-              }
-
-        module _ (all_equal : Bool) (judged : GoodOn events good equal all_equal) where
+        module _ (all_equal : Bool) (judged : GoodOn x.set_up.events (below_on x s t) (equal_on x s t) all_equal) where
           equal_here : is_none (on_pair eqb) ≡ all_equal
           unfolding equal_on
           equal_here = go all_equal judged.all_same judged.some_differ
             where
               go :
-                  (b : Bool) → (b ≡ true → (c : ℕ) → c < events → equal c ≡ true) → (b ≡ false → (c : ℕ) × (c < events) × (equal c ≡ false)) →
-                  is_none (on_pair eqb) ≡ b
+                  (b : Bool) → (b ≡ true → (c : ℕ) → c < x.set_up.events → equal_on x s t c ≡ true) →
+                  (b ≡ false → (c : ℕ) × (c < x.set_up.events) × (equal_on x s t c ≡ false)) → is_none (on_pair eqb) ≡ b
               go true f g =
-                  ap is_none (bad_none (next_pair m q) start (bad_pair eqb m q) events zero w (λ c u v. bad_is eqb c true (f refl c (omega arith))))
+                  ap is_none (bad_none next start (bad eqb) x.set_up.events zero w (λ c u v. bad_is eqb c true (f refl c (omega arith))))
               go false f g =
                   let d = g refl in
-                  bad_some (next_pair m q) start (bad_pair eqb m q) d.0 w (bad_is eqb d.0 false d.2) events zero (omega arith) (omega (arith, d.1))
+                  bad_some next start (bad eqb) d.0 w (bad_is eqb d.0 false d.2) x.set_up.events zero (omega arith) (omega (arith, d.1))
 
           -- It does not, and its successors are pushed.
-          pub progress_next :
-              Sized size a → (r : ℕ) (b : Queue) → Expanded (length a.flags) events kind k device table i count a r b →
-              Progress (i + 1) r (same && all_equal) b
-          unfolding expandable below_on
-          progress_next sized r b f =
-              let g = subst (λ c. Expanded c events kind k device table i count a r b) sized.flags_size f expandable in
-              subst (λ c. Progress c r (same && all_equal) b) (sym (add-one i)) (record {
+          pub progress_next : (b : Queue size) → Expanded x a i b → Progress (i + 1) (same && all_equal) b
+          unfolding below_on expandable
+          progress_next b f =
+              let g = f expandable in
+              subst (λ c. Progress c (same && all_equal) b) (sym (add-one i)) (record {
                 words = after;
-                held = g.0;
-                counted = g.1;
-                at_most = omega (arith, g.1, i_in, more);
+                held = g;
+                at_most = omega (arith, g.counted, i_in, more);
                 on_way = step_way;
                 passed =
-                    sym (here below
-                    ∙ ap (λ o. first_found o (first_from below (drop (suc i) Q)))
-                    (bad_none (next_pair m q) start (bad_pair below m q) events zero w (λ c u v. bad_is below c true (judged.allowed c (omega arith)))))
+                    sym (here (below x)
+                    ∙ ap (λ o. first_found o (first_from (below x) (drop (suc i) Q)))
+                    (bad_none next start (bad (below x)) x.set_up.events zero w (λ c u v. bad_is (below x) c true (judged.allowed c (omega arith)))))
                     ∙ p.passed;
                 graded =
                     p.graded
@@ -316,4 +280,4 @@ module _ {size events : ℕ} {kind : ValueKind} {k : ℕ} {device table : List �
               later = first_from eqb (drop (suc i) Q)
 
               more : length p.words ≤ length after
-              more = part_grows same_pair (next_pair m q) start p.words w events
+              more = part_grows same_pair next start p.words w x.set_up.events

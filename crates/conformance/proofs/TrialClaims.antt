@@ -12,28 +12,26 @@ use Rattle.theory.specs.MealyMachine.{States, Runs, after}
 use Rattle.theory.specs.ConformanceCheck.{counterexample}
 use Rattle.theory.proofs.{ConformanceClaims.{table_simulation_claim, conformance_claim, one_first_word_claim, same_values_claim}}
 use Rattle.theory.proofs.{Numbers.{eqb_iff}, ReachableStates.{after_in}, ConformanceClaims.{is_none_iff, passes_iff}, Trial.{trial_claim}}
-use Rattle.refusal.specs.declared.Refusal.{Refusal}
-use Rattle.refusal.specs.Refusal.{plain, First, has_place, condition_numbers, right_places, part_of, order}
-use Rattle.refusal.specs.RefusalAnswers.{or_else}
-use Rattle.refusal.specs.Refusal.{put}
-use Rattle.refusal.proofs.Refusals.{plain_first, first_append}
+use Rattle.refusal.specs.{declared.Refusal.{Refusal}, declared.Refusal.TheVariants.{BufferLength, TableLimits}}
+use Rattle.refusal.specs.Refusal.{plain, First, has_place, condition_numbers, right_places, part_of, order, put}
+use Rattle.refusal.specs.RefusalAnswers.{or_else, answered}
+use Rattle.refusal.proofs.{Refusals.{plain_first, first_append}, Answers.{answered_refusal_is}}
 use Rattle.values.specs.Setup.{SetupValue, setup_top}
 use Rattle.values.proofs.{Setups.{setup_first, judged_after_setup}, ValueKinds.{value_kinds}}
 use Rattle.machines.proofs.TableRefusals.{table_refusal_first}
-use Rattle.conformance.specs.Trial.{Passes, EndsSame}
+use Rattle.conformance.specs.Trial.{Passes, EndsSame, TrialInput, meet, device_machine, table_machine, FirstFailure, DeviceInOrder}
 use Rattle.conformance.specs.declared.Grade.{Grade}
 use Rattle.conformance.specs.declared.Grade.TheVariants.{Same, Stricter}
-use Rattle.conformance.specs.declared.Verdict.TheVariants.{Pass, Fail, Refused}
-use Rattle.conformance.specs.Trial.{TrialInput, meet, device_machine, table_machine, FirstFailure, DeviceInOrder}
+use Rattle.conformance.specs.declared.Verdict.TheVariants.{Pass, Fail}
 use Rattle.conformance.specs.TrialAnswer.{below, tables_refusal}
 use Rattle.conformance.specs.Claims.{PassesDecided}
-use Rattle.conformance.specs.Trial.{RuleTableInOrder, trial_conditions}
-use Rattle.conformance.specs.TrialAnswer.{trial_refusal, first_failure, ends_same, grade_of, outcome, found_answer, shown, answer_unless}
+use Rattle.conformance.specs.Trial.{RuleTableInOrder, trial_conditions, Passed, grade, word_length}
+use Rattle.conformance.specs.TrialAnswer.{handed_refusal, trial_refusal, first_failure, ends_same, grade_of, outcome, found_answer, shown}
 use Rattle.conformance.specs.TrialAnswer.{buffer_unless, trial_answer, trial_buffer}
-use Rattle.conformance.specs.Trial.{refusal_of, Passed, grade, word_length}
 use Rattle.conformance.specs.Claims.{TrialRefusalClaim, TrialRefusedClaim, PassClaim, TwoPassesClaim, GradeClaim, FailClaim, TrialSatisfactionClaim}
 use Rattle.conformance.specs.Claims.{LowestPassesClaim}
 use Rattle.conformance.proofs.Trials.{Sound, sound, all_pairs}
+use Rattle.std.specs.Prelude.{Ok, Err}
 
 -- Tests that decide.
 pub true_iff : (b : Bool) → T b ↔ (b ≡ true)
@@ -42,63 +40,48 @@ true_iff false = ((λ h. absurd h), λ e. subst⁻¹ T e tt)
 
 -- The answers by cases.
 passed_none :
-    (o : Option Refusal) (f : Option (List ℕ)) (b : Bool) → Passed (answer_unless o (outcome f b)) → (o ≡ none) × (f ≡ none)
-unfolding answer_unless outcome
+    (o : Option Refusal) (f : Option (List ℕ)) (b : Bool) → Passed (answered o (outcome f b)) → (o ≡ none) × (f ≡ none)
+unfolding answered outcome
 passed_none none none b e = (refl, refl)
 passed_none none (some w) b e = absurd e
 passed_none (some r) f b e = absurd e
 
 pub failed_some :
-    (o : Option Refusal) (f : Option (List ℕ)) (b : Bool) (n : ℕ) → word_length (answer_unless o (outcome f b)) ≡ some n →
+    (o : Option Refusal) (f : Option (List ℕ)) (b : Bool) (n : ℕ) → word_length (answered o (outcome f b)) ≡ some n →
     (o ≡ none) × ((w : List ℕ) × (f ≡ some w) × (length w ≡ n))
-unfolding answer_unless outcome
-failed_some none none b n e = let c : ◌≡◌ {A = ℕ} 0 1 = cc in absurd (omega arith)
+unfolding answered outcome
+failed_some none none b n e = absurd cc
 failed_some none (some w) b n e = (refl, (w, refl, cc))
-failed_some (some r) f b n e = let c : ◌≡◌ {A = ℕ} 0 1 = cc in absurd (omega arith)
-
-pub refusal_same : (o : Option Refusal) (f : Option (List ℕ)) (b : Bool) → refusal_of (answer_unless o (outcome f b)) ≡ o
-unfolding answer_unless outcome
-refusal_same none none b = refl
-refusal_same none (some w) b = refl
-refusal_same (some s) f b = refl
+failed_some (some r) f b n e = absurd cc
 
 -- A pass has the grade of the flag, and no other answer has one.
-grade_is : (f : Option (List ℕ)) (b : Bool) (g : Grade) → (grade (outcome f b) ≡ some g) ↔ ((f ≡ none) × (grade_of b ≡ g))
+grade_is : (f : Option (List ℕ)) (b : Bool) (g : Grade) → (grade (Ok (outcome f b)) ≡ some g) ↔ ((f ≡ none) × (grade_of b ≡ g))
 unfolding outcome
 grade_is none b g = ((λ e. (refl, cc)), λ h. ap some h.1)
-grade_is (some w) b g = (
-  (λ e. let c : ◌≡◌ {A = ℕ} 0 1 = cc in absurd (omega arith)),
-  λ h. let e : ◌≡◌ {A = Option (List ℕ)} (some w) none = h.0 in let c : ◌≡◌ {A = ℕ} 0 1 = cc in absurd (omega arith),
-)
+grade_is (some w) b g = ((λ e. absurd cc), λ h. absurd cc)
 
 same_iff : (b : Bool) → (grade_of b ≡ Same) ↔ (b ≡ true)
 unfolding grade_of
 same_iff true = ((λ e. refl), λ e. refl)
-same_iff false = (
-  (λ e. let c : ◌≡◌ {A = ℕ} 0 1 = cc in absurd (omega arith)),
-  λ e. let c : ◌≡◌ {A = ℕ} 0 1 = cc in absurd (omega arith),
-)
+same_iff false = ((λ e. absurd cc), λ e. absurd cc)
 
 stricter_iff : (b : Bool) → (grade_of b ≡ Stricter) ↔ (¬ (b ≡ true))
 unfolding grade_of
-stricter_iff true = (
-  (λ e. let c : ◌≡◌ {A = ℕ} 0 1 = cc in absurd (omega arith)),
-  λ f. absurd (f refl),
-)
-stricter_iff false = ((λ e z. let c : ◌≡◌ {A = ℕ} 0 1 = cc in omega arith), λ f. refl)
+stricter_iff true = ((λ e. absurd cc), λ f. absurd (f refl))
+stricter_iff false = ((λ e z. cc), λ f. refl)
 
 no_grade : {A : Type 0} (g : A) → ◌≡◌ {A = Option A} none (some g) → ⊥
-no_grade g e = let c : ◌≡◌ {A = ℕ} 0 1 = cc in omega arith
+no_grade g e = cc
 
 pub two_passes : TwoPassesClaim
-two_passes (Pass Same) = ((λ h. inl refl), λ e. tt)
-two_passes (Pass Stricter) = ((λ h. inr refl), λ e. tt)
-two_passes (Fail n) = ((λ h. absurd h), λ e. absurd (⊎_elim (no_grade Same) (no_grade Stricter) e))
-two_passes (Refused r) = ((λ h. absurd h), λ e. absurd (⊎_elim (no_grade Same) (no_grade Stricter) e))
+two_passes (Ok (Pass Same)) = ((λ h. inl refl), λ e. tt)
+two_passes (Ok (Pass Stricter)) = ((λ h. inr refl), λ e. tt)
+two_passes (Ok (Fail n)) = ((λ h. absurd h), λ e. absurd (⊎_elim (no_grade Same) (no_grade Stricter) e))
+two_passes (Err r) = ((λ h. absurd h), λ e. absurd (⊎_elim (no_grade Same) (no_grade Stricter) e))
 
 -- One condition that is met in either of two ways.
 either_first :
-    (n : ℕ) (P Q : Type 0) (a b : Option Refusal) → First (plain n P ∷ []) a → First (plain n Q ∷ []) b → First (plain n (P ⊎ Q) ∷ []) (or_else a b)
+    (n : Refusal) (P Q : Type 0) (a b : Option Refusal) → First (plain n P ∷ []) a → First (plain n Q ∷ []) b → First (plain n (P ⊎ Q) ∷ []) (or_else a b)
 unfolding First or_else
 either_first n P Q a b (inl (r, x, e)) y = inl (r, (inl x.0, x.1), ap (λ o. or_else o b) e)
 either_first n P Q a b (inr (unmet, e)) (inl (r, y, d)) = inl (r, (inr y.0, y.1), ap (λ o. or_else o b) e ∙ d)
@@ -115,20 +98,20 @@ module _ (d t : ℕ) where
   -- The refusals.
   module _ (x : TrialInput) (old : List ℕ) where
     tables_first :
-        First (plain 11 ((¬ DeviceInOrder d t x old) ⊎ (¬ RuleTableInOrder d t x old)) ∷ [])
+        First (plain TableLimits ((¬ DeviceInOrder d t x old) ⊎ (¬ RuleTableInOrder d t x old)) ∷ [])
         (tables_refusal d t x.set_up.events x.set_up.kind x.states x.table x.device_states x.device_start x.device)
     unfolding tables_refusal
     tables_first =
-        either_first 11 _ _ _ _
+        either_first TableLimits _ _ _ _
         (table_refusal_first d x.set_up.events x.set_up.kind x.device_states x.device_start x.device)
         (table_refusal_first t x.set_up.events x.set_up.kind x.states zero x.table)
 
     refusal_first : First (trial_conditions d t x old) (trial_refusal d t x old)
-    unfolding trial_conditions trial_refusal
+    unfolding trial_conditions trial_refusal handed_refusal
     refusal_first =
         first_append _ _ _ _ (setup_first x.set_up)
         (first_append _ _ _ _ tables_first
-        (plain_first 13 (length old < d * t) (leb (d * t) (length old)) (leb-false (d * t) (length old))
+        (plain_first BufferLength (length old < d * t) (leb (d * t) (length old)) (leb-false (d * t) (length old))
         (λ e h. omega (arith, leb-true (d * t) (length old) e))))
 
   pub trial_refusals : TrialRefusalClaim d t
@@ -139,9 +122,9 @@ module _ (d t : ℕ) where
   unfolding trial_answer found_answer trial_buffer buffer_unless
   trial_refused =
       record {
-        answer = λ x old. refusal_same (trial_refusal d t x old) (first_failure x) (ends_same x);
+        answer = λ x old. answered_refusal_is (trial_refusal d t x old) (found_answer x);
         kept = λ x old r e.
-            ap (λ o. buffer_unless o (first_failure x) old) (sym (refusal_same (trial_refusal d t x old) (first_failure x) (ends_same x)) ∙ e);
+            ap (λ o. buffer_unless o (first_failure x) old) (sym (answered_refusal_is (trial_refusal d t x old) (found_answer x)) ∙ e);
       }
 
   -- An accepted input's tables run, and the values obey the laws.
@@ -171,19 +154,19 @@ module _ (d t : ℕ) where
         x.device_states (device_machine x) x.states (table_machine x) device_runs table_runs x.device_start zero
         ok.tables.device_ok.start_in ok.tables.table_ok.some_states
 
-    accepted_answer : trial_answer d t x old ≡ outcome found (ends_same x)
-    unfolding trial_answer found_answer first_failure answer_unless
-    accepted_answer = ap (λ o. answer_unless o (found_answer x)) z
+    accepted_answer : trial_answer d t x old ≡ Ok (outcome found (ends_same x))
+    unfolding trial_answer found_answer first_failure answered
+    accepted_answer = ap (λ o. answered o (found_answer x)) z
 
     answer_iff : Passed (trial_answer d t x old) ↔ (found ≡ none)
-    unfolding answer_unless outcome
+    unfolding answered outcome
     answer_iff = (
       (λ e. (passed_none none found (ends_same x) (subst Passed accepted_answer e)).1),
-      λ e. subst⁻¹ Passed (accepted_answer ∙ ap (λ o. outcome o (ends_same x)) e) tt,
+      λ e. subst⁻¹ Passed (accepted_answer ∙ ap (λ o. Ok (outcome o (ends_same x))) e) tt,
     )
 
     few : (word : List ℕ) → length word ≤ x.device_states * x.states → length word ≤ d * t
-    few word h = omega (arith, all_pairs d t _ _ _ _ _ _ _ old ok.tables)
+    few word h = omega (arith, all_pairs d t x old ok.tables)
 
     -- Definition 1, with decided relations or without.
     by_definition : PassesDecided x ↔ Passes x
@@ -223,7 +206,7 @@ module _ (d t : ℕ) where
             ∙ ap (λ i. drop i old) long;
         not_passed = λ p. let u : found x old c.0 ≡ none = (says x old c.0).0.1 ((by_definition x old c.0).1 p) in
             let v : found x old c.0 ≡ some word = c.1.1 in
-            let q : ◌≡◌ {A = ℕ} 0 1 = cc in omega arith;
+            cc;
       }
 
   pub trial_satisfies : TrialSatisfactionClaim d t

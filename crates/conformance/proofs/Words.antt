@@ -1,17 +1,19 @@
 -- The words that the arrays link: their length, and how they are written to a buffer.
-use mathlib.Core.{Path.{◌≡◌, refl, sym, ◌∙◌, ap, ap₂, subst, subst⁻¹}, List.{List, [], ◌∷◌, ◌++◌, reverse, reverse-cons, append_assoc}}
-use Prim.Native.Nat.{ℕ, zero, suc, ◌+◌, ◌-◌, ◌≤◌, ◌<◌}
-use native.Mathlib.Omega.{arith}
-use lib.{ListN.{length, get_or, set, drop, length-set, length-reverse}, Seq.{drop-cons, drop-set-lt, get_or-set_same}}
+use mathlib.Core.{Path.{◌≡◌, sym, ◌∙◌, ap, ap₂, subst⁻¹}, List.{List, [], ◌∷◌, ◌++◌, reverse, reverse-cons, append_assoc}}
+use Prim.Native.Nat.{ℕ, zero, suc, ◌-◌, ◌≤◌, ◌<◌}
+use native.Mathlib.{Numerals.{add-one}, Omega.{arith}}
+use lib.ListN.{length, get_or, set, drop, length-reverse}
+use Rattle.std.proofs.lemmas.List.{drop-set}
 use Rattle.refusal.specs.Refusal.{put}
-use Rattle.conformance.specs.PairQueue.{Linked}
+use Rattle.conformance.specs.PairQueue.{Linked, pair_at}
+use Rattle.conformance.specs.declared.Pair.{Pair}
 
-module _ (P : List (List ℕ)) (parents last_events : List ℕ) (v : Linked P parents last_events) where
+module _ (P : List (List ℕ)) (pairs : List Pair) (v : Linked P pairs) where
   abbrev word : ℕ → List ℕ
   word l = get_or P l []
 
   abbrev parent : ℕ → ℕ
-  parent l = get_or parents l 0
+  parent l = (pair_at pairs l).parent
 
   -- A word is no longer than its place.
   pub short_word : (l : ℕ) → l < length P → length (word l) ≤ l
@@ -45,15 +47,12 @@ module _ (P : List (List ℕ)) (parents last_events : List ℕ) (v : Linked P pa
     -- One byte more from the end.
     pub write_one :
         ¬ (j ≡ 0) → (buffer : List ℕ) (p : ℕ) → suc p ≡ length (word j) → p < length buffer →
-        reverse (word (parent j)) ++ drop p (set buffer p (get_or last_events j 0)) ≡ reverse (word j) ++ drop (suc p) buffer
+        reverse (word (parent j)) ++ drop p (set buffer p (pair_at pairs j).event) ≡ reverse (word j) ++ drop (suc p) buffer
     write_one f buffer p h room =
-        ap (λ l. reverse (word (parent j)) ++ l) (drop_set buffer p (get_or last_events j 0) room)
-        ∙ sym (append_assoc (reverse (word (parent j))) (get_or last_events j 0 ∷ []) (drop (suc p) buffer))
-        ∙ ap (λ l. l ++ drop (suc p) buffer) (sym (ap reverse (v.longer j (omega arith) j_in) ∙ reverse-cons (get_or last_events j 0) (word (parent j))))
-      where
-        drop_set : (l : List ℕ) (i b : ℕ) → i < length l → drop i (set l i b) ≡ b ∷ drop (suc i) l
-        drop_set l i b u =
-            drop-cons (set l i b) i 0 (simp length-set u) ∙ ap₂ ◌∷◌ (get_or-set_same l i b 0 u) (drop-set-lt (suc i) l i b (omega arith))
+        ap (λ l. reverse (word (parent j)) ++ l)
+        (drop-set buffer p (pair_at pairs j).event room ∙ ap (λ i. (pair_at pairs j).event ∷ drop i buffer) (add-one p))
+        ∙ sym (append_assoc (reverse (word (parent j))) ((pair_at pairs j).event ∷ []) (drop (suc p) buffer))
+        ∙ ap (λ l. l ++ drop (suc p) buffer) (sym (ap reverse (v.longer j (omega arith) j_in) ∙ reverse-cons (pair_at pairs j).event (word (parent j))))
 
 -- A word with its last event, which was stored first.
 pub put_last :
@@ -61,9 +60,7 @@ pub put_last :
 unfolding put
 put_last w old e h =
     ap (λ i. reverse w ++ drop i (set old (length w) e)) (length-reverse w)
-    ∙ ap (λ l. reverse w ++ l)
-    (drop-cons (set old (length w) e) (length w) 0 (simp length-set h)
-    ∙ ap₂ ◌∷◌ (get_or-set_same old (length w) e 0 h) (drop-set-lt (suc (length w)) old (length w) e (omega arith)))
+    ∙ ap (λ l. reverse w ++ l) (drop-set old (length w) e h ∙ ap (λ i. e ∷ drop i old) (add-one (length w)))
     ∙ sym (append_assoc (reverse w) (e ∷ []) (drop (suc (length w)) old))
     ∙ ap₂ ◌++◌ (sym (reverse-cons e w)) (ap (λ i. drop i old) (sym (length-reverse (e ∷ w))))
 
@@ -73,43 +70,26 @@ pub record Rest (P : List (List ℕ)) (l p : ℕ) (buffer target : List ℕ) : T
   pub long : p ≡ length (get_or P l [])
   pub whole : reverse (get_or P l []) ++ drop p buffer ≡ target
 
--- The turns of the two loops.
-module _ (P : List (List ℕ)) (parents last_events : List ℕ) (v : Linked P parents last_events) (j r : ℕ) (j_in : j < length P)
-    (r_is : r ≡ get_or parents j 0) where
+-- The turn of the loop that writes it.
+module _ (P : List (List ℕ)) (pairs : List Pair) (v : Linked P pairs) (j r : ℕ) (j_in : j < length P)
+    (r_is : r ≡ (pair_at pairs j).parent) where
   pub depth_less : ¬ (j ≡ 0) → r < j
-  depth_less f = subst⁻¹ (λ x. x < j) r_is (parent_less P parents last_events v j j_in f)
-
-  pub depth_step :
-      (n i : ℕ) → ¬ (j ≡ 0) → n + length (get_or P j []) ≡ length (get_or P i []) →
-      (r < length P) × (n + 1 + length (get_or P r []) ≡ length (get_or P i []))
-  depth_step n i f e = (
-    omega (arith, depth_less f),
-    omega (arith, one_longer P parents last_events v j j_in f, ap (λ x. length (get_or P x [])) r_is),
-  )
+  depth_less f = subst⁻¹ (λ x. x < j) r_is (parent_less P pairs v j j_in f)
 
   pub write_step :
       (buffer target : List ℕ) (p : ℕ) → ¬ (p ≡ 0) → p ≤ length buffer → Rest P j p buffer target →
-      Rest P r (p - 1) (set buffer (p - 1) (get_or last_events j 0)) target
+      Rest P r (p - 1) (set buffer (p - 1) (pair_at pairs j).event) target
   write_step buffer target p f room h =
-      let g : ¬ (j ≡ 0) = not_root P parents last_events v j j_in (λ z. f (h.long ∙ z)) in
+      let g : ¬ (j ≡ 0) = not_root P pairs v j j_in (λ z. f (h.long ∙ z)) in
       let s : suc (p - 1) ≡ p = omega arith in
       record {
         has = omega (arith, depth_less g);
-        long = omega (arith, h.long, one_longer P parents last_events v j j_in g, ap (λ x. length (get_or P x [])) r_is);
+        long = omega (arith, h.long, one_longer P pairs v j j_in g, ap (λ x. length (get_or P x [])) r_is);
         whole =
-            ap (λ x. reverse (get_or P x []) ++ drop (p - 1) (set buffer (p - 1) (get_or last_events j 0))) r_is
-            ∙ write_one P parents last_events v j j_in g buffer (p - 1) (s ∙ h.long) (omega arith)
+            ap (λ x. reverse (get_or P x []) ++ drop (p - 1) (set buffer (p - 1) (pair_at pairs j).event)) r_is
+            ∙ write_one P pairs v j j_in g buffer (p - 1) (s ∙ h.long) (omega arith)
             ∙ ap (λ x. reverse (get_or P j []) ++ drop x buffer) s ∙ h.whole;
       }
-
-pub write_end : (P : List (List ℕ)) (j p : ℕ) (buffer target : List ℕ) → p ≡ 0 → Rest P j p buffer target → buffer ≡ target
-write_end P j p buffer target z h =
-    subst (λ x. reverse x ++ drop 0 buffer ≡ target) (nothing (get_or P j []) (sym h.long ∙ z))
-    (subst (λ x. reverse (get_or P j []) ++ drop x buffer ≡ target) z h.whole)
-  where
-    nothing : (w : List ℕ) → length w ≡ 0 → w ≡ []
-    nothing [] e = refl
-    nothing (a ∷ w) e = absurd (omega (arith, e))
 
 -- Before the first turn all of the word is to be written.
 pub write_start :

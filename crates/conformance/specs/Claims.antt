@@ -4,10 +4,10 @@ use mathlib.Core.{Path.{◌≡◌}, Logic.{◌↔◌, ◌⊎◌}, List.{List}, O
 use Rattle.std.specs.Prelude.{ℕ, ◌*◌, ◌<◌, zero}
 use Rattle.theory.specs.{ValueSets.{AtOrBelow}, Formula.{Formula}, FormulaClasses.{WellFormed}, TableSatisfaction.{TableSatisfies}}
 use Rattle.theory.specs.{ReachableStates.{IsTableOf}, MachineRuns.{SimulatedTable}}
-use Rattle.refusal.specs.{declared.Refusal.{Refusal}, Refusal.{Judged}}
+use Rattle.refusal.specs.{declared.Refusal.{Refusal}, Refusal.{Judged, refusal_of}}
 use Rattle.values.specs.Setup.{SetupValue, setup_top}
-use Rattle.conformance.specs.declared.{Grade.TheVariants.{Same, Stricter}, Verdict.{Verdict}}
-use Rattle.conformance.specs.Trial.{TrialInput, meet, device_machine, table_machine, Passes, EndsSame, FailsBy, trial_conditions, refusal_of, Passed}
+use Rattle.conformance.specs.declared.Grade.TheVariants.{Same, Stricter}
+use Rattle.conformance.specs.Trial.{TrialInput, Answer, meet, device_machine, table_machine, Passes, EndsSame, FailsBy, trial_conditions, Passed}
 use Rattle.conformance.specs.Trial.{grade, word_length}
 use Rattle.conformance.specs.TrialAnswer.{trial_refusal, trial_answer, trial_buffer}
 
@@ -18,7 +18,7 @@ PassesDecided x =
 
 -- The two passes together are the old pass (document 02, F-5).
 abbrev pub TwoPassesClaim : Type 0
-TwoPassesClaim = (answer : Verdict) → Passed answer ↔ ((grade answer ≡ some Same) ⊎ (grade answer ≡ some Stricter))
+TwoPassesClaim = (answer : Answer) → Passed answer ↔ ((grade answer ≡ some Same) ⊎ (grade answer ≡ some Stricter))
 
 -- A trial is judged as document 01 asks; its conditions stand in the order, 11 once for both tables.
 module _ (device_most table_most : ℕ) where

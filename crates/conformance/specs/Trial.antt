@@ -1,12 +1,12 @@
 -- Document 01, "Trial", refusals 1 to 3, or 1 and 20, then 11 and 13: a device judged against a rule's table, both in bytes, over a set-up of
 -- either kind.
 use mathlib.Core.{Path.{◌≡◌}, Logic.{◌⊎◌}, Option.{Option, none, some}, List.{List, [], ◌∷◌, ◌++◌}}
-use Rattle.std.specs.Prelude.{ℕ, zero, ◌*◌, ◌≤◌, ◌<◌, length, take, drop}
+use Rattle.std.specs.Prelude.{ℕ, zero, ◌*◌, ◌≤◌, ◌<◌, length, take, drop, Result, Ok, Err}
 use Rattle.theory.specs.MealyMachine.{Machine, States, Simulated, SameValues, FirstCounterexample}
-use Rattle.refusal.specs.{declared.Refusal.{Refusal}, Refusal.{Condition, plain}}
+use Rattle.refusal.specs.{declared.Refusal.{Refusal}, Refusal.{Condition, plain}, declared.Refusal.TheVariants.{BufferLength, TableLimits}}
 use Rattle.values.specs.Setup.{Setup, SetupValue, setup_meet, setup_conditions}
 use Rattle.machines.specs.TableBytes.{entry_width, machine_of, TableInOrder}
-use Rattle.conformance.specs.{declared.Verdict.{Verdict}, declared.Verdict.TheVariants.{Pass, Fail, Refused}, declared.Grade.{Grade}}
+use Rattle.conformance.specs.{declared.Verdict.{Verdict}, declared.Verdict.TheVariants.{Pass, Fail}, declared.Grade.{Grade}}
 
 -- Handed in beside the word buffer: a set-up, the rule's table, which starts at state 0, with its state count, the device with its own and a start.
 pub record TrialInput : Type 0 where
@@ -57,7 +57,7 @@ module _ (device_most table_most : ℕ) (x : TrialInput) (buffer : List ℕ) whe
   -- What a trial is refused for, in document 01's order: the set-up's conditions, 11, and 13 for a buffer shorter than the longest word.
   unfoldable pub trial_conditions : List Condition
   trial_conditions = setup_conditions x.set_up
-      ++ (plain 11 ((¬ DeviceInOrder) ⊎ (¬ RuleTableInOrder)) ∷ plain 13 (length buffer < device_most * table_most) ∷ [])
+      ++ (plain TableLimits ((¬ DeviceInOrder) ⊎ (¬ RuleTableInOrder)) ∷ plain BufferLength (length buffer < device_most * table_most) ∷ [])
 
 -- A failed trial: the front of the buffer holds the word, of at least one and "up to 16,384 events" (document 02, F-12), and the bytes after
 -- it keep their contents. "It is then no longer free. The word's length is now fixed by the two tables as well" (F-1): every first word is
@@ -70,23 +70,22 @@ pub record FailsBy (x : TrialInput) (longest : ℕ) (old new : List ℕ) (n : �
   pub rest_kept : drop n new ≡ drop n old
   pub not_passed : ¬ Passes x
 
--- What each answer says: the refusal, that the device passed, as same or as stricter, the length of a failed trial's word.
-abbrev pub refusal_of : Verdict → Option Refusal
-refusal_of (Pass passed_as) = none
-refusal_of (Fail n) = none
-refusal_of (Refused refusal) = some refusal
+-- What a trial answers: a verdict, or the refusal.
+abbrev pub Answer : Type 0
+Answer = Result Verdict Refusal
 
-abbrev pub Passed : Verdict → Type 0
-Passed (Pass passed_as) = Unit {0}
-Passed (Fail n) = ⊥
-Passed (Refused refusal) = ⊥
+-- What each answer says: that the device passed, as same or as stricter; the length of a failed trial's word. A refused one says neither.
+abbrev pub Passed : Answer → Type 0
+Passed (Ok (Pass passed_as)) = Unit {0}
+Passed (Ok (Fail n)) = ⊥
+Passed (Err refusal) = ⊥
 
-abbrev pub grade : Verdict → Option Grade
-grade (Pass passed_as) = some passed_as
-grade (Fail n) = none
-grade (Refused refusal) = none
+abbrev pub grade : Answer → Option Grade
+grade (Ok (Pass passed_as)) = some passed_as
+grade (Ok (Fail n)) = none
+grade (Err refusal) = none
 
-abbrev pub word_length : Verdict → Option ℕ
-word_length (Pass passed_as) = none
-word_length (Fail n) = some n
-word_length (Refused refusal) = none
+abbrev pub word_length : Answer → Option ℕ
+word_length (Ok (Pass passed_as)) = none
+word_length (Ok (Fail n)) = some n
+word_length (Err refusal) = none

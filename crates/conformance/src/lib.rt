@@ -1,24 +1,24 @@
 // Document 01, "Trial": a device judged against a rule's table.
 #![tactic(auto)]
 
-ghost use Rattle.std.specs.Prelude.{◌≡◌, ◌≤◌, ◌<◌, length, leb};
-ghost use Rattle.refusal.specs.declared.Judgement.TheVariants.{Accepted};
-ghost use Rattle.refusal.specs.RefusalAnswers.{or_else, plain_unless, judgement};
-ghost use Rattle.values.specs.Setup.{setup, register_setup};
+ghost use Rattle.std.specs.Prelude.{◌≡◌, ◌≤◌, ◌<◌, false, length, [], ◌∷◌};
+ghost use mathlib.Core.Option.{none};
+ghost use Rattle.refusal.specs.RefusalAnswers.{judgement};
+ghost use Rattle.values.specs.{HandedIn.{setup_of}, SetupTests.{setup_refusal}};
 ghost use Rattle.conformance.specs.Trial.{input};
-ghost use Rattle.conformance.specs.TrialAnswer.{tables_refusal, grade_of, trial_answer, trial_buffer};
-ghost use Rattle.conformance.specs.PairQueue.{small_queue, middle_queue, is_not_below, is_different, comparison_on, below_on, equal_on, JudgedPair};
-ghost use Rattle.conformance.specs.PairQueue.{queue, Sized, Pushable, pushed, pushed_count};
-ghost use Rattle.conformance.specs.PairQueue.{Expandable, Expanded, Reaches, Deep, Writable, WrittenWord, Empty, Searchable, Searched, Tried};
-ghost use Rattle.conformance.specs.PairQueue.{Answered, Concluded};
-ghost use Rattle.limits.specs.Limits.{event_limit, device_limit, table_limit, word_limit};
+ghost use Rattle.conformance.specs.TrialAnswer.{handed_refusal, trial_refusal, first_failure, found_answer, shown, trial_answer, trial_buffer};
+ghost use Rattle.conformance.specs.PairQueue.{input_of};
+ghost use Rattle.conformance.specs.PairQueue.{comparison_on, below_on, equal_on, JudgedPair};
+ghost use Rattle.conformance.specs.PairQueue.{has_pair, pushed, Ready, HoldsPairs, Expandable, Expanded, Found};
+ghost use Rattle.conformance.specs.PairQueue.{Reaches, Deep, Writable, WrittenWord};
+ghost use Rattle.limits.specs.Limits.{event_limit, device_limit, table_limit};
 
 use limits::{DEVICE_LIMIT, TABLE_LIMIT, WORD_LIMIT};
-use machines::{check_table, next_at, value_at};
-use refusal::{BUFFER_LENGTH, Judgement, Refusal};
-use values::{Comparison, ValueKind, check_register, check_setup, compare};
+use machines::{Device, Table, check_table, next_at, value_at};
+use refusal::Refusal;
+use values::{Comparison, SetUp, ValueSet, compare};
 
-// The cells of each of the search's arrays where there are few pairs of states, and where there are as many as of two devices.
+// The places of the search's queue where there are few pairs of states, and where there are as many as of two devices.
 const SMALL_QUEUE: usize = 256;
 
 const MIDDLE_QUEUE: usize = DEVICE_LIMIT * DEVICE_LIMIT;
@@ -30,624 +30,269 @@ pub enum Grade {
     Stricter,
 }
 
-// The answer of a trial; a failed one has the word's length.
+// The verdict of a trial; a failed one has the word's length.
 #[derive(Clone, Copy)]
 pub enum Verdict {
     Pass(Grade),
     Fail(usize),
-    Refused(Refusal),
 }
 
-// What a pair of states shows: the first event on which the device fails, or that it passes, and whether all its values are equal.
+// A device beside a rule's table, over an accepted set-up.
 #[derive(Clone, Copy)]
-enum PairVerdict {
-    Bad(usize),
-    Good(bool),
+struct Pairing<'a> {
+    events: usize,
+    values: ValueSet<'a>,
+    table: Table<'a>,
+    device: Device<'a>,
 }
 
-// Where the search finds a value that is not at or below: nowhere, and whether all values are equal; or at a place of the queue, on an
-// event.
+// Where the device fails: at a place of the queue, on an event.
 #[derive(Clone, Copy)]
-enum Failure {
-    Nowhere(bool),
-    At(usize, usize),
-}
-
-fn wide(x: u8) -> usize
-    ensures { result ≡ x }
-{
-    x as usize
-}
-
-fn wide16(x: u16) -> usize
-    ensures { result ≡ x }
-{
-    x as usize
-}
-
-fn grade_of(same: bool) -> Grade
-    ensures { result ≡ grade_of same }
-{
-    if same { Grade::Same } else { Grade::Stricter }
-}
-
-// The two tests of a comparison. A flag set by the second is faster than one set in an arm of a match.
-fn is_not_below(compared: Comparison) -> bool
-    ensures { result ≡ is_not_below compared }
-{
-    match compared {
-        Comparison::Equal => false,
-        Comparison::StrictlyBelow => false,
-        Comparison::NotBelow => true,
-    }
-}
-
-fn is_different(compared: Comparison) -> bool
-    ensures { result ≡ is_different compared }
-{
-    match compared {
-        Comparison::Equal => false,
-        Comparison::StrictlyBelow => true,
-        Comparison::NotBelow => true,
-    }
-}
-
-// How in a pair of states the device's value on an event compares with the table's. Values are compared here only.
-fn compare_on(
-    events: usize,
-    kind: ValueKind,
-    meet: &[u8],
-    device: &[u8],
-    table: &[u8],
-    s: usize,
-    t: usize,
-    e: usize,
-) -> Comparison
-    requires { (events ≤ event_limit) × (s < 256) × (t < 256) × (e < events) }
-    ensures { result ≡ comparison_on events kind meet.now device.now table.now s t e }
-{
-    let b = value_at(kind, device, s * events + e);
-    let c = value_at(kind, table, t * events + e);
-    compare(kind, meet, b, c)
-}
-
-// Judges a pair of states, events rising.
-fn judge_pair(
-    events: usize,
-    kind: ValueKind,
-    meet: &[u8],
-    device: &[u8],
-    table: &[u8],
-    s: usize,
-    t: usize,
-) -> PairVerdict
-    requires { (events ≤ event_limit) × (s < 256) × (t < 256) }
-    ensures { JudgedPair events (below_on events kind meet.now device.now table.now s t)
-        (equal_on events kind meet.now device.now table.now s t) result }
-{
-    let mut all_equal = true;
-    let mut e: usize = 0;
-    while e < events {
-        let compared = compare_on(events, kind, meet, device, table, s, t, e);
-        if is_not_below(compared) {
-            return PairVerdict::Bad(e);
-        }
-        all_equal = all_equal & !is_different(compared);
-        e += 1;
-    }
-    PairVerdict::Good(all_equal)
-}
-
-// Puts a pair of states at the end of the queue, where it is not in it yet; returns how many pairs the queue has then.
-fn push_pair(
+struct Failure {
     place: usize,
-    s: usize,
-    t: usize,
-    parent: usize,
-    e: usize,
-    count: usize,
-    device_queue: &mut [u8],
-    table_queue: &mut [u8],
-    parents: &mut [u16],
-    last_events: &mut [u8],
-    flags: &mut [u8],
-) -> usize
-    requires { Pushable (length flags.old) (queue device_queue.old table_queue.old parents.old last_events.old flags.old) count
-        place s t parent e }
-    ensures { (result ≡ pushed_count (queue device_queue.old table_queue.old parents.old
-        last_events.old flags.old) count place)
-        × (queue device_queue.new table_queue.new parents.new last_events.new flags.new
-        ≡ pushed (queue device_queue.old table_queue.old parents.old last_events.old
-        flags.old) count place s t parent e) }
-{
-    if flags[place] != 0 {
-        return count;
-    }
-    flags[place] = 1;
-    device_queue[count] = s as u8;
-    table_queue[count] = t as u8;
-    parents[count] = parent as u16;
-    last_events[count] = e as u8;
-    count + 1
+    event: usize,
 }
 
-// Puts the successors of a pair in the queue at the queue's end, events rising; returns how many pairs the queue has then.
-fn push_successors(
-    events: usize,
-    kind: ValueKind,
-    states: usize,
-    device: &[u8],
-    table: &[u8],
-    i: usize,
-    count: usize,
-    device_queue: &mut [u8],
-    table_queue: &mut [u8],
-    parents: &mut [u16],
-    last_events: &mut [u8],
-    flags: &mut [u8],
-) -> usize
-    requires { Sized (length flags.old) (queue device_queue.old table_queue.old parents.old last_events.old flags.old)
-        × Expandable (length flags.old) events kind states device.now table.now i count
-        (queue device_queue.old table_queue.old parents.old last_events.old flags.old) }
-    ensures { Sized (length flags.old) (queue device_queue.new table_queue.new parents.new
-        last_events.new flags.new)
-        × Expanded (length flags.old) events kind states device.now table.now i count
-        (queue device_queue.old table_queue.old parents.old last_events.old flags.old) result
-        (queue device_queue.new table_queue.new parents.new last_events.new flags.new) }
-{
-    let s = wide(device_queue[i]);
-    let t = wide(table_queue[i]);
-    let mut n = count;
-    let mut e: usize = 0;
-    while e < events {
-        let x = next_at(kind, device, s * events + e);
-        let y = next_at(kind, table, t * events + e);
-        n = push_pair(
-            x * states + y,
-            x,
-            y,
-            i,
-            e,
-            n,
-            device_queue,
-            table_queue,
-            parents,
-            last_events,
-            flags,
-        );
-        e += 1;
-    }
-    n
+// A pair of states that was reached: its device state, its table state, the place of the pair that it was reached from and the event.
+#[derive(Clone, Copy)]
+struct Pair {
+    device: u8,
+    table: u8,
+    event: u8,
+    parent: u16,
 }
 
-// Takes pairs from the queue, the start's first, until one fails or none is left; then it tells whether all values were equal.
-fn find_failure(
-    events: usize,
-    kind: ValueKind,
-    meet: &[u8],
-    states: usize,
-    table: &[u8],
-    device: &[u8],
-    device_queue: &mut [u8],
-    table_queue: &mut [u8],
-    parents: &mut [u16],
-    last_events: &mut [u8],
-    flags: &mut [u8],
-) -> Failure
-    requires { Sized (length flags.old) (queue device_queue.old table_queue.old parents.old last_events.old flags.old)
-        × Searchable (length flags.old) events kind states device.now table.now
-        (queue device_queue.old table_queue.old parents.old last_events.old flags.old) }
-    ensures { Searched (length flags.old) events kind meet.now states device.now table.now
-        (queue device_queue.old table_queue.old parents.old last_events.old flags.old) result
-        (queue device_queue.new table_queue.new parents.new last_events.new flags.new) }
-{
-    let mut same = true;
-    let mut count: usize = 1;
-    let mut i: usize = 0;
-    while i < count {
-        let s = wide(device_queue[i]);
-        let t = wide(table_queue[i]);
-        match judge_pair(events, kind, meet, device, table, s, t) {
-            PairVerdict::Bad(e) => return Failure::At(i, e),
-            PairVerdict::Good(equal) => same = same & equal,
+// The pairs of states that were reached, in their order; and of each pair of states a flag that it is among them.
+#[derive(Drop)]
+struct Queue<const SIZE: usize> {
+    count: usize,
+    pairs: [Pair; SIZE],
+    flags: [bool; SIZE],
+}
+
+impl Pairing<'_> {
+    // How in a pair of states the device's value on an event compares with the table's. Values are compared here only.
+    fn compare_on(&self, s: usize, t: usize, e: usize) -> Comparison
+        requires { (self.now.events ≤ event_limit) × (s < 256) × (t < 256) × (e < self.now.events) }
+        ensures { result ≡ comparison_on (input_of self.now) s t e }
+    {
+        let kind = self.values.kind;
+        let b = value_at(kind, self.device.table.entries, s * self.events + e);
+        let c = value_at(kind, self.table.entries, t * self.events + e);
+        compare(kind, self.values.meet, b, c)
+    }
+
+    // Judges a pair of states, events rising: the first event on which the device fails, or whether all its values are equal. Where there
+    // are few pairs, a call for each took a sixth of the time.
+    #[inline(always)]
+    fn judge_pair(&self, s: usize, t: usize) -> Result<bool, usize>
+        requires { (self.now.events ≤ event_limit) × (s < 256) × (t < 256) }
+        ensures { JudgedPair self.now.events (below_on (input_of self.now) s t) (equal_on (input_of self.now) s t) result }
+    {
+        let mut all_equal = true;
+        for e in 0..self.events {
+            let compared = self.compare_on(s, t, e);
+            if matches!(compared, Comparison::NotBelow) {
+                return Err(e);
+            }
+            // A flag set in an arm of a match takes up to twice the time.
+            all_equal &= matches!(compared, Comparison::Equal);
         }
-        count = push_successors(
-            events,
-            kind,
-            states,
-            device,
-            table,
-            i,
-            count,
-            device_queue,
-            table_queue,
-            parents,
-            last_events,
-            flags,
-        );
-        i += 1;
+        Ok(all_equal)
     }
-    Failure::Nowhere(same)
-}
 
-// How many events lead to a place of the queue.
-fn depth(parents: &[u16], last_events: &[u8], i: usize) -> usize
-    requires { Reaches i parents.now last_events.now }
-    ensures { Deep i parents.now last_events.now result }
-{
-    let mut n: usize = 0;
-    let mut j = i;
-    while j != 0 {
-        j = wide16(parents[j]);
-        n += 1;
+    // The check of a device and a table over a set-up that was accepted: refusals 11 and 13.
+    fn check(&self, word: &[u8]) -> Result<(), Refusal>
+        ensures { result ≡ judgement (handed_refusal device_limit table_limit (input_of self.now) word.now) }
+    {
+        let rule = Device {
+            table: self.table,
+            start: 0,
+        };
+        check_table(DEVICE_LIMIT, self.events, self.values.kind, self.device)?;
+        check_table(TABLE_LIMIT, self.events, self.values.kind, rule)?;
+        if word.len() < WORD_LIMIT {
+            return Err(Refusal::BufferLength);
+        }
+        Ok(())
     }
-    n
-}
 
-// Writes the events that lead to a place of the queue, in order of play, to the front of the buffer.
-fn write_path(parents: &[u16], last_events: &[u8], i: usize, n: usize, word: &mut [u8])
-    requires { Writable i n parents.now last_events.now word.old }
-    ensures { WrittenWord i n parents.now last_events.now word.old word.new }
-{
-    let mut j = i;
-    let mut at = n;
-    while at != 0 {
-        at -= 1;
-        word[at] = last_events[j];
-        j = wide16(parents[j]);
-    }
-}
-
-// Searches the pairs of states that events reach from the device's start and the table's state 0, in arrays that are 0, and writes
-// the first word on which the device fails.
-fn search(
-    events: usize,
-    kind: ValueKind,
-    meet: &[u8],
-    states: usize,
-    table: &[u8],
-    device_start: usize,
-    device: &[u8],
-    word: &mut [u8],
-    device_queue: &mut [u8],
-    table_queue: &mut [u8],
-    parents: &mut [u16],
-    last_events: &mut [u8],
-    flags: &mut [u8],
-) -> Verdict
-    requires { Tried (length flags.old) events kind states table.now device_start device.now word.old
-        × Empty (length flags.old) (queue device_queue.old table_queue.old parents.old last_events.old flags.old) }
-    ensures { Answered (length flags.old) events kind meet.now states table.now device_start
-        device.now word.old result word.new }
-{
-    device_queue[0] = device_start as u8;
-    flags[device_start * states] = 1;
-    let found = find_failure(
-        events,
-        kind,
-        meet,
-        states,
-        table,
-        device,
-        device_queue,
-        table_queue,
-        parents,
-        last_events,
-        flags,
-    );
-    match found {
-        Failure::Nowhere(same) => Verdict::Pass(grade_of(same)),
-        Failure::At(i, e) => {
-            let n = depth(parents, last_events, i);
-            word[n] = e as u8;
-            write_path(parents, last_events, i, n, word);
-            Verdict::Fail(n + 1)
+    // Searches the pairs of states that events reach from the device's start and the table's state 0, and writes the first word on which
+    // the device fails.
+    fn search<const SIZE: usize>(&self, word: &mut [u8]) -> Verdict
+        requires ready { Ready SIZE (input_of self.now) }
+        requires room { SIZE ≤ length word.old }
+        ensures answer { result ≡ found_answer (input_of self.now) }
+        ensures contents { word.new ≡ shown (first_failure (input_of self.now)) word.old }
+    {
+        let mut queue = Queue {
+            count: 0,
+            pairs: [Pair {
+                device: 0,
+                table: 0,
+                event: 0,
+                parent: 0,
+            }; SIZE],
+            flags: [false; SIZE],
+        };
+        let start = self.device.start;
+        let first = Pair {
+            device: start as u8,
+            table: 0,
+            event: 0,
+            parent: 0,
+        };
+        queue.push(start * self.table.states, first);
+        match queue.find_failure(self) {
+            Ok(true) => Verdict::Pass(Grade::Same),
+            Ok(false) => Verdict::Pass(Grade::Stricter),
+            Err(failure) => {
+                let n = queue.depth(failure.place);
+                word[n] = failure.event as u8;
+                queue.write_path(failure.place, n, word);
+                Verdict::Fail(n + 1)
+            }
         }
     }
-}
 
-// The search over few pairs.
-fn search_few(
-    events: usize,
-    kind: ValueKind,
-    meet: &[u8],
-    states: usize,
-    table: &[u8],
-    device_start: usize,
-    device: &[u8],
-    word: &mut [u8],
-) -> Verdict
-    requires { Tried small_queue events kind states table.now device_start device.now word.old }
-    ensures { Answered small_queue events kind meet.now states table.now device_start device.now
-        word.old result word.new }
-{
-    let mut device_queue = [0u8; SMALL_QUEUE];
-    let mut table_queue = [0u8; SMALL_QUEUE];
-    let mut parents = [0u16; SMALL_QUEUE];
-    let mut last_events = [0u8; SMALL_QUEUE];
-    let mut flags = [0u8; SMALL_QUEUE];
-    search(
-        events,
-        kind,
-        meet,
-        states,
-        table,
-        device_start,
-        device,
-        word,
-        &mut device_queue,
-        &mut table_queue,
-        &mut parents,
-        &mut last_events,
-        &mut flags,
-    )
-}
-
-// The search over more pairs.
-fn search_many(
-    events: usize,
-    kind: ValueKind,
-    meet: &[u8],
-    states: usize,
-    table: &[u8],
-    device_start: usize,
-    device: &[u8],
-    word: &mut [u8],
-) -> Verdict
-    requires { Tried middle_queue events kind states table.now device_start device.now word.old }
-    ensures { Answered middle_queue events kind meet.now states table.now device_start device.now
-        word.old result word.new }
-{
-    let mut device_queue = [0u8; MIDDLE_QUEUE];
-    let mut table_queue = [0u8; MIDDLE_QUEUE];
-    let mut parents = [0u16; MIDDLE_QUEUE];
-    let mut last_events = [0u8; MIDDLE_QUEUE];
-    let mut flags = [0u8; MIDDLE_QUEUE];
-    search(
-        events,
-        kind,
-        meet,
-        states,
-        table,
-        device_start,
-        device,
-        word,
-        &mut device_queue,
-        &mut table_queue,
-        &mut parents,
-        &mut last_events,
-        &mut flags,
-    )
-}
-
-// The search over as many pairs as there may be.
-fn search_all(
-    events: usize,
-    kind: ValueKind,
-    meet: &[u8],
-    states: usize,
-    table: &[u8],
-    device_start: usize,
-    device: &[u8],
-    word: &mut [u8],
-) -> Verdict
-    requires { Tried word_limit events kind states table.now device_start device.now word.old }
-    ensures { Answered word_limit events kind meet.now states table.now device_start device.now
-        word.old result word.new }
-{
-    let mut device_queue = [0u8; WORD_LIMIT];
-    let mut table_queue = [0u8; WORD_LIMIT];
-    let mut parents = [0u16; WORD_LIMIT];
-    let mut last_events = [0u8; WORD_LIMIT];
-    let mut flags = [0u8; WORD_LIMIT];
-    search(
-        events,
-        kind,
-        meet,
-        states,
-        table,
-        device_start,
-        device,
-        word,
-        &mut device_queue,
-        &mut table_queue,
-        &mut parents,
-        &mut last_events,
-        &mut flags,
-    )
-}
-
-// The check of a device and a table over a set-up that was accepted: refusals 11 and 13.
-fn check_tables(
-    events: usize,
-    kind: ValueKind,
-    states: usize,
-    table: &[u8],
-    device_states: usize,
-    device_start: usize,
-    device: &[u8],
-    word: &[u8],
-) -> Judgement
-    ensures { result ≡ judgement (or_else
-        (tables_refusal device_limit table_limit events kind states table.now device_states device_start device.now)
-        (plain_unless (leb word_limit (length word.now)) 13)) }
-{
-    let first = check_table(
-        DEVICE_LIMIT,
-        events,
-        kind,
-        device_states,
-        device_start,
-        device,
-    );
-    if let Judgement::Refused(_) = first {
-        return first;
+    // The search over more than few pairs, where what is handed in is accepted. It stays a function of its own, so that the compiler makes
+    // no room for these queues where they are not used.
+    #[inline(never)]
+    fn search_large(&self, word: &mut [u8]) -> Verdict
+        requires { trial_refusal device_limit table_limit (input_of self.now) word.old ≡ none }
+        ensures answer { result ≡ found_answer (input_of self.now) }
+        ensures contents { word.new ≡ shown (first_failure (input_of self.now)) word.old }
+    {
+        let pairs = self.device.table.states * self.table.states;
+        if pairs <= MIDDLE_QUEUE {
+            return self.search::<MIDDLE_QUEUE>(word);
+        }
+        self.search::<WORD_LIMIT>(word)
     }
-    let second = check_table(TABLE_LIMIT, events, kind, states, 0, table);
-    if let Judgement::Refused(_) = second {
-        return second;
+
+    // The trial over a set-up that was accepted. Few pairs do not wait for large arrays to be cleared.
+    fn judge(&self, word: &mut [u8]) -> Result<Verdict, Refusal>
+        requires { setup_refusal (input_of self.now).set_up ≡ none }
+        ensures answer { result ≡ trial_answer device_limit table_limit (input_of self.now) word.old }
+        ensures contents { word.new ≡ trial_buffer device_limit table_limit (input_of self.now) word.old }
+    {
+        self.check(word)?;
+        if self.device.table.states * self.table.states <= SMALL_QUEUE {
+            return Ok(self.search::<SMALL_QUEUE>(word));
+        }
+        Ok(self.search_large(word))
     }
-    if word.len() < WORD_LIMIT {
-        return Judgement::Refused(Refusal::Plain(BUFFER_LENGTH));
-    }
-    Judgement::Accepted
 }
 
-// The search over more than few pairs, where what is handed in is accepted. Each entry calls it, and searches few pairs by itself: so the
-// compiler makes no room for these arrays where they are not used.
-fn search_large(
-    events: usize,
-    kind: ValueKind,
-    meet: &[u8],
-    states: usize,
-    table: &[u8],
-    device_states: usize,
-    device_start: usize,
-    device: &[u8],
-    word: &mut [u8],
-) -> Verdict
-    requires { (Accepted ≡ judgement (or_else
-        (tables_refusal device_limit table_limit events kind states table.now device_states device_start device.now)
-        (plain_unless (leb word_limit (length word.old)) 13))) × (events ≤ event_limit) }
-    ensures { Concluded events kind meet.now states table.now device_states device_start device.now
-        word.old result word.new }
-{
-    let pairs = device_states * states;
-    if pairs <= MIDDLE_QUEUE {
-        return search_many(
-            events,
-            kind,
-            meet,
-            states,
-            table,
-            device_start,
-            device,
-            word,
-        );
+impl<const SIZE: usize> Queue<SIZE> {
+    // Puts a pair of states at the end, where its flag does not say that it is in the queue.
+    fn push(&mut self, flag: usize, pair: Pair)
+        requires flag_in { flag < SIZE }
+        requires room { has_pair self.old flag ≡ false → self.old.count < SIZE }
+        ensures { self.new ≡ pushed self.old flag pair }
+    {
+        if !self.flags[flag] {
+            self.flags[flag] = true;
+            self.pairs[self.count] = pair;
+            self.count += 1;
+        }
     }
-    search_all(
-        events,
-        kind,
-        meet,
-        states,
-        table,
-        device_start,
-        device,
-        word,
-    )
+
+    // Puts the successors of the pair at a place in the queue, events rising.
+    fn push_successors(&mut self, pairing: &Pairing<'_>, i: usize)
+        requires ready { Ready SIZE (input_of pairing.now) }
+        requires held { Expandable (input_of pairing.now) self.old i }
+        ensures { Expanded (input_of pairing.now) self.old i self.new }
+    {
+        let kind = pairing.values.kind;
+        let pair = self.pairs[i];
+        let s = usize::from(pair.device);
+        let t = usize::from(pair.table);
+        for e in 0..pairing.events {
+            let x = next_at(kind, pairing.device.table.entries, s * pairing.events + e);
+            let y = next_at(kind, pairing.table.entries, t * pairing.events + e);
+            let next = Pair {
+                device: x as u8,
+                table: y as u8,
+                event: e as u8,
+                parent: i as u16,
+            };
+            self.push(x * pairing.table.states + y, next);
+        }
+    }
+
+    // Takes pairs from the queue, the start's first, until one fails or none is left; then it tells whether all values were equal.
+    fn find_failure(&mut self, pairing: &Pairing<'_>) -> Result<bool, Failure>
+        requires ready { Ready SIZE (input_of pairing.now) }
+        requires held { HoldsPairs (input_of pairing.now) ([] ∷ []) self.old }
+        ensures { Found (input_of pairing.now) result self.new }
+    {
+        let mut same = true;
+        let mut i = 0;
+        // The queue grows as it is read, so no `for` goes over its places.
+        while i < self.count {
+            let pair = self.pairs[i];
+            let s = usize::from(pair.device);
+            let t = usize::from(pair.table);
+            match pairing.judge_pair(s, t) {
+                Ok(equal) => same &= equal,
+                Err(event) => return Err(Failure { place: i, event }),
+            }
+            self.push_successors(pairing, i);
+            i += 1;
+        }
+        Ok(same)
+    }
+
+    // How many events lead to a place.
+    fn depth(&self, place: usize) -> usize
+        requires { Reaches place self.now.pairs }
+        ensures { Deep place self.now.pairs result }
+    {
+        let mut n = 0;
+        let mut j = place;
+        while j != 0 {
+            j = usize::from(self.pairs[j].parent);
+            n += 1;
+        }
+        n
+    }
+
+    // Writes the n events that lead to a place, in order of play, to the front of the buffer.
+    fn write_path(&self, place: usize, n: usize, word: &mut [u8])
+        requires { Writable place n self.now.pairs word.old }
+        ensures { WrittenWord place n self.now.pairs word.old word.new }
+    {
+        let mut j = place;
+        for at in (0..n).rev() {
+            word[at] = self.pairs[j].event;
+            j = usize::from(self.pairs[j].parent);
+        }
+    }
 }
 
-// The trial of a device against a rule's table, both in bytes, two an entry. It passes as same where every event sequence ends in equal
-// values, and else as stricter (document 02, F-5). A failed one has the first word on which the device fails written to the front of the
-// buffer; the two tables fix that word and its length (F-1).
+// The trial of a device against a rule's table, both in bytes. It passes as same where every event sequence ends in equal values, and else
+// as stricter (document 02, F-5). A failed one has the first word on which the device fails written to the front of the buffer; the two
+// tables fix that word and its length (F-1).
 pub fn trial(
-    events: usize,
-    values: usize,
-    top: usize,
-    meet: &[u8],
-    states: usize,
-    table: &[u8],
-    device_states: usize,
-    device_start: usize,
-    device: &[u8],
+    set_up: SetUp<'_>,
+    table: Table<'_>,
+    device: Device<'_>,
     word: &mut [u8],
-) -> Verdict
+) -> Result<Verdict, Refusal>
     ensures answer { result ≡ trial_answer device_limit table_limit
-        (input (setup events values top meet.now) states table.now device_states device_start device.now)
-        word.old }
+        (input (setup_of set_up.entry) table.entry.states table.entry.entries.now
+        device.entry.table.states device.entry.start device.entry.table.entries.now) word.old }
     ensures contents { word.new ≡ trial_buffer device_limit table_limit
-        (input (setup events values top meet.now) states table.now device_states device_start device.now)
-        word.old }
+        (input (setup_of set_up.entry) table.entry.states table.entry.entries.now
+        device.entry.table.states device.entry.start device.entry.table.entries.now) word.old }
 {
-    let judged = check_setup(events, values, top, meet);
-    if let Judgement::Refused(refusal) = judged {
-        return Verdict::Refused(refusal);
-    }
-    let kind = ValueKind::Numbered(values as u32);
-    let handed = check_tables(
-        events,
-        kind,
-        states,
+    let values = set_up.check()?;
+    let pairing = Pairing {
+        events: set_up.events,
+        values,
         table,
-        device_states,
-        device_start,
         device,
-        word,
-    );
-    if let Judgement::Refused(refusal) = handed {
-        return Verdict::Refused(refusal);
-    }
-    if device_states * states <= SMALL_QUEUE {
-        return search_few(
-            events,
-            kind,
-            meet,
-            states,
-            table,
-            device_start,
-            device,
-            word,
-        );
-    }
-    search_large(
-        events,
-        kind,
-        meet,
-        states,
-        table,
-        device_states,
-        device_start,
-        device,
-        word,
-    )
-}
-
-// The same over a register, five bytes an entry.
-pub fn trial_register(
-    events: usize,
-    lines: usize,
-    states: usize,
-    table: &[u8],
-    device_states: usize,
-    device_start: usize,
-    device: &[u8],
-    word: &mut [u8],
-) -> Verdict
-    ensures answer { result ≡ trial_answer device_limit table_limit
-        (input (register_setup events lines) states table.now device_states device_start device.now) word.old }
-    ensures contents { word.new ≡ trial_buffer device_limit table_limit
-        (input (register_setup events lines) states table.now device_states device_start device.now) word.old }
-{
-    let judged = check_register(events, lines);
-    if let Judgement::Refused(refusal) = judged {
-        return Verdict::Refused(refusal);
-    }
-    let kind = ValueKind::Register(lines as u32);
-    let handed = check_tables(
-        events,
-        kind,
-        states,
-        table,
-        device_states,
-        device_start,
-        device,
-        word,
-    );
-    if let Judgement::Refused(refusal) = handed {
-        return Verdict::Refused(refusal);
-    }
-    if device_states * states <= SMALL_QUEUE {
-        return search_few(events, kind, &[], states, table, device_start, device, word);
-    }
-    search_large(
-        events,
-        kind,
-        &[],
-        states,
-        table,
-        device_states,
-        device_start,
-        device,
-        word,
-    )
+    };
+    pairing.judge(word)
 }

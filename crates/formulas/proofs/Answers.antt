@@ -8,63 +8,66 @@ use borrow.Author.Tests.{not-false, lt-ltb, le-ltb, le-leb, lt-leb}
 use Rattle.theory.specs.{Formula.{Formula, size}, BinderDepth.{binder_depth}}
 use Rattle.refusal.specs.RefusalAnswers.{or_else, plain_unless, at_found, judgement}
 use Rattle.refusal.specs.declared.Refusal.{Refusal}
-use Rattle.refusal.specs.declared.Refusal.TheVariants.{Plain, At}
-use Rattle.refusal.specs.declared.Judgement.TheVariants.{Refused}
 use Rattle.refusal.proofs.Refusals.{or_else_assoc, or_else_none, judgement_refused}
 use Rattle.formulas.specs.NodeReading.{Reads}
 use Rattle.formulas.specs.RuleReading.{first_of, kind_of, fields_fit, awaited, end_fault, node_of, nodes_from, formulas, first_formula, formula_read}
 use Rattle.formulas.specs.RuleReading.{lowest_unbound, lowest_deep, lowest_unprotected}
 use Rattle.formulas.specs.RuleRefusal.{depth_refusal, variables_refusal, structure_refusal, misfit_place, tree_refusal, nodes_refusal, fields_refusal}
-use Rattle.formulas.specs.NodeWalks.{Noted, Keeps}
+use Rattle.formulas.specs.NodeWalks.{noted, Keeps}
 use Rattle.formulas.proofs.{KindFacts.{fit_known}, Search.{lowest_clear, lowest_same}, Prefix.{no_fault}, Reading.{whole_read}}
 use Rattle.formulas.proofs.Depth.{found_deep, clear_shallow}
 use Rattle.limits.specs.Limits.{node_limit, binder_limit}
+use Rattle.refusal.specs.declared.Refusal.TheVariants.{BinderDepth, NodeCount, NodeFields, NodeTree, UnboundVariable, UnprotectedVariable}
+use Rattle.std.specs.Prelude.{Some, None, Err}
 
 -- Every kind is known.
 abbrev KnownKinds : (ℕ → ℕ) → ℕ → Type 0
 KnownKinds kind count = (i : ℕ) → i < count → kind i < 6
 
 -- A note that was clear before, taken back to the place.
-pub kept_place : (o : Option ℕ) (n : ℕ) → Keeps o node_limit n → n < node_limit → o ≡ some n
-unfolding Keeps Noted first_of
-kept_place none n w h = let v : n ≡ node_limit = w none refl in absurd (omega arith)
-kept_place (some i) n w h = ap some (sym (w none refl).0)
+pub kept_place : (o : Option ℕ) (i : ℕ) → Keeps o None (Some i) → o ≡ some i
+unfolding noted first_of
+kept_place o i w = sym w
 
-pub kept_clear : (o : Option ℕ) (n : ℕ) → Keeps o node_limit n → node_limit ≤ n → o ≡ none
-unfolding Keeps Noted first_of
-kept_clear none n w h = refl
-kept_clear (some i) n w h = let v : (n ≡ i) × (i < node_limit) = w none refl in absurd (omega (arith, v.0, v.1))
+pub kept_clear : (o : Option ℕ) → Keeps o None None → o ≡ none
+unfolding noted first_of
+kept_clear o w = sym w
 
-pub place_unmet : (o : Option ℕ) (n : ℕ) → at_found o n ≡ none → o ≡ none
+pub place_unmet : (o : Option ℕ) (given : ℕ → Refusal) → at_found o given ≡ none → o ≡ none
 unfolding at_found
-place_unmet none n e = refl
-place_unmet (some p) n e = absurd (some-ne-none (At n p) e)
+place_unmet none given e = refl
+place_unmet (some p) given e = absurd (some-ne-none (given p) e)
 
 -- The first of two answers.
-pub first_answer : (o : Option ℕ) (n p : ℕ) (later : Option Refusal) → o ≡ some p → or_else (at_found o n) later ≡ some (At n p)
+pub first_answer : (o : Option ℕ) (given : ℕ → Refusal) (p : ℕ) (later : Option Refusal) → o ≡ some p
+    → or_else (at_found o given) later ≡ some (given p)
 unfolding or_else at_found
-first_answer o n p later e = ap (λ x. or_else (at_found x n) later) e
+first_answer o given p later e = ap (λ x. or_else (at_found x given) later) e
 
-pub later_answer : (o : Option ℕ) (n : ℕ) (later : Option Refusal) → o ≡ none → or_else (at_found o n) later ≡ later
+pub later_answer : (o : Option ℕ) (given : ℕ → Refusal) (later : Option Refusal) → o ≡ none → or_else (at_found o given) later ≡ later
 unfolding or_else at_found
-later_answer o n later e = ap (λ x. or_else (at_found x n) later) e
+later_answer o given later e = ap (λ x. or_else (at_found x given) later) e
 
 module _ (φ : Formula ℕ) where
-  pub answer_unbound : (p : ℕ) → lowest_unbound 0 0 φ ≡ some p → variables_refusal φ ≡ some (At 8 p)
+  pub answer_unbound : (p : ℕ) → lowest_unbound 0 0 φ ≡ some p → variables_refusal φ ≡ some (UnboundVariable p)
   unfolding variables_refusal
-  answer_unbound p e = first_answer (lowest_unbound 0 0 φ) 8 p (or_else (depth_refusal φ) (at_found (lowest_unprotected 0 0 φ) 9)) e
+  answer_unbound p e = first_answer (lowest_unbound 0 0 φ) UnboundVariable p (or_else (depth_refusal φ)
+      (at_found (lowest_unprotected 0 0 φ) UnprotectedVariable)) e
 
-  pub answer_deep : lowest_unbound 0 0 φ ≡ none → (p : ℕ) → lowest_deep binder_limit 0 0 φ ≡ some p → variables_refusal φ ≡ some (Plain 23)
+  pub answer_deep : lowest_unbound 0 0 φ ≡ none → (p : ℕ) → lowest_deep binder_limit 0 0 φ ≡ some p → variables_refusal φ ≡ some BinderDepth
   unfolding variables_refusal depth_refusal plain_unless or_else
   answer_deep e p d =
-      later_answer (lowest_unbound 0 0 φ) 8 (or_else (depth_refusal φ) (at_found (lowest_unprotected 0 0 φ) 9)) e
-      ∙ ap (λ b. or_else (plain_unless b 23) (at_found (lowest_unprotected 0 0 φ) 9)) (lt-leb (binder_depth φ) binder_limit (found_deep binder_limit φ p d))
+      later_answer (lowest_unbound 0 0 φ) UnboundVariable (or_else (depth_refusal φ) (at_found (lowest_unprotected 0 0 φ) UnprotectedVariable)) e
+      ∙ ap (λ b. or_else (plain_unless b BinderDepth) (at_found (lowest_unprotected 0 0 φ) UnprotectedVariable))
+      (lt-leb (binder_depth φ) binder_limit (found_deep binder_limit φ p d))
 
-  pub answer_unprotected : lowest_unbound 0 0 φ ≡ none → lowest_deep binder_limit 0 0 φ ≡ none → variables_refusal φ ≡ at_found (lowest_unprotected 0 0 φ) 9
+  pub answer_unprotected : lowest_unbound 0 0 φ ≡ none → lowest_deep binder_limit 0 0 φ ≡ none → variables_refusal φ ≡ at_found (lowest_unprotected 0 0 φ)
+      UnprotectedVariable
   unfolding variables_refusal depth_refusal plain_unless or_else
   answer_unprotected e d =
-      later_answer (lowest_unbound 0 0 φ) 8 (or_else (depth_refusal φ) (at_found (lowest_unprotected 0 0 φ) 9)) e
-      ∙ ap (λ b. or_else (plain_unless b 23) (at_found (lowest_unprotected 0 0 φ) 9)) (le-leb (binder_depth φ) binder_limit (clear_shallow binder_limit φ d))
+      later_answer (lowest_unbound 0 0 φ) UnboundVariable (or_else (depth_refusal φ) (at_found (lowest_unprotected 0 0 φ) UnprotectedVariable)) e
+      ∙ ap (λ b. or_else (plain_unless b BinderDepth) (at_found (lowest_unprotected 0 0 φ) UnprotectedVariable))
+      (le-leb (binder_depth φ) binder_limit (clear_shallow binder_limit φ d))
 
 module _ (kind first value : ℕ → ℕ) (count : ℕ) where
   -- Where every kind is known and 7 is not met, the formula reads from node 0 on to the last node.
@@ -75,15 +78,15 @@ module _ (kind first value : ℕ → ℕ) (count : ℕ) where
 
   module _ (fits : ℕ → Bool) (events : ℕ) where
     -- 6, then 7.
-    pub tree_misfit : (p : ℕ) → misfit_place kind first value count fits events ≡ some p → tree_refusal kind first value count fits events ≡ some (At 6 p)
+    pub tree_misfit : (p : ℕ) → misfit_place kind first value count fits events ≡ some p → tree_refusal kind first value count fits events ≡ some (NodeFields p)
     unfolding tree_refusal
-    tree_misfit p e = first_answer (misfit_place kind first value count fits events) 6 p (at_found (end_fault kind 1 count 0) 7) e
+    tree_misfit p e = first_answer (misfit_place kind first value count fits events) NodeFields p (at_found (end_fault kind 1 count 0) NodeTree) e
 
     pub tree_end :
         misfit_place kind first value count fits events ≡ none
-        → tree_refusal kind first value count fits events ≡ at_found (end_fault kind 1 count 0) 7
+        → tree_refusal kind first value count fits events ≡ at_found (end_fault kind 1 count 0) NodeTree
     unfolding tree_refusal
-    tree_end e = later_answer (misfit_place kind first value count fits events) 6 (at_found (end_fault kind 1 count 0) 7) e
+    tree_end e = later_answer (misfit_place kind first value count fits events) NodeFields (at_found (end_fault kind 1 count 0) NodeTree) e
 
     -- 8 and 9 are answered after them.
     pub after_tree :
@@ -91,7 +94,7 @@ module _ (kind first value : ℕ → ℕ) (count : ℕ) where
         ≡ or_else (tree_refusal kind first value count fits events) (variables_refusal (formula_read kind first value count))
     unfolding nodes_refusal structure_refusal tree_refusal
     after_tree =
-        or_else_assoc (at_found (misfit_place kind first value count fits events) 6) (at_found (end_fault kind 1 count 0) 7)
+        or_else_assoc (at_found (misfit_place kind first value count fits events) NodeFields) (at_found (end_fault kind 1 count 0) NodeTree)
         (variables_refusal (formula_read kind first value count))
 
     -- Past 6 and 7.
@@ -100,12 +103,12 @@ module _ (kind first value : ℕ → ℕ) (count : ℕ) where
         → (misfit_place kind first value count fits events ≡ none) × (end_fault kind 1 count 0 ≡ none)
     unfolding tree_refusal
     tree_clear e =
-        let w = or_else_none (at_found (misfit_place kind first value count fits events) 6) (at_found (end_fault kind 1 count 0) 7) e in
-        (place_unmet (misfit_place kind first value count fits events) 6 w.0, place_unmet (end_fault kind 1 count 0) 7 w.1)
+        let w = or_else_none (at_found (misfit_place kind first value count fits events) NodeFields) (at_found (end_fault kind 1 count 0) NodeTree) e in
+        (place_unmet (misfit_place kind first value count fits events) NodeFields w.0, place_unmet (end_fault kind 1 count 0) NodeTree w.1)
 
     -- 6 or 7 is met, or neither is.
     pub tree_met :
-        (q : Refusal) → judgement (tree_refusal kind first value count fits events) ≡ Refused q
+        (q : Refusal) → judgement (tree_refusal kind first value count fits events) ≡ Err q
         → nodes_refusal kind first value count fits events ≡ tree_refusal kind first value count fits events
     unfolding or_else
     tree_met q e =
@@ -120,15 +123,15 @@ module _ (kind first value : ℕ → ℕ) (count : ℕ) where
 
     -- 5 is met by the count, or is not.
     pub answer_count : (t : Bool) → (ltb 0 count && leb count node_limit) ≡ t
-        → fields_refusal kind first value count fits events ≡ or_else (plain_unless t 5) (nodes_refusal kind first value count fits events)
+        → fields_refusal kind first value count fits events ≡ or_else (plain_unless t NodeCount) (nodes_refusal kind first value count fits events)
     unfolding fields_refusal
-    answer_count t e = ap (λ b. or_else (plain_unless b 5) (nodes_refusal kind first value count fits events)) e
+    answer_count t e = ap (λ b. or_else (plain_unless b NodeCount) (nodes_refusal kind first value count fits events)) e
 
-    pub no_node : count ≡ 0 → fields_refusal kind first value count fits events ≡ some (Plain 5)
+    pub no_node : count ≡ 0 → fields_refusal kind first value count fits events ≡ some NodeCount
     unfolding or_else plain_unless
     no_node e = answer_count false (ap (λ b. b && leb count node_limit) (le-ltb 0 count (omega arith)))
 
-    pub too_many : node_limit < count → fields_refusal kind first value count fits events ≡ some (Plain 5)
+    pub too_many : node_limit < count → fields_refusal kind first value count fits events ≡ some NodeCount
     unfolding or_else plain_unless
     too_many h =
         answer_count false (ap₂ (λ a b. a && b) (lt-ltb 0 count (omega arith)) (lt-leb count node_limit h))
@@ -179,7 +182,7 @@ module _ (kind other first second value v : ℕ → ℕ) where
       → nodes_refusal kind first value count fits events ≡ nodes_refusal other second v count fits events
   unfolding nodes_refusal misfit_place structure_refusal formula_read
   refusal_same count fits events h f g =
-      ap₂ (λ o l. or_else (at_found o 6) l)
+      ap₂ (λ o l. or_else (at_found o NodeFields) l)
       (lowest_same
       (λ j. not (fields_fit events (kind_of (kind j)) (first j) (value j) (fits (value j))))
       (λ j. not (fields_fit events (kind_of (other j)) (second j) (v j) (fits (v j))))
@@ -188,6 +191,6 @@ module _ (kind other first second value v : ℕ → ℕ) where
       (λ j l u.
       ap₂ (λ x y. not (fields_fit events (kind_of x) y (value j) (fits (value j)))) (h j (omega arith)) (f j (omega arith))
       ∙ ap (λ y. not (fields_fit events (kind_of (other j)) (second j) y (fits y))) (g j (omega arith))))
-      (ap₂ (λ o ns. or_else (at_found o 7) (variables_refusal (first_formula (formulas ns))))
+      (ap₂ (λ o ns. or_else (at_found o NodeTree) (variables_refusal (first_formula (formulas ns))))
       (end_same kind other count 1 0 (λ j l u. h j (omega arith)))
       (from_same count 0 (λ j l u. h j (omega arith)) (λ j l u. f j (omega arith)) (λ j l u. g j (omega arith))))

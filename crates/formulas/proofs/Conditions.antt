@@ -7,14 +7,13 @@ use native.Mathlib.{Nat.{div-add-mod', add-zero, zero-mul, mul-div_cancel, mul-m
 use lib.{Dec.{leb}, ListN.{length, take, drop}}
 use borrow.Author.Tests.{eq-eqb, lt-ltb, le-leb, leb-true, leb-false, not-true, not-false}
 use Rattle.limits.specs.Limits.{binder_limit}
-use Rattle.theory.specs.Formula.{Formula, truth, variable, transition, output, conjunction, greatest, size}
+use Rattle.theory.specs.Formula.{Formula, truth, variable, transition, output, conjunction, greatest, size, Node, nodes}
 use Rattle.theory.specs.FormulaClasses.{Fits, WellFormed, Accepted}
 use Rattle.theory.specs.BinderDepth.{binder_depth}
-use Rattle.theory.specs.Formula.{Node, nodes}
-use Rattle.refusal.specs.Refusal.{Condition, plain, at_lowest, Gives, First}
+use Rattle.refusal.specs.Refusal.{Condition, plain, at_lowest, PlacedRefusal, at_place}
+use Rattle.refusal.specs.Refusal.{fields_place, tree_place, unbound_place, unprotected_place, Gives, First}
 use Rattle.refusal.specs.RefusalAnswers.{or_else, plain_unless, at_found}
 use Rattle.refusal.specs.declared.Refusal.{Refusal}
-use Rattle.refusal.specs.declared.Refusal.TheVariants.{Plain, At}
 use Rattle.refusal.proofs.Refusals.{only_place, first_unique, plain_first, first_then, first_one, first_cons, or_else_none, plain_none, plain_some}
 use Rattle.formulas.specs.NodeCode.{NodeCode}
 use Rattle.formulas.specs.RuleConditions.{encode_all, encode_formula}
@@ -26,20 +25,23 @@ use Rattle.formulas.proofs.{Search.{FoundFrom, lowest_clear, lowest_found}, Walk
 use Rattle.formulas.proofs.{Prefix.{length_nodes, Outcome, whole, over, short, outcome, length_from, no_fault}, Answers.{place_unmet}}
 use Rattle.formulas.proofs.Decoding.{CountFits, count_facts}
 use Rattle.formulas.proofs.Encoding.{All, all_append, all_left, all_right, encode_append, formula_unique, formula_length, every_node, bytes_from}
-use Rattle.formulas.proofs.{Faults.{Answered, answered_as, false_not_true}, Depth.{too_deep}}
+use Rattle.formulas.proofs.{LowestFault.{Answered, answered_as, false_not_true}, Depth.{too_deep}}
 use Rattle.formulas.proofs.Variables.{unbound_answered, unprotected_answered, unbound_fault, fault_unbound}
 use Rattle.formulas.proofs.Variables.{unprotected_fault, fault_unprotected, free_below, below_free, near_guarded, guarded_near}
+use Rattle.refusal.specs.declared.Refusal.TheVariants.{BinderDepth, NodeCount, NodeFields, NodeTree, UnboundVariable, UnprotectedVariable}
 
 -- The answer of a condition with a place.
-answered_met : (P : ℕ → Type 0) (n : ℕ) (o : Option ℕ) → Answered P o → (r : Refusal) → at_found o n ≡ some r → Gives (at_lowest n P) r
+answered_met : (P : ℕ → Type 0) (given : PlacedRefusal) (o : Option ℕ) → Answered P o → (r : Refusal) → at_found o (at_place given) ≡ some r
+    → Gives (at_lowest given P) r
 unfolding at_found
-answered_met P n none w r e = absurd (some-ne-none r (sym e))
-answered_met P n (some p) w r e = let d : At n p ≡ r = cc in (p, w, sym d)
+answered_met P given none w r e = absurd (some-ne-none r (sym e))
+answered_met P given (some p) w r e = let d : at_place given p ≡ r = cc in (p, w, sym d)
 
-answered_unmet : (P : ℕ → Type 0) (n : ℕ) (o : Option ℕ) → Answered P o → at_found o n ≡ none → (r : Refusal) → ¬ Gives (at_lowest n P) r
+answered_unmet : (P : ℕ → Type 0) (given : PlacedRefusal) (o : Option ℕ) → Answered P o → at_found o (at_place given) ≡ none → (r : Refusal)
+    → ¬ Gives (at_lowest given P) r
 unfolding at_found
-answered_unmet P n none w e r (p, l, d) = w p l.holds
-answered_unmet P n (some p) w e r l = some-ne-none (At n p) e
+answered_unmet P given none w e r (p, l, d) = w p l.holds
+answered_unmet P given (some p) w e r l = some-ne-none (at_place given p) e
 
 -- 5's test.
 pub count_true : (width limit n : ℕ) → CountFits width limit n → count_fits width limit n ≡ true
@@ -112,12 +114,12 @@ module _ {B : Type 0} (width : ℕ) (encode : Node B → List ℕ) (code : NodeC
 
   -- 23.
   abbrev twenty_three : Condition
-  twenty_three = plain 23 (OfFormula encode bytes (λ φ. TooDeep φ binder_limit))
+  twenty_three = plain BinderDepth (OfFormula encode bytes (λ φ. TooDeep φ binder_limit))
 
   deep_first : (φ : Formula B) → bytes ≡ encode_formula encode φ → First (twenty_three ∷ []) (depth_refusal φ)
   unfolding depth_refusal
   deep_first φ e =
-      plain_first 23 (OfFormula encode bytes (λ φ. TooDeep φ binder_limit)) (leb (binder_depth φ) binder_limit)
+      plain_first BinderDepth (OfFormula encode bytes (λ φ. TooDeep φ binder_limit)) (leb (binder_depth φ) binder_limit)
       (λ t. (φ, e, (too_deep binder_limit φ).1 (leb-false (binder_depth φ) binder_limit t)))
       (λ t m. omega (arith, (too_deep binder_limit φ).0 (of_formula φ e (λ χ. TooDeep χ binder_limit) m), leb-true (binder_depth φ) binder_limit t))
 
@@ -130,19 +132,19 @@ module _ {B : Type 0} (width : ℕ) (encode : Node B → List ℕ) (code : NodeC
 
   -- 23, then 9, where every variable has a binder.
   abbrev pub last_two : List Condition
-  last_two = twenty_three ∷ at_lowest 9 (λ i. OfFormula encode bytes (λ φ. Unprotected φ i)) ∷ []
+  last_two = twenty_three ∷ at_lowest unprotected_place (λ i. OfFormula encode bytes (λ φ. Unprotected φ i)) ∷ []
 
   abbrev last_answer : Formula B → Option Refusal
-  last_answer φ = or_else (depth_refusal φ) (at_found (lowest_unprotected 0 0 φ) 9)
+  last_answer φ = or_else (depth_refusal φ) (at_found (lowest_unprotected 0 0 φ) UnprotectedVariable)
 
   first_last : (φ : Formula B) → bytes ≡ encode_formula encode φ → ((j : ℕ) → ¬ Unbound φ j) → First last_two (last_answer φ)
   first_last φ e bound =
       let unprotected = found_there φ e Unprotected (lowest_unprotected 0 0 φ) (unprotected_answered φ bound) in
-      first_then (twenty_three ∷ []) _ (depth_refusal φ) (at_found (lowest_unprotected 0 0 φ) 9) (deep_first φ e)
+      first_then (twenty_three ∷ []) _ (depth_refusal φ) (at_found (lowest_unprotected 0 0 φ) UnprotectedVariable) (deep_first φ e)
       (λ d.
-      first_one _ (at_found (lowest_unprotected 0 0 φ) 9)
-      (answered_met _ 9 (lowest_unprotected 0 0 φ) unprotected)
-      (answered_unmet _ 9 (lowest_unprotected 0 0 φ) unprotected))
+      first_one _ (at_found (lowest_unprotected 0 0 φ) UnprotectedVariable)
+      (answered_met _ unprotected_place (lowest_unprotected 0 0 φ) unprotected)
+      (answered_unmet _ unprotected_place (lowest_unprotected 0 0 φ) unprotected))
 
   -- 7 has one place.
   abbrev EndFault : ℕ → Type 0
@@ -174,7 +176,7 @@ module _ {B : Type 0} (width : ℕ) (encode : Node B → List ℕ) (code : NodeC
           within = subst (λ x. x ≤ limit) (sym count_there) within;
         }
 
-    not_nine : ((i : ℕ) → ¬ Unprotected φ i) → First (at_lowest 9 (λ i. OfFormula encode bytes (λ ψ. Unprotected ψ i)) ∷ []) none
+    not_nine : ((i : ℕ) → ¬ Unprotected φ i) → First (at_lowest unprotected_place (λ i. OfFormula encode bytes (λ ψ. Unprotected ψ i)) ∷ []) none
     unfolding First
     not_nine protected = inr (λ r m. protected m.0 (of_formula φ written (λ ψ. Unprotected ψ m.0) m.1.holds), refl)
 
@@ -215,25 +217,26 @@ module _ {B : Type 0} (width : ℕ) (encode : Node B → List ℕ) (code : NodeC
     -- Where 6 and 8 are not met, 23 is the answer exactly if a path is too deep, whatever 9 says.
     pub deep_exactly :
         ((i : ℕ) → ¬ NodeAtFault width encode bytes events In i) → ((i : ℕ) → ¬ Unbound φ i)
-        → First (rule_conditions width encode limit events In bytes) (some (Plain 23)) ↔ TooDeep φ binder_limit
+        → First (rule_conditions width encode limit events In bytes) (some BinderDepth) ↔ TooDeep φ binder_limit
     unfolding First depth_refusal plain_unless or_else at_found
     deep_exactly fit bound = (
       (λ h. by_depth (leb (binder_depth φ) binder_limit) refl
           (first_unique (rule_conditions width encode limit events In bytes) _ _ h (past_eight fit bound (last_answer φ) (first_last φ written bound)))),
-      λ deep. past_eight fit bound (some (Plain 23)) (inl (Plain 23, ((φ, written, deep), refl), refl)),
+      λ deep. past_eight fit bound (some BinderDepth) (inl (BinderDepth, ((φ, written, deep), refl), refl)),
     )
       where
-        not_nine_found : (o : Option ℕ) → some (Plain 23) ≡ at_found o 9 → ⊥
-        not_nine_found none e = some-ne-none (Plain 23) e
+        not_nine_found : (o : Option ℕ) → some BinderDepth ≡ at_found o UnprotectedVariable → ⊥
+        not_nine_found none e = some-ne-none BinderDepth e
         not_nine_found (some p) e = let z : ◌≡◌ {A = ℕ} 0 1 = cc in omega arith
 
         by_depth :
             (b : Bool) → leb (binder_depth φ) binder_limit ≡ b
-            → some (Plain 23) ≡ or_else (plain_unless (leb (binder_depth φ) binder_limit) 23) (at_found (lowest_unprotected 0 0 φ) 9) → TooDeep φ binder_limit
+            → some BinderDepth ≡ or_else (plain_unless (leb (binder_depth φ) binder_limit) BinderDepth)
+            (at_found (lowest_unprotected 0 0 φ) UnprotectedVariable) → TooDeep φ binder_limit
         by_depth false d e = (too_deep binder_limit φ).1 (leb-false (binder_depth φ) binder_limit d)
         by_depth true d e =
             absurd (not_nine_found (lowest_unprotected 0 0 φ)
-            (e ∙ ap (λ b. or_else (plain_unless b 23) (at_found (lowest_unprotected 0 0 φ) 9)) d))
+            (e ∙ ap (λ b. or_else (plain_unless b BinderDepth) (at_found (lowest_unprotected 0 0 φ) UnprotectedVariable)) d))
 
     -- No node of a well-formed formula is at fault.
     module _ (w : WellFormed events In φ) where
@@ -273,8 +276,8 @@ module _ {B : Type 0} (width : ℕ) (encode : Node B → List ℕ) (code : NodeC
 
     abbrev pub answer : Option Refusal
     answer =
-        or_else (plain_unless (count_fits width limit (length bytes)) 5)
-        (or_else (at_found misfits 6) (or_else (at_found (end_fault kind 1 count 0) 7) (variables_refusal read)))
+        or_else (plain_unless (count_fits width limit (length bytes)) NodeCount)
+        (or_else (at_found misfits NodeFields) (or_else (at_found (end_fault kind 1 count 0) NodeTree) (variables_refusal read)))
 
     -- 6.
     misfit_answered : Answered (NodeAtFault width encode bytes events In) misfits
@@ -366,36 +369,36 @@ module _ {B : Type 0} (width : ℕ) (encode : Node B → List ℕ) (code : NodeC
         nowhere P none w e = w
         nowhere P (some p) w e = absurd (some-ne-none p e)
 
-        all_bound : at_found (lowest_unbound 0 0 read) 8 ≡ none → (j : ℕ) → ¬ Unbound read j
-        all_bound e = nowhere (Unbound read) (lowest_unbound 0 0 read) (unbound_answered read) (place_unmet (lowest_unbound 0 0 read) 8 e)
+        all_bound : at_found (lowest_unbound 0 0 read) UnboundVariable ≡ none → (j : ℕ) → ¬ Unbound read j
+        all_bound e = nowhere (Unbound read) (lowest_unbound 0 0 read) (unbound_answered read) (place_unmet (lowest_unbound 0 0 read) UnboundVariable e)
 
         first_variables :
             First
-            (at_lowest 8 (λ i. OfFormula encode bytes (λ φ. Unbound φ i)) ∷ last_two)
+            (at_lowest unbound_place (λ i. OfFormula encode bytes (λ φ. Unbound φ i)) ∷ last_two)
             (variables_refusal read)
         unfolding variables_refusal
         first_variables =
             let unbound = found_there read formula_there Unbound (lowest_unbound 0 0 read) (unbound_answered read) in
-            first_cons _ _ (at_found (lowest_unbound 0 0 read) 8) (last_answer read)
-            (answered_met _ 8 (lowest_unbound 0 0 read) unbound)
-            (answered_unmet _ 8 (lowest_unbound 0 0 read) unbound)
+            first_cons _ _ (at_found (lowest_unbound 0 0 read) UnboundVariable) (last_answer read)
+            (answered_met _ unbound_place (lowest_unbound 0 0 read) unbound)
+            (answered_unmet _ unbound_place (lowest_unbound 0 0 read) unbound)
             (λ e. first_last read formula_there (all_bound e))
 
         -- What is accepted.
         pub accepted_there : variables_refusal read ≡ none → Accepted limit binder_limit events In read
         unfolding variables_refusal depth_refusal
         accepted_there e =
-            let w = or_else_none (at_found (lowest_unbound 0 0 read) 8) (last_answer read) e in
-            let v = or_else_none (depth_refusal read) (at_found (lowest_unprotected 0 0 read) 9) w.1 in
+            let w = or_else_none (at_found (lowest_unbound 0 0 read) UnboundVariable) (last_answer read) e in
+            let v = or_else_none (depth_refusal read) (at_found (lowest_unprotected 0 0 read) UnprotectedVariable) w.1 in
             let bound = all_bound w.0 in
             let s : size read ≡ count = sym (length_nodes read) ∙ ap length (sym (no_fault kind first value count ended)) ∙ length_from kind first value
             count 0 in
             let protected =
             nowhere (Unprotected read) (lowest_unprotected 0 0 read) (unprotected_answered read bound)
-            (place_unmet (lowest_unprotected 0 0 read) 9 v.1) in
+            (place_unmet (lowest_unprotected 0 0 read) UnprotectedVariable v.1) in
             record {
               within = subst (λ x. x ≤ limit) (sym s) counted.within;
-              shallow = leb-true (binder_depth read) binder_limit (plain_none (leb (binder_depth read) binder_limit) 23 v.0);
+              shallow = leb-true (binder_depth read) binder_limit (plain_none (leb (binder_depth read) binder_limit) BinderDepth v.0);
               well_formed =
                   record {
                     closed = free_below read 0 0 (λ j f. bound j (fault_unbound read j f));
@@ -411,22 +414,22 @@ module _ {B : Type 0} (width : ℕ) (encode : Node B → List ℕ) (code : NodeC
     pub first_refusal : First (rule_conditions width encode limit events In bytes) answer
     first_refusal =
         first_cons
-        (plain 5 (CountAtFault width limit bytes))
+        (plain NodeCount (CountAtFault width limit bytes))
         later
-        (plain_unless (count_fits width limit (length bytes)) 5)
-        (or_else (at_found misfits 6) (or_else (at_found (end_fault kind 1 count 0) 7) (variables_refusal read)))
+        (plain_unless (count_fits width limit (length bytes)) NodeCount)
+        (or_else (at_found misfits NodeFields) (or_else (at_found (end_fault kind 1 count 0) NodeTree) (variables_refusal read)))
         (λ r e.
-        let w = plain_some (count_fits width limit (length bytes)) 5 r e in
+        let w = plain_some (count_fits width limit (length bytes)) NodeCount r e in
         (λ f. false_not_true (sym w.0 ∙ count_true width limit (length bytes) (record { whole = f.0; some_node = f.1; within = f.2 })), w.1))
-        (λ e r m. let f = count_facts width limit (length bytes) (plain_none (count_fits width limit (length bytes)) 5 e) in m.0
+        (λ e r m. let f = count_facts width limit (length bytes) (plain_none (count_fits width limit (length bytes)) NodeCount e) in m.0
         (f.whole, f.some_node, f.within))
-        (λ e. first_later (count_facts width limit (length bytes) (plain_none (count_fits width limit (length bytes)) 5 e)))
+        (λ e. first_later (count_facts width limit (length bytes) (plain_none (count_fits width limit (length bytes)) NodeCount e)))
       where
         last_three : List Condition
-        last_three = at_lowest 8 (λ i. OfFormula encode bytes (λ φ. Unbound φ i)) ∷ last_two
+        last_three = at_lowest unbound_place (λ i. OfFormula encode bytes (λ φ. Unbound φ i)) ∷ last_two
 
         later : List Condition
-        later = at_lowest 6 (NodeAtFault width encode bytes events In) ∷ at_lowest 7 EndFault ∷ last_three
+        later = at_lowest fields_place (NodeAtFault width encode bytes events In) ∷ at_lowest tree_place EndFault ∷ last_three
 
         end_answered : CountFits width limit (length bytes) → misfits ≡ none → Answered EndFault (end_fault kind 1 count 0)
         end_answered f m = go (end_fault kind 1 count 0) refl
@@ -443,34 +446,34 @@ module _ {B : Type 0} (width : ℕ) (encode : Node B → List ℕ) (code : NodeC
 
         first_end :
             CountFits width limit (length bytes) → misfits ≡ none →
-            First (at_lowest 7 EndFault ∷ last_three) (or_else (at_found (end_fault kind 1 count 0) 7) (variables_refusal read))
+            First (at_lowest tree_place EndFault ∷ last_three) (or_else (at_found (end_fault kind 1 count 0) NodeTree) (variables_refusal read))
         first_end f m =
-            first_cons (at_lowest 7 EndFault) last_three (at_found (end_fault kind 1 count 0) 7) (variables_refusal read)
-            (answered_met EndFault 7 (end_fault kind 1 count 0) (end_answered f m))
-            (answered_unmet EndFault 7 (end_fault kind 1 count 0) (end_answered f m))
-            (λ e. first_variables f m (place_unmet (end_fault kind 1 count 0) 7 e))
+            first_cons (at_lowest tree_place EndFault) last_three (at_found (end_fault kind 1 count 0) NodeTree) (variables_refusal read)
+            (answered_met EndFault tree_place (end_fault kind 1 count 0) (end_answered f m))
+            (answered_unmet EndFault tree_place (end_fault kind 1 count 0) (end_answered f m))
+            (λ e. first_variables f m (place_unmet (end_fault kind 1 count 0) NodeTree e))
 
         first_later :
             CountFits width limit (length bytes) →
-            First later (or_else (at_found misfits 6) (or_else (at_found (end_fault kind 1 count 0) 7) (variables_refusal read)))
+            First later (or_else (at_found misfits NodeFields) (or_else (at_found (end_fault kind 1 count 0) NodeTree) (variables_refusal read)))
         first_later f =
             first_cons
-            (at_lowest 6 (NodeAtFault width encode bytes events In))
-            (at_lowest 7 EndFault ∷ last_three)
-            (at_found misfits 6)
-            (or_else (at_found (end_fault kind 1 count 0) 7) (variables_refusal read))
-            (λ r e. answered_met (NodeAtFault width encode bytes events In) 6 misfits misfit_answered r e)
-            (λ e r m. answered_unmet (NodeAtFault width encode bytes events In) 6 misfits misfit_answered e r m)
-            (λ e. first_end f (place_unmet misfits 6 e))
+            (at_lowest fields_place (NodeAtFault width encode bytes events In))
+            (at_lowest tree_place EndFault ∷ last_three)
+            (at_found misfits NodeFields)
+            (or_else (at_found (end_fault kind 1 count 0) NodeTree) (variables_refusal read))
+            (λ r e. answered_met (NodeAtFault width encode bytes events In) fields_place misfits misfit_answered r e)
+            (λ e r m. answered_unmet (NodeAtFault width encode bytes events In) fields_place misfits misfit_answered e r m)
+            (λ e. first_end f (place_unmet misfits NodeFields e))
 
     -- Accepted bytes are those of the formula read, which is accepted.
     pub accepted_formula : answer ≡ none → (bytes ≡ encode_formula encode read) × Accepted limit binder_limit events In read
     accepted_formula e =
-        let a = or_else_none (plain_unless (count_fits width limit (length bytes)) 5)
-        (or_else (at_found misfits 6) (or_else (at_found (end_fault kind 1 count 0) 7) (variables_refusal read))) e in
-        let b = or_else_none (at_found misfits 6) (or_else (at_found (end_fault kind 1 count 0) 7) (variables_refusal read)) a.1 in
-        let c = or_else_none (at_found (end_fault kind 1 count 0) 7) (variables_refusal read) b.1 in
-        let f = count_facts width limit (length bytes) (plain_none (count_fits width limit (length bytes)) 5 a.0) in
-        let m = place_unmet misfits 6 b.0 in
-        let n = place_unmet (end_fault kind 1 count 0) 7 c.0 in
+        let a = or_else_none (plain_unless (count_fits width limit (length bytes)) NodeCount)
+        (or_else (at_found misfits NodeFields) (or_else (at_found (end_fault kind 1 count 0) NodeTree) (variables_refusal read))) e in
+        let b = or_else_none (at_found misfits NodeFields) (or_else (at_found (end_fault kind 1 count 0) NodeTree) (variables_refusal read)) a.1 in
+        let c = or_else_none (at_found (end_fault kind 1 count 0) NodeTree) (variables_refusal read) b.1 in
+        let f = count_facts width limit (length bytes) (plain_none (count_fits width limit (length bytes)) NodeCount a.0) in
+        let m = place_unmet misfits NodeFields b.0 in
+        let n = place_unmet (end_fault kind 1 count 0) NodeTree c.0 in
         (formula_there f m n, accepted_there f m n c.1)

@@ -5,8 +5,7 @@ use native.Mathlib.{Nat.{min-le_left, min-eq_right}, Omega.{arith}}
 use lib.{Dec.{eqb, ltb, leb}, ListN.{length}}
 use borrow.Author.Tests.{eqb-true, ltb-true, leb-true}
 use Rattle.limits.specs.Limits.{node_limit}
-use Rattle.refusal.specs.RefusalAnswers.{or_else, plain_unless}
-use Rattle.refusal.specs.declared.Refusal.TheVariants.{Plain}
+use Rattle.refusal.specs.{RefusalAnswers.{or_else, plain_unless}, declared.Refusal.TheVariants.{NodeCount}}
 use Rattle.values.specs.declared.ValueKind.{ValueKind}
 use Rattle.formulas.specs.RuleConditions.{node_width}
 use Rattle.formulas.specs.RuleRefusal.{count_fits, nodes_refusal, fields_refusal, kind_at, first_at, value_at, rule_refusal}
@@ -38,10 +37,11 @@ decoded_limit kind bytes = min-le_left node_limit (length bytes / node_width kin
 
 module _ (events : ℕ) (kind : ValueKind) (bytes : List ℕ) where
   -- 5 is met.
-  pub rule_misfit : count_fits (node_width kind) node_limit (length bytes) ≡ false → rule_refusal events kind bytes ≡ some (Plain 5)
+  pub rule_misfit : count_fits (node_width kind) node_limit (length bytes) ≡ false → rule_refusal events kind bytes ≡ some NodeCount
   unfolding rule_refusal or_else plain_unless
   rule_misfit e =
-      ap (λ b. or_else (plain_unless b 5) (nodes_refusal (kind_at kind bytes) (first_at kind bytes) (value_at kind bytes) (length bytes / node_width kind)
+      ap (λ b. or_else (plain_unless b NodeCount) (nodes_refusal (kind_at kind bytes) (first_at kind bytes) (value_at kind bytes)
+      (length bytes / node_width kind)
       (value_fits kind) events)) e
 
   -- 5 is not met.
@@ -51,7 +51,8 @@ module _ (events : ℕ) (kind : ValueKind) (bytes : List ℕ) where
       (value_fits kind) events
   unfolding rule_refusal or_else plain_unless
   rule_fits e =
-      ap (λ b. or_else (plain_unless b 5) (nodes_refusal (kind_at kind bytes) (first_at kind bytes) (value_at kind bytes) (length bytes / node_width kind)
+      ap (λ b. or_else (plain_unless b NodeCount) (nodes_refusal (kind_at kind bytes) (first_at kind bytes) (value_at kind bytes)
+      (length bytes / node_width kind)
       (value_fits kind) events)) e
 
   decoded_nodes :

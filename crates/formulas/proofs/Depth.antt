@@ -10,8 +10,8 @@ use Rattle.formulas.specs.RuleConditions.Placed.{root as placed_root, part_of_tr
 use Rattle.formulas.specs.RuleConditions.Placed.{right_part as placed_right, part_of_greatest as placed_greatest}
 use Rattle.formulas.specs.RuleConditions.{Mark, binder_mark, transition_mark, binders_above, Placed, TooDeep}
 use Rattle.formulas.specs.RuleReading.{path_full, deep_search, lowest_deep}
-use Rattle.formulas.proofs.Faults.{Answered, false_not_true, state_below, FaultIn, lowest_answered, FaultyVariable, FaultyBinder, root, fault_up}
-use Rattle.formulas.proofs.Faults.{fault_down, placed_reached, reached_placed}
+use Rattle.formulas.proofs.LowestFault.{Answered, false_not_true, state_below, FaultIn, lowest_answered, FaultyVariable, FaultyBinder, root, fault_up}
+use Rattle.formulas.proofs.LowestFault.{fault_down, placed_reached, reached_placed}
 
 -- The state is the number of binders above.
 state_is : (most : ℕ) (ms : List Mark) → state_below (deep_search most) 0 ms ≡ binders_above ms

@@ -4,11 +4,9 @@ use Prim.Native.Nat.{ℕ, zero, suc, ◌+◌, ◌*◌, ◌≤◌, ◌<◌}
 use native.Mathlib.{Nat.{suc-mul, zero-mul, add-zero}, Omega.{arith}}
 use lib.ListN.{length, get_or, take, drop, length-append, get_or-append, take-append-drop}
 use lib.Seq.{take_at, drop_at, drop-drop, drop-length, get_or-drop}
-use Rattle.theory.specs.Formula.{Formula, size}
-use Rattle.theory.specs.Formula.{Node, truth_node, variable_node, transition_node, output_node, conjunction_node, greatest_node, nodes}
-use Rattle.formulas.specs.NodeCode.{kind_number, first_field}
+use Rattle.theory.specs.Formula.{Formula, size, Node, truth_node, variable_node, transition_node, output_node, conjunction_node, greatest_node, nodes}
+use Rattle.formulas.specs.NodeCode.{kind_number, first_field, NodeCode}
 use Rattle.formulas.specs.RuleConditions.{encode_all, encode_formula}
-use Rattle.formulas.specs.NodeCode.{NodeCode}
 use Rattle.formulas.specs.RuleReading.{kind_of, node_of, nodes_from}
 use Rattle.formulas.proofs.Prefix.{length_nodes, nodes_unique}
 

@@ -2,18 +2,20 @@
 use mathlib.Core.{Path.{◌≡◌, ◌∙◌, ap}, Option.{none, some}}
 use Prim.Native.Nat.{ℕ, zero, suc, ◌+◌, ◌-◌, ◌≤◌, ◌<◌}
 use native.Mathlib.Omega.{arith}
-use Rattle.formulas.specs.RuleReading.{Kind, kind_T, kind_X, kind_G, kind_O, kind_A, kind_V, unknown_kind, kind_of, awaited, end_fault}
+use Rattle.std.specs.Prelude.{Option as StdOption, Some, None}
+use Rattle.formulas.specs.declared.NodeKind.{NodeKind, TheVariants.{Truth, Variable, Transition, Output, Conjunction, Greatest}}
+use Rattle.formulas.specs.RuleReading.{kind_of, awaited, end_fault}
 
 -- At most one part more is awaited after a node than before it.
-pub awaited_few : (k : Kind) (n : ℕ) → awaited k n ≤ n + 2
+pub awaited_few : (k : StdOption NodeKind) (n : ℕ) → awaited k n ≤ n + 2
 unfolding awaited
-awaited_few kind_T n = omega arith
-awaited_few kind_X n = omega arith
-awaited_few kind_G n = omega arith
-awaited_few kind_O n = omega arith
-awaited_few kind_A n = omega arith
-awaited_few kind_V n = omega arith
-awaited_few unknown_kind n = omega arith
+awaited_few (Some Truth) n = omega arith
+awaited_few (Some Variable) n = omega arith
+awaited_few (Some Transition) n = omega arith
+awaited_few (Some Output) n = omega arith
+awaited_few (Some Conjunction) n = omega arith
+awaited_few (Some Greatest) n = omega arith
+awaited_few None n = omega arith
 
 module _ (kind : ℕ → ℕ) where
   step_by : (parts left i p l : ℕ) → parts ≡ suc p → left ≡ suc l → end_fault kind parts left i ≡ end_fault kind (awaited (kind_of (kind i)) p) l (suc i)

@@ -7,14 +7,12 @@ use Rattle.limits.specs.Limits.{node_limit}
 use Rattle.theory.specs.Formula.{Node, truth_node, variable_node, transition_node, output_node, conjunction_node, greatest_node}
 use Rattle.values.specs.declared.ValueKind.{ValueKind}
 use Rattle.values.specs.declared.ValueKind.TheVariants.{Numbered, Register}
-use Rattle.values.specs.Setup.{ValueIn}
-use Rattle.values.specs.Setup.{value_width, value_bytes, value_from}
+use Rattle.values.specs.Setup.{ValueIn, value_width, value_bytes, value_from}
 use Rattle.values.proofs.ValueBytes.{value_bytes_correct}
-use Rattle.formulas.specs.NodeCode.{kind_number, first_field, value_field}
+use Rattle.formulas.specs.NodeCode.{kind_number, first_field, value_field, HasFields}
 use Rattle.formulas.specs.RuleConditions.{node_width, node_bytes, node_fields}
 use Rattle.formulas.specs.RuleReading.{kind_of, node_of}
 use Rattle.formulas.specs.{RuleRefusal.{kind_at, first_at, value_at}, Claims.{NodeCodeClaim}}
-use Rattle.formulas.specs.NodeCode.{HasFields}
 use Rattle.formulas.proofs.Encoding.{node_back}
 
 pub width_is : (kind : ValueKind) → node_width kind ≡ 2 + value_width kind

@@ -11,8 +11,8 @@ use Rattle.values.specs.declared.ValueKind.TheVariants.{Numbered}
 use Rattle.values.specs.Setup.{ValueIn}
 use Rattle.values.specs.ValueTests.{value_fits}
 use Rattle.values.proofs.ValueKinds.{fits_value, value_fitting}
-use Rattle.refusal.specs.declared.{Refusal.{Refusal}, Judgement.{Judgement}}
-use Rattle.refusal.specs.Refusal.{First, has_place, part_of, order, condition_numbers, right_places, Judged, judgement_refusal}
+use Rattle.refusal.specs.{declared.{Refusal.{Refusal}}, declared.Refusal.TheVariants.{NodeCount}}
+use Rattle.refusal.specs.Refusal.{First, has_place, part_of, order, condition_numbers, right_places, Judged, refusal_of}
 use Rattle.refusal.specs.RefusalAnswers.{or_else, plain_unless, judgement}
 use Rattle.refusal.proofs.Refusals.{judged}
 use Rattle.formulas.specs.NodeCode.{NodeCode, three_bytes, field_list, HoldsNodes, kind_number, first_field, value_field}
@@ -20,8 +20,9 @@ use Rattle.formulas.specs.RuleConditions.{NodeFits, node_count, node_at, rule_co
 use Rattle.formulas.specs.RuleReading.{kind_of, fields_fit, node_of}
 use Rattle.formulas.specs.RuleRefusal.{count_fits, structure_refusal, misfit_place, nodes_refusal, fields_refusal}
 use Rattle.formulas.specs.Claims.{NodesRefusalClaim}
-use Rattle.formulas.proofs.{Faults.{false_not_true}, Conditions.{first_refusal}, NodeFields.{fields_sound, fields_full}}
+use Rattle.formulas.proofs.{LowestFault.{false_not_true}, Conditions.{first_refusal}, NodeFields.{fields_sound, fields_full}}
 use Rattle.formulas.proofs.NodeCodes.{fields_same, node_code}
+use Rattle.std.specs.Prelude.{Result}
 
 -- ---- under any node code
 module _ (width : ℕ) (encode : Node ℕ → List ℕ) (code : NodeCode width encode) (events : ℕ) (kind : ValueKind) (k a v : ℕ → ℕ) (count : ℕ)
@@ -57,19 +58,19 @@ module _ (width : ℕ) (encode : Node ℕ → List ℕ) (code : NodeCode width e
   unfolding fields_refusal nodes_refusal misfit_place structure_refusal
   nodes_first =
       subst (First (rule_conditions width encode node_limit events (ValueIn kind) bytes))
-      (ap₂ (λ b n. or_else (plain_unless b 5) (nodes_refusal k a v n (value_fits kind) events)) counted count_is)
+      (ap₂ (λ b n. or_else (plain_unless b NodeCount) (nodes_refusal k a v n (value_fits kind) events)) counted count_is)
       (first_refusal width encode code node_limit events (ValueIn kind) bytes k a v fit sound full)
 
   pub nodes_judged :
-      (r : Judgement) → r ≡ judgement (fields_refusal k a v count (value_fits kind) events) →
-      Judged (rule_conditions width encode node_limit events (ValueIn kind) bytes) (judgement_refusal r)
+      (r : Result (Unit {0}) Refusal) → r ≡ judgement (fields_refusal k a v count (value_fits kind) events) →
+      Judged (rule_conditions width encode node_limit events (ValueIn kind) bytes) (refusal_of r)
   unfolding condition_numbers right_places part_of order has_place judgement
   nodes_judged r e =
       subst (Judged (rule_conditions width encode node_limit events (ValueIn kind) bytes))
-      (sym (ap judgement_refusal e ∙ same (fields_refusal k a v count (value_fits kind) events)))
+      (sym (ap refusal_of e ∙ same (fields_refusal k a v count (value_fits kind) events)))
       (judged (rule_conditions width encode node_limit events (ValueIn kind) bytes) _ nodes_first refl refl)
     where
-      same : (o : Option Refusal) → judgement_refusal (judgement o) ≡ o
+      same : (o : Option Refusal) → refusal_of (judgement o) ≡ o
       same none = refl
       same (some q) = refl
 

@@ -6,8 +6,9 @@ use lib.{ListN.{length, drop, replicate, length-append, length-replicate}, Seq.{
 use Rattle.theory.specs.Formula.{Formula, truth, variable, transition, output, conjunction, greatest, size}
 use Rattle.theory.specs.Formula.{Node, truth_node, variable_node, transition_node, output_node, conjunction_node, greatest_node, nodes}
 use Rattle.formulas.specs.NodeCode.{kind_number}
-use Rattle.formulas.specs.RuleReading.{Kind, kind_T, kind_X, kind_G, kind_O, kind_A, kind_V, unknown_kind, kind_of, awaited, end_fault, node_of}
-use Rattle.formulas.specs.RuleReading.{nodes_from, with_parts, formulas, first_formula, formula_read}
+use Rattle.std.specs.Prelude.{Option as StdOption, Some, None}
+use Rattle.formulas.specs.declared.NodeKind.{NodeKind, TheVariants.{Truth, Variable, Transition, Output, Conjunction, Greatest}}
+use Rattle.formulas.specs.RuleReading.{kind_of, awaited, end_fault, node_of, nodes_from, with_parts, formulas, first_formula, formula_read}
 
 module _ {B : Type 0} where
   pub length_nodes : (φ : Formula B) → length (nodes φ) ≡ size φ
@@ -107,15 +108,15 @@ module _ {B : Type 0} where
 
   module _ (kind first : ℕ → ℕ) (value : ℕ → B) where
     -- An unknown kind counts as T here and there.
-    parts_same : (c : Kind) (a : ℕ) (b : B) (k : ℕ) → parts_after (node_of c a b) k ≡ awaited c k
+    parts_same : (c : StdOption NodeKind) (a : ℕ) (b : B) (k : ℕ) → parts_after (node_of c a b) k ≡ awaited c k
     unfolding node_of awaited kind_of
-    parts_same kind_T a b k = refl
-    parts_same kind_X a b k = refl
-    parts_same kind_G a b k = refl
-    parts_same kind_O a b k = refl
-    parts_same kind_A a b k = refl
-    parts_same kind_V a b k = refl
-    parts_same unknown_kind a b k = refl
+    parts_same (Some Truth) a b k = refl
+    parts_same (Some Variable) a b k = refl
+    parts_same (Some Transition) a b k = refl
+    parts_same (Some Output) a b k = refl
+    parts_same (Some Conjunction) a b k = refl
+    parts_same (Some Greatest) a b k = refl
+    parts_same None a b k = refl
 
     -- 7's walk finds which it is, with its place.
     pub outcome : (left k i : ℕ) → Outcome (nodes_from kind first value left i) k i (end_fault kind k left i)

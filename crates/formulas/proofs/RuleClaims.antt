@@ -5,15 +5,14 @@ use native.Mathlib.{Nat.{min-le_left, min-eq_right, mul-div_cancel, zero-mul}, O
 use lib.{Dec.{leb}, ListN.{length, drop}}
 use borrow.Author.Tests.{le-leb, leb-true, leb-false}
 use Rattle.limits.specs.Limits.{node_limit, binder_limit}
-use Rattle.theory.specs.Formula.{Formula, size}
+use Rattle.theory.specs.Formula.{Formula, size, Node, nodes}
 use Rattle.theory.specs.FormulaClasses.{Accepted}
 use Rattle.theory.specs.BinderDepth.{binder_depth}
-use Rattle.theory.specs.Formula.{Node, nodes}
 use Rattle.values.specs.declared.ValueKind.{ValueKind}
 use Rattle.values.specs.Setup.{ValueIn}
 use Rattle.values.specs.ValueTests.{value_fits}
 use Rattle.values.proofs.ValueKinds.{fits_value, value_fitting}
-use Rattle.refusal.specs.Refusal.{First, has_place, part_of, order, condition_numbers, right_places}
+use Rattle.refusal.specs.{Refusal.{First, has_place, part_of, order, condition_numbers, right_places}, declared.Refusal.TheVariants.{BinderDepth}}
 use Rattle.refusal.specs.RefusalAnswers.{plain_unless}
 use Rattle.refusal.proofs.Refusals.{judged, first_unique}
 use Rattle.formulas.specs.RuleConditions.{encode_all, encode_formula, node_width, node_bytes, NodeFits, node_at, NodeAtFault, TooDeep, Unprotected}
@@ -25,7 +24,7 @@ use Rattle.formulas.specs.Claims.{RuleRefusalClaim, AcceptedClaim, DepthClaim, T
 use Rattle.formulas.specs.Claims.{AcceptedFormulaClaim, DecodedClaim, DecodedRefusalClaim, ReadsClaim, ReadsBackClaim, ReadsUniqueClaim}
 use Rattle.formulas.proofs.{Padding.{padded_field}, Answers.{from_same}, Prefix.{length_nodes, first_is}}
 use Rattle.formulas.proofs.{Reading.{reads_nodes, reads_unique, whole_read}, Decoding.{decoded_refusal}}
-use Rattle.formulas.proofs.{Faults.{false_not_true}, Depth.{too_deep}}
+use Rattle.formulas.proofs.{LowestFault.{false_not_true}, Depth.{too_deep}}
 use Rattle.formulas.proofs.Encoding.{formula_length, read_back, known_back, bytes_from}
 use Rattle.formulas.proofs.Conditions.{depth_decides, deep_exactly, not_unprotected, well_formed_first, first_refusal, accepted_formula}
 use Rattle.formulas.proofs.NodeFields.{fields_sound, fields_full, field_value}
@@ -188,7 +187,7 @@ accepted_formula_of events kind bytes e = let w = formula_accepted events kind b
 
 shallow_unmet : (φ : Formula ℕ) → binder_depth φ ≤ binder_limit → depth_refusal φ ≡ none
 unfolding depth_refusal plain_unless
-shallow_unmet φ h = ap (λ b. plain_unless b 23) (le-leb (binder_depth φ) binder_limit h)
+shallow_unmet φ h = ap (λ b. plain_unless b BinderDepth) (le-leb (binder_depth φ) binder_limit h)
 
 -- Accepted bytes are the prefix code of exactly one closed and guarded formula.
 pub accepted_claim : AcceptedClaim

@@ -4,15 +4,14 @@ use Prim.Native.Nat.{ℕ, zero, suc, ◌+◌, ◌≤◌, ◌<◌}
 use native.Mathlib.Omega.{arith}
 use lib.{Dec.{ltb}, ListN.{length}}
 use borrow.Author.Tests.{lt-ltb, le-ltb, ltb-true, ltb-false, not-true}
-use Rattle.theory.specs.Formula.{Formula, truth, variable, transition, output, conjunction, greatest, size}
+use Rattle.theory.specs.Formula.{Formula, truth, variable, transition, output, conjunction, greatest, size, Stands}
 use Rattle.theory.specs.FormulaClasses.{FreeBelow, GuardedIn, Guarded}
-use Rattle.theory.specs.Formula.{Stands}
 use Rattle.theory.specs.Formula.Stands.{root as stands_root, part_of_transition as stands_transition, left_part as stands_left, right_part as stands_right}
 use Rattle.theory.specs.Formula.Stands.{part_of_greatest as stands_greatest}
 use Rattle.formulas.specs.RuleConditions.{Mark, binder_mark, transition_mark, Protected, by_transition, past_binder, Placed, Unbound, Unprotected}
 use Rattle.formulas.specs.RuleReading.{unbound_below, bound_near, unbound_search, unprotected_search, lowest_unbound, lowest_unprotected}
-use Rattle.formulas.proofs.Faults.{Answered, answered_as, false_not_true, FaultIn, lowest_answered, Reached, root, in_transition, in_left, in_right}
-use Rattle.formulas.proofs.Faults.{in_greatest, fault_up, faulty_variable, state_below, placed_reached, reached_placed}
+use Rattle.formulas.proofs.LowestFault.{Answered, answered_as, false_not_true, FaultIn, lowest_answered, Reached, root, in_transition, in_left, in_right}
+use Rattle.formulas.proofs.LowestFault.{in_greatest, fault_up, faulty_variable, state_below, placed_reached, reached_placed}
 
 -- 8: the state is the number of binders above.
 module _ {B : Type 0} (φ : Formula B) where

@@ -1,6 +1,6 @@
 -- What is claimed of rules in bytes (document 01, "Rules", refusals 5 to 9 and 23): each is a proposition, inhabited in proofs/.
 use mathlib.Core.{Path.{◌≡◌}, Logic.{◌↔◌}, Bool.{true}, Option.{none, some}, List.{List}}
-use Rattle.std.specs.Prelude.{ℕ, ◌*◌, ◌≤◌, ◌<◌, length}
+use Rattle.std.specs.Prelude.{ℕ, ◌*◌, ◌≤◌, ◌<◌, length, Result}
 use Rattle.theory.specs.Formula.{Formula, size, Node}
 use Rattle.theory.specs.FormulaClasses.{Accepted}
 use Rattle.theory.specs.BinderDepth.{binder_depth}
@@ -8,13 +8,12 @@ use Rattle.values.specs.declared.ValueKind.{ValueKind}
 use Rattle.values.specs.Setup.{ValueIn}
 use Rattle.values.specs.ValueTests.{value_fits}
 use Rattle.limits.specs.Limits.{node_limit, binder_limit}
-use Rattle.refusal.specs.{declared.Refusal.TheVariants.{Plain}, declared.Judgement.{Judgement}}
-use Rattle.refusal.specs.{Refusal.{First, Judged, judgement_refusal}, RefusalAnswers.{judgement}}
+use Rattle.refusal.specs.{Refusal.{First, Judged, refusal_of}, RefusalAnswers.{judgement}, declared.Refusal.TheVariants.{BinderDepth}}
 use Rattle.formulas.specs.NodeCode.{NodeCode, three_bytes, field_list, HoldsNodes}
-use Rattle.formulas.specs.RuleConditions.{encode_formula, node_width, node_bytes, Unbound, TooDeep, Unprotected}
-use Rattle.formulas.specs.RuleConditions.{NodeAtFault, rule_conditions, byte_conditions}
+use Rattle.formulas.specs.RuleConditions.{encode_formula, node_width, node_bytes, Unbound, TooDeep, Unprotected, NodeAtFault, rule_conditions, byte_conditions}
 use Rattle.formulas.specs.{NodeReading.{Reads}, NodeWalks.{field}, NodeArrays.{decoded}}
 use Rattle.formulas.specs.RuleRefusal.{count_fits, fields_refusal, kind_at, first_at, value_at, rule_refusal, formula_of}
+use Rattle.refusal.specs.declared.Refusal.{Refusal}
 
 -- With values of either kind, nodes are written in bytes so that equal bytes are of equal nodes.
 abbrev pub NodeCodeClaim : Type 0
@@ -28,16 +27,16 @@ RuleRefusalClaim = (events : ℕ) (kind : ValueKind) (bytes : List ℕ) → Judg
 -- numbers a node; and so are bytes that hold them, under any node code. r is the answer of `check_nodes`.
 pub record NodesRefusalClaim : Type 0 where
   pub of_fields :
-      (events : ℕ) (kind : ValueKind) (kinds firsts values : List ℕ) (count : ℕ) (r : Judgement) →
+      (events : ℕ) (kind : ValueKind) (kinds firsts values : List ℕ) (count : ℕ) (r : Result (Unit {0}) Refusal) →
       r ≡ judgement (fields_refusal (field kinds) (field firsts) (field values) count (value_fits kind) events) →
       Judged (rule_conditions 3 three_bytes node_limit events (ValueIn kind) (field_list (field kinds) (field firsts) (field values) count 0))
-      (judgement_refusal r)
+      (refusal_of r)
   pub of_bytes :
       (width : ℕ) (encode : Node ℕ → List ℕ) → NodeCode width encode →
       (events : ℕ) (kind : ValueKind) (kinds firsts values : List ℕ) (count : ℕ) (bytes : List ℕ) →
       HoldsNodes (field kinds) (field firsts) (field values) width encode events (ValueIn kind) count bytes →
-      (r : Judgement) → r ≡ judgement (fields_refusal (field kinds) (field firsts) (field values) count (value_fits kind) events) →
-      Judged (rule_conditions width encode node_limit events (ValueIn kind) bytes) (judgement_refusal r)
+      (r : Result (Unit {0}) Refusal) → r ≡ judgement (fields_refusal (field kinds) (field firsts) (field values) count (value_fits kind) events) →
+      Judged (rule_conditions width encode node_limit events (ValueIn kind) bytes) (refusal_of r)
 
 -- Bytes are accepted exactly if they are the prefix code of a closed and guarded formula, within the set-up and the limits.
 pub record AcceptedFormula (events : ℕ) (kind : ValueKind) (bytes : List ℕ) (φ : Formula ℕ) : Type 0 where
@@ -60,7 +59,7 @@ TooDeepClaim =
     (events : ℕ) (kind : ValueKind) (φ : Formula ℕ) → size φ ≤ node_limit
     → ((i : ℕ) → ¬ NodeAtFault (node_width kind) (node_bytes kind) (encode_formula (node_bytes kind) φ) events (ValueIn kind) i)
     → ((i : ℕ) → ¬ Unbound φ i)
-    → First (byte_conditions events kind (encode_formula (node_bytes kind) φ)) (some (Plain 23)) ↔ TooDeep φ binder_limit
+    → First (byte_conditions events kind (encode_formula (node_bytes kind) φ)) (some BinderDepth) ↔ TooDeep φ binder_limit
 
 -- Of a formula within the limits whose nodes fit and whose variables have binders, the bytes are accepted exactly if a G lies between each
 -- variable and its own binder (document 02, F-2).

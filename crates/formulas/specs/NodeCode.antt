@@ -1,9 +1,8 @@
 -- What is proved with of nodes in bytes: each takes so many, and equal bytes are of equal nodes.
 use mathlib.Core.{Path.{◌≡◌}, List.{List, [], ◌∷◌}}
 use Rattle.std.specs.Prelude.{ℕ, zero, suc, ◌*◌, ◌<◌, length, get_or}
-use Rattle.formulas.specs.RuleConditions.{node_fields}
+use Rattle.formulas.specs.RuleConditions.{node_fields, NodeFits, node_at}
 use Rattle.theory.specs.Formula.{Node, truth_node, variable_node, transition_node, output_node, conjunction_node, greatest_node}
-use Rattle.formulas.specs.RuleConditions.{NodeFits, node_at}
 
 module _ {B : Type 0} where
   -- The kinds' numbers.

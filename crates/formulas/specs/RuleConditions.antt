@@ -1,12 +1,12 @@
 -- Rules in bytes (document 01, "Rules"), and refusals 5 to 9 and 23 ("Who can cause a refusal", rule writer), for any way in which nodes lie in bytes.
 use mathlib.Core.{List.{List, [], ◌∷◌, ◌++◌}, Path.{◌≡◌}, Logic.{◌⊎◌}}
-use Rattle.std.specs.Prelude.{ℕ, zero, suc, ◌+◌, ◌*◌, ◌/◌, ◌%◌, ◌≤◌, ◌<◌}
+use Rattle.std.specs.Prelude.{ℕ, zero, suc, ◌+◌, ◌*◌, ◌/◌, ◌%◌, ◌≤◌, ◌<◌, length, take, drop}
 use Rattle.theory.specs.Formula.{Formula, Node, truth_node, variable_node, transition_node, output_node, conjunction_node, greatest_node, nodes, variable}
 use Rattle.theory.specs.Formula.{transition, conjunction, greatest, size, Stands}
 use Rattle.values.specs.{declared.ValueKind.{ValueKind}, declared.ValueKind.TheVariants.{Numbered, Register}, Setup.{value_bytes, ValueIn}}
-use Rattle.std.specs.Prelude.{length, take, drop}
-use Rattle.refusal.specs.Refusal.{Condition, plain, at_lowest}
+use Rattle.refusal.specs.Refusal.{Condition, plain, at_lowest, fields_place, tree_place, unbound_place, unprotected_place}
 use Rattle.limits.specs.Limits.{node_limit, binder_limit}
+use Rattle.refusal.specs.declared.Refusal.TheVariants.{BinderDepth, NodeCount}
 
 -- Nodes one after the other, and a formula in prefix order: a node, then its parts.
 module _ {B : Type 0} (encode : Node B → List ℕ) where
@@ -111,12 +111,12 @@ module _ {B : Type 0} (encode : Node B → List ℕ) (bytes : List ℕ) where
 
 -- The conditions, in order.
 abbrev pub rule_conditions : {B : Type 0} (width : ℕ) (encode : Node B → List ℕ) (limit events : ℕ) (In : B → Type 0) (bytes : List ℕ) → List Condition
-rule_conditions width encode limit events In bytes = plain 5 (CountAtFault width limit bytes)
-    ∷ at_lowest 6 (NodeAtFault width encode bytes events In)
-    ∷ at_lowest 7 (λ p. RunOut width encode bytes p ⊎ LeftOver encode bytes p)
-    ∷ at_lowest 8 (λ i. OfFormula encode bytes (λ φ. Unbound φ i))
-    ∷ plain 23 (OfFormula encode bytes (λ φ. TooDeep φ binder_limit))
-    ∷ at_lowest 9 (λ i. OfFormula encode bytes (λ φ. Unprotected φ i))
+rule_conditions width encode limit events In bytes = plain NodeCount (CountAtFault width limit bytes)
+    ∷ at_lowest fields_place (NodeAtFault width encode bytes events In)
+    ∷ at_lowest tree_place (λ p. RunOut width encode bytes p ⊎ LeftOver encode bytes p)
+    ∷ at_lowest unbound_place (λ i. OfFormula encode bytes (λ φ. Unbound φ i))
+    ∷ plain BinderDepth (OfFormula encode bytes (λ φ. TooDeep φ binder_limit))
+    ∷ at_lowest unprotected_place (λ i. OfFormula encode bytes (λ φ. Unprotected φ i))
     ∷ []
 
 -- The conditions of a rule with values of a kind.

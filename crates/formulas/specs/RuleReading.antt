@@ -2,9 +2,10 @@
 -- Computing twins of RuleConditions, in parts: what is read from a node's fields, where nodes run out or are left over, the
 -- formula whose nodes these are, and the lowest node at fault. Nodes are reached through accessors, as in NodeReading.
 use mathlib.Core.{Bool.{Bool, false, cond, not, ◌&&◌}, Option.{Option, none, some}, List.{List, [], ◌∷◌}}
-use Rattle.std.specs.Prelude.{ℕ, zero, suc, ◌+◌, eqb, ltb, leb}
+use Rattle.std.specs.Prelude.{ℕ, zero, suc, ◌+◌, eqb, ltb, leb, Option as StdOption, Some, None}
 use Rattle.theory.specs.Formula.{Formula, truth, variable, transition, output, conjunction, greatest, size, Node, truth_node, variable_node, transition_node}
 use Rattle.theory.specs.Formula.{output_node, conjunction_node, greatest_node}
+use Rattle.formulas.specs.declared.NodeKind.{NodeKind, TheVariants.{Truth, Variable, Transition, Output, Conjunction, Greatest}}
 
 -- The first of two answers that is a place.
 unfoldable pub first_of : Option ℕ → Option ℕ → Option ℕ
@@ -16,39 +17,44 @@ unfoldable pub lowest_from : (ℕ → Bool) → ℕ → ℕ → Option ℕ
 lowest_from test zero i = none
 lowest_from test (suc left) i = cond (test i) (some i) (lowest_from test left (suc i))
 
--- The kinds by their letters in document 01.
-pub data Kind : Type 0 where
-  kind_T kind_X kind_G kind_O kind_A kind_V unknown_kind : Kind
+-- The kind of a number, where it is one's.
+unfoldable pub kind_of : ℕ → StdOption NodeKind
+kind_of zero = Some Truth
+kind_of (suc zero) = Some Variable
+kind_of (suc (suc zero)) = Some Transition
+kind_of (suc (suc (suc zero))) = Some Output
+kind_of (suc (suc (suc (suc zero)))) = Some Conjunction
+kind_of (suc (suc (suc (suc (suc zero))))) = Some Greatest
+kind_of (suc (suc (suc (suc (suc (suc k)))))) = None
 
--- The kind of a number.
-unfoldable pub kind_of : ℕ → Kind
-kind_of zero = kind_T
-kind_of (suc zero) = kind_X
-kind_of (suc (suc zero)) = kind_G
-kind_of (suc (suc (suc zero))) = kind_O
-kind_of (suc (suc (suc (suc zero)))) = kind_A
-kind_of (suc (suc (suc (suc (suc zero))))) = kind_V
-kind_of (suc (suc (suc (suc (suc (suc k)))))) = unknown_kind
+-- The number of a kind.
+abbrev pub number_of : NodeKind → ℕ
+number_of Truth = 0
+number_of Variable = 1
+number_of Transition = 2
+number_of Output = 3
+number_of Conjunction = 4
+number_of Greatest = 5
 
 -- Of 6, for one node: the kind is known, its event is below the event count, its value fits, and unused fields are 0.
-unfoldable pub fields_fit : ℕ → Kind → ℕ → ℕ → Bool → Bool
-fields_fit events kind_T first value fits = eqb first 0 && eqb value 0
-fields_fit events kind_X first value fits = eqb value 0
-fields_fit events kind_G first value fits = ltb first events && eqb value 0
-fields_fit events kind_O first value fits = ltb first events && fits
-fields_fit events kind_A first value fits = eqb first 0 && eqb value 0
-fields_fit events kind_V first value fits = eqb first 0 && eqb value 0
-fields_fit events unknown_kind first value fits = false
+unfoldable pub fields_fit : ℕ → StdOption NodeKind → ℕ → ℕ → Bool → Bool
+fields_fit events (Some Truth) first value fits = eqb first 0 && eqb value 0
+fields_fit events (Some Variable) first value fits = eqb value 0
+fields_fit events (Some Transition) first value fits = ltb first events && eqb value 0
+fields_fit events (Some Output) first value fits = ltb first events && fits
+fields_fit events (Some Conjunction) first value fits = eqb first 0 && eqb value 0
+fields_fit events (Some Greatest) first value fits = eqb first 0 && eqb value 0
+fields_fit events None first value fits = false
 
 -- How many parts are awaited after a node of a kind, where k others were awaited beside it.
-unfoldable pub awaited : Kind → ℕ → ℕ
-awaited kind_T k = k
-awaited kind_X k = k
-awaited kind_G k = suc k
-awaited kind_O k = k
-awaited kind_A k = suc (suc k)
-awaited kind_V k = suc k
-awaited unknown_kind k = k
+unfoldable pub awaited : StdOption NodeKind → ℕ → ℕ
+awaited (Some Truth) k = k
+awaited (Some Variable) k = k
+awaited (Some Transition) k = suc k
+awaited (Some Output) k = k
+awaited (Some Conjunction) k = suc (suc k)
+awaited (Some Greatest) k = suc k
+awaited None k = k
 
 -- 7: the nodes from i on, `left` of them, are those of as many formulas as are awaited; or the place where they run out, which is
 -- the node count, or the first of those left over.
@@ -60,14 +66,14 @@ end_fault kind (suc k) (suc left) i = end_fault kind (awaited (kind_of (kind i))
 
 module _ {B : Type 0} where
   -- The node with these fields. An unknown kind, which 6 refuses, is read as T.
-  unfoldable pub node_of : Kind → ℕ → B → Node B
-  node_of kind_T first value = truth_node
-  node_of kind_X first value = variable_node first
-  node_of kind_G first value = transition_node first
-  node_of kind_O first value = output_node first value
-  node_of kind_A first value = conjunction_node
-  node_of kind_V first value = greatest_node
-  node_of unknown_kind first value = truth_node
+  unfoldable pub node_of : StdOption NodeKind → ℕ → B → Node B
+  node_of (Some Truth) first value = truth_node
+  node_of (Some Variable) first value = variable_node first
+  node_of (Some Transition) first value = transition_node first
+  node_of (Some Output) first value = output_node first value
+  node_of (Some Conjunction) first value = conjunction_node
+  node_of (Some Greatest) first value = greatest_node
+  node_of None first value = truth_node
 
   -- The nodes from i on, `left` of them.
   unfoldable pub nodes_from : (ℕ → ℕ) → (ℕ → ℕ) → (ℕ → B) → ℕ → ℕ → List (Node B)

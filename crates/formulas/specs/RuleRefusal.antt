@@ -10,6 +10,7 @@ use Rattle.values.specs.{declared.ValueKind.{ValueKind}, ValueTests.{value_fits}
 use Rattle.limits.specs.Limits.{node_limit, binder_limit}
 use Rattle.formulas.specs.RuleConditions.{node_width}
 use Rattle.formulas.specs.RuleReading.{lowest_from, kind_of, fields_fit, end_fault, formula_read, lowest_unbound, lowest_unprotected}
+use Rattle.refusal.specs.declared.Refusal.TheVariants.{BinderDepth, NodeCount, NodeFields, NodeTree, UnboundVariable, UnprotectedVariable}
 
 -- Of 5: so many bytes are 1 to `limit` whole nodes.
 unfoldable pub count_fits : ℕ → ℕ → ℕ → Bool
@@ -17,16 +18,17 @@ count_fits width limit n = eqb (n % width) 0 && (ltb 0 (n / width) && leb (n / w
 
 -- 23 for a formula: a path with more V nodes than the limit.
 unfoldable pub depth_refusal : {B : Type 0} → Formula B → Option Refusal
-depth_refusal φ = plain_unless (leb (binder_depth φ) binder_limit) 23
+depth_refusal φ = plain_unless (leb (binder_depth φ) binder_limit) BinderDepth
 
 -- 8, 23 and 9 for a formula: every variable is judged by 8 before any is by 9.
 unfoldable pub variables_refusal : {B : Type 0} → Formula B → Option Refusal
-variables_refusal φ = or_else (at_found (lowest_unbound 0 0 φ) 8) (or_else (depth_refusal φ) (at_found (lowest_unprotected 0 0 φ) 9))
+variables_refusal φ = or_else (at_found (lowest_unbound 0 0 φ) UnboundVariable) (or_else (depth_refusal φ)
+    (at_found (lowest_unprotected 0 0 φ) UnprotectedVariable))
 
 module _ (kind first value : ℕ → ℕ) (count : ℕ) where
   -- 7 to 9.
   unfoldable pub structure_refusal : Option Refusal
-  structure_refusal = or_else (at_found (end_fault kind 1 count 0) 7) (variables_refusal (formula_read kind first value count))
+  structure_refusal = or_else (at_found (end_fault kind 1 count 0) NodeTree) (variables_refusal (formula_read kind first value count))
 
   module _ (fits : ℕ → Bool) (events : ℕ) where
     -- 6: the lowest node whose fields do not fit; `fits` says which values do.
@@ -35,15 +37,15 @@ module _ (kind first value : ℕ → ℕ) (count : ℕ) where
 
     -- 6 and 7.
     unfoldable pub tree_refusal : Option Refusal
-    tree_refusal = or_else (at_found misfit_place 6) (at_found (end_fault kind 1 count 0) 7)
+    tree_refusal = or_else (at_found misfit_place NodeFields) (at_found (end_fault kind 1 count 0) NodeTree)
 
     -- 6 to 9.
     unfoldable pub nodes_refusal : Option Refusal
-    nodes_refusal = or_else (at_found misfit_place 6) structure_refusal
+    nodes_refusal = or_else (at_found misfit_place NodeFields) structure_refusal
 
     -- 5 to 9, where the nodes' fields are at hand: 5 by their count alone.
     unfoldable pub fields_refusal : Option Refusal
-    fields_refusal = or_else (plain_unless (ltb 0 count && leb count node_limit) 5) nodes_refusal
+    fields_refusal = or_else (plain_unless (ltb 0 count && leb count node_limit) NodeCount) nodes_refusal
 
 -- The fields of node i, in the bytes that nodes have with values of a kind.
 module _ (kind : ValueKind) (bytes : List ℕ) where
@@ -59,7 +61,7 @@ module _ (kind : ValueKind) (bytes : List ℕ) where
 -- 5 to 9 for a set-up's count of events and kind of values.
 unfoldable pub rule_refusal : ℕ → ValueKind → List ℕ → Option Refusal
 rule_refusal events kind bytes =
-    or_else (plain_unless (count_fits (node_width kind) node_limit (length bytes)) 5)
+    or_else (plain_unless (count_fits (node_width kind) node_limit (length bytes)) NodeCount)
     (nodes_refusal (kind_at kind bytes) (first_at kind bytes) (value_at kind bytes) (length bytes / node_width kind) (value_fits kind) events)
 
 -- The formula that accepted bytes are.

@@ -1,11 +1,11 @@
 // Formulas in bytes (document 01, "Rules"): refusals 5 to 9, and 23 of document 02, F-9.
 #![tactic(auto)]
 
-ghost use Rattle.std.specs.Prelude.{◌≡◌, ◌+◌, ◌/◌, ◌≤◌, ◌<◌, min, cond, length};
+ghost use Rattle.std.specs.Prelude.{◌≡◌, ◌+◌, ◌/◌, ◌≤◌, ◌<◌, cond};
 ghost use Rattle.std.proofs.Math.Option.{none, some};
 ghost use Rattle.formulas.specs.RuleConditions.{node_width};
 ghost use Rattle.refusal.specs.RefusalAnswers.{judgement};
-ghost use Rattle.formulas.specs.RuleReading.{kind_of, fields_fit, awaited, unbound_below, path_full, bound_near};
+ghost use Rattle.formulas.specs.RuleReading.{kind_of, number_of, fields_fit, awaited, unbound_below, path_full, bound_near};
 ghost use Rattle.formulas.specs.RuleRefusal.{count_fits, tree_refusal, fields_refusal, rule_refusal};
 ghost use Rattle.formulas.specs.NodeWalks.{Keeps, Scanned, VariablesJudged, field};
 ghost use Rattle.formulas.specs.NodeArrays.{decoded};
@@ -13,24 +13,51 @@ ghost use Rattle.values.specs.ValueTests.{value_fits};
 ghost use Rattle.limits.specs.Limits.{node_limit, binder_limit};
 
 use limits::{BINDER_LIMIT, NODE_LIMIT};
-use refusal::{
-    BINDER_DEPTH, Judgement, NODE_COUNT, NODE_FIELDS, NODE_TREE, Refusal, UNBOUND_VARIABLE,
-    UNPROTECTED_VARIABLE,
-};
+use refusal::Refusal;
 use values::{ValueKind, value_fits, value_from};
 
-// The kinds of node.
-pub const TRUTH: u8 = 0;
+// The kinds of node, by document 01's letters T, X, G, O, A and V.
+#[derive(Clone, Copy, PartialEq, Eq)]
+pub enum NodeKind {
+    Truth,
+    Variable,
+    Transition,
+    Output,
+    Conjunction,
+    Greatest,
+}
 
-pub const VARIABLE: u8 = 1;
+impl NodeKind {
+    // The kind that a byte stands for.
+    #[tactic(auto, unfolding(crate::specs::RuleReading::kind_of))]
+    pub fn of(byte: u8) -> Option<NodeKind>
+        ensures { result ≡ kind_of byte }
+    {
+        match byte {
+            0 => Some(NodeKind::Truth),
+            1 => Some(NodeKind::Variable),
+            2 => Some(NodeKind::Transition),
+            3 => Some(NodeKind::Output),
+            4 => Some(NodeKind::Conjunction),
+            5 => Some(NodeKind::Greatest),
+            _ => None,
+        }
+    }
 
-pub const TRANSITION: u8 = 2;
-
-pub const OUTPUT: u8 = 3;
-
-pub const CONJUNCTION: u8 = 4;
-
-pub const GREATEST: u8 = 5;
+    // The byte of a kind.
+    pub fn number(self) -> u8
+        ensures { result ≡ number_of self }
+    {
+        match self {
+            NodeKind::Truth => 0,
+            NodeKind::Variable => 1,
+            NodeKind::Transition => 2,
+            NodeKind::Output => 3,
+            NodeKind::Conjunction => 4,
+            NodeKind::Greatest => 5,
+        }
+    }
+}
 
 // The fields of nodes, however they lie in bytes: the first `count` of each array.
 #[derive(Clone, Copy)]
@@ -41,10 +68,12 @@ pub struct Nodes {
     pub values: [u32; NODE_LIMIT],
 }
 
-fn wide(x: u8) -> usize
-    ensures { (result ≡ x) × (result < 256) }
-{
-    x as usize
+// The lowest node at fault for each of 8, 23 and 9, as far as a walk has come.
+#[derive(Clone, Copy)]
+struct Faults {
+    unbound: Option<usize>,
+    too_deep: Option<usize>,
+    unprotected: Option<usize>,
 }
 
 // The bytes of a node, with values of a kind.
@@ -58,30 +87,13 @@ pub fn node_width(kind: ValueKind) -> usize
 }
 
 // 5: so many bytes are 1 to 256 whole nodes.
+#[tactic(auto, unfolding(crate::specs::RuleRefusal::count_fits))]
 pub fn count_fits(kind: ValueKind, n: usize) -> bool
     ensures { result ≡ count_fits (node_width kind) node_limit n }
 {
     let width = node_width(kind);
-    if n % width == 0 {
-        let count = n / width;
-        if 0 < count {
-            return count <= NODE_LIMIT;
-        }
-    }
-    false
-}
-
-// The whole nodes of these bytes, at most 256 of them.
-fn node_count(n: usize, width: usize) -> usize
-    requires { 1 < width }
-    ensures { result ≡ min node_limit (n / width) }
-{
     let count = n / width;
-    if count < NODE_LIMIT {
-        count
-    } else {
-        NODE_LIMIT
-    }
+    n % width == 0 && 0 < count && count <= NODE_LIMIT
 }
 
 // The fields of the first 256 nodes; those beyond the node count are 0.
@@ -89,18 +101,15 @@ pub fn decode(kind: ValueKind, bytes: &[u8]) -> Nodes
     ensures { result ≡ decoded kind bytes.now }
 {
     let width = node_width(kind);
-    let count = node_count(bytes.len(), width);
+    let count = NODE_LIMIT.min(bytes.len() / width);
     let mut kinds = [0u8; NODE_LIMIT];
     let mut firsts = [0u8; NODE_LIMIT];
     let mut values = [0u32; NODE_LIMIT];
-    let mut i: usize = 0;
-    let mut at: usize = 0;
-    while i < count {
+    for i in 0..count {
+        let at = i * width;
         kinds[i] = bytes[at];
         firsts[i] = bytes[at + 1];
         values[i] = value_from(kind, bytes, at + 2);
-        i += 1;
-        at += width;
     }
     Nodes {
         count,
@@ -111,86 +120,71 @@ pub fn decode(kind: ValueKind, bytes: &[u8]) -> Nodes
 }
 
 // 6, for one node: the kind is known, the event is below the event count, the value fits, and unused fields are 0.
-fn fields_fit(events: usize, kind: u8, first: u8, value: u32, fits: bool) -> bool
-    ensures { result ≡ fields_fit events (kind_of kind) first value fits }
+#[tactic(auto, unfolding(crate::specs::RuleReading::fields_fit))]
+fn fields_fit(events: usize, kind: Option<NodeKind>, first: u8, value: u32, fits: bool) -> bool
+    ensures { result ≡ fields_fit events kind first value fits }
 {
-    if kind == VARIABLE {
-        return value == 0;
+    match kind {
+        Some(NodeKind::Truth | NodeKind::Conjunction | NodeKind::Greatest) => first == 0
+            && value == 0,
+        Some(NodeKind::Variable) => value == 0,
+        Some(NodeKind::Transition) => usize::from(first) < events && value == 0,
+        Some(NodeKind::Output) => usize::from(first) < events && fits,
+        None => false,
     }
-    if kind == TRANSITION {
-        return wide(first) < events && value == 0;
-    }
-    if kind == OUTPUT {
-        return wide(first) < events && fits;
-    }
-    if GREATEST < kind {
-        return false;
-    }
-    first == 0 && value == 0
 }
 
 // How many parts are awaited after a node of this kind, where so many others were awaited beside it.
-fn awaited(kind: u8, others: usize) -> usize
+#[tactic(auto, unfolding(crate::specs::RuleReading::awaited))]
+fn awaited(kind: Option<NodeKind>, others: usize) -> usize
     requires { others ≤ node_limit }
-    ensures { result ≡ awaited (kind_of kind) others }
+    ensures { result ≡ awaited kind others }
 {
-    if kind == TRANSITION {
-        return others + 1;
+    match kind {
+        Some(NodeKind::Transition | NodeKind::Greatest) => others + 1,
+        Some(NodeKind::Conjunction) => others + 2,
+        _ => others,
     }
-    if kind == CONJUNCTION {
-        return others + 2;
-    }
-    if kind == GREATEST {
-        return others + 1;
-    }
-    others
 }
 
 // 6, then 7: the fields of every node fit, and the nodes are those of one formula. `used` counts the nodes up to its end.
-fn check_fields(
-    events: usize,
-    kind: ValueKind,
-    kinds: &[u8; NODE_LIMIT],
-    firsts: &[u8; NODE_LIMIT],
-    values: &[u32; NODE_LIMIT],
-    count: usize,
-) -> Judgement
-    requires { count ≤ node_limit }
-    ensures { result ≡ judgement (tree_refusal (field kinds.now) (field firsts.now) (field values.now) count
+fn check_fields(events: usize, kind: ValueKind, nodes: &Nodes) -> Result<(), Refusal>
+    requires { nodes.now.count ≤ node_limit }
+    ensures { result ≡ judgement (tree_refusal (field nodes.now.kinds) (field nodes.now.firsts) (field nodes.now.values) nodes.now.count
         (value_fits kind) events) }
 {
     let mut parts: usize = 1;
     let mut used: usize = 0;
-    let mut i: usize = 0;
-    while i < count {
-        let node = kinds[i];
-        let v = values[i];
-        if !fields_fit(events, node, firsts[i], v, value_fits(kind, v)) {
-            return Judgement::Refused(Refusal::At(NODE_FIELDS, i));
+    for i in 0..nodes.count {
+        let node = NodeKind::of(nodes.kinds[i]);
+        let v = nodes.values[i];
+        if !fields_fit(events, node, nodes.firsts[i], v, value_fits(kind, v)) {
+            return Err(Refusal::NodeFields(i));
         }
         if 1 <= parts {
             parts = awaited(node, parts - 1);
             used += 1;
         }
-        i += 1;
     }
     if 0 < parts {
-        return Judgement::Refused(Refusal::At(NODE_TREE, count));
+        return Err(Refusal::NodeTree(nodes.count));
     }
-    if used < count {
-        return Judgement::Refused(Refusal::At(NODE_TREE, used));
+    if used < nodes.count {
+        return Err(Refusal::NodeTree(used));
     }
-    Judgement::Accepted
+    Ok(())
 }
 
 // 8, for one variable: it counts as many binders as it stands below, or more.
+#[tactic(auto, unfolding(crate::specs::RuleReading::unbound_below))]
 fn unbound(first: u8, depth: usize) -> bool
     ensures { result ≡ unbound_below depth first }
 {
-    !(wide(first) < depth)
+    depth <= usize::from(first)
 }
 
 // 23, for one V: so many others stand above it that a path has too many.
+#[tactic(auto, unfolding(crate::specs::RuleReading::path_full))]
 fn path_full(depth: usize) -> bool
     ensures { result ≡ path_full binder_limit depth }
 {
@@ -198,23 +192,19 @@ fn path_full(depth: usize) -> bool
 }
 
 // 9, for one variable: its own binder is one of the last so many.
+#[tactic(auto, unfolding(crate::specs::RuleReading::bound_near))]
 fn bound_near(first: u8, near: usize) -> bool
     ensures { result ≡ bound_near near first }
 {
-    wide(first) < near
+    usize::from(first) < near
 }
 
 // What is noted after a node: the node itself where it is the first at fault.
-fn noted(before: usize, fault: bool, at: usize) -> usize
-    requires { at < node_limit }
+#[tactic(auto, unfolding(crate::specs::NodeWalks::noted, crate::specs::RuleReading::first_of))]
+fn noted(before: Option<usize>, fault: bool, at: usize) -> Option<usize>
     ensures { Keeps (cond fault (some at) none) before result }
 {
-    if fault {
-        if before == NODE_LIMIT {
-            return at;
-        }
-    }
-    before
+    before.or(fault.then_some(at))
 }
 
 // 8, 23 and 9 over the formula at a node, in a closed position: below `depth` binders, `near` of them since the last G. Notes the lowest
@@ -222,144 +212,116 @@ fn noted(before: usize, fault: bool, at: usize) -> usize
 // answer is the node after the formula.
 #[cycle(closed_position_open_position)]
 fn closed_position(
-    kinds: &[u8; NODE_LIMIT],
-    firsts: &[u8; NODE_LIMIT],
+    nodes: &Nodes,
     at: usize,
     left: usize,
     depth: usize,
     near: usize,
-    faults: &mut [usize; 3],
+    faults: &mut Faults,
 ) -> usize
-    requires { (at + left ≤ node_limit) × (depth ≤ at) × (near ≤ depth) × (length faults.old ≡ 3) }
-    ensures { Scanned (field kinds.now) (field firsts.now) depth near at left faults.old faults.new result }
+    requires { (at + left ≤ node_limit) × (depth ≤ at) × (near ≤ depth) }
+    ensures { Scanned (field nodes.now.kinds) (field nodes.now.firsts) depth near at left faults.old faults.new result }
 {
     if left == 0 {
         return at;
     }
-    let kind = kinds[at];
-    if kind == VARIABLE {
-        faults[0] = noted(faults[0], unbound(firsts[at], depth), at);
-        faults[2] = noted(faults[2], bound_near(firsts[at], near), at);
+    let Some(kind) = NodeKind::of(nodes.kinds[at]) else {
         return at + 1;
+    };
+    match kind {
+        NodeKind::Truth | NodeKind::Output => at + 1,
+        NodeKind::Variable => {
+            faults.unbound = noted(faults.unbound, unbound(nodes.firsts[at], depth), at);
+            faults.unprotected = noted(faults.unprotected, bound_near(nodes.firsts[at], near), at);
+            at + 1
+        }
+        NodeKind::Transition => open_position(nodes, at + 1, left - 1, depth, faults),
+        NodeKind::Conjunction => {
+            let second = closed_position(nodes, at + 1, left - 1, depth, near, faults);
+            closed_position(nodes, second, at + left - second, depth, near, faults)
+        }
+        NodeKind::Greatest => {
+            faults.too_deep = noted(faults.too_deep, path_full(depth), at);
+            closed_position(nodes, at + 1, left - 1, depth + 1, near + 1, faults)
+        }
     }
-    if kind == TRANSITION {
-        return open_position(kinds, firsts, at + 1, left - 1, depth, faults);
-    }
-    if kind == CONJUNCTION {
-        let second = closed_position(kinds, firsts, at + 1, left - 1, depth, near, faults);
-        return closed_position(
-            kinds,
-            firsts,
-            second,
-            at + left - second,
-            depth,
-            near,
-            faults,
-        );
-    }
-    if kind == GREATEST {
-        faults[1] = noted(faults[1], path_full(depth), at);
-        return closed_position(kinds, firsts, at + 1, left - 1, depth + 1, near + 1, faults);
-    }
-    at + 1
 }
 
-// The same in an open position: no binder since the last G, or since the root. 9 notes nothing there.
+// The same in an open position: no binder since the last G, or since the root. 9 notes nothing there. One function for each position of the
+// grammar, as document 01 names them.
 #[cycle(closed_position_open_position)]
-fn open_position(
-    kinds: &[u8; NODE_LIMIT],
-    firsts: &[u8; NODE_LIMIT],
-    at: usize,
-    left: usize,
-    depth: usize,
-    faults: &mut [usize; 3],
-) -> usize
-    requires { (at + left ≤ node_limit) × (depth ≤ at) × (length faults.old ≡ 3) }
-    ensures { Scanned (field kinds.now) (field firsts.now) depth 0 at left faults.old faults.new result }
+fn open_position(nodes: &Nodes, at: usize, left: usize, depth: usize, faults: &mut Faults) -> usize
+    requires { (at + left ≤ node_limit) × (depth ≤ at) }
+    ensures { Scanned (field nodes.now.kinds) (field nodes.now.firsts) depth 0 at left faults.old faults.new result }
 {
     if left == 0 {
         return at;
     }
-    let kind = kinds[at];
-    if kind == VARIABLE {
-        faults[0] = noted(faults[0], unbound(firsts[at], depth), at);
+    let Some(kind) = NodeKind::of(nodes.kinds[at]) else {
         return at + 1;
+    };
+    match kind {
+        NodeKind::Truth | NodeKind::Output => at + 1,
+        NodeKind::Variable => {
+            faults.unbound = noted(faults.unbound, unbound(nodes.firsts[at], depth), at);
+            at + 1
+        }
+        NodeKind::Transition => open_position(nodes, at + 1, left - 1, depth, faults),
+        NodeKind::Conjunction => {
+            let second = open_position(nodes, at + 1, left - 1, depth, faults);
+            open_position(nodes, second, at + left - second, depth, faults)
+        }
+        NodeKind::Greatest => {
+            faults.too_deep = noted(faults.too_deep, path_full(depth), at);
+            closed_position(nodes, at + 1, left - 1, depth + 1, 1, faults)
+        }
     }
-    if kind == TRANSITION {
-        return open_position(kinds, firsts, at + 1, left - 1, depth, faults);
-    }
-    if kind == CONJUNCTION {
-        let second = open_position(kinds, firsts, at + 1, left - 1, depth, faults);
-        return open_position(kinds, firsts, second, at + left - second, depth, faults);
-    }
-    if kind == GREATEST {
-        faults[1] = noted(faults[1], path_full(depth), at);
-        return closed_position(kinds, firsts, at + 1, left - 1, depth + 1, 1, faults);
-    }
-    at + 1
 }
 
 // 8, then 23, then 9: every variable has its binder, no path has too many, and a G lies between each variable and its binder.
-fn check_variables(kinds: &[u8; NODE_LIMIT], firsts: &[u8; NODE_LIMIT], count: usize) -> Judgement
-    requires { count ≤ node_limit }
-    ensures { VariablesJudged (field kinds.now) (field firsts.now) count result }
+fn check_variables(nodes: &Nodes) -> Result<(), Refusal>
+    requires { nodes.now.count ≤ node_limit }
+    ensures { VariablesJudged (field nodes.now.kinds) (field nodes.now.firsts) nodes.now.count result }
 {
-    let mut faults = [NODE_LIMIT; 3];
-    open_position(kinds, firsts, 0, count, 0, &mut faults);
-    let p = faults[0];
-    if p < NODE_LIMIT {
-        return Judgement::Refused(Refusal::At(UNBOUND_VARIABLE, p));
+    let mut faults = Faults {
+        unbound: None,
+        too_deep: None,
+        unprotected: None,
+    };
+    open_position(nodes, 0, nodes.count, 0, &mut faults);
+    if let Some(p) = faults.unbound {
+        return Err(Refusal::UnboundVariable(p));
     }
-    let d = faults[1];
-    let q = faults[2];
-    if d < NODE_LIMIT {
-        return Judgement::Refused(Refusal::Plain(BINDER_DEPTH));
+    if faults.too_deep.is_some() {
+        return Err(Refusal::BinderDepth);
     }
-    if q < NODE_LIMIT {
-        return Judgement::Refused(Refusal::At(UNPROTECTED_VARIABLE, q));
+    if let Some(q) = faults.unprotected {
+        return Err(Refusal::UnprotectedVariable(q));
     }
-    Judgement::Accepted
+    Ok(())
 }
 
 // 5 to 8, 23 and 9 for decoded nodes, the first `count` of each array, with the set-up's count of events and kind of values.
-pub fn check_nodes<'a>(
-    events: usize,
-    kind: ValueKind,
-    kinds: &'a [u8; NODE_LIMIT],
-    firsts: &'a [u8; NODE_LIMIT],
-    values: &'a [u32; NODE_LIMIT],
-    count: usize,
-) -> Judgement
-    ensures { result ≡ judgement (fields_refusal (field kinds.now) (field firsts.now) (field values.now) count
+pub fn check_nodes(events: usize, kind: ValueKind, nodes: &Nodes) -> Result<(), Refusal>
+    ensures { result ≡ judgement (fields_refusal (field nodes.now.kinds) (field nodes.now.firsts) (field nodes.now.values) nodes.now.count
         (value_fits kind) events) }
 {
-    if count == 0 {
-        return Judgement::Refused(Refusal::Plain(NODE_COUNT));
+    if nodes.count == 0 {
+        return Err(Refusal::NodeCount);
     }
-    if NODE_LIMIT < count {
-        return Judgement::Refused(Refusal::Plain(NODE_COUNT));
+    if NODE_LIMIT < nodes.count {
+        return Err(Refusal::NodeCount);
     }
-    let judged = check_fields(events, kind, kinds, firsts, values, count);
-    if let Judgement::Refused(_) = judged {
-        return judged;
-    }
-    check_variables(kinds, firsts, count)
+    check_fields(events, kind, nodes)?;
+    check_variables(nodes)
 }
 
 // 5 to 8, 23 and 9 for a rule in bytes, with the set-up's count of events and kind of values.
-pub fn check_rule(events: usize, kind: ValueKind, bytes: &[u8]) -> Judgement
+pub fn check_rule(events: usize, kind: ValueKind, bytes: &[u8]) -> Result<(), Refusal>
     ensures { result ≡ judgement (rule_refusal events kind bytes.now) }
 {
     if !count_fits(kind, bytes.len()) {
-        return Judgement::Refused(Refusal::Plain(NODE_COUNT));
+        return Err(Refusal::NodeCount);
     }
-    let nodes = decode(kind, bytes);
-    check_nodes(
-        events,
-        kind,
-        &nodes.kinds,
-        &nodes.firsts,
-        &nodes.values,
-        nodes.count,
-    )
+    check_nodes(events, kind, &decode(kind, bytes))
 }

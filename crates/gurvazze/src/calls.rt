@@ -1,277 +1,195 @@
 // The calls of a tool of either kind: what a line calls for, and what is printed of the reply.
-use crate::answers::{say, say_error, say_field, say_number, say_refusal, say_value};
-use crate::lines::LIST_LIMIT;
-use crate::numbers::{Numbers, has_word, one_number, only_one, only_three, say_wrong, two_numbers};
-use crate::rules::{Nodes, read_rule};
-use crate::setups::Setup;
-use command_line::{Command, Listed, NUMBER_LIMIT, equal, read_numbers, rest, word};
+use crate::answers::{Fault, Item, List, ValueText};
+use crate::numbers::{has_word, list_from, numbers, only_numbers};
+use crate::rules::read_rule;
+use crate::setups::Kind;
+use command_line::{Command, NUMBER_LIMIT, rest, word};
 use limits::CHANNEL_LIMIT;
-use recorder::{Reading, Reply};
+use recorder::{Reading, Reply, Tool};
 use refusal::Refusal;
-use std::io;
+use std::fmt;
 use std::io::Stdout;
+use values::SetUp;
 
-// A call: the channel, but for a restart of all; then how many bytes a rule's nodes or a list of events have, which are kept beside, or an
-// event and its pulses. Nothing is left to call where a line has its answer.
+// A call: the channel, but for a restart of all; a rule's nodes, an event with its pulses where they are said, or events.
 #[derive(Clone, Copy)]
-pub enum Call {
-    Load(usize, usize),
-    Event(usize, usize),
-    Measure(usize, usize, u32),
-    Replay(usize, usize),
+pub enum Call<'a> {
+    Load(usize, &'a [u8]),
+    Event(usize, usize, Option<u32>),
+    Replay(usize, &'a [u8]),
     Restart(usize),
     RestartAll,
     Clear(usize),
     Show(usize),
-    Nothing,
-}
-
-// Of a replay that was accepted, how many values it returned.
-#[derive(Clone, Copy)]
-pub enum Replayed {
-    Values(usize),
-    Not,
-}
-
-// The numbers of a line are wrong.
-fn wrong(stdout: Stdout, numbers: Numbers) -> io::Result<Call> {
-    say_wrong(stdout, numbers)?;
-    Ok(Call::Nothing)
 }
 
 // load C TOKENS
-fn load(
-    stdout: Stdout,
-    setup: Setup,
-    meet: &[u8],
-    line: &[u8],
-    nodes: &mut [u8],
-) -> io::Result<Call> {
-    let numbers = one_number(line);
-    let Numbers::One(channel) = numbers else {
-        return wrong(stdout, numbers);
-    };
-    let read = read_rule(setup, meet, rest(line, 2), nodes);
-    let Nodes::Bytes(n) = read else {
-        say_error(stdout, b"tokens")?;
-        return Ok(Call::Nothing);
-    };
-    Ok(Call::Load(channel, n))
+fn load<'a>(set_up: SetUp<'_>, line: &[u8], nodes: &'a mut [u8]) -> Result<Call<'a>, Fault> {
+    let [channel] = numbers::<1>(line)?;
+    let rule = read_rule(set_up, rest(line, 2), nodes)?;
+    Ok(Call::Load(channel, rule))
 }
 
-// event C E
-fn event_alone(stdout: Stdout, line: &[u8]) -> io::Result<Call> {
-    let numbers = two_numbers(line);
-    let Numbers::Two(channel, e) = numbers else {
-        return wrong(stdout, numbers);
-    };
-    Ok(Call::Event(channel, e))
-}
-
-// event C E PULSES; above 4,294,967,295 these are no number.
-fn event_with_pulses(stdout: Stdout, line: &[u8]) -> io::Result<Call> {
-    let numbers = only_three(line);
-    let Numbers::Three(channel, e, pulses) = numbers else {
-        return wrong(stdout, numbers);
-    };
+// event C E, event C E PULSES; pulses above 4,294,967,295 are no number.
+fn event<'a>(line: &[u8]) -> Result<Call<'a>, Fault> {
+    if !has_word(line, 3) {
+        let [channel, e] = numbers::<2>(line)?;
+        return Ok(Call::Event(channel, e, None));
+    }
+    let [channel, e, pulses] = only_numbers::<3>(line)?;
     if NUMBER_LIMIT <= pulses {
-        return wrong(stdout, Numbers::Malformed);
+        return Err(Fault::Number);
     }
-    Ok(Call::Measure(channel, e, pulses as u32))
-}
-
-// event C E, event C E PULSES
-fn event(stdout: Stdout, line: &[u8]) -> io::Result<Call> {
-    if has_word(line, 3) {
-        return event_with_pulses(stdout, line);
-    }
-    event_alone(stdout, line)
+    Ok(Call::Event(channel, e, Some(pulses as u32)))
 }
 
 // events C E E...
-fn events(stdout: Stdout, line: &[u8], list: &mut [u8]) -> io::Result<Call> {
-    let numbers = one_number(line);
-    let Numbers::One(channel) = numbers else {
-        return wrong(stdout, numbers);
-    };
-    let listed = read_numbers(rest(line, 2), list);
-    let Listed::Count(n) = listed else {
-        return wrong(stdout, Numbers::Malformed);
-    };
-    Ok(Call::Replay(channel, n))
-}
-
-// Whether a line names all channels.
-fn names_all(line: &[u8]) -> bool {
-    if has_word(line, 2) {
-        return false;
-    }
-    equal(word(line, 1), b"all")
+fn events<'a>(line: &[u8], list: &'a mut [u8]) -> Result<Call<'a>, Fault> {
+    let [channel] = numbers::<1>(line)?;
+    Ok(Call::Replay(channel, list_from(line, 2, list)?))
 }
 
 // restart C, restart all
-fn restart(stdout: Stdout, line: &[u8]) -> io::Result<Call> {
-    if names_all(line) {
+fn restart<'a>(line: &[u8]) -> Result<Call<'a>, Fault> {
+    if word(line, 1) == b"all".as_slice() && !has_word(line, 2) {
         return Ok(Call::RestartAll);
     }
-    let numbers = only_one(line);
-    let Numbers::One(channel) = numbers else {
-        return wrong(stdout, numbers);
-    };
+    let [channel] = only_numbers::<1>(line)?;
     Ok(Call::Restart(channel))
 }
 
 // clear C
-fn clear(stdout: Stdout, line: &[u8]) -> io::Result<Call> {
-    let numbers = only_one(line);
-    let Numbers::One(channel) = numbers else {
-        return wrong(stdout, numbers);
-    };
+fn clear<'a>(line: &[u8]) -> Result<Call<'a>, Fault> {
+    let [channel] = only_numbers::<1>(line)?;
     Ok(Call::Clear(channel))
 }
 
 // show C
-fn show(stdout: Stdout, line: &[u8]) -> io::Result<Call> {
-    let numbers = only_one(line);
-    let Numbers::One(channel) = numbers else {
-        return wrong(stdout, numbers);
-    };
+fn show<'a>(line: &[u8]) -> Result<Call<'a>, Fault> {
+    let [channel] = only_numbers::<1>(line)?;
     if CHANNEL_LIMIT <= channel {
-        say_refusal(stdout, Refusal::Plain(refusal::CHANNEL_NUMBER))?;
-        return Ok(Call::Nothing);
+        return Err(Refusal::ChannelNumber.into());
     }
     Ok(Call::Show(channel))
 }
 
 // The call of a line.
-pub fn read_call(
-    stdout: Stdout,
+pub fn read_call<'a>(
     command: Command,
-    setup: Setup,
-    meet: &[u8],
+    set_up: SetUp<'_>,
     line: &[u8],
-    list: &mut [u8; LIST_LIMIT],
-) -> io::Result<Call> {
+    list: &'a mut [u8],
+) -> Result<Call<'a>, Fault> {
     match command {
-        Command::Load => load(stdout, setup, meet, line, list),
-        Command::Event => event(stdout, line),
-        Command::Events => events(stdout, line, list),
-        Command::Restart => restart(stdout, line),
-        Command::Clear => clear(stdout, line),
-        Command::Show => show(stdout, line),
-        _ => Ok(Call::Nothing),
+        Command::Load => load(set_up, line, list),
+        Command::Event => event(line),
+        Command::Events => events(line, list),
+        Command::Restart => restart(line),
+        Command::Clear => clear(line),
+        Command::Show => show(line),
+        _ => Err(Fault::Command),
     }
 }
 
-// The reply to a set-up.
-pub fn say_set_up(stdout: Stdout, reply: Reply) -> io::Result<()> {
-    match reply {
-        Reply::Refused(refusal) => say_refusal(stdout, refusal),
-        _ => say(stdout, b"ok\n"),
-    }
+// What a channel holds; one of no states is empty.
+#[derive(Clone, Copy)]
+pub struct Channel {
+    pub states: u16,
+    pub state: u8,
+    pub total: u64,
 }
 
-// The states that a channel has.
-fn states_of(states: [u16; CHANNEL_LIMIT], channel: usize) -> usize {
-    if channel < CHANNEL_LIMIT {
-        let n = states[channel];
-        return n as usize;
-    }
-    0
-}
-
-fn state_of(current: [u8; CHANNEL_LIMIT], channel: usize) -> usize {
-    if channel < CHANNEL_LIMIT {
-        let n = current[channel];
-        return n as usize;
-    }
-    0
-}
-
-fn total_of(total: [u64; CHANNEL_LIMIT], channel: usize) -> usize {
-    if channel < CHANNEL_LIMIT {
-        let n = total[channel];
-        return n as usize;
-    }
-    0
-}
-
-fn say_channel(stdout: Stdout, states: usize, state: usize, total: usize) -> io::Result<()> {
-    if states == 0 {
-        return say(stdout, b"empty\n");
-    }
-    say(stdout, b"states=")?;
-    say_number(stdout, states)?;
-    say(stdout, b" state=")?;
-    say_number(stdout, state)?;
-    say_field(stdout, b" total=", total)
-}
-
-// The reply to an event.
-fn say_reading(stdout: Stdout, setup: Setup, call: Call, reading: Reading) -> io::Result<()> {
-    match call {
-        Call::Event(_, _) => {
-            say(stdout, b"value=")?;
-            say_value(stdout, setup, reading.value)?;
-            say(stdout, b"\n")
+impl fmt::Display for Channel {
+    fn fmt<W: fmt::Write>(&self, f: &mut fmt::Formatter<W>) -> fmt::Result {
+        let Channel {
+            states,
+            state,
+            total,
+        } = *self;
+        match states {
+            0 => write!(f, "empty"),
+            _ => write!(f, "states={states} state={state} total={total}"),
         }
-        Call::Measure(_, _, _) => {
-            say(stdout, b"value=")?;
-            say_value(stdout, setup, reading.value)?;
-            say(stdout, b" mm=")?;
-            say_number(stdout, reading.millimetres as usize)?;
-            say_field(stdout, b" rest=", reading.remainder as usize)
-        }
-        _ => Ok(()),
     }
 }
 
-// An accepted call that returns no value; of the channels there are the states, the current state and the total.
-fn say_accepted(
-    stdout: Stdout,
+// A channel, if there is one of this number.
+fn channel_of<K: recorder::Kind>(tool: &Tool<K, K::Column>, channel: usize) -> Option<Channel> {
+    Some(Channel {
+        states: *tool.states.get(channel)?,
+        state: *tool.current.get(channel)?,
+        total: *tool.total.get(channel)?,
+    })
+}
+
+// The library's reply; to show a channel is no call of it.
+fn reply_to<K: recorder::Kind>(
+    tool: &mut Tool<K, K::Column>,
     call: Call,
-    states: [u16; CHANNEL_LIMIT],
-    current: [u8; CHANNEL_LIMIT],
-    total: [u64; CHANNEL_LIMIT],
-) -> io::Result<()> {
-    match call {
-        Call::Load(channel, _) => say_field(stdout, b"states=", states_of(states, channel)),
-        Call::Show(channel) => say_channel(
-            stdout,
-            states_of(states, channel),
-            state_of(current, channel),
-            total_of(total, channel),
-        ),
-        Call::Restart(_) => say(stdout, b"ok\n"),
-        Call::RestartAll => say(stdout, b"ok\n"),
-        Call::Clear(_) => say(stdout, b"ok\n"),
-        _ => Ok(()),
-    }
-}
-
-// The reply to a call, but for the values of a replay.
-pub fn say_reply(
-    stdout: Stdout,
-    setup: Setup,
-    call: Call,
-    reply: Reply,
-    states: [u16; CHANNEL_LIMIT],
-    current: [u8; CHANNEL_LIMIT],
-    total: [u64; CHANNEL_LIMIT],
-) -> io::Result<()> {
-    match reply {
-        Reply::Accepted => say_accepted(stdout, call, states, current, total),
-        Reply::Value(reading) => say_reading(stdout, setup, call, reading),
-        Reply::Refused(refusal) => say_refusal(stdout, refusal),
-    }
-}
-
-pub fn returned(call: Call, reply: Reply) -> Replayed {
-    let Call::Replay(_, n) = call else {
-        return Replayed::Not;
+    values: &mut [K::Value],
+) -> Reply {
+    let answer = match call {
+        Call::Load(channel, rule) => tool.load(channel, rule),
+        Call::Event(channel, e, pulses) => tool.event(channel, e, pulses.unwrap_or(0)),
+        Call::Replay(channel, events) => tool.replay(channel, events, &[], values),
+        Call::Restart(channel) => tool.restart(channel),
+        Call::RestartAll => tool.restart_all(),
+        Call::Clear(channel) => tool.clear(channel),
+        Call::Show(_) => return Ok(None),
     };
-    if let Reply::Refused(_) = reply {
-        return Replayed::Not;
+    *tool = answer.tool;
+    answer.reply
+}
+
+// The reply to an event; the distance stands in it where pulses were said.
+fn say_reading(
+    stdout: Stdout,
+    kind: Kind,
+    pulses: Option<u32>,
+    reading: Reading,
+) -> Result<(), Fault> {
+    let value = ValueText {
+        kind,
+        value: reading.value,
+    };
+    let millimetres = reading.millimetres;
+    let remainder = reading.remainder;
+    match pulses {
+        None => println!(stdout; "value={value}")?,
+        Some(_) => println!(stdout; "value={value} mm={millimetres} rest={remainder}")?,
     }
-    Replayed::Values(n)
+    Ok(())
+}
+
+// A call, with its answer printed.
+pub fn obey<T: Item, K: recorder::Kind<Value = T>>(
+    stdout: Stdout,
+    tool: &mut Tool<K, K::Column>,
+    call: Call,
+    values: &mut [T],
+) -> Result<(), Fault> {
+    let reply = reply_to(tool, call, values)?;
+    match call {
+        Call::Load(channel, _) => {
+            if let Some(loaded) = channel_of(tool, channel) {
+                println!(stdout; "states={}", loaded.states)?;
+            }
+        }
+        Call::Event(_, _, pulses) => {
+            if let Some(reading) = reply {
+                say_reading(stdout, T::KIND, pulses, reading)?;
+            }
+        }
+        Call::Replay(_, events) => {
+            let returned = values.get(..events.len()).unwrap_or(values);
+            println!(stdout; "values={}", List(returned))?;
+        }
+        Call::Restart(_) | Call::RestartAll | Call::Clear(_) => println!(stdout; "ok")?,
+        Call::Show(channel) => {
+            if let Some(shown) = channel_of(tool, channel) {
+                println!(stdout; "{shown}")?;
+            }
+        }
+    }
+    Ok(())
 }

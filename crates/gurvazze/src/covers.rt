@@ -1,98 +1,45 @@
 // When one rule covers another: its table, as a device from state 0, is tried against the table of the other.
-use crate::answers::{say, say_error, say_list, say_refusal};
-use crate::rules::{Made, Nodes, compile_rule, make_table, read_rule, say_unmade};
-use crate::setups;
-use crate::setups::{NODE_ROOM, Setup, TABLE_ROOM, entries_of};
+use crate::answers::{Fault, List};
+use crate::rules::{make_table, read_rule};
+use crate::setups::{NODE_ROOM, TABLE_ROOM, compile};
 use command_line::{first_part, front, rest, second_part};
-use conformance::Verdict;
-use std::io;
+use conformance::{Verdict, trial};
+use machines::{Device, Table};
 use std::io::Stdout;
-
-// The table of the first rule against that of the second.
-fn cover_table(
-    stdout: Stdout,
-    setup: Setup,
-    meet: &[u8],
-    first_states: usize,
-    first: &[u8],
-    second_states: usize,
-    second: &[u8],
-    word: &mut [u8],
-) -> io::Result<()> {
-    let verdict = setups::trial(
-        setup,
-        meet,
-        second_states,
-        second,
-        first_states,
-        0,
-        first,
-        word,
-    );
-    match verdict {
-        Verdict::Pass(_) => say(stdout, b"yes\n"),
-        Verdict::Fail(n) => say_list(stdout, b"no=", front(&*word, n)),
-        Verdict::Refused(refusal) => say_refusal(stdout, refusal),
-    }
-}
+use values::SetUp;
 
 // The table of the first rule against the nodes of the second.
-fn cover_rule(
-    stdout: Stdout,
-    setup: Setup,
-    meet: &[u8],
-    states: usize,
-    first: &[u8],
-    second: &[u8],
-    word: &mut [u8],
-) -> io::Result<()> {
-    let mut table = [0u8; TABLE_ROOM];
-    let made = compile_rule(setup, meet, second, &mut table);
-    let Made::States(n) = made else {
-        return say_unmade(stdout, made);
-    };
-    let entries = entries_of(setup, n, &table);
-    cover_table(stdout, setup, meet, states, first, n, entries, word)
-}
-
-// Both rules are read before either is judged, and the first is judged before the second.
 fn cover(
     stdout: Stdout,
-    setup: Setup,
-    meet: &[u8],
-    first: &[u8],
+    set_up: SetUp<'_>,
+    first: Table<'_>,
     second: &[u8],
     word: &mut [u8],
-) -> io::Result<()> {
-    let mut nodes = [0u8; NODE_ROOM];
-    let read = read_rule(setup, meet, second, &mut nodes);
-    let Nodes::Bytes(n) = read else {
-        return say_error(stdout, b"tokens");
+) -> Result<(), Fault> {
+    let mut room = [0u8; TABLE_ROOM];
+    let table = compile(set_up, second, &mut room)?;
+    let device = Device {
+        table: first,
+        start: 0,
     };
-    let mut table = [0u8; TABLE_ROOM];
-    let made = make_table(setup, meet, first, &mut table);
-    let Made::States(states) = made else {
-        return say_unmade(stdout, made);
-    };
-    let entries = entries_of(setup, states, &table);
-    cover_rule(stdout, setup, meet, states, entries, front(&nodes, n), word)
+    match trial(set_up, table, device, word)? {
+        Verdict::Pass(_) => println!(stdout; "yes")?,
+        Verdict::Fail(n) => println!(stdout; "no={}", List(front(word, n)))?,
+    }
+    Ok(())
 }
 
-// covers TOKENS / TOKENS
+// covers TOKENS / TOKENS: both rules are read before either is judged, and the first is judged before the second.
 pub fn covers(
     stdout: Stdout,
-    setup: Setup,
-    meet: &[u8],
+    set_up: SetUp<'_>,
     line: &[u8],
     word: &mut [u8],
-) -> io::Result<()> {
+) -> Result<(), Fault> {
     let rules = rest(line, 1);
-    cover(
-        stdout,
-        setup,
-        meet,
-        first_part(rules),
-        second_part(rules),
-        word,
-    )
+    let mut nodes = [0u8; NODE_ROOM];
+    let second = read_rule(set_up, second_part(rules), &mut nodes)?;
+    let mut room = [0u8; TABLE_ROOM];
+    let first = make_table(set_up, first_part(rules), &mut room)?;
+    cover(stdout, set_up, first, second, word)
 }

@@ -1,96 +1,42 @@
 // The numbers of a line.
-use crate::answers::say_error;
-use command_line::{Number, read_number, word};
-use std::io;
-use std::io::Stdout;
+ghost use Rattle.std.specs.Prelude.{◌≤◌};
 
-// What they are, that there are too few or too many words, or that one is no number.
-#[derive(Clone, Copy)]
-pub enum Numbers {
-    One(usize),
-    Two(usize, usize),
-    Three(usize, usize, usize),
-    Miscounted,
-    Malformed,
-}
-
-pub fn say_wrong(stdout: Stdout, numbers: Numbers) -> io::Result<()> {
-    if let Numbers::Malformed = numbers {
-        say_error(stdout, b"number")
-    } else {
-        say_error(stdout, b"arguments")
-    }
-}
+use crate::answers::Fault;
+use command_line::{front, read_number, read_numbers, rest, word};
 
 // Whether a line has the word n.
 pub fn has_word(line: &[u8], n: usize) -> bool {
-    0 < word(line, n).len()
+    !word(line, n).is_empty()
 }
 
-// The word behind the command.
-pub fn one_number(line: &[u8]) -> Numbers {
-    if !has_word(line, 1) {
-        return Numbers::Miscounted;
+// The N words behind the command.
+pub fn numbers<const N: usize>(line: &[u8]) -> Result<[usize; N], Fault>
+    requires { N ≤ 3 }
+{
+    if !has_word(line, N) {
+        return Err(Fault::Arguments);
     }
-    let first = read_number(word(line, 1));
-    let Number::Value(a) = first else {
-        return Numbers::Malformed;
-    };
-    Numbers::One(a)
+    let mut found = [0usize; N];
+    for (i, number) in found.iter_mut().enumerate() {
+        *number = read_number(word(line, i + 1)).ok_or(Fault::Number)?;
+    }
+    Ok(found)
 }
 
-// The two words behind the command.
-pub fn two_numbers(line: &[u8]) -> Numbers {
-    if !has_word(line, 2) {
-        return Numbers::Miscounted;
+// The same of a line of no more words.
+pub fn only_numbers<const N: usize>(line: &[u8]) -> Result<[usize; N], Fault>
+    requires { N ≤ 3 }
+{
+    if has_word(line, N + 1) {
+        return Err(Fault::Arguments);
     }
-    let first = read_number(word(line, 1));
-    let Number::Value(a) = first else {
-        return Numbers::Malformed;
-    };
-    let second = read_number(word(line, 2));
-    let Number::Value(b) = second else {
-        return Numbers::Malformed;
-    };
-    Numbers::Two(a, b)
+    numbers(line)
 }
 
-// The three words behind the command.
-pub fn three_numbers(line: &[u8]) -> Numbers {
-    if !has_word(line, 3) {
-        return Numbers::Miscounted;
+// The numbers from word n on, to the front of a buffer.
+pub fn list_from<'a>(line: &[u8], n: usize, to: &'a mut [u8]) -> Result<&'a [u8], Fault> {
+    match read_numbers(rest(line, n), to) {
+        Ok(count) => Ok(front(to, count)),
+        Err(_) => Err(Fault::Number),
     }
-    let two = two_numbers(line);
-    let Numbers::Two(a, b) = two else {
-        return two;
-    };
-    let third = read_number(word(line, 3));
-    let Number::Value(c) = third else {
-        return Numbers::Malformed;
-    };
-    Numbers::Three(a, b, c)
-}
-
-// The word behind the command, of a line of two words.
-pub fn only_one(line: &[u8]) -> Numbers {
-    if has_word(line, 2) {
-        return Numbers::Miscounted;
-    }
-    one_number(line)
-}
-
-// The two words behind the command, of a line of three words.
-pub fn only_two(line: &[u8]) -> Numbers {
-    if has_word(line, 3) {
-        return Numbers::Miscounted;
-    }
-    two_numbers(line)
-}
-
-// The three words behind the command, of a line of four words.
-pub fn only_three(line: &[u8]) -> Numbers {
-    if has_word(line, 4) {
-        return Numbers::Miscounted;
-    }
-    three_numbers(line)
 }

@@ -1,8 +1,6 @@
 // The turn of a wheel that the next set-up takes.
-use crate::answers::say;
-use crate::numbers::{Numbers, only_two, say_wrong};
-use std::io;
-use std::io::Stdout;
+use crate::answers::Fault;
+use crate::numbers::only_numbers;
 
 // Pulses and millimetres of a turn, as they were said; a set-up judges them.
 #[derive(Clone, Copy)]
@@ -11,24 +9,19 @@ pub struct Turn {
     pub millimetres: usize,
 }
 
-// What a set-up takes before a turn is said.
-pub fn first_turn() -> Turn {
-    Turn {
+impl Turn {
+    // What a set-up takes before a turn is said.
+    pub const FIRST: Turn = Turn {
         pulses: 1,
         millimetres: 1,
-    }
-}
-
-// wheel P C
-pub fn wheel(stdout: Stdout, old: Turn, line: &[u8]) -> io::Result<Turn> {
-    let numbers = only_two(line);
-    let Numbers::Two(pulses, millimetres) = numbers else {
-        say_wrong(stdout, numbers)?;
-        return Ok(old);
     };
-    say(stdout, b"ok\n")?;
-    Ok(Turn {
-        pulses,
-        millimetres,
-    })
+
+    // wheel P C
+    pub fn read(line: &[u8]) -> Result<Turn, Fault> {
+        let [pulses, millimetres] = only_numbers::<2>(line)?;
+        Ok(Turn {
+            pulses,
+            millimetres,
+        })
+    }
 }

@@ -9,12 +9,10 @@ use Rattle.limits.specs.Limits.{state_limit, device_limit, table_limit, word_lim
 use Rattle.theory.specs.MealyMachine.{Word}
 use Rattle.theory.specs.ValueSetTests.{every}
 use Rattle.theory.specs.Formula.{Answers}
-use Rattle.refusal.specs.declared.{Refusal.{Refusal}, Counted.{Counted}}
-use Rattle.refusal.specs.declared.{Refusal.TheVariants.{Plain, At}, Counted.TheVariants.{Count, Refused as Uncounted}}
-use Rattle.refusal.specs.Refusal.{Condition, First, plain, has_place, part_of, order, condition_numbers, right_places, counted_refusal}
-use Rattle.refusal.specs.RefusalClaims.{refusal_number, refusal_place}
+use Rattle.refusal.specs.declared.{Refusal.{Refusal}}
+use Rattle.refusal.specs.Refusal.{Condition, First, plain, has_place, part_of, order, condition_numbers, right_places, refusal_number, refusal_place}
 use Rattle.refusal.specs.{RefusalAnswers.{or_else, plain_unless}, RefusalClaims.{ListedRefusal}}
-use Rattle.refusal.proofs.Refusals.{or_else_none, plain_none, plain_first, first_then, first_append}
+use Rattle.refusal.proofs.Refusals.{or_else_none, plain_none, plain_first, first_then, first_append, listed_refusal}
 use Rattle.values.specs.{declared.ValueKind.{ValueKind}, declared.ValueKind.TheVariants.{Numbered, Register}}
 use Rattle.values.specs.Setup.{Setup, SetupValue, meet_of, setup_meet, setup_top, setup_conditions, kind_conditions, value_width}
 use Rattle.values.specs.Setup.{EventsFault, ValuesFault, MeetFault, LinesFault}
@@ -23,19 +21,19 @@ use Rattle.machines.specs.{TableBytes.{entry_width, machine_of, table_condition}
 use Rattle.formulas.specs.RuleConditions.{byte_conditions}
 use Rattle.machines.proofs.TableRefusals.{table_refusal_first}
 use Rattle.synthesis.specs.TableOfRule.{states_condition, buffer_condition, compile_conditions, rule_conditions_of, pair_table_conditions}
-use Rattle.conformance.specs.declared.Verdict.{Verdict}
-use Rattle.conformance.specs.declared.Verdict.TheVariants.{Pass, Fail, Refused}
+use Rattle.conformance.specs.declared.Verdict.TheVariants.{Pass, Fail}
 use Rattle.conformance.specs.declared.Grade.TheVariants.{Same, Stricter}
-use Rattle.conformance.specs.Trial.{input, refusal_of, word_length}
-use Rattle.conformance.specs.TrialAnswer.{tables_refusal, trial_refusal}
+use Rattle.conformance.specs.Trial.{Answer, input, word_length}
+use Rattle.conformance.specs.TrialAnswer.{tables_refusal, handed_refusal, trial_refusal}
 use Rattle.conformance.proofs.TrialClaims.{trial_satisfies}
 use Rattle.channel_io.specs.FileRefusals.{pair_table_refusal, pair_states, pair_table}
 use Rattle.channel_io.proofs.Claims.{contents_table_claim, file_table_made, file_table_accepted}
-use Rattle.gurvazze_host.specs.Codes.{refusal_code, yield_code, code, counted_code, grade_yield, verdict_code, table_numbers, SmallNumbers}
+use Rattle.gurvazze_host.specs.Codes.{refusal_code, yield_code, code, answer_code, grade_yield, verdict_yield, verdict_code, table_numbers, SmallNumbers}
 use Rattle.gurvazze_host.specs.FileCalls.{pair_machine, word_refusal, file_replay_refusal, file_trial, file_trial_refusal}
-use Rattle.gurvazze_host.specs.Claims.{TellsRefusal, TellsCount, TellsVerdict, TellsNumbers, ListedAnswer, CodeClaim}
-use Rattle.gurvazze_host.specs.Claims.{file_replay_conditions, replay_order}
+use Rattle.gurvazze_host.specs.Claims.{TellsRefusal, TellsCount, TellsVerdict, TellsNumbers, CodeClaim, file_replay_conditions, replay_order}
 use Rattle.gurvazze_host.specs.Claims.{file_trial_conditions, FileReplayClaim, FileTrialClaim}
+use Rattle.refusal.specs.declared.Refusal.TheVariants.{BufferLength, EventNumber, SetupEvents, SetupLines, SetupMeet, SetupValues}
+use Rattle.std.specs.Prelude.{Err, Ok, Result, Option as StdOption, Some, None, unwrap_or}
 
 -- ---- codes
 
@@ -46,26 +44,29 @@ same_refusal r s e = cc
 refused_code : (n p x : ℕ) → n ≤ 25 → x ≡ p * 256 + n → (x % 256 ≡ n) × (x / 256 ≡ p)
 refused_code n p x h e = (omega arith, omega arith)
 
-refusal_told : (r : Refusal) → ListedRefusal r → TellsRefusal (some r) (refusal_code r)
-unfolding refusal_code refusal_number refusal_place
-refusal_told (Plain n) l =
-    let k : n % 256 ≡ n = omega (arith, l.last_number) in
+refusal_told : (r : Refusal) → TellsRefusal (some r) (refusal_code r)
+unfolding refusal_code
+refusal_told r =
     record {
-      accepted = (λ e. absurd (some-ne-none (Plain n) e), λ e. absurd (omega (arith, l.some_number, k, e)));
-      number_is = λ s e. ap refusal_number (sym (same_refusal (Plain n) s e)) ∙ sym k;
-      place_is = λ s e.
-          ap refusal_place (sym (same_refusal (Plain n) s e))
-          ∙ sym (ap (λ (b : Bool). cond b (some (n / 256)) none) (ap has_place k ∙ l.without_place refl));
+      accepted = (λ e. absurd (some-ne-none r e), λ e. absurd (omega (arith, l.some_number, k.0, e)));
+      number_is = λ s e. ap refusal_number (sym (same_refusal r s e)) ∙ sym k.0;
+      place_is = λ s e. ap refusal_place (sym (same_refusal r s e)) ∙ place_told (refusal_place r) refl;
     }
-refusal_told (At n p) l =
-    let k = refused_code n p (p * 256 + n) l.last_number refl in
-    record {
-      accepted = (λ e. absurd (some-ne-none (At n p) e), λ e. absurd (omega (arith, l.some_number, k.0, e)));
-      number_is = λ s e. ap refusal_number (sym (same_refusal (At n p) s e)) ∙ sym k.0;
-      place_is = λ s e.
-          ap refusal_place (sym (same_refusal (At n p) s e))
-          ∙ sym (ap (λ (b : Bool). cond b (some ((p * 256 + n) / 256)) none) (ap has_place k.0 ∙ l.with_place p refl) ∙ ap some k.1);
-    }
+  where
+    l : ListedRefusal r
+    l = listed_refusal r
+
+    x : ℕ
+    x = unwrap_or (refusal_place r) 0 * 256 + refusal_number r
+
+    k : (x % 256 ≡ refusal_number r) × (x / 256 ≡ unwrap_or (refusal_place r) 0)
+    k = refused_code (refusal_number r) (unwrap_or (refusal_place r) 0) x l.last_number refl
+
+    place_told : (o : StdOption ℕ) → refusal_place r ≡ o → refusal_place r ≡ cond (has_place (x % 256)) (Some (x / 256)) None
+    place_told None e = e ∙ sym (ap (λ (b : Bool). cond b (Some (x / 256)) None) (ap has_place k.0 ∙ l.without_place e))
+    place_told (Some p) e =
+        e ∙ sym (ap (λ (b : Bool). cond b (Some (x / 256)) None) (ap has_place k.0 ∙ l.with_place p e)
+        ∙ ap Some (k.1 ∙ ap (λ (o : StdOption ℕ). unwrap_or o 0) e))
 
 accepted_told : (x : ℕ) → x % 256 ≡ 0 → TellsRefusal none x
 accepted_told x h =
@@ -76,51 +77,51 @@ accepted_told x h =
     }
 
 -- A refusal's low byte is not 0, so that it is no count and no word.
-not_accepted : (r : Refusal) → ListedRefusal r → refusal_code r % 256 ≡ 0 → ⊥
-not_accepted r l e = some-ne-none r ((refusal_told r l).accepted.1 e)
+not_accepted : (r : Refusal) → refusal_code r % 256 ≡ 0 → ⊥
+not_accepted r e = some-ne-none r ((refusal_told r).accepted.1 e)
 
-refusals_told : (answer : Option Refusal) (yield : ℕ) → ListedAnswer answer → TellsRefusal answer (code answer yield)
+refusals_told : (answer : Option Refusal) (yield : ℕ) → TellsRefusal answer (code answer yield)
 unfolding code yield_code
-refusals_told none yield l = accepted_told (yield * 256) (omega arith)
-refusals_told (some r) yield l = refusal_told r (l r refl)
+refusals_told none yield = accepted_told (yield * 256) (omega arith)
+refusals_told (some r) yield = refusal_told r
 
 yields_told : (answer : Option Refusal) (yield : ℕ) → answer ≡ none → code answer yield / 256 ≡ yield
 unfolding code yield_code
 yields_told none yield e = omega arith
 yields_told (some r) yield e = absurd (some-ne-none r e)
 
-counts_told : (answer : Counted) → ListedAnswer (counted_refusal answer) → TellsCount answer (counted_code answer)
-unfolding counted_code yield_code
-counts_told (Count k) l =
+counts_told : (answer : Result ℕ Refusal) → TellsCount answer (answer_code answer)
+unfolding answer_code yield_code
+counts_told (Ok k) =
     record {
       refusal = accepted_told (k * 256) (omega arith);
       count_is = λ n. ((λ e. let z : k ≡ n = cc in (omega arith, omega arith)), λ h. let z : k ≡ n = omega (arith, h.1) in ap some z);
     }
-counts_told (Uncounted r) l =
+counts_told (Err r) =
     record {
-      refusal = refusal_told r (l r refl);
-      count_is = λ n. ((λ e. absurd (some-ne-none n (sym e))), λ h. absurd (not_accepted r (l r refl) h.0));
+      refusal = refusal_told r;
+      count_is = λ n. ((λ e. absurd (some-ne-none n (sym e))), λ h. absurd (not_accepted r h.0));
     }
 
 verdicts_told :
-    (answer : Verdict) → ListedAnswer (refusal_of answer) → ((n : ℕ) → word_length answer ≡ some n → (1 ≤ n) × (n ≤ word_limit)) →
+    (answer : Answer) → ((n : ℕ) → word_length answer ≡ some n → (1 ≤ n) × (n ≤ word_limit)) →
     TellsVerdict answer (verdict_code answer)
-unfolding verdict_code yield_code grade_yield
-verdicts_told (Pass Same) l w =
+unfolding verdict_code yield_code verdict_yield grade_yield
+verdicts_told (Ok (Pass Same)) w =
     record {
       refusal = accepted_told 0 refl;
       same = (λ h. refl, λ e. refl);
       stricter = (λ h. let c : ◌≡◌ {A = ℕ} 0 1 = cc in absurd (omega arith), λ e. absurd (omega (arith, e.1)));
       word_length_is = λ n. ((λ e. absurd (some-ne-none n (sym e))), λ h. absurd (omega (arith, h.1, h.2)));
     }
-verdicts_told (Pass Stricter) l w =
+verdicts_told (Ok (Pass Stricter)) w =
     record {
       refusal = accepted_told (65536 * 256) refl;
       same = (λ h. let c : ◌≡◌ {A = ℕ} 0 1 = cc in absurd (omega arith), λ e. absurd (omega (arith, e)));
       stricter = (λ h. (refl, refl), λ e. refl);
       word_length_is = λ n. ((λ e. absurd (some-ne-none n (sym e))), λ h. absurd (omega (arith, h.1, h.3)));
     }
-verdicts_told (Fail k) l w =
+verdicts_told (Ok (Fail k)) w =
     record {
       refusal = accepted_told (k * 256) (omega arith);
       same = (λ h. absurd (some-ne-none Same (sym h)), λ e. absurd (omega (arith, (w k refl).0, e)));
@@ -130,12 +131,12 @@ verdicts_told (Fail k) l w =
         λ h. let z : k ≡ n = omega (arith, h.1) in ap some z,
       );
     }
-verdicts_told (Refused r) l w =
+verdicts_told (Err r) w =
     record {
-      refusal = refusal_told r (l r refl);
-      same = (λ h. absurd (some-ne-none Same (sym h)), λ e. absurd (not_accepted r (l r refl) (ap (λ x. x % 256) e)));
-      stricter = (λ h. absurd (some-ne-none Stricter (sym h)), λ e. absurd (not_accepted r (l r refl) e.0));
-      word_length_is = λ n. ((λ e. absurd (some-ne-none n (sym e))), λ h. absurd (not_accepted r (l r refl) h.0));
+      refusal = refusal_told r;
+      same = (λ h. absurd (some-ne-none Same (sym h)), λ e. absurd (not_accepted r (ap (λ x. x % 256) e)));
+      stricter = (λ h. absurd (some-ne-none Stricter (sym h)), λ e. absurd (not_accepted r e.0));
+      word_length_is = λ n. ((λ e. absurd (some-ne-none n (sym e))), λ h. absurd (not_accepted r h.0));
     }
 
 numbers_told :
@@ -158,12 +159,13 @@ code_claim =
 -- What holds of the conditions of either kind.
 setup_by :
     (P : List Condition → Type 0) (s : Setup)
-    → ((values : ℕ) → P (plain 1 (EventsFault s.events) ∷ plain 2 (ValuesFault values s.top) ∷ plain 3 (MeetFault values s.top s.meet) ∷ []))
-    → ((lines : ℕ) → P (plain 1 (EventsFault s.events) ∷ plain 20 (LinesFault lines) ∷ [])) → P (setup_conditions s)
+    → ((values : ℕ) → P (plain SetupEvents (EventsFault s.events) ∷ plain SetupValues (ValuesFault values s.top)
+    ∷ plain SetupMeet (MeetFault values s.top s.meet) ∷ []))
+    → ((lines : ℕ) → P (plain SetupEvents (EventsFault s.events) ∷ plain SetupLines (LinesFault lines) ∷ [])) → P (setup_conditions s)
 unfolding setup_conditions kind_conditions
 setup_by P s numbers register = go s.kind
   where
-    go : (kind : ValueKind) → P (plain 1 (EventsFault s.events) ∷ kind_conditions kind s.top s.meet)
+    go : (kind : ValueKind) → P (plain SetupEvents (EventsFault s.events) ∷ kind_conditions kind s.top s.meet)
     go (Numbered values) = numbers values
     go (Register lines) = register lines
 
@@ -189,14 +191,14 @@ module _ (s : Setup) (nodes : List ℕ) where
   unfolding condition_numbers right_places has_place part_of replay_order
   replay_ordered word old =
       setup_by (λ (cs : List Condition). Ordered replay_order ((cs ++ later)
-      ++ (plain 16 (¬ Word s.events word) ∷ plain 13 (length old < length word * value_width s.kind) ∷ []))) s
+      ++ (plain EventNumber (¬ Word s.events word) ∷ plain BufferLength (length old < length word * value_width s.kind) ∷ []))) s
       (λ values. record { behind_4 = refl; placed = refl }) (λ lines. record { behind_4 = refl; placed = refl })
 
   pub trial_ordered : (states start : ℕ) (device old : List ℕ) → Ordered order (file_trial_conditions states start device old s nodes)
   unfolding condition_numbers right_places has_place part_of order
   trial_ordered states start device old =
       setup_by (λ (cs : List Condition). Ordered order ((cs ++ later) ++ (table_condition (entry_width s.kind) device_limit s.events (SetupValue s) states
-      start device (machine_of s.kind s.events device) ∷ plain 13 (length old < word_limit) ∷ []))) s
+      start device (machine_of s.kind s.events device) ∷ plain BufferLength (length old < word_limit) ∷ []))) s
       (λ values. record { behind_4 = refl; placed = refl }) (λ lines. record { behind_4 = refl; placed = refl })
 
 -- ---- replay
@@ -211,8 +213,8 @@ unfolding file_replay_refusal word_refusal
 replay_claim s nodes word old e =
     let test : ℕ → Bool = λ i. ltb (get_or word i 0) s.events in
     let a = or_else_none (pair_table_refusal s nodes) _ e in
-    let b = (or_else_none (plain_unless (every (length word) test) 16) _ a.1).0 in
-    let all = plain_none (every (length word) test) 16 b in
+    let b = (or_else_none (plain_unless (every (length word) test) EventNumber) _ a.1).0 in
+    let all = plain_none (every (length word) test) EventNumber b in
     let below : (i : ℕ) → i < length word → get_or word i 0 < s.events =
     λ i l. ltb-true (get_or word i 0) s.events (every_at (length word) test all i l) in
     let made = (file_table_made s nodes a.0).table in
@@ -241,12 +243,12 @@ replay_first s nodes word old =
     let test : ℕ → Bool = λ i. ltb (get_or word i 0) s.events in
     let size = length word * value_width s.kind in
     first_append _ _ _ _ (contents_table_claim s nodes).first
-    (first_append (plain 16 (¬ Word s.events word) ∷ []) _ _ _
-    (plain_first 16 (¬ Word s.events word) (every (length word) test)
+    (first_append (plain EventNumber (¬ Word s.events word) ∷ []) _ _ _
+    (plain_first EventNumber (¬ Word s.events word) (every (length word) test)
     (λ e h. let x = every_some (length word) test e in omega
     (arith, word_at s.events word h x.0 x.1, ltb-false (get_or word x.0 0) s.events x.2))
     (λ e h. h (whole_word s.events word (λ i l. ltb-true (get_or word i 0) s.events (every_at (length word) test e i l)))))
-    (plain_first 13 (length old < size) (leb size (length old))
+    (plain_first BufferLength (length old < size) (leb size (length old))
     (λ e. leb-false size (length old) e)
     (λ e h. let l = leb-true size (length old) e in omega arith)))
 
@@ -264,16 +266,16 @@ trial_behind a b d e p q = rw (p, q, or_nothing b)
 pub file_trial_first :
     (s : Setup) (nodes : List ℕ) (states start : ℕ) (device old : List ℕ) →
     First (file_trial_conditions states start device old s nodes) (file_trial_refusal s nodes states start device old)
-unfolding file_trial_refusal trial_refusal tables_refusal input pair_table_refusal
+unfolding file_trial_refusal trial_refusal handed_refusal tables_refusal input pair_table_refusal
 file_trial_first s nodes states start device old =
     first_then (pair_table_conditions s nodes) _ (pair_table_refusal s nodes) _ (contents_table_claim s nodes).first
     (λ ok.
     subst (First _)
     (trial_behind (setup_refusal s) (table_refusal device_limit s.events s.kind states start device)
-    (table_refusal table_limit s.events s.kind (pair_states s nodes) 0 (pair_table s nodes)) (plain_unless (leb word_limit (length old)) 13)
+    (table_refusal table_limit s.events s.kind (pair_states s nodes) 0 (pair_table s nodes)) (plain_unless (leb word_limit (length old)) BufferLength)
     (or_else_none (setup_refusal s) _ ok).0 (file_table_accepted s nodes ok))
     (first_append _ _ _ _ (table_refusal_first device_limit s.events s.kind states start device)
-    (plain_first 13 (length old < word_limit) (leb word_limit (length old)) (λ e. leb-false word_limit (length old) e)
+    (plain_first BufferLength (length old < word_limit) (leb word_limit (length old)) (λ e. leb-false word_limit (length old) e)
     (λ e h. let l = leb-true word_limit (length old) e in omega arith))))
 
 pub file_trial_claim : FileTrialClaim

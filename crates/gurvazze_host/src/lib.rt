@@ -3,11 +3,11 @@
 // call yields.
 #![tactic(auto)]
 
-ghost use Rattle.std.specs.Prelude.{◌≡◌, ◌≤◌, ltb, length, get_or};
+ghost use Rattle.std.specs.Prelude.{◌≡◌, ◌≤◌, ◌<◌, ◌^◌, ltb, length, get_or};
 ghost use Rattle.theory.specs.ValueSetTests.{every};
 ghost use Rattle.refusal.specs.Refusal.{put};
-ghost use Rattle.values.specs.Setup.{setup, register_setup};
-ghost use Rattle.values.specs.declared.ValueKind.TheVariants.{Numbered, Register};
+ghost use Rattle.values.specs.Setup.{setup, register_setup, value_width};
+ghost use Rattle.values.specs.HandedIn.{setup_of};
 ghost use Rattle.synthesis.specs.Compilation.{compile_answer, compile_contents};
 ghost use Rattle.characteristic.specs.RuleWriting.{write_answer, write_contents};
 ghost use Rattle.conformance.specs.Trial.{input};
@@ -16,20 +16,21 @@ ghost use Rattle.channel_file.specs.Reading.{read_file};
 ghost use Rattle.channel_file.specs.RegisterReading as register_reading;
 ghost use Rattle.channel_io.specs.FileConditions.{number_file};
 ghost use Rattle.channel_io.specs.RegisterFiles.{register_file};
-ghost use Rattle.gurvazze_host.specs.Codes.{refusal_code, yield_code, counted_code, grade_yield, verdict_code, table_numbers, SmallPlace};
-ghost use Rattle.gurvazze_host.specs.Codes.{SmallCount, SmallVerdict, SmallNumbers};
-ghost use Rattle.gurvazze_host.specs.FileCalls.{table_code, table_after, replay_code, replay_after, file_trial_answer, file_trial_buffer};
-ghost use Rattle.gurvazze_host.specs.FileCalls.{played, lacks_room, front, held_setup, held_trial, Playable, Runnable, Replays, Triable};
+ghost use Rattle.gurvazze_host.specs.Codes.{refusal_code, answer_code, verdict_yield, verdict_code, replay_code, made_numbers, told_values, told_top};
+ghost use Rattle.gurvazze_host.specs.Codes.{SmallPlace, SmallAnswer, SmallVerdict, SmallReplay, SmallNumbers};
+ghost use Rattle.gurvazze_host.specs.FileCalls.{table_answer, table_after, replay_answer, replay_after, file_trial_answer, file_trial_buffer};
+ghost use Rattle.gurvazze_host.specs.FileCalls.{file_form, reader, Compiles, HasRoom, kind_of_width, played, front, held_setup, held_trial};
+ghost use Rattle.gurvazze_host.specs.FileCalls.{Holds, Playable, Runnable, Replays};
 ghost use Rattle.limits.specs.Limits.{node_limit, state_limit, device_limit, table_limit};
 
-use channel_io::{FileNumbers, FileTable, compile_file, registers};
-use characteristic::{write_register_rule, write_rule};
-use conformance::{Grade, Verdict, trial, trial_register};
+use channel_io::{compile_file, registers};
+use characteristic::write_rule;
+use conformance::{Grade, Verdict, trial};
 use limits::{DEVICE_LIMIT, EVENT_LIMIT, MEET_LIMIT, REGISTER_TABLE_BYTES, TABLE_BYTES};
-use machines::entry_width;
-use refusal::{Counted, Refusal};
-use synthesis::{compile, compile_register};
-use values::{ValueKind, value_width};
+use machines::{Device, Table, entry_width};
+use refusal::Refusal;
+use synthesis::compile;
+use values::{SetUp, ValueKind, Values, value_width};
 
 // The bytes of a small table, of numbers and of registers: as many states as a device may have. Replay and trial make a file's table in so
 // many first, and in those of the largest table only where it has no room in them, so that a small rule does not pay for clearing a large
@@ -38,389 +39,382 @@ const SMALL_BYTES: usize = DEVICE_LIMIT * EVENT_LIMIT * 2;
 
 const SMALL_REGISTER_BYTES: usize = DEVICE_LIMIT * EVENT_LIMIT * 5;
 
-fn wide(x: u8) -> usize
-    ensures { result ≡ x }
-{
-    x as usize
+// The forms of channel files: with numbers for values, or with a register's masks.
+#[derive(Clone, Copy)]
+enum Form {
+    Numbers,
+    Register,
+}
+
+// What a channel file says, where its rule's table was made: the numbers of its set-up, how many meet entries stand at the front of a
+// buffer, and the states of the table at the front of another.
+#[derive(Clone, Copy)]
+struct Made {
+    events: usize,
+    kind: ValueKind,
+    top: usize,
+    entries: usize,
+    states: usize,
 }
 
 // A refusal's number, and its place above it.
+#[tactic(auto, unfolding(crate::specs::Codes::refusal_code))]
 fn refusal_code(refusal: Refusal) -> u64
     requires { SmallPlace refusal }
     ensures { result ≡ refusal_code refusal }
 {
-    match refusal {
-        Refusal::Plain(n) => n as u64,
-        Refusal::At(n, p) => p as u64 * 256 + n as u64,
-    }
+    let place = refusal.place().unwrap_or(0);
+    place as u64 * 256 + u64::from(refusal.number())
 }
 
-// Whether a refusal is 13: the table has no room in the buffer that it was to be made in.
-fn lacks_room(refusal: Refusal) -> bool
-    ensures { result ≡ lacks_room refusal }
+// The answer of a call in one number: what it yields above a low byte of 0, or the refusal.
+#[tactic(auto, unfolding(crate::specs::Codes::answer_code, crate::specs::Codes::yield_code))]
+fn answer_code(answer: Result<usize, Refusal>) -> u64
+    requires { SmallAnswer answer }
+    ensures { result ≡ answer_code answer }
 {
-    match refusal {
-        Refusal::Plain(n) => n == refusal::BUFFER_LENGTH,
-        Refusal::At(_, _) => false,
+    match answer {
+        Ok(yielded) => yielded as u64 * 256,
+        Err(refusal) => refusal_code(refusal),
     }
 }
 
-fn counted_code(counted: Counted) -> u64
-    requires { SmallCount counted }
-    ensures { result ≡ counted_code counted }
-{
-    match counted {
-        Counted::Count(n) => n as u64 * 256,
-        Counted::Refused(refusal) => refusal_code(refusal),
-    }
-}
-
-fn grade_code(grade: Grade) -> u64
-    ensures { result ≡ yield_code (grade_yield grade) }
-{
-    match grade {
-        Grade::Same => 0,
-        Grade::Stricter => 65536 * 256,
-    }
-}
-
-fn verdict_code(verdict: Verdict) -> u64
-    requires { SmallVerdict verdict }
-    ensures { result ≡ verdict_code verdict }
+// What a trial yields: 0 for a pass as same, 65,536 for one as stricter, or the length of the word on which the device fails.
+#[tactic(auto, unfolding(crate::specs::Codes::verdict_yield, crate::specs::Codes::grade_yield))]
+fn verdict_yield(verdict: Verdict) -> usize
+    ensures { result ≡ verdict_yield verdict }
 {
     match verdict {
-        Verdict::Pass(grade) => grade_code(grade),
-        Verdict::Fail(n) => n as u64 * 256,
-        Verdict::Refused(refusal) => refusal_code(refusal),
+        Verdict::Pass(Grade::Same) => 0,
+        Verdict::Pass(Grade::Stricter) => 65536,
+        Verdict::Fail(length) => length,
     }
 }
 
-// States in sixteen bits; events, values and top in eight each, or a register's lines for values and 0 for top.
-fn table_code(states: usize, events: usize, values: usize, top: usize) -> u64
-    requires { SmallNumbers states events values top }
-    ensures { result ≡ yield_code (table_numbers states events values top) }
+#[tactic(auto, unfolding(crate::specs::Codes::answer_code, crate::specs::Codes::verdict_code))]
+fn verdict_code(answer: Result<Verdict, Refusal>) -> u64
+    requires { SmallVerdict answer }
+    ensures { result ≡ verdict_code answer }
 {
-    (states + (events + (values + top * 256) * 256) * 65536) as u64 * 256
+    answer_code(answer.map(verdict_yield))
+}
+
+// A replay yields nothing.
+#[tactic(auto, unfolding(crate::specs::Codes::answer_code, crate::specs::Codes::replay_code))]
+fn replay_code(answer: Result<(), Refusal>) -> u64
+    requires { SmallReplay answer }
+    ensures { result ≡ replay_code answer }
+{
+    answer_code(answer.map(|()| 0))
+}
+
+// A set-up of numbers.
+fn numbers<'a>(events: usize, values: usize, top: usize, meet: &'a [u8]) -> SetUp<'a>
+    ensures { setup_of result ≡ setup events values top meet.now }
+{
+    let values = Values::Numbered { values, top, meet };
+    SetUp { events, values }
+}
+
+// A set-up of registers.
+fn register(events: usize, lines: usize) -> SetUp<'static>
+    ensures { setup_of result ≡ register_setup events lines }
+{
+    let values = Values::Register { lines };
+    SetUp { events, values }
+}
+
+fn device_of<'a>(states: usize, start: usize, entries: &'a [u8]) -> Device<'a>
+    ensures states { result.table.states ≡ states }
+    ensures entries { result.table.entries.now ≡ entries.now }
+    ensures start { result.start ≡ start }
+{
+    let table = Table { states, entries };
+    Device { table, start }
 }
 
 // Whether all events of a sequence are below the event count. Bytes are compared, and no event ends the loop, so that many are
-// looked at in one step.
+// looked at in one step: `all` would stop at the first.
 fn word_in_order(word: &[u8], events: u8) -> bool
     ensures { result ≡ every (length word.now) (λ i. ltb (get_or word.now i 0) events) }
 {
-    let mut all = true;
-    let mut i: usize = 0;
-    while i < word.len() {
-        all = (word[i] < events) & all;
-        i += 1;
+    let mut in_order = true;
+    for event in word {
+        in_order &= *event < events;
     }
-    all
+    in_order
 }
 
-// Plays a sequence of events from state 0 of a table of numbers: a value for each goes to the buffer.
-fn run(table: &[u8], events: usize, states: usize, word: &[u8], to: &mut [u8])
-    requires { Runnable (Numbered 0) events states table.now word.now to.old }
-    ensures { to.new ≡ put (played (Numbered 0) events table.now word.now) to.old }
+// Plays a sequence of events from state 0 of a table whose values have WIDTH bytes each: a value for each goes to the buffer.
+fn run<const WIDTH: usize>(table: Table<'_>, events: usize, word: &[u8], to: &mut [u8])
+    requires width { value_width (kind_of_width WIDTH) ≡ WIDTH }
+    requires runs { Runnable (kind_of_width WIDTH) events table.states table.entries.now word.now to.old }
+    ensures { to.new ≡ put (played (kind_of_width WIDTH) events table.entry.entries.now word.now) to.old }
 {
+    let entries = table.entries;
     let mut state: usize = 0;
-    let mut i: usize = 0;
-    while i < word.len() {
-        let at = (state * events + wide(word[i])) * 2;
-        to[i] = table[at];
-        state = wide(table[at + 1]);
-        i += 1;
+    for (i, event) in word.iter().enumerate() {
+        let at = (state * events + usize::from(*event)) * (WIDTH + 1);
+        let slot = i * WIDTH;
+        to[slot..slot + WIDTH].copy_from_slice(&entries[at..at + WIDTH]);
+        state = usize::from(entries[at + WIDTH]);
     }
 }
 
-// The same of a table of registers: the four bytes of a value for each.
-fn run_masks(table: &[u8], events: usize, states: usize, word: &[u8], to: &mut [u8])
-    requires { Runnable (Register 0) events states table.now word.now to.old }
-    ensures { to.new ≡ put (played (Register 0) events table.now word.now) to.old }
-{
-    let mut current: usize = 0;
-    let mut i: usize = 0;
-    while i < word.len() {
-        let at = (current * events + wide(word[i])) * 5;
-        let slot = i * 4;
-        to[slot] = table[at];
-        to[slot + 1] = table[at + 1];
-        to[slot + 2] = table[at + 2];
-        to[slot + 3] = table[at + 3];
-        current = wide(table[at + 4]);
-        i += 1;
+impl Made {
+    // The numbers of the table in one: states in sixteen bits; events, values and top in eight each, or a register's lines for values and 0
+    // for top.
+    fn numbers(self) -> usize
+        requires { SmallNumbers self.states self.events (told_values self.kind) (told_top self.kind self.top) }
+        ensures { result ≡ made_numbers self }
+    {
+        let (values, top) = match self.kind {
+            ValueKind::Numbered(values) => (values, self.top),
+            ValueKind::Register(lines) => (lines, 0),
+        };
+        self.states + (self.events + (values as usize + top * 256) * 256) * 65536
     }
-}
 
-// By a table at the front of a buffer: 16 for any event of the sequence, then 13, then the values.
-fn replay_word(
-    kind: ValueKind,
-    table: &[u8],
-    events: usize,
-    states: usize,
-    word: &[u8],
-    to: &mut [u8],
-) -> u64
-    requires { Playable kind events states (front kind events states table.now) }
-    ensures { Replays kind events (front kind events states table.now) word.now to.old to.new result }
-{
-    if !word_in_order(word, events as u8) {
-        return refusal::EVENT_NUMBER as u64;
-    }
-    if to.len() / value_width(kind) < word.len() {
-        return refusal::BUFFER_LENGTH as u64;
-    }
-    let size = states * events * entry_width(kind);
-    match kind {
-        ValueKind::Numbered(_) => {
-            run(&table[..size], events, states, word, to);
-            0
-        }
-        ValueKind::Register(_) => {
-            run_masks(&table[..size], events, states, word, to);
-            0
+    // The file's set-up, with the meet entries at the front of a buffer.
+    fn set_up<'a>(self, meet: &'a [u8]) -> SetUp<'a>
+        requires { self.entries ≤ length meet.now }
+        ensures { setup_of result ≡ held_setup self meet.now }
+    {
+        let values = match self.kind {
+            ValueKind::Numbered(values) => Values::Numbered {
+                values: values as usize,
+                top: self.top,
+                meet: &meet[..self.entries],
+            },
+            ValueKind::Register(lines) => Values::Register {
+                lines: lines as usize,
+            },
+        };
+        SetUp {
+            events: self.events,
+            values,
         }
     }
-}
 
-// A replay whose table has no room in a small one's bytes.
-fn replay_large(text: &[u8], word: &[u8], to: &mut [u8]) -> u64
-    ensures answer { result ≡ replay_code number_file (read_file text.now) word.now to.old }
-    ensures contents { to.new ≡ replay_after number_file (read_file text.now) word.now to.old }
-{
-    let mut meet = [0u8; MEET_LIMIT];
-    let mut table = [0u8; TABLE_BYTES];
-    let made = compile_file(text, &mut meet, &mut table);
-    match made {
-        FileTable::Refused(refusal) => refusal_code(refusal),
-        FileTable::Made(numbers, states) => {
-            let kind = ValueKind::Numbered(numbers.values as u32);
-            replay_word(kind, &table, numbers.events, states, word, to)
+    // The table at the front of a buffer.
+    fn table<'a>(self, buffer: &'a [u8]) -> Table<'a>
+        requires { Holds self buffer.now }
+        ensures states { result.states ≡ self.states }
+        ensures entries { result.entries.now ≡ front self.kind self.events self.states buffer.now }
+    {
+        let size = self.states * self.events * entry_width(self.kind);
+        Table {
+            states: self.states,
+            entries: &buffer[..size],
         }
+    }
+
+    // By the table at the front of a buffer: 16 for any event of the sequence, then 13, then the values.
+    fn replay(self, buffer: &[u8], word: &[u8], to: &mut [u8]) -> Result<(), Refusal>
+        requires held { Holds self buffer.now }
+        requires playable { Playable self.kind self.events self.states (front self.kind self.events self.states buffer.now) }
+        ensures { Replays self.kind self.events (front self.kind self.events self.states buffer.now) word.now to.old to.new result }
+    {
+        if !word_in_order(word, self.events as u8) {
+            return Err(Refusal::EventNumber);
+        }
+        if to.len() / value_width(self.kind) < word.len() {
+            return Err(Refusal::BufferLength);
+        }
+        let table = self.table(buffer);
+        match self.kind {
+            ValueKind::Numbered(_) => run::<1>(table, self.events, word, to),
+            ValueKind::Register(_) => run::<4>(table, self.events, word, to),
+        }
+        Ok(())
+    }
+
+    // Trial of a device against the table at the front of a buffer, with the meet entries at the front of another.
+    fn trial(
+        self,
+        meet: &[u8],
+        buffer: &[u8],
+        device: Device<'_>,
+        word: &mut [u8],
+    ) -> Result<Verdict, Refusal>
+        requires entries { self.entries ≤ length meet.now }
+        requires held { Holds self buffer.now }
+        ensures answer { result ≡ trial_answer device_limit table_limit
+            (held_trial (held_setup self meet.now) self.states buffer.now device.entry.table.states device.entry.start
+            device.entry.table.entries.now) word.old }
+        ensures contents { word.new ≡ trial_buffer device_limit table_limit
+            (held_trial (held_setup self meet.now) self.states buffer.now device.entry.table.states device.entry.start
+            device.entry.table.entries.now) word.old }
+    {
+        trial(self.set_up(meet), self.table(buffer), device, word)
     }
 }
 
-// The same of a register's file.
-fn register_replay_large(text: &[u8], word: &[u8], to: &mut [u8]) -> u64
-    ensures answer { result ≡ replay_code register_file (register_reading.read_file text.now) word.now to.old }
-    ensures contents { to.new ≡ replay_after register_file (register_reading.read_file text.now) word.now
-        to.old }
-{
-    let mut table = [0u8; REGISTER_TABLE_BYTES];
-    let made = registers::compile_file(text, &mut table);
-    match made {
-        registers::FileTable::Refused(refusal) => refusal_code(refusal),
-        registers::FileTable::Made(numbers, states) => {
-            let kind = ValueKind::Register(numbers.lines as u32);
-            replay_word(kind, &table, numbers.events, states, word, to)
+impl Form {
+    // The table of a file's rule into a buffer, and the file's meet entries, of which a register has none, into another: 4, 1 to 3 or 1 and
+    // 20, 5 to 10, 13.
+    fn compile(self, text: &[u8], meet: &mut [u8], to: &mut [u8]) -> Result<Made, Refusal>
+        ensures { Compiles self text.now meet.old to.old meet.new to.new result }
+    {
+        match self {
+            Form::Numbers => {
+                let file = compile_file(text, meet, to)?;
+                Ok(Made {
+                    events: file.numbers.events,
+                    kind: ValueKind::Numbered(file.numbers.values as u32),
+                    top: file.numbers.top,
+                    entries: file.numbers.entries,
+                    states: file.states,
+                })
+            }
+            Form::Register => {
+                let file = registers::compile_file(text, to)?;
+                Ok(Made {
+                    events: file.numbers.events,
+                    kind: ValueKind::Register(file.numbers.lines as u32),
+                    top: 0,
+                    entries: 0,
+                    states: file.states,
+                })
+            }
         }
+    }
+
+    // The table of a file's rule; yields its numbers.
+    fn table(self, text: &[u8], to: &mut [u8]) -> Result<usize, Refusal>
+        ensures answer { result ≡ table_answer (file_form self) (reader self text.now) to.old }
+        ensures contents { to.new ≡ table_after (file_form self) (reader self text.now) to.old }
+    {
+        let mut meet = [0; MEET_LIMIT];
+        let made = self.compile(text, &mut meet, to)?;
+        Ok(made.numbers())
+    }
+
+    // A replay whose table is made in SMALL bytes first, and in LARGE, which have room for every table, where it has no room in them.
+    fn replay<const SMALL: usize, const LARGE: usize>(
+        self,
+        text: &[u8],
+        word: &[u8],
+        to: &mut [u8],
+    ) -> Result<(), Refusal>
+        requires small { SMALL < 2 ^ 32 }
+        requires large { LARGE < 2 ^ 32 }
+        requires room { HasRoom self LARGE }
+        ensures answer { result ≡ replay_answer (file_form self) (reader self text.now) word.now to.old }
+        ensures contents { to.new ≡ replay_after (file_form self) (reader self text.now) word.now to.old }
+    {
+        let mut meet = [0; MEET_LIMIT];
+        let mut table = [0; SMALL];
+        match self.compile(text, &mut meet, &mut table) {
+            Ok(made) => made.replay(&table, word, to),
+            Err(refusal) => match refusal {
+                Refusal::BufferLength => self.replay_large::<LARGE>(text, word, to),
+                _ => Err(refusal),
+            },
+        }
+    }
+
+    // A function of its own, so that no room is made for a large array where it is not used.
+    #[inline(never)]
+    fn replay_large<const LARGE: usize>(
+        self,
+        text: &[u8],
+        word: &[u8],
+        to: &mut [u8],
+    ) -> Result<(), Refusal>
+        requires large { LARGE < 2 ^ 32 }
+        requires room { HasRoom self LARGE }
+        ensures answer { result ≡ replay_answer (file_form self) (reader self text.now) word.now to.old }
+        ensures contents { to.new ≡ replay_after (file_form self) (reader self text.now) word.now to.old }
+    {
+        let mut meet = [0; MEET_LIMIT];
+        let mut table = [0; LARGE];
+        let made = self.compile(text, &mut meet, &mut table)?;
+        made.replay(&table, word, to)
+    }
+
+    // A trial against a file's rule, whose table is made as for a replay.
+    fn trial<const SMALL: usize, const LARGE: usize>(
+        self,
+        text: &[u8],
+        device: Device<'_>,
+        word: &mut [u8],
+    ) -> Result<Verdict, Refusal>
+        requires small { SMALL < 2 ^ 32 }
+        requires large { LARGE < 2 ^ 32 }
+        requires room { HasRoom self LARGE }
+        ensures answer { result ≡ file_trial_answer (file_form self) (reader self text.now) device.entry.table.states device.entry.start
+            device.entry.table.entries.now word.old }
+        ensures contents { word.new ≡ file_trial_buffer (file_form self) (reader self text.now) device.entry.table.states
+            device.entry.start device.entry.table.entries.now word.old }
+    {
+        let mut meet = [0; MEET_LIMIT];
+        let mut table = [0; SMALL];
+        match self.compile(text, &mut meet, &mut table) {
+            Ok(made) => made.trial(&meet, &table, device, word),
+            Err(refusal) => match refusal {
+                Refusal::BufferLength => self.trial_large::<LARGE>(text, device, word),
+                _ => Err(refusal),
+            },
+        }
+    }
+
+    // As for a replay.
+    #[inline(never)]
+    fn trial_large<const LARGE: usize>(
+        self,
+        text: &[u8],
+        device: Device<'_>,
+        word: &mut [u8],
+    ) -> Result<Verdict, Refusal>
+        requires large { LARGE < 2 ^ 32 }
+        requires room { HasRoom self LARGE }
+        ensures answer { result ≡ file_trial_answer (file_form self) (reader self text.now) device.entry.table.states device.entry.start
+            device.entry.table.entries.now word.old }
+        ensures contents { word.new ≡ file_trial_buffer (file_form self) (reader self text.now) device.entry.table.states
+            device.entry.start device.entry.table.entries.now word.old }
+    {
+        let mut meet = [0; MEET_LIMIT];
+        let mut table = [0; LARGE];
+        let made = self.compile(text, &mut meet, &mut table)?;
+        made.trial(&meet, &table, device, word)
     }
 }
 
-// Trial of a device against a table at the front of a buffer, with the meet entries at the front of another.
-fn trial_made(
-    numbers: FileNumbers,
-    meet: &[u8],
-    states: usize,
-    table: &[u8],
-    device_states: usize,
-    device_start: usize,
-    device: &[u8],
-    word: &mut [u8],
-) -> u64
-    requires { (numbers.entries ≤ length meet.now) × Triable (held_setup numbers meet.now) states table.now }
-    ensures answer { result ≡ verdict_code (trial_answer device_limit table_limit
-        (held_trial (held_setup numbers meet.now) states table.now device_states device_start device.now)
-        word.old) }
-    ensures contents { word.new ≡ trial_buffer device_limit table_limit
-        (held_trial (held_setup numbers meet.now) states table.now device_states device_start device.now)
-        word.old }
-{
-    let events = numbers.events;
-    let entries = numbers.entries;
-    let size = states * events * 2;
-    let verdict = trial(
-        events,
-        numbers.values,
-        numbers.top,
-        &meet[..entries],
-        states,
-        &table[..size],
-        device_states,
-        device_start,
-        device,
-        word,
-    );
-    verdict_code(verdict)
-}
-
-// The same over a register, which has no meet entries.
-fn register_trial_made(
-    numbers: registers::FileNumbers,
-    states: usize,
-    table: &[u8],
-    device_states: usize,
-    device_start: usize,
-    device: &[u8],
-    word: &mut [u8],
-) -> u64
-    requires { Triable (register_setup numbers.events numbers.lines) states table.now }
-    ensures answer { result ≡ verdict_code (trial_answer device_limit table_limit
-        (held_trial (register_setup numbers.events numbers.lines) states table.now device_states device_start device.now)
-        word.old) }
-    ensures contents { word.new ≡ trial_buffer device_limit table_limit
-        (held_trial (register_setup numbers.events numbers.lines) states table.now device_states device_start device.now)
-        word.old }
-{
-    let events = numbers.events;
-    let size = states * events * 5;
-    let verdict = trial_register(
-        events,
-        numbers.lines,
-        states,
-        &table[..size],
-        device_states,
-        device_start,
-        device,
-        word,
-    );
-    verdict_code(verdict)
-}
-
-// A trial whose rule's table has no room in a small one's bytes.
-fn trial_large(
-    text: &[u8],
-    device_states: usize,
-    device_start: usize,
-    device: &[u8],
-    word: &mut [u8],
-) -> u64
-    ensures answer { result ≡ verdict_code (file_trial_answer number_file (read_file text.now) device_states device_start
-        device.now word.old) }
-    ensures contents { word.new ≡ file_trial_buffer number_file (read_file text.now) device_states device_start
-        device.now word.old }
-{
-    let mut meet = [0u8; MEET_LIMIT];
-    let mut table = [0u8; TABLE_BYTES];
-    let made = compile_file(text, &mut meet, &mut table);
-    match made {
-        FileTable::Refused(refusal) => refusal_code(refusal),
-        FileTable::Made(numbers, states) => {
-            trial_made(
-                numbers,
-                &meet,
-                states,
-                &table,
-                device_states,
-                device_start,
-                device,
-                word,
-            )
-        }
-    }
-}
-
-// The same of a register's file.
-fn register_trial_large(
-    text: &[u8],
-    device_states: usize,
-    device_start: usize,
-    device: &[u8],
-    word: &mut [u8],
-) -> u64
-    ensures answer { result ≡ verdict_code (file_trial_answer register_file (register_reading.read_file text.now) device_states
-        device_start device.now word.old) }
-    ensures contents { word.new ≡ file_trial_buffer register_file (register_reading.read_file text.now) device_states
-        device_start device.now word.old }
-{
-    let mut table = [0u8; REGISTER_TABLE_BYTES];
-    let made = registers::compile_file(text, &mut table);
-    match made {
-        registers::FileTable::Refused(refusal) => refusal_code(refusal),
-        registers::FileTable::Made(numbers, states) => {
-            register_trial_made(
-                numbers,
-                states,
-                &table,
-                device_states,
-                device_start,
-                device,
-                word,
-            )
-        }
-    }
-}
+// The C interface: these names, parameters and codes are those of programs in C. So each form of files and each kind of values has functions
+// of its own, a set-up, a table and a device come in parts, and an answer is one number.
 
 // The table of a channel file's rule, two bytes an entry, and its numbers: 4, 1 to 3, 5 to 10, 13.
 pub fn gurvazze_table(text: &[u8], to: &mut [u8]) -> u64
-    ensures answer { result ≡ table_code number_file (read_file text.now) to.old }
+    ensures answer { result ≡ answer_code (table_answer number_file (read_file text.now) to.old) }
     ensures contents { to.new ≡ table_after number_file (read_file text.now) to.old }
 {
-    let mut meet = [0u8; MEET_LIMIT];
-    let made = compile_file(text, &mut meet, to);
-    match made {
-        FileTable::Refused(refusal) => refusal_code(refusal),
-        FileTable::Made(numbers, states) => {
-            table_code(states, numbers.events, numbers.values, numbers.top)
-        }
-    }
+    answer_code(Form::Numbers.table(text, to))
 }
 
 // The same of a register's channel file, five bytes an entry: 4, 1, 20, 5 to 10, 13.
 pub fn gurvazze_register_table(text: &[u8], to: &mut [u8]) -> u64
-    ensures answer { result ≡ table_code register_file (register_reading.read_file text.now) to.old }
+    ensures answer { result ≡ answer_code (table_answer register_file (register_reading.read_file text.now) to.old) }
     ensures contents { to.new ≡ table_after register_file (register_reading.read_file text.now) to.old }
 {
-    let made = registers::compile_file(text, to);
-    match made {
-        registers::FileTable::Refused(refusal) => refusal_code(refusal),
-        registers::FileTable::Made(numbers, states) => {
-            table_code(states, numbers.events, numbers.lines, 0)
-        }
-    }
+    answer_code(Form::Register.table(text, to))
 }
 
 // The values of a channel file's rule on a sequence of events, one byte each: 4, 1 to 3, 5 to 10, 16, 13.
 pub fn gurvazze_replay(text: &[u8], word: &[u8], to: &mut [u8]) -> u64
-    ensures answer { result ≡ replay_code number_file (read_file text.now) word.now to.old }
+    ensures answer { result ≡ replay_code (replay_answer number_file (read_file text.now) word.now to.old) }
     ensures contents { to.new ≡ replay_after number_file (read_file text.now) word.now to.old }
 {
-    let mut meet = [0u8; MEET_LIMIT];
-    let mut table = [0u8; SMALL_BYTES];
-    let made = compile_file(text, &mut meet, &mut table);
-    match made {
-        FileTable::Refused(refusal) => {
-            if lacks_room(refusal) {
-                return replay_large(text, word, to);
-            }
-            refusal_code(refusal)
-        }
-        FileTable::Made(numbers, states) => {
-            let kind = ValueKind::Numbered(numbers.values as u32);
-            replay_word(kind, &table, numbers.events, states, word, to)
-        }
-    }
+    replay_code(Form::Numbers.replay::<SMALL_BYTES, TABLE_BYTES>(text, word, to))
 }
 
 // The same of a register's channel file, four bytes each: 4, 1, 20, 5 to 10, 16, 13.
 pub fn gurvazze_register_replay(text: &[u8], word: &[u8], to: &mut [u8]) -> u64
-    ensures answer { result ≡ replay_code register_file (register_reading.read_file text.now) word.now to.old }
+    ensures answer { result ≡ replay_code (replay_answer register_file (register_reading.read_file text.now) word.now to.old) }
     ensures contents { to.new ≡ replay_after register_file (register_reading.read_file text.now) word.now
         to.old }
 {
-    let mut table = [0u8; SMALL_REGISTER_BYTES];
-    let made = registers::compile_file(text, &mut table);
-    match made {
-        registers::FileTable::Refused(refusal) => {
-            if lacks_room(refusal) {
-                return register_replay_large(text, word, to);
-            }
-            refusal_code(refusal)
-        }
-        registers::FileTable::Made(numbers, states) => {
-            let kind = ValueKind::Register(numbers.lines as u32);
-            replay_word(kind, &table, numbers.events, states, word, to)
-        }
-    }
+    replay_code(Form::Register.replay::<SMALL_REGISTER_BYTES, REGISTER_TABLE_BYTES>(text, word, to))
 }
 
 // Trial of a device against a channel file's rule: 4, 1 to 3, 5 to 10, 11, 13.
@@ -436,29 +430,8 @@ pub fn gurvazze_trial(
     ensures contents { word.new ≡ file_trial_buffer number_file (read_file text.now) device_states device_start
         device.now word.old }
 {
-    let mut meet = [0u8; MEET_LIMIT];
-    let mut table = [0u8; SMALL_BYTES];
-    let made = compile_file(text, &mut meet, &mut table);
-    match made {
-        FileTable::Refused(refusal) => {
-            if lacks_room(refusal) {
-                return trial_large(text, device_states, device_start, device, word);
-            }
-            refusal_code(refusal)
-        }
-        FileTable::Made(numbers, states) => {
-            trial_made(
-                numbers,
-                &meet,
-                states,
-                &table,
-                device_states,
-                device_start,
-                device,
-                word,
-            )
-        }
-    }
+    let device = device_of(device_states, device_start, device);
+    verdict_code(Form::Numbers.trial::<SMALL_BYTES, TABLE_BYTES>(text, device, word))
 }
 
 // Trial of a register's device, five bytes an entry, against a register's channel file's rule: 4, 1, 20, 5 to 10, 11, 13.
@@ -474,27 +447,10 @@ pub fn gurvazze_register_trial(
     ensures contents { word.new ≡ file_trial_buffer register_file (register_reading.read_file text.now) device_states
         device_start device.now word.old }
 {
-    let mut table = [0u8; SMALL_REGISTER_BYTES];
-    let made = registers::compile_file(text, &mut table);
-    match made {
-        registers::FileTable::Refused(refusal) => {
-            if lacks_room(refusal) {
-                return register_trial_large(text, device_states, device_start, device, word);
-            }
-            refusal_code(refusal)
-        }
-        registers::FileTable::Made(numbers, states) => {
-            register_trial_made(
-                numbers,
-                states,
-                &table,
-                device_states,
-                device_start,
-                device,
-                word,
-            )
-        }
-    }
+    let device = device_of(device_states, device_start, device);
+    verdict_code(Form::Register.trial::<SMALL_REGISTER_BYTES, REGISTER_TABLE_BYTES>(
+        text, device, word,
+    ))
 }
 
 // The table of a rule, both in bytes, two an entry and three a node; yields the number of states: 1 to 3, 5 to 10, 13.
@@ -506,22 +462,20 @@ pub fn gurvazze_compile(
     rule: &[u8],
     to: &mut [u8],
 ) -> u64
-    ensures answer { result ≡ counted_code (compile_answer state_limit (setup events values top meet.now) rule.now
+    ensures answer { result ≡ answer_code (compile_answer state_limit (setup events values top meet.now) rule.now
         to.old) }
     ensures contents { to.new ≡ compile_contents state_limit (setup events values top meet.now) rule.now
         to.old }
 {
-    let counted = compile(events, values, top, meet, rule, to);
-    counted_code(counted)
+    answer_code(compile(numbers(events, values, top, meet), rule, to))
 }
 
 // The same over a register, five bytes an entry and six a node: 1, 20, 5 to 10, 13.
 pub fn gurvazze_register_compile(events: usize, lines: usize, rule: &[u8], to: &mut [u8]) -> u64
-    ensures answer { result ≡ counted_code (compile_answer state_limit (register_setup events lines) rule.now to.old) }
+    ensures answer { result ≡ answer_code (compile_answer state_limit (register_setup events lines) rule.now to.old) }
     ensures contents { to.new ≡ compile_contents state_limit (register_setup events lines) rule.now to.old }
 {
-    let counted = compile_register(events, lines, rule, to);
-    counted_code(counted)
+    answer_code(compile(register(events, lines), rule, to))
 }
 
 // Trial of a device against a rule's table, both in bytes: 1 to 3, 11, 13.
@@ -544,19 +498,13 @@ pub fn gurvazze_trial_table(
         (input (setup events values top meet.now) states table.now device_states device_start device.now)
         word.old }
 {
-    let verdict = trial(
-        events,
-        values,
-        top,
-        meet,
+    let set_up = numbers(events, values, top, meet);
+    let table = Table {
         states,
-        table,
-        device_states,
-        device_start,
-        device,
-        word,
-    );
-    verdict_code(verdict)
+        entries: table,
+    };
+    let device = device_of(device_states, device_start, device);
+    verdict_code(trial(set_up, table, device, word))
 }
 
 // The same over a register, five bytes an entry: 1, 20, 11, 13.
@@ -577,17 +525,13 @@ pub fn gurvazze_register_trial_table(
         (input (register_setup events lines) states table.now device_states device_start device.now)
         word.old }
 {
-    let verdict = trial_register(
-        events,
-        lines,
+    let set_up = register(events, lines);
+    let table = Table {
         states,
-        table,
-        device_states,
-        device_start,
-        device,
-        word,
-    );
-    verdict_code(verdict)
+        entries: table,
+    };
+    let device = device_of(device_states, device_start, device);
+    verdict_code(trial(set_up, table, device, word))
 }
 
 // The rule of a table from a start, three bytes a node; yields the node count: 1 to 3, 11, 12, 23, 13.
@@ -601,13 +545,13 @@ pub fn gurvazze_rule(
     table: &[u8],
     to: &mut [u8],
 ) -> u64
-    ensures answer { result ≡ counted_code (write_answer table_limit node_limit (setup events values top meet.now) states start
+    ensures answer { result ≡ answer_code (write_answer table_limit node_limit (setup events values top meet.now) states start
         table.now to.old) }
     ensures contents { to.new ≡ write_contents table_limit node_limit (setup events values top meet.now) states start
         table.now to.old }
 {
-    let counted = write_rule(events, values, top, meet, states, start, table, to);
-    counted_code(counted)
+    let device = device_of(states, start, table);
+    answer_code(write_rule(numbers(events, values, top, meet), device, to))
 }
 
 // The same over a register, five bytes an entry and six a node: 1, 20, 11, 12, 23, 13.
@@ -619,11 +563,10 @@ pub fn gurvazze_register_rule(
     table: &[u8],
     to: &mut [u8],
 ) -> u64
-    ensures answer { result ≡ counted_code (write_answer table_limit node_limit (register_setup events lines) states start
+    ensures answer { result ≡ answer_code (write_answer table_limit node_limit (register_setup events lines) states start
         table.now to.old) }
     ensures contents { to.new ≡ write_contents table_limit node_limit (register_setup events lines) states start
         table.now to.old }
 {
-    let counted = write_register_rule(events, lines, states, start, table, to);
-    counted_code(counted)
+    answer_code(write_rule(register(events, lines), device_of(states, start, table), to))
 }

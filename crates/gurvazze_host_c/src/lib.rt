@@ -12,14 +12,14 @@ ghost use Rattle.channel_file.specs.Reading.{read_file};
 ghost use Rattle.channel_file.specs.RegisterReading as register_reading;
 ghost use Rattle.channel_io.specs.FileConditions.{number_file};
 ghost use Rattle.channel_io.specs.RegisterFiles.{register_file};
-ghost use Rattle.gurvazze_host.specs.Codes.{counted_code, verdict_code};
-ghost use Rattle.gurvazze_host.specs.FileCalls.{table_code, table_after, replay_code, replay_after, file_trial_answer, file_trial_buffer};
+ghost use Rattle.gurvazze_host.specs.Codes.{answer_code, verdict_code, replay_code};
+ghost use Rattle.gurvazze_host.specs.FileCalls.{table_answer, table_after, replay_answer, replay_after, file_trial_answer, file_trial_buffer};
 ghost use Rattle.limits.specs.Limits.{node_limit, state_limit, device_limit, table_limit};
 
 // The table of a channel file's rule, two bytes an entry, and its numbers: 4, 1 to 3, 5 to 10, 13.
 #[unsafe(no_mangle)]
 pub extern "C" fn gurvazze_table(text: &[u8], to: &mut [u8]) -> u64
-    ensures answer { result ≡ table_code number_file (read_file text.now) to.old }
+    ensures answer { result ≡ answer_code (table_answer number_file (read_file text.now) to.old) }
     ensures contents { to.new ≡ table_after number_file (read_file text.now) to.old }
 {
     gurvazze_host::gurvazze_table(text, to)
@@ -28,7 +28,7 @@ pub extern "C" fn gurvazze_table(text: &[u8], to: &mut [u8]) -> u64
 // The same of a register's channel file, five bytes an entry: 4, 1, 20, 5 to 10, 13.
 #[unsafe(no_mangle)]
 pub extern "C" fn gurvazze_register_table(text: &[u8], to: &mut [u8]) -> u64
-    ensures answer { result ≡ table_code register_file (register_reading.read_file text.now) to.old }
+    ensures answer { result ≡ answer_code (table_answer register_file (register_reading.read_file text.now) to.old) }
     ensures contents { to.new ≡ table_after register_file (register_reading.read_file text.now) to.old }
 {
     gurvazze_host::gurvazze_register_table(text, to)
@@ -37,7 +37,7 @@ pub extern "C" fn gurvazze_register_table(text: &[u8], to: &mut [u8]) -> u64
 // The values of a channel file's rule on a sequence of events, one byte each: 4, 1 to 3, 5 to 10, 16, 13.
 #[unsafe(no_mangle)]
 pub extern "C" fn gurvazze_replay(text: &[u8], word: &[u8], to: &mut [u8]) -> u64
-    ensures answer { result ≡ replay_code number_file (read_file text.now) word.now to.old }
+    ensures answer { result ≡ replay_code (replay_answer number_file (read_file text.now) word.now to.old) }
     ensures contents { to.new ≡ replay_after number_file (read_file text.now) word.now to.old }
 {
     gurvazze_host::gurvazze_replay(text, word, to)
@@ -46,7 +46,7 @@ pub extern "C" fn gurvazze_replay(text: &[u8], word: &[u8], to: &mut [u8]) -> u6
 // The same of a register's channel file, four bytes each: 4, 1, 20, 5 to 10, 16, 13.
 #[unsafe(no_mangle)]
 pub extern "C" fn gurvazze_register_replay(text: &[u8], word: &[u8], to: &mut [u8]) -> u64
-    ensures answer { result ≡ replay_code register_file (register_reading.read_file text.now) word.now to.old }
+    ensures answer { result ≡ replay_code (replay_answer register_file (register_reading.read_file text.now) word.now to.old) }
     ensures contents { to.new ≡ replay_after register_file (register_reading.read_file text.now) word.now
         to.old }
 {
@@ -97,7 +97,7 @@ pub extern "C" fn gurvazze_compile(
     rule: &[u8],
     to: &mut [u8],
 ) -> u64
-    ensures answer { result ≡ counted_code (compile_answer state_limit (setup events values top meet.now) rule.now
+    ensures answer { result ≡ answer_code (compile_answer state_limit (setup events values top meet.now) rule.now
         to.old) }
     ensures contents { to.new ≡ compile_contents state_limit (setup events values top meet.now) rule.now
         to.old }
@@ -113,7 +113,7 @@ pub extern "C" fn gurvazze_register_compile(
     rule: &[u8],
     to: &mut [u8],
 ) -> u64
-    ensures answer { result ≡ counted_code (compile_answer state_limit (register_setup events lines) rule.now to.old) }
+    ensures answer { result ≡ answer_code (compile_answer state_limit (register_setup events lines) rule.now to.old) }
     ensures contents { to.new ≡ compile_contents state_limit (register_setup events lines) rule.now to.old }
 {
     gurvazze_host::gurvazze_register_compile(events, lines, rule, to)
@@ -197,7 +197,7 @@ pub extern "C" fn gurvazze_rule(
     table: &[u8],
     to: &mut [u8],
 ) -> u64
-    ensures answer { result ≡ counted_code (write_answer table_limit node_limit (setup events values top meet.now) states start
+    ensures answer { result ≡ answer_code (write_answer table_limit node_limit (setup events values top meet.now) states start
         table.now to.old) }
     ensures contents { to.new ≡ write_contents table_limit node_limit (setup events values top meet.now) states start
         table.now to.old }
@@ -215,7 +215,7 @@ pub extern "C" fn gurvazze_register_rule(
     table: &[u8],
     to: &mut [u8],
 ) -> u64
-    ensures answer { result ≡ counted_code (write_answer table_limit node_limit (register_setup events lines) states start
+    ensures answer { result ≡ answer_code (write_answer table_limit node_limit (register_setup events lines) states start
         table.now to.old) }
     ensures contents { to.new ≡ write_contents table_limit node_limit (register_setup events lines) states start
         table.now to.old }

@@ -5,12 +5,10 @@ use native.Mathlib.{Nat.{mod-eq_of_lt}, Numerals.{add-one}, Omega.{arith}}
 use borrow.Author.Tests.{le-leb, lt-leb}
 use lib.{ListN.{length, get_or, drop, set, length-append}, Dec.{leb}, Seq.{drop-cons, set-append_seam, sets}}
 use Rattle.refusal.specs.Refusal.{put}
-use Rattle.theory.specs.ValueSets.{unpack}
 use Rattle.values.specs.declared.ValueKind.{ValueKind}
 use Rattle.values.specs.declared.ValueKind.TheVariants.{Numbered, Register}
-use Rattle.machines.specs.StoredEntries.{two_bytes}
-use Rattle.machines.specs.TableBytes.{entry_bytes}
-use Rattle.machines.specs.StoredEntries.{entries_bytes, low_bytes, five_bytes, kept_bytes, stored, storable, after_store}
+use Rattle.machines.specs.StoredEntries.{two_bytes, entries_bytes, kept_bytes, stored, storable, after_store}
+use Rattle.machines.specs.TableBytes.{entry_bytes, entry_width}
 use Rattle.machines.specs.Claims.{OfBytes, StoredTableClaim}
 use Rattle.machines.proofs.EntryBytes.{entries_same, entries_snoc, entries_length, table_flat}
 
@@ -45,32 +43,32 @@ put_entry encode width sized value_at next_at old i room =
     (omega (arith, long, sized (value_at i) (next_at i))) in
     cc (long, more, entries_snoc encode value_at next_at i)
 
+-- The bytes of an entry are as many as its kind says.
+kept_width : (kind : ValueKind) (v t : ℕ) → length (kept_bytes kind v t) ≡ entry_width kind
+kept_width (Numbered n) v t = refl
+kept_width (Register lines) v t = refl
+
+-- So many entries have room exactly if the whole entries of the buffer are as many.
+pub room_short : (kind : ValueKind) (w n count : ℕ) → w ≡ entry_width kind → n / w < count → n < count * entry_width kind
+room_short (Numbered k) w n count e h = let g : n / 2 < count = rw e at h in omega (arith, g)
+room_short (Register k) w n count e h = let g : n / 5 < count = rw e at h in omega (arith, g)
+
+pub room_enough : (kind : ValueKind) (w n count : ℕ) → w ≡ entry_width kind → count ≤ n / w → count * entry_width kind ≤ n
+room_enough (Numbered k) w n count e h = let g : count ≤ n / 2 = rw e at h in omega (arith, g)
+room_enough (Register k) w n count e h = let g : count ≤ n / 5 = rw e at h in omega (arith, g)
+
 -- The steps of a loop that stores entries of flat arrays.
 module _ (values nexts : List ℕ) where
   pub store_none : (encode : ℕ → ℕ → List ℕ) (old : List ℕ) → old ≡ put (stored encode values nexts 0) old
   unfolding stored entries_bytes put
   store_none encode old = refl
 
-  pub store_more : (old : List ℕ) (i : ℕ) → i * 2 + 1 < length old
-      → set (set (put (stored low_bytes values nexts i) old) (i * 2) (get_or values i 0 % 256)) (i * 2 + 1) (get_or nexts i 0)
-      ≡ put (stored low_bytes values nexts (i + 1)) old
+  pub store_more : (kind : ValueKind) (old : List ℕ) (i : ℕ) → (i + 1) * entry_width kind ≤ length old
+      → sets (put (stored (kept_bytes kind) values nexts i) old) (i * entry_width kind) (kept_bytes kind (get_or values i 0) (get_or nexts i 0))
+      ≡ put (stored (kept_bytes kind) values nexts (i + 1)) old
   unfolding stored
-  store_more old i room =
-      rw (add-one (i * 2)) (put_entry low_bytes 2 (λ v t. refl) (λ k. get_or values k 0) (λ k. get_or nexts k 0) old i (omega arith))
-
-  -- Five bytes an entry.
-  pub store_five : (old : List ℕ) (at i v : ℕ) → at ≡ i * 5 → v ≡ get_or values i 0 → at + 4 < length old
-      → set (set (set (set (set (put (stored five_bytes values nexts i) old) at (v % 65536 % 256)) (at + 1) (v % 65536 / 256))
-      (at + 2) (v / 65536 % 256)) (at + 3) (v / 65536 / 256)) (at + 4) (get_or nexts i 0)
-      ≡ put (stored five_bytes values nexts (i + 1)) old
-  unfolding stored unpack
-  store_five old at i v p q room =
-      let more = put_entry five_bytes 5 (λ v t. refl) (λ k. get_or values k 0) (λ k. get_or nexts k 0) old i (omega arith) in
-      let a : at + 1 ≡ suc at = omega arith in
-      let b : at + 2 ≡ suc (suc at) = omega arith in
-      let c : at + 3 ≡ suc (suc (suc at)) = omega arith in
-      let d : at + 4 ≡ suc (suc (suc (suc at))) = omega arith in
-      rw (a, b, c, d, p, q) more
+  store_more kind old i room =
+      put_entry (kept_bytes kind) (entry_width kind) (kept_width kind) (λ k. get_or values k 0) (λ k. get_or nexts k 0) old i room
 
 -- What a store answers and leaves.
 module _ (width : ℕ) (encode : ℕ → ℕ → List ℕ) (values nexts : List ℕ) (count : ℕ) (old : List ℕ) where

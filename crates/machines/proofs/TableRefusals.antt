@@ -8,12 +8,11 @@ use Rattle.values.specs.declared.ValueKind.{ValueKind}
 use Rattle.values.specs.Setup.{ValueIn}
 use Rattle.values.specs.ValueTests.{value_fits}
 use Rattle.values.proofs.ValueKinds.{fits_value, value_fitting}
-use Rattle.refusal.specs.Refusal.{First, has_place, order, part_of, condition_numbers, right_places}
+use Rattle.refusal.specs.{Refusal.{First, has_place, order, part_of, condition_numbers, right_places}, declared.Refusal.TheVariants.{TableLimits}}
 use Rattle.refusal.specs.RefusalAnswers.{plain_unless}
 use Rattle.refusal.proofs.Refusals.{plain_first, plain_none, judged}
 use Rattle.machines.specs.TableBytes.{table_bytes, entry_width, entry_bytes, entries, machine_of, TableInOrder, table_condition}
-use Rattle.machines.specs.TableRefusal.{entry_value, entry_next}
-use Rattle.machines.specs.TableRefusal.{table_test, entry_test, table_refusal}
+use Rattle.machines.specs.TableRefusal.{entry_value, entry_next, table_test, entry_test, table_refusal}
 use Rattle.machines.specs.Claims.{TableRefusalClaim, AcceptedTableClaim, TableAcceptedClaim}
 use Rattle.theory.proofs.ValueSets.{and_both, and_left, and_right, every_at, every_of}
 use Rattle.machines.proofs.{EntryIndex.{index_below, every_entry}, EntryBytes.{table_length}}
@@ -57,9 +56,9 @@ module _ {B : Type 0} (width limit events : ℕ) (In : B → Type 0) (states sta
 
   pub table_first :
       First (table_condition width limit events In states start bytes (entries events value_at next_at) ∷ [])
-      (plain_unless (table_test width limit events test states start bytes) 11)
+      (plain_unless (table_test width limit events test states start bytes) TableLimits)
   table_first =
-      plain_first 11 (¬ TableInOrder width limit events In states start bytes (entries events value_at next_at))
+      plain_first TableLimits (¬ TableInOrder width limit events In states start bytes (entries events value_at next_at))
       (table_test width limit events test states start bytes)
       (λ fails ok. false≢true (sym fails ∙ in_order_tested ok)) (λ holds no. no (tested_in_order holds))
 
@@ -83,14 +82,14 @@ module _ (limit events : ℕ) (kind : ValueKind) (states start : ℕ) (bytes : L
   none_in_order accepted =
       tested_in_order (entry_width kind) limit events (ValueIn kind) states start bytes
       (entry_value kind bytes) (entry_next kind bytes) (entry_test kind states bytes)
-      (entry_sound kind states bytes) (entry_complete kind states bytes) (plain_none _ 11 accepted)
+      (entry_sound kind states bytes) (entry_complete kind states bytes) (plain_none _ TableLimits accepted)
 
   pub in_order_none :
       TableInOrder (entry_width kind) limit events (ValueIn kind) states start bytes (machine_of kind events bytes)
       → table_refusal limit events kind states start bytes ≡ none
   unfolding table_refusal plain_unless
   in_order_none ok =
-      ap (λ test. plain_unless test 11)
+      ap (λ test. plain_unless test TableLimits)
       (in_order_tested (entry_width kind) limit events (ValueIn kind) states start bytes
       (entry_value kind bytes) (entry_next kind bytes) (entry_test kind states bytes)
       (entry_sound kind states bytes) (entry_complete kind states bytes) ok)

@@ -3,14 +3,13 @@ use mathlib.Core.{Path.{◌≡◌, sym, ap}, Bool.{Bool, true, false, ◌&&◌},
 use Prim.Native.Nat.{ℕ, ◌+◌, ◌*◌, ◌≤◌, ◌<◌}
 use borrow.Author.Tests.{le-ltb, lt-ltb, le-leb, lt-leb}
 use lib.{ListN.{length, get_or}, Dec.{eqb, ltb}}
-use Rattle.refusal.specs.declared.Refusal.TheVariants.{Plain}
-use Rattle.refusal.specs.declared.Judgement.TheVariants.{Accepted, Refused}
-use Rattle.refusal.specs.RefusalAnswers.{plain_unless, judgement}
+use Rattle.refusal.specs.{RefusalAnswers.{plain_unless, judgement}, declared.Refusal.TheVariants.{TableLimits}}
 use Rattle.values.specs.declared.ValueKind.{ValueKind}
 use Rattle.values.specs.Setup.{value_width, value_from}
 use Rattle.values.specs.ValueTests.{value_fits}
 use Rattle.machines.specs.{TableBytes.{entry_width}, TableRefusal.{table_test, entry_test, table_refusal}}
 use Rattle.theory.specs.ValueSetTests.{every}
+use Rattle.std.specs.Prelude.{Err, Ok}
 
 module _ (width limit events : ℕ) (test : ℕ → Bool) (states start : ℕ) (bytes : List ℕ) where
   pub no_states : states ≤ 0 → table_test width limit events test states start bytes ≡ false
@@ -39,14 +38,14 @@ module _ (width limit events : ℕ) (test : ℕ → Bool) (states start : ℕ) (
 -- The answer of the check.
 module _ (limit events : ℕ) (kind : ValueKind) (states start : ℕ) (bytes : List ℕ) where
   pub passed : table_test (entry_width kind) limit events (entry_test kind states bytes) states start bytes ≡ true
-      → Accepted ≡ judgement (table_refusal limit events kind states start bytes)
+      → (Ok tt) ≡ judgement (table_refusal limit events kind states start bytes)
   unfolding table_refusal plain_unless judgement
-  passed holds = sym (ap (λ test. judgement (plain_unless test 11)) holds)
+  passed holds = sym (ap (λ test. judgement (plain_unless test TableLimits)) holds)
 
   pub failed : table_test (entry_width kind) limit events (entry_test kind states bytes) states start bytes ≡ false
-      → Refused (Plain 11) ≡ judgement (table_refusal limit events kind states start bytes)
+      → Err TableLimits ≡ judgement (table_refusal limit events kind states start bytes)
   unfolding table_refusal plain_unless judgement
-  failed fails = sym (ap (λ test. judgement (plain_unless test 11)) fails)
+  failed fails = sym (ap (λ test. judgement (plain_unless test TableLimits)) fails)
 
 -- The test of entry i, by the place where it starts.
 pub entry_tested : (kind : ValueKind) (states : ℕ) (bytes : List ℕ) (i at : ℕ) → at ≡ i * entry_width kind

@@ -3,7 +3,7 @@ use mathlib.Core.{Path.{◌≡◌}, List.{List, [], ◌∷◌, ◌++◌}}
 use Rattle.std.specs.Prelude.{ℕ, zero, suc, ◌+◌, ◌*◌, ◌≤◌, ◌<◌, length, get_or}
 use Rattle.theory.specs.MealyMachine.{Machine}
 use Rattle.values.specs.{declared.ValueKind.{ValueKind}, declared.ValueKind.TheVariants.{Numbered, Register}, Setup.{value_width, value_bytes, value_from}}
-use Rattle.refusal.specs.Refusal.{Condition, plain}
+use Rattle.refusal.specs.{Refusal.{Condition, plain}, declared.Refusal.TheVariants.{TableLimits}}
 
 -- The entries of one state from event e on, c events in all; then the states from l on, n states in all. `encode b t` is how an
 -- entry with value b and next state t lies in bytes.
@@ -50,4 +50,4 @@ module _ {B : Type 0} (width limit events : ℕ) (In : B → Type 0) (states sta
     pub nexts_in : (l e : ℕ) → l < states → e < events → m.next l e < states
 
   abbrev pub table_condition : Condition
-  table_condition = plain 11 (¬ TableInOrder)
+  table_condition = plain TableLimits (¬ TableInOrder)

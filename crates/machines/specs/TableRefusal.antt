@@ -4,7 +4,7 @@ use mathlib.Core.{Bool.{Bool, ◌&&◌}, Option.{Option}, List.{List}}
 use Rattle.std.specs.Prelude.{ℕ, ◌*◌, ◌+◌}
 use lib.{ListN.{length, get_or}, Dec.{leb, ltb, eqb}}
 use Rattle.theory.specs.ValueSetTests.{every}
-use Rattle.refusal.specs.{declared.Refusal.{Refusal}, RefusalAnswers.{plain_unless}}
+use Rattle.refusal.specs.{declared.Refusal.{Refusal}, RefusalAnswers.{plain_unless}, declared.Refusal.TheVariants.{TableLimits}}
 use Rattle.values.specs.{declared.ValueKind.{ValueKind}, ValueTests.{value_fits}, Setup.{value_from, value_width}}
 use Rattle.machines.specs.TableBytes.{entry_width}
 
@@ -28,4 +28,4 @@ entry_test kind states bytes i = value_fits kind (entry_value kind bytes i) && l
 -- Refusal 11 or none, for a table with values of a kind.
 unfoldable pub table_refusal : ℕ → ℕ → ValueKind → ℕ → ℕ → List ℕ → Option Refusal
 table_refusal limit events kind states start bytes =
-    plain_unless (table_test (entry_width kind) limit events (entry_test kind states bytes) states start bytes) 11
+    plain_unless (table_test (entry_width kind) limit events (entry_test kind states bytes) states start bytes) TableLimits

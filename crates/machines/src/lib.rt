@@ -2,25 +2,34 @@
 // event. A number has one byte; a register's masks have four (document 02, F-7).
 #![tactic(auto)]
 
-ghost use Rattle.std.specs.Prelude.{◌≡◌, ◌&&◌, ◌+◌, ◌*◌, ◌≤◌, ◌<◌, length, get_or, eqb, ltb};
+ghost use Rattle.std.specs.Prelude.{◌≡◌, ◌&&◌, ◌+◌, ◌*◌, ◌/◌, ◌≤◌, ◌<◌, length, get_or, eqb, ltb};
 ghost use Rattle.theory.specs.ValueSetTests.{every};
 ghost use Rattle.refusal.specs.RefusalAnswers.{judgement};
 ghost use Rattle.values.specs.Setup.{value_width};
 ghost use Rattle.machines.specs.TableBytes.{entry_width};
 ghost use Rattle.machines.specs.TableRefusal.{entry_value, entry_next};
 ghost use Rattle.machines.specs.TableRefusal.{entry_test, table_test, table_refusal};
-ghost use Rattle.machines.specs.StoredEntries.{low_bytes, five_bytes, kept_bytes, storable, after_store};
+ghost use Rattle.machines.specs.StoredEntries.{kept_bytes, storable, after_store};
+ghost use Rattle.std.proofs.lemmas.List.Edits.{sets};
 ghost use Rattle.values.specs.ValueTests.{value_fits};
 ghost use Rattle.values.specs.ValueTests.{masks_from};
 ghost use Rattle.values.specs.Setup.{value_from};
 
-use refusal::{Judgement, Refusal, TABLE_LIMITS};
+use refusal::Refusal;
 use values::{ValueKind, masks_value, value_fits, value_from};
 
-fn wide(x: u8) -> usize
-    ensures { result ≡ x }
-{
-    x as usize
+// A table in bytes: its states, and its entries by state, then event.
+#[derive(Clone, Copy)]
+pub struct Table<'a> {
+    pub states: usize,
+    pub entries: &'a [u8],
+}
+
+// A device: a table and the state in which it starts.
+#[derive(Clone, Copy)]
+pub struct Device<'a> {
+    pub table: Table<'a>,
+    pub start: usize,
 }
 
 // The value of entry i of two bytes; 0 past the end.
@@ -29,7 +38,7 @@ fn number_at(bytes: &[u8], i: usize) -> u32
 {
     let n = bytes.len();
     if i < n - n / 2 {
-        bytes[i * 2] as u32
+        u32::from(bytes[i * 2])
     } else {
         0
     }
@@ -66,7 +75,7 @@ fn second_at(bytes: &[u8], i: usize) -> usize
     ensures { result ≡ get_or bytes.now (i * 2 + 1) 0 }
 {
     if i < bytes.len() / 2 {
-        wide(bytes[i * 2 + 1])
+        usize::from(bytes[i * 2 + 1])
     } else {
         0
     }
@@ -77,7 +86,7 @@ fn fifth_at(bytes: &[u8], i: usize) -> usize
     ensures { result ≡ get_or bytes.now (i * 5 + 4) 0 }
 {
     if i < bytes.len() / 5 {
-        wide(bytes[i * 5 + 4])
+        usize::from(bytes[i * 5 + 4])
     } else {
         0
     }
@@ -128,6 +137,7 @@ fn is_table_length(width: usize, n: usize, states: usize, events: usize) -> bool
 }
 
 // Whether the entry at a place has a value of the kind and a next state below `states`.
+#[inline(always)]
 fn entry_in_order(kind: ValueKind, states: usize, bytes: &[u8], at: usize, width: usize) -> bool
     requires { (at + width ≤ length bytes.now) × (width ≡ value_width kind + 1) }
     ensures { result ≡ (value_fits kind (value_from kind bytes.now at) && ltb (get_or bytes.now (at + value_width kind) 0) states) }
@@ -135,10 +145,12 @@ fn entry_in_order(kind: ValueKind, states: usize, bytes: &[u8], at: usize, width
     if !value_fits(kind, value_from(kind, bytes, at)) {
         return false;
     }
-    wide(bytes[at + width - 1]) < states
+    usize::from(bytes[at + width - 1]) < states
 }
 
-// Whether the first `entries` entries are in order.
+// Whether the first `entries` entries are in order. It is copied to each place that calls it, where the kind is known: to look at the kind
+// of each entry takes half as long again.
+#[inline(always)]
 fn entries_in_order(
     kind: ValueKind,
     states: usize,
@@ -149,16 +161,21 @@ fn entries_in_order(
     requires { (entries * entry_width kind ≤ length bytes.now) × (width ≡ entry_width kind) × (width ≡ value_width kind + 1) }
     ensures { result ≡ every entries (entry_test kind states bytes.now) }
 {
-    let mut at: usize = 0;
-    let mut i: usize = 0;
-    while i < entries {
-        if !entry_in_order(kind, states, bytes, at, width) {
+    for i in 0..entries {
+        if !entry_in_order(kind, states, bytes, i * width, width) {
             return false;
         }
-        at += width;
-        i += 1;
     }
     true
+}
+
+// Whether all whole entries are in order.
+#[inline(always)]
+fn all_in_order(kind: ValueKind, states: usize, bytes: &[u8]) -> bool
+    ensures { result ≡ every (length bytes.now / entry_width kind) (entry_test kind states bytes.now) }
+{
+    let width = entry_width(kind);
+    entries_in_order(kind, states, bytes, bytes.len() / width, width)
 }
 
 // Whether a table handed in is in order.
@@ -186,85 +203,59 @@ fn table_in_order(
     if !is_table_length(width, n, states, events) {
         return false;
     }
-    entries_in_order(kind, states, bytes, n / width, width)
+    match kind {
+        ValueKind::Numbered(values) => all_in_order(ValueKind::Numbered(values), states, bytes),
+        ValueKind::Register(lines) => all_in_order(ValueKind::Register(lines), states, bytes),
+    }
 }
 
-// Refusal 11, for a table with values of a kind, its state count and start.
+// Refusal 11, for a device with values of a kind; a rule's table is one that starts at state 0.
 pub fn check_table(
     limit: usize,
     events: usize,
     kind: ValueKind,
-    states: usize,
-    start: usize,
-    bytes: &[u8],
-) -> Judgement
-    ensures { result ≡ judgement (table_refusal limit events kind states start bytes.now) }
+    device: Device<'_>,
+) -> Result<(), Refusal>
+    ensures { result ≡ judgement (table_refusal limit events kind device.entry.table.states device.entry.start
+        device.entry.table.entries.now) }
 {
-    if table_in_order(limit, events, kind, states, start, bytes) {
-        Judgement::Accepted
+    let table = device.table;
+    if table_in_order(
+        limit,
+        events,
+        kind,
+        table.states,
+        device.start,
+        table.entries,
+    ) {
+        Ok(())
     } else {
-        Judgement::Refused(Refusal::Plain(TABLE_LIMITS))
+        Err(Refusal::TableLimits)
     }
 }
 
-// Stores the first `count` entries of flat arrays: each value's low byte and the next state. Nothing is stored, and the answer
-// is false, where an array or the buffer is too short.
-fn store_numbers(values: &[u32], nexts: &[u8], count: usize, to: &mut [u8]) -> bool
-    ensures answer { result ≡ storable 2 values.now nexts.now count to.old }
-    ensures contents { to.new ≡ after_store 2 low_bytes values.now nexts.now count to.old }
+// Stores an entry from a place on: a number's low byte, or the four bytes of masks, each mask's low byte first; and the next state.
+fn put_entry(kind: ValueKind, to: &mut [u8], at: usize, value: u32, next: u8)
+    requires { at + entry_width kind ≤ length to.old }
+    ensures { to.new ≡ sets to.old at (kept_bytes kind value next) }
 {
-    if values.len() < count {
-        return false;
+    match kind {
+        ValueKind::Numbered(_) => {
+            to[at] = (value % 256) as u8;
+            to[at + 1] = next;
+        }
+        ValueKind::Register(_) => {
+            to[at] = (value % 65536 % 256) as u8;
+            to[at + 1] = (value % 65536 / 256) as u8;
+            to[at + 2] = (value / 65536 % 256) as u8;
+            to[at + 3] = (value / 65536 / 256) as u8;
+            to[at + 4] = next;
+        }
     }
-    if nexts.len() < count {
-        return false;
-    }
-    if to.len() / 2 < count {
-        return false;
-    }
-    for i in 0..count {
-        let value = (values[i] % 256) as u8;
-        let next = nexts[i];
-        to[i * 2] = value;
-        to[i * 2 + 1] = next;
-    }
-    true
 }
 
-fn word(x: u32) -> u32
-    ensures { (result ≡ x) × (result < 4294967296) }
-{
-    x
-}
-
-// The same for masks: four bytes a value, each mask's low byte first.
-fn store_masks(values: &[u32], nexts: &[u8], count: usize, to: &mut [u8]) -> bool
-    ensures answer { result ≡ storable 5 values.now nexts.now count to.old }
-    ensures contents { to.new ≡ after_store 5 five_bytes values.now nexts.now count to.old }
-{
-    if values.len() < count {
-        return false;
-    }
-    if nexts.len() < count {
-        return false;
-    }
-    if to.len() / 5 < count {
-        return false;
-    }
-    for i in 0..count {
-        let v = word(values[i]);
-        let next = nexts[i];
-        let at = i * 5;
-        to[at] = (v % 65536 % 256) as u8;
-        to[at + 1] = (v % 65536 / 256) as u8;
-        to[at + 2] = (v / 65536 % 256) as u8;
-        to[at + 3] = (v / 65536 / 256) as u8;
-        to[at + 4] = next;
-    }
-    true
-}
-
-// Stores the first `count` entries of flat arrays, with values of a kind.
+// Stores the first `count` entries of flat arrays, with values of a kind. Nothing is stored, and the answer is false, where an array or
+// the buffer is too short.
 pub fn store_entries(
     kind: ValueKind,
     values: &[u32],
@@ -273,11 +264,20 @@ pub fn store_entries(
     to: &mut [u8],
 ) -> bool
     ensures answer { result ≡ storable (entry_width kind) values.now nexts.now count to.old }
-    ensures contents { to.new ≡ after_store (entry_width kind) (kept_bytes kind) values.now nexts.now count
-        to.old }
+    ensures contents { to.new ≡ after_store (entry_width kind) (kept_bytes kind) values.now nexts.now count to.old }
 {
-    match kind {
-        ValueKind::Numbered(_) => store_numbers(values, nexts, count, to),
-        ValueKind::Register(_) => store_masks(values, nexts, count, to),
+    let width = entry_width(kind);
+    if values.len() < count {
+        return false;
     }
+    if nexts.len() < count {
+        return false;
+    }
+    if to.len() / width < count {
+        return false;
+    }
+    for i in 0..count {
+        put_entry(kind, to, i * width, values[i], nexts[i]);
+    }
+    true
 }

@@ -8,14 +8,12 @@ use borrow.Author.Tests.{leb-true, leb-false, ltb-true}
 use lib.Dec.{T, leb, ltb, eqb}
 use Rattle.limits.specs.Limits.{node_limit, state_limit, device_limit, total_limit}
 use Rattle.theory.specs.ValueSets.{AtOrBelow}
-use Rattle.theory.specs.Formula.{Formula, size, Answers}
+use Rattle.theory.specs.Formula.{Formula, size, Answers, Node, nodes}
 use Rattle.theory.specs.FormulaClasses.{WellFormed}
-use Rattle.theory.specs.Formula.{Node, nodes}
-use Rattle.theory.specs.MealyMachine.{Machine, Word, after, States, Runs, Simulated, SameValues, Implies}
+use Rattle.theory.specs.MealyMachine.{Machine, Word, after, States, Runs, Simulated, SameValues, Implies, Counterexample, FirstCounterexample}
 use Rattle.theory.specs.MachineRuns.{BelowOnWords}
 use Rattle.theory.specs.{CharacteristicFormula.{Writes}, Exploration.{state_count, table_of}}
 use Rattle.theory.specs.FormulaWriting.{written as rule_written}
-use Rattle.theory.specs.MealyMachine.{Counterexample, FirstCounterexample}
 use Rattle.theory.specs.ConformanceCheck.{is_none, counterexample}
 use Rattle.theory.proofs.Claims.{grammar, answers, simulation, table, table_values, table_satisfaction, characteristic, conformance, same_values, trial}
 use Rattle.theory.proofs.Claims.{implication}

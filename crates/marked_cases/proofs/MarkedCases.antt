@@ -20,8 +20,7 @@ use Rattle.text_format.specs.Texts.{numeral}
 use Rattle.table_rows.specs.TableText.{row_line, table_text}
 use Rattle.channel_io.specs.FileRefusals.{pair_table_refusal}
 use Rattle.table_report.specs.Report.{answer_text, outcome_text}
-use Rattle.marked_cases.specs.MarkedCases.{four_values, sixteen_lines, s, cases, MarkedCasesClaim, request_cases}
-use Rattle.marked_cases.specs.MarkedCases.{RequestCasesClaim, limit_cases}
+use Rattle.marked_cases.specs.MarkedCases.{four_values, sixteen_lines, s, cases, MarkedCasesClaim, request_cases, RequestCasesClaim, limit_cases}
 use Rattle.marked_cases.proofs.Lifting.{made, Comparable, Coverable, Checked, AllChecked, all_lifted}
 
 -- The rule that is written in case 11, with values for low and high.

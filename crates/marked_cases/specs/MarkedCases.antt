@@ -4,11 +4,10 @@ use mathlib.Core.{Path.{◌≡◌}, Logic.{Lift}, List.{List, [], ◌∷◌, ◌
 use Rattle.std.specs.Prelude.{ℕ, zero, suc, ◌*◌, ◌/◌, ◌%◌}
 use Rattle.limits.specs.Limits.{device_limit, table_limit}
 use Rattle.theory.specs.ValueSets.{four_value_meet, pack, top_masks}
-use Rattle.theory.specs.Formula.{Formula, size, Answers, Node, truth_node, variable_node, transition_node, output_node, conjunction_node, greatest_node}
-use Rattle.theory.specs.Formula.{nodes}
+use Rattle.theory.specs.Formula.{Formula, size, Answers, Node, truth_node, variable_node, transition_node, output_node, conjunction_node, greatest_node, nodes}
 use Rattle.theory.specs.{ReachableStates.{IsTableOf}, CharacteristicFormula.{Writes}}
 use Rattle.theory.specs.MealyMachine.{Machine, States, Simulated, SameValues, FirstCounterexample, Implies}
-use Rattle.refusal.specs.{declared.Refusal.{Refusal}, declared.Refusal.TheVariants.{Plain, At}, Refusal.{First}}
+use Rattle.refusal.specs.{declared.Refusal.{Refusal}, Refusal.{First}}
 use Rattle.values.specs.{declared.ValueKind.{ValueKind}, declared.ValueKind.TheVariants.{Numbered, Register}}
 use Rattle.values.specs.Setup.{Setup, setup_of_kind, register_setup, SetupValue, setup_meet, setup_top, setup_conditions, mask_bytes}
 use Rattle.formulas.specs.{RuleConditions.{encode_all, node_bytes, byte_conditions}, RuleCases.{below_binders}}
@@ -17,6 +16,8 @@ use Rattle.text_format.specs.Texts.{ascii}
 use Rattle.channel_io.specs.{FileConditions.{FileForm, number_file}, RegisterFiles.{register_file}}
 use Rattle.table_report.specs.PrintedTable.{Prints}
 use Rattle.channel_log.specs.Distance.{wheel_of_turn, distance, TotalAbove}
+use Rattle.refusal.specs.declared.Refusal.TheVariants.{BinderDepth, NodeFields, NodeTree, SetupEvents}
+use Rattle.refusal.specs.declared.Refusal.TheVariants.{SetupLines, TableLimits, UnboundVariable, UnprotectedVariable}
 
 -- Items of a rule, as the channel file has them.
 abbrev pub T : Node ℕ
@@ -209,11 +210,11 @@ cases =
     ∷ tabled («V» ∷ A ∷ G 1 ∷ O 1 1 ∷ G 1 ∷ X 0 ∷ []) 3 (3 ∷ 1 ∷ 3 ∷ 2 ∷ 3 ∷ 1 ∷ 3 ∷ 1 ∷ 3 ∷ 1 ∷ 1 ∷ 2 ∷ [])
     ∷ repeated («V» ∷ A ∷ G 1 ∷ O 1 1 ∷ G 1 ∷ X 0 ∷ []) 1 3 1
     -- 5 to 9; 7 is accepted, with three states (document 02, F-2)
-    ∷ refused (X 0 ∷ []) (At 8 0)
-    ∷ refused («V» ∷ X 0 ∷ []) (At 9 1)
+    ∷ refused (X 0 ∷ []) (UnboundVariable 0)
+    ∷ refused («V» ∷ X 0 ∷ []) (UnprotectedVariable 1)
     ∷ tabled («V» ∷ G 0 ∷ «V» ∷ A ∷ X 1 ∷ G 0 ∷ X 0 ∷ []) 3 (3 ∷ 1 ∷ 3 ∷ 2 ∷ 3 ∷ 1 ∷ 3 ∷ 2 ∷ 3 ∷ 2 ∷ 3 ∷ 2 ∷ [])
-    ∷ refused (A ∷ T ∷ []) (At 7 2)
-    ∷ refused (T ∷ T ∷ []) (At 7 1)
+    ∷ refused (A ∷ T ∷ []) (NodeTree 2)
+    ∷ refused (T ∷ T ∷ []) (NodeTree 1)
     -- 10. two states
     ∷ tabled («V» ∷ «V» ∷ G 0 ∷ X 1 ∷ []) 2 (3 ∷ 0 ∷ 3 ∷ 1 ∷ 3 ∷ 1 ∷ 3 ∷ 1 ∷ [])
     -- 11. 19 nodes, and the same rows
@@ -245,14 +246,14 @@ request_cases =
     ∷ not_implying (A ∷ O 0 1 ∷ G 0 ∷ O 0 1 ∷ []) («V» ∷ A ∷ O 0 1 ∷ G 0 ∷ X 0 ∷ []) (0 ∷ 0 ∷ 0 ∷ [])
     ∷ implying (T ∷ []) (O 0 3 ∷ [])
     -- F-2. no G between X1 and the first V; the G is above the V of X0; it is beside X0; and it protects X1 below an inner V
-    ∷ refused («V» ∷ «V» ∷ X 1 ∷ []) (At 9 2)
-    ∷ refused («V» ∷ G 0 ∷ «V» ∷ X 0 ∷ []) (At 9 3)
-    ∷ refused («V» ∷ A ∷ G 0 ∷ X 0 ∷ X 0 ∷ []) (At 9 4)
+    ∷ refused («V» ∷ «V» ∷ X 1 ∷ []) (UnprotectedVariable 2)
+    ∷ refused («V» ∷ G 0 ∷ «V» ∷ X 0 ∷ []) (UnprotectedVariable 3)
+    ∷ refused («V» ∷ A ∷ G 0 ∷ X 0 ∷ X 0 ∷ []) (UnprotectedVariable 4)
     ∷ tabled («V» ∷ G 0 ∷ «V» ∷ X 1 ∷ []) 2 (3 ∷ 0 ∷ 3 ∷ 1 ∷ 3 ∷ 1 ∷ 3 ∷ 1 ∷ [])
     -- F-9. twelve V nodes in a row; thirteen; and thirteen in the second part of an A
     ∷ tabled (below_binders 12 (T ∷ [])) 1 (3 ∷ 0 ∷ 3 ∷ 0 ∷ [])
-    ∷ refused (below_binders 13 (T ∷ [])) (Plain 23)
-    ∷ refused (A ∷ T ∷ below_binders 13 (T ∷ [])) (Plain 23)
+    ∷ refused (below_binders 13 (T ∷ [])) BinderDepth
+    ∷ refused (A ∷ T ∷ below_binders 13 (T ∷ [])) BinderDepth
     ∷ []
 
 -- Cases on limits, which no form changes.
@@ -271,18 +272,18 @@ limit_cases =
     ∷ total_above 1099511627776 1
     -- F-12. devices of 64 states and of 65; other tables of 256 and of 257
     ∷ handed device_limit 64 none
-    ∷ handed device_limit 65 (some (Plain 11))
+    ∷ handed device_limit 65 (some TableLimits)
     ∷ handed table_limit 256 none
-    ∷ handed table_limit 257 (some (Plain 11))
+    ∷ handed table_limit 257 (some TableLimits)
     -- F-7. lines 0, 1, 16 and 17, and 1 before 20; the masks of one line and of sixteen, and a bit at the line count
-    ∷ registered 2 0 (some (Plain 20))
+    ∷ registered 2 0 (some SetupLines)
     ∷ registered 2 1 none
     ∷ registered 2 16 none
-    ∷ registered 2 17 (some (Plain 20))
-    ∷ registered 0 17 (some (Plain 1))
+    ∷ registered 2 17 (some SetupLines)
+    ∷ registered 0 17 (some SetupEvents)
     ∷ masked 1 1 1 none
-    ∷ masked 1 2 0 (some (At 6 0))
-    ∷ masked 15 0 32768 (some (At 6 0))
+    ∷ masked 1 2 0 (some (NodeFields 0))
+    ∷ masked 15 0 32768 (some (NodeFields 0))
     ∷ masked 15 32767 32767 none
     ∷ masked 16 65535 65535 none
     ∷ []

@@ -10,10 +10,10 @@ use Rattle.theory.specs.MealyMachine.{Machine, Word, States, Runs, Satisfies}
 use Rattle.theory.specs.TableSatisfaction.{TableSatisfies}
 use Rattle.theory.specs.ReachableStates.{IsTableOf}
 use Rattle.theory.proofs.Claims.{answers, table_values, table_satisfaction}
-use Rattle.refusal.specs.{declared.Refusal.{Refusal}, RefusalAnswers.{or_else, plain_unless}}
-use Rattle.refusal.specs.Refusal.{put, First, JudgedCall, counted_refusal, count_of}
+use Rattle.refusal.specs.{declared.Refusal.{Refusal}, RefusalAnswers.{or_else, plain_unless}, declared.Refusal.TheVariants.{BufferLength, StateCount}}
+use Rattle.refusal.specs.Refusal.{put, First, JudgedCall, refusal_of, yield_of}
 use Rattle.refusal.specs.RefusalAnswers.{put_unless}
-use Rattle.refusal.proofs.{Refusals.{or_else_none, plain_some}, Answers.{counted_refusal_is, count_of_counted, counted_judged, counted_put}}
+use Rattle.refusal.proofs.{Refusals.{or_else_none, plain_some}, Answers.{answered_refusal_is, yield_of_answered, answered_judged, answered_put}}
 use Rattle.limits.specs.Limits.{node_limit, state_limit, device_limit, table_limit, word_limit}
 use Rattle.values.specs.{Setup.{Setup, SetupValue, setup_meet, setup_top}, ValueTests.{at_or_below}, SetupTests.{setup_refusal}}
 use Rattle.values.proofs.ValueKinds.{value_kinds}
@@ -28,7 +28,7 @@ use Rattle.synthesis.proofs.{CompiledTable.{few_states, is_table, table_runs}, L
 use Rattle.synthesis.proofs.CompileClaims.{table_agrees, compile_refusal_claim, compile_claim, made_table, printed_table}
 use Rattle.characteristic.specs.{RuleOfTable.{write_conditions, IsWritten}, RuleWriting.{write_refusal, write_answer, write_contents}, Claims.{Written}}
 use Rattle.characteristic.proofs.Claims.{write_refusal_claim, written_claim}
-use Rattle.conformance.specs.{Trial.{input, DeviceInOrder, EndsSame, Passed, grade}, TrialAnswer.{tables_refusal, trial_refusal, trial_answer}}
+use Rattle.conformance.specs.{Trial.{input, DeviceInOrder, EndsSame, Passed, grade}, TrialAnswer.{tables_refusal, handed_refusal, trial_refusal, trial_answer}}
 use Rattle.conformance.specs.declared.Grade.TheVariants.{Same}
 use Rattle.conformance.proofs.TrialClaims.{trial_satisfies, trial_grades}
 use Rattle.product_claims.specs.{Demands.{rule_trial_input, Recompiled}, Requests.{MatchesRule, stored_value}}
@@ -38,9 +38,9 @@ passed : (a b : Option Refusal) → a ≡ none → b ≡ none → or_else a b �
 unfolding or_else
 passed a b p q = ap (λ o. or_else o b) p ∙ q
 
-unless_true : (b : Bool) (n : ℕ) → b ≡ true → plain_unless b n ≡ none
+unless_true : (b : Bool) (given : Refusal) → b ≡ true → plain_unless b given ≡ none
 unfolding plain_unless
-unless_true b n e = ap (λ c. plain_unless c n) e
+unless_true b given e = ap (λ c. plain_unless c given) e
 
 true_iff : (b : Bool) → T b ↔ (b ≡ true)
 true_iff true = ((λ h. refl), λ e. tt)
@@ -67,7 +67,7 @@ module _ (s : Setup) (rule old : List ℕ) (accepted : compile_refusal state_lim
   from_rule = rule_table_refusal s.kind s.events (setup_top s) s.meet rule state_limit
 
   abbrev room : Option Refusal
-  room = plain_unless (leb (n * s.events * entry_width s.kind) (length old)) 13
+  room = plain_unless (leb (n * s.events * entry_width s.kind) (length old)) BufferLength
 
   none_of : (setup_refusal s ≡ none) × (from_rule ≡ none)
   unfolding compile_refusal
@@ -77,7 +77,7 @@ module _ (s : Setup) (rule old : List ℕ) (accepted : compile_refusal state_lim
 
   rule_fine : rule_refusal s.events s.kind rule ≡ none
   unfolding rule_table_refusal
-  rule_fine = (or_else_none (rule_refusal s.events s.kind rule) (plain_unless (leb n state_limit) 10) none_of.1).0
+  rule_fine = (or_else_none (rule_refusal s.events s.kind rule) (plain_unless (leb n state_limit) StateCount) none_of.1).0
 
   abbrev φ₀ : Formula ℕ
   φ₀ = formula_of s.kind rule
@@ -123,12 +123,12 @@ module _ (s : Setup) (rule old : List ℕ) (accepted : compile_refusal state_lim
   module _ (states start : ℕ) (device : List ℕ) (whole : table_refusal device_limit s.events s.kind states start device ≡ none)
       (buffer : List ℕ) (long : word_limit ≤ length buffer) where
     pub none_met : trial_refusal device_limit table_limit (rule_trial_input s rule old n states start device) buffer ≡ none
-    unfolding trial_refusal tables_refusal input
+    unfolding trial_refusal handed_refusal tables_refusal input
     none_met =
         passed (setup_refusal s) _ none_of.0
         (passed _ _
         (passed (table_refusal device_limit s.events s.kind states start device) _ whole (in_order table_limit little))
-        (unless_true (leb word_limit (length buffer)) 13 (le-leb word_limit (length buffer) long)))
+        (unless_true (leb word_limit (length buffer)) BufferLength (le-leb word_limit (length buffer) long)))
 
     abbrev device_runs : Runs s.events (SetupValue s) (States states) (machine_of s.kind s.events device)
     device_runs = (accepted_table device_limit s.events s.kind states start device whole).runs
@@ -179,15 +179,15 @@ stored_answers s rule to accepted φ code w hw e he =
 
 -- What holds of the state count and the formula that are computed holds of those that are handed in.
 pub for_rule {κ} :
-    (s : Setup) (rule to : List ℕ) (n : ℕ) → count_of (compile_answer state_limit s rule to) ≡ some n →
+    (s : Setup) (rule to : List ℕ) (n : ℕ) → yield_of (compile_answer state_limit s rule to) ≡ some n →
     (φ : Formula ℕ) → rule ≡ encode_formula (node_bytes s.kind) φ → (P : ℕ → Formula ℕ → Type κ) →
     (compile_refusal state_limit s rule to ≡ none → P (setup_states state_limit s rule) (formula_of s.kind rule)) → P n φ
 for_rule s rule to n h φ code P f =
-    let p = count_of_counted (compile_refusal state_limit s rule to) (setup_states state_limit s rule) n h in
+    let p = yield_of_answered (compile_refusal state_limit s rule to) (setup_states state_limit s rule) n h in
     subst (λ k. P k φ) p.1 (subst (P (setup_states state_limit s rule)) (sym (formula_of_only s.kind rule φ code)) (f p.0))
 
 pub rule_trial :
-    (s : Setup) (rule to : List ℕ) (n : ℕ) → count_of (compile_answer state_limit s rule to) ≡ some n →
+    (s : Setup) (rule to : List ℕ) (n : ℕ) → yield_of (compile_answer state_limit s rule to) ≡ some n →
     (states start : ℕ) (device word : List ℕ) →
     DeviceInOrder device_limit table_limit (rule_trial_input s rule to n states start device) word → word_limit ≤ length word →
     (φ : Formula ℕ) → rule ≡ encode_formula (node_bytes s.kind) φ →
@@ -201,7 +201,7 @@ rule_trial s rule to n h states start device word whole long φ code =
     (λ p. by_definition s rule to p states start device (in_order_none device_limit s.events s.kind states start device whole) word long)
 
 pub rule_grade :
-    (s : Setup) (rule to : List ℕ) (n : ℕ) → count_of (compile_answer state_limit s rule to) ≡ some n →
+    (s : Setup) (rule to : List ℕ) (n : ℕ) → yield_of (compile_answer state_limit s rule to) ≡ some n →
     (states start : ℕ) (device word : List ℕ) →
     DeviceInOrder device_limit table_limit (rule_trial_input s rule to n states start device) word → word_limit ≤ length word →
     (φ : Formula ℕ) → rule ≡ encode_formula (node_bytes s.kind) φ →
@@ -251,7 +251,7 @@ module _ (s : Setup) (states start : ℕ) (table buffer : List ℕ)
 
   module _ (to : List ℕ) where
     abbrev for_13 : Option Refusal
-    for_13 = plain_unless (leb (count * s.events * entry_width s.kind) (length to)) 13
+    for_13 = plain_unless (leb (count * s.events * entry_width s.kind) (length to)) BufferLength
 
     -- 13 alone is left.
     for_room : compile_refusal state_limit s bytes to ≡ for_13
@@ -260,13 +260,13 @@ module _ (s : Setup) (states start : ℕ) (table buffer : List ℕ)
         ap (λ o. or_else o (or_else (rule_table_refusal s.kind s.events (setup_top s) s.meet bytes state_limit) for_13)) setup_fine
         ∙ ap (λ o. or_else o for_13)
         (passed (rule_refusal s.events s.kind bytes) _ made.rule_written.accepted_bytes
-        (unless_true (leb count state_limit) 10 (le-leb count state_limit bounded)))
+        (unless_true (leb count state_limit) StateCount (le-leb count state_limit bounded)))
 
     recompiled : Recompiled s start table bytes to
     recompiled =
-        let read_back = counted_refusal_is (compile_refusal state_limit s bytes to) count in
+        let read_back = answered_refusal_is (compile_refusal state_limit s bytes to) count in
         record {
-          only_13 = λ r h. (plain_some (leb (count * s.events * entry_width s.kind) (length to)) 13 r (sym for_room ∙ sym read_back ∙ h)).1;
+          only_13 = λ r h. (plain_some (leb (count * s.events * entry_width s.kind) (length to)) BufferLength r (sym for_room ∙ sym read_back ∙ h)).1;
           same_values = λ h w hw e he.
               let one = answers (SetupValue s) (setup_meet s) (setup_top s) s.events ψ sound w e in
               (one _).0 (stored_answers s bytes to (sym read_back ∙ h) ψ refl w hw e he) ∙ sym ((one _).0 (made.rule_written.same_values w hw e he));
@@ -279,14 +279,14 @@ module _ (s : Setup) (states start : ℕ) (table old : List ℕ) where
 
   pub rule_judged :
       JudgedCall (write_conditions table_limit node_limit s states start table (length old))
-      (counted_refusal (write_answer table_limit node_limit s states start table old)) old
+      (refusal_of (write_answer table_limit node_limit s states start table old)) old
       (write_contents table_limit node_limit s states start table old)
   unfolding write_answer write_contents
-  rule_judged = counted_judged refusal _ _ old refl refl (write_refusal_claim table_limit node_limit s states start table (length old))
+  rule_judged = answered_judged refusal _ _ old refl refl (write_refusal_claim table_limit node_limit s states start table (length old))
 
-  pub accepted_write : (n : ℕ) → count_of (write_answer table_limit node_limit s states start table old) ≡ some n → refusal ≡ none
+  pub accepted_write : (n : ℕ) → yield_of (write_answer table_limit node_limit s states start table old) ≡ some n → refusal ≡ none
   unfolding write_answer
-  accepted_write n h = (count_of_counted refusal _ n h).0
+  accepted_write n h = (yield_of_answered refusal _ n h).0
 
   is_written : (fine : refusal ≡ none) → IsWritten s start table (written_claim s states start table old fine).rule
   is_written fine =
@@ -299,19 +299,19 @@ module _ (s : Setup) (states start : ℕ) (table old : List ℕ) where
       }
 
   pub table_to_rule :
-      (n : ℕ) → count_of (write_answer table_limit node_limit s states start table old) ≡ some n →
+      (n : ℕ) → yield_of (write_answer table_limit node_limit s states start table old) ≡ some n →
       (φ : Formula ℕ) × IsWritten s start table φ × (n ≡ size φ)
       × (write_contents table_limit node_limit s states start table old ≡ put (encode_formula (node_bytes s.kind) φ) old)
   table_to_rule n h =
       let fine = accepted_write n h in
       let w = written_claim s states start table old fine in
-      (w.rule, is_written fine, same_count n (size w.rule) (sym h ∙ ap count_of w.count_is_size), w.bytes_put)
+      (w.rule, is_written fine, same_count n (size w.rule) (sym h ∙ ap yield_of w.count_is_size), w.bytes_put)
     where
       same_count : (n m : ℕ) → some n ≡ some m → n ≡ m
       same_count n m e = cc
 
   pub table_to_rule_to_table :
-      (n : ℕ) → count_of (write_answer table_limit node_limit s states start table old) ≡ some n →
+      (n : ℕ) → yield_of (write_answer table_limit node_limit s states start table old) ≡ some n →
       (φ : Formula ℕ) → IsWritten s start table φ → (to : List ℕ) → Recompiled s start table (encode_formula (node_bytes s.kind) φ) to
   table_to_rule_to_table n h φ w to =
       let fine = accepted_write n h in
@@ -322,19 +322,19 @@ module _ (s : Setup) (states start : ℕ) (table old : List ℕ) where
 -- `compile`.
 module _ (s : Setup) (rule old : List ℕ) where
   pub compile_judged :
-      JudgedCall (compile_conditions state_limit s rule old) (counted_refusal (compile_answer state_limit s rule old)) old
+      JudgedCall (compile_conditions state_limit s rule old) (refusal_of (compile_answer state_limit s rule old)) old
       (compile_contents state_limit s rule old)
   compile_judged =
-      counted_judged (compile_refusal state_limit s rule old) (setup_states state_limit s rule) _ old refl (contents_at state_limit s rule old _ refl)
+      answered_judged (compile_refusal state_limit s rule old) (setup_states state_limit s rule) _ old refl (contents_at state_limit s rule old _ refl)
       (compile_refusal_claim state_limit s rule old)
 
   pub rule_to_table :
-      (k : ℕ) → count_of (compile_answer state_limit s rule old) ≡ some k →
+      (k : ℕ) → yield_of (compile_answer state_limit s rule old) ≡ some k →
       (u : Machine ℕ ℕ) × IsRuleTable s rule k u
       × (compile_contents state_limit s rule old ≡ put (table_bytes (entry_bytes s.kind) s.events u k) old)
   rule_to_table k h =
       let p =
-      counted_put (compile_refusal state_limit s rule old) (setup_states state_limit s rule) _ old refl (contents_at state_limit s rule old _ refl) k h in
+      answered_put (compile_refusal state_limit s rule old) (setup_states state_limit s rule) _ old refl (contents_at state_limit s rule old _ refl) k h in
       subst⁻¹
       (λ k. (u : Machine ℕ ℕ) × IsRuleTable s rule k u
       × (compile_contents state_limit s rule old ≡ put (table_bytes (entry_bytes s.kind) s.events u k) old))

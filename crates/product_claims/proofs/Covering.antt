@@ -9,9 +9,9 @@ use lib.{Dec.{leb}, ListN.{length}}
 use Rattle.theory.specs.{Formula.{Formula, conjunction, size, conjunction_node, nodes}, FormulaClasses.{WellFormed, Accepted}}
 use Rattle.theory.specs.{MealyMachine.{Word, after, Implies}, Evaluation.{value, formulas}}
 use Rattle.theory.proofs.{Claims.{answers, conjunction as conjunction_answers, implication}, Equations.{well_formed_conjunction}}
-use Rattle.refusal.specs.{declared.Refusal.{Refusal}, declared.Refusal.TheVariants.{Plain}}
-use Rattle.refusal.specs.Refusal.{First, counted_refusal, count_of}
-use Rattle.refusal.proofs.Answers.{count_of_counted}
+use Rattle.refusal.specs.{declared.Refusal.{Refusal}, declared.Refusal.TheVariants.{BufferLength, NodeCount, StateCount}}
+use Rattle.refusal.specs.Refusal.{First, refusal_of, yield_of}
+use Rattle.refusal.proofs.Answers.{yield_of_answered}
 use Rattle.limits.specs.Limits.{node_limit, binder_limit, state_limit, device_limit, table_limit, word_limit}
 use Rattle.values.specs.{declared.ValueKind.{ValueKind}, Setup.{Setup, SetupValue, ValueIn, setup_meet, setup_top}, SetupTests.{setup_refusal}}
 use Rattle.formulas.specs.{RuleConditions.{encode_formula, node_width, node_bytes}, RuleRefusal.{rule_refusal, formula_of}}
@@ -19,7 +19,7 @@ use Rattle.formulas.specs.Claims.{AcceptedFormula}
 use Rattle.formulas.proofs.{Encoding.{encode_append}, NodeCodes.{node_code}}
 use Rattle.formulas.proofs.RuleClaims.{rule_judged, accepted_claim, count_is}
 use Rattle.synthesis.specs.Compilation.{setup_states, compile_refusal, compile_answer}
-use Rattle.conformance.specs.{Trial.{refusal_of, Passed}, TrialAnswer.{trial_answer}}
+use Rattle.conformance.specs.{Trial.{Passed}, TrialAnswer.{trial_answer}}
 use Rattle.conformance.proofs.TrialClaims.{trial_refused}
 use Rattle.product_claims.specs.Requests.{cover_trial_input, rule_bytes, LetThrough, joined, HasValue, stored_value, Covering}
 use Rattle.product_claims.proofs.InnerBinders.{let_through, let_through_formula, refused_by}
@@ -27,8 +27,8 @@ use Rattle.product_claims.proofs.Compiled.{for_rule, in_order, well, there, obey
 
 -- ---- covering
 pub covers :
-    (s : Setup) (first to second to' : List ℕ) (n k : ℕ) → count_of (compile_answer state_limit s first to) ≡ some n → n ≤ device_limit →
-    count_of (compile_answer state_limit s second to') ≡ some k → (word : List ℕ) → word_limit ≤ length word →
+    (s : Setup) (first to second to' : List ℕ) (n k : ℕ) → yield_of (compile_answer state_limit s first to) ≡ some n → n ≤ device_limit →
+    yield_of (compile_answer state_limit s second to') ≡ some k → (word : List ℕ) → word_limit ≤ length word →
     (φ χ : Formula ℕ) → first ≡ rule_bytes s φ → second ≡ rule_bytes s χ →
     (refusal_of (trial_answer device_limit table_limit (cover_trial_input s first to n second to' k) word) ≡ none)
     × (Passed (trial_answer device_limit table_limit (cover_trial_input s first to n second to' k) word)
@@ -99,12 +99,12 @@ module _ (s : Setup) where
       joined s first second ≡ rule_bytes s (conjunction φ χ)
   joined_code first second φ χ p q = ap₂ (joined s) p q ∙ joined_bytes s φ χ
 
-  accepted : (rule to : List ℕ) (n : ℕ) → count_of (compile_answer state_limit s rule to) ≡ some n → compile_refusal state_limit s rule to ≡ none
-  accepted rule to n h = (count_of_counted (compile_refusal state_limit s rule to) (setup_states state_limit s rule) n h).0
+  accepted : (rule to : List ℕ) (n : ℕ) → yield_of (compile_answer state_limit s rule to) ≡ some n → compile_refusal state_limit s rule to ≡ none
+  accepted rule to n h = (yield_of_answered (compile_refusal state_limit s rule to) (setup_states state_limit s rule) n h).0
 
   pub joined_tables :
-      (first to second to' to'' : List ℕ) (n k l : ℕ) → count_of (compile_answer state_limit s first to) ≡ some n →
-      count_of (compile_answer state_limit s second to') ≡ some k → count_of (compile_answer state_limit s (joined s first second) to'') ≡ some l →
+      (first to second to' to'' : List ℕ) (n k l : ℕ) → yield_of (compile_answer state_limit s first to) ≡ some n →
+      yield_of (compile_answer state_limit s second to') ≡ some k → yield_of (compile_answer state_limit s (joined s first second) to'') ≡ some l →
       (w : List ℕ) → Word s.events w → (e : ℕ) → e < s.events →
       stored_value s (joined s first second) to'' w e ≡ setup_meet s (stored_value s first to w e) (stored_value s second to' w e)
   joined_tables first to second to' to'' n k l h h' h'' w hw e he =
@@ -122,29 +122,30 @@ module _ (s : Setup) where
 -- Of a formula in order but for its size, 5 alone can be met.
 only_5 :
     (events : ℕ) (kind : ValueKind) (bytes : List ℕ) (φ : Formula ℕ) → bytes ≡ encode_formula (node_bytes kind) φ →
-    ((limit : ℕ) → size φ ≤ limit → Accepted limit binder_limit events (ValueIn kind) φ) → (r : Refusal) → rule_refusal events kind bytes ≡ some r → r ≡ Plain 5
+    ((limit : ℕ) → size φ ≤ limit → Accepted limit binder_limit events (ValueIn kind) φ) → (r : Refusal) → rule_refusal events kind bytes ≡ some r
+    → r ≡ NodeCount
 unfolding First
 only_5 events kind bytes φ code sound r e = go (leb (size φ) node_limit) refl
   where
     same : (q : Refusal) → some q ≡ some r → r ≡ q
     same q p = cc
 
-    go : (b : Bool) → leb (size φ) node_limit ≡ b → r ≡ Plain 5
+    go : (b : Bool) → leb (size φ) node_limit ≡ b → r ≡ NodeCount
     go true p =
         absurd
         (some-ne-none r
         (sym e ∙ (accepted_claim events kind bytes).1 (φ, record { written = code; accepted = sound node_limit (leb-true (size φ) node_limit p) })))
     go false p =
         let over : node_limit < size φ = leb-false (size φ) node_limit p in
-        same (Plain 5)
-        ((rule_judged events kind bytes).only (some (Plain 5))
-        (inl (Plain 5, ((λ fine. absurd (omega (arith, over, fine.2, count_is kind bytes φ code))), refl), refl))
+        same NodeCount
+        ((rule_judged events kind bytes).only (some NodeCount)
+        (inl (NodeCount, ((λ fine. absurd (omega (arith, over, fine.2, count_is kind bytes φ code))), refl), refl))
         ∙ e)
 
 pub joined_refused :
     (s : Setup) (first second to : List ℕ) → setup_refusal s ≡ none → LetThrough s first → LetThrough s second →
-    (r : Refusal) → counted_refusal (compile_answer state_limit s (joined s first second) to) ≡ some r →
-    (r ≡ Plain 5) ⊎ ((r ≡ Plain 10) ⊎ (r ≡ Plain 13))
+    (r : Refusal) → refusal_of (compile_answer state_limit s (joined s first second) to) ≡ some r →
+    (r ≡ NodeCount) ⊎ ((r ≡ StateCount) ⊎ (r ≡ BufferLength))
 joined_refused s first second to fine h h' r met = by (refused_by s (joined s first second) to fine r met)
   where
     x : AcceptedFormula s.events s.kind first (formula_of s.kind first)
@@ -168,8 +169,8 @@ joined_refused s first second to fine h h' r met = by (refused_by s (joined s fi
     code = joined_code s first second (formula_of s.kind first) (formula_of s.kind second) x.written y.written
 
     by :
-        (rule_refusal s.events s.kind (joined s first second) ≡ some r) ⊎ ((r ≡ Plain 10) ⊎ (r ≡ Plain 13)) →
-        (r ≡ Plain 5) ⊎ ((r ≡ Plain 10) ⊎ (r ≡ Plain 13))
+        (rule_refusal s.events s.kind (joined s first second) ≡ some r) ⊎ ((r ≡ StateCount) ⊎ (r ≡ BufferLength)) →
+        (r ≡ NodeCount) ⊎ ((r ≡ StateCount) ⊎ (r ≡ BufferLength))
     by (inl e) = inl (only_5 s.events s.kind (joined s first second) whole code sound r e)
     by (inr e) = inr e
 

@@ -4,9 +4,9 @@ use mathlib.Core.{Path.{◌≡◌, refl, sym, ◌∙◌, subst}, Logic.{◌↔�
 use Prim.Native.Nat.{ℕ, ◌*◌}
 use lib.{Dec.{leb}, ListN.{length}}
 use Rattle.theory.specs.{Formula.{Formula}, FormulaClasses.{Accepted}}
-use Rattle.refusal.specs.{declared.Refusal.{Refusal}, declared.Refusal.TheVariants.{Plain}, RefusalAnswers.{or_else, plain_unless}}
-use Rattle.refusal.specs.Refusal.{First, counted_refusal}
-use Rattle.refusal.proofs.{Refusals.{or_else_some, plain_some}, Answers.{counted_refusal_is}}
+use Rattle.refusal.specs.{declared.Refusal.{Refusal}, RefusalAnswers.{or_else, plain_unless}, declared.Refusal.TheVariants.{BufferLength, StateCount}}
+use Rattle.refusal.specs.Refusal.{First, refusal_of}
+use Rattle.refusal.proofs.{Refusals.{or_else_some, plain_some}, Answers.{answered_refusal_is}}
 use Rattle.limits.specs.Limits.{node_limit, binder_limit, state_limit}
 use Rattle.values.specs.{Setup.{Setup, SetupValue, setup_top}, SetupTests.{setup_refusal}}
 use Rattle.machines.specs.TableBytes.{entry_width}
@@ -32,11 +32,11 @@ module _ (s : Setup) where
 
   -- With an accepted set-up `compile` refuses by 5 to 9, 10 and 13.
   pub refused_by :
-      (rule to : List ℕ) → setup_refusal s ≡ none → (r : Refusal) → counted_refusal (compile_answer state_limit s rule to) ≡ some r →
-      (rule_refusal s.events s.kind rule ≡ some r) ⊎ ((r ≡ Plain 10) ⊎ (r ≡ Plain 13))
+      (rule to : List ℕ) → setup_refusal s ≡ none → (r : Refusal) → refusal_of (compile_answer state_limit s rule to) ≡ some r →
+      (rule_refusal s.events s.kind rule ≡ some r) ⊎ ((r ≡ StateCount) ⊎ (r ≡ BufferLength))
   unfolding compile_refusal rule_table_refusal
   refused_by rule to fine r met =
-      outer (or_else_some (setup_refusal s) (or_else from_rule room) r (sym (counted_refusal_is (compile_refusal state_limit s rule to) n) ∙ met))
+      outer (or_else_some (setup_refusal s) (or_else from_rule room) r (sym (answered_refusal_is (compile_refusal state_limit s rule to) n) ∙ met))
     where
       n : ℕ
       n = setup_states state_limit s rule
@@ -45,18 +45,18 @@ module _ (s : Setup) where
       from_rule = rule_table_refusal s.kind s.events (setup_top s) s.meet rule state_limit
 
       room : Option Refusal
-      room = plain_unless (leb (n * s.events * entry_width s.kind) (length to)) 13
+      room = plain_unless (leb (n * s.events * entry_width s.kind) (length to)) BufferLength
 
       Refused : Type 0
-      Refused = (rule_refusal s.events s.kind rule ≡ some r) ⊎ ((r ≡ Plain 10) ⊎ (r ≡ Plain 13))
+      Refused = (rule_refusal s.events s.kind rule ≡ some r) ⊎ ((r ≡ StateCount) ⊎ (r ≡ BufferLength))
 
-      inner : (rule_refusal s.events s.kind rule ≡ some r) ⊎ (plain_unless (leb n state_limit) 10 ≡ some r) → Refused
+      inner : (rule_refusal s.events s.kind rule ≡ some r) ⊎ (plain_unless (leb n state_limit) StateCount ≡ some r) → Refused
       inner (inl e) = inl e
-      inner (inr e) = inr (inl (plain_some (leb n state_limit) 10 r e).1)
+      inner (inr e) = inr (inl (plain_some (leb n state_limit) StateCount r e).1)
 
       middle : (from_rule ≡ some r) ⊎ (room ≡ some r) → Refused
-      middle (inl e) = inner (or_else_some (rule_refusal s.events s.kind rule) (plain_unless (leb n state_limit) 10) r e)
-      middle (inr e) = inr (inr (plain_some (leb (n * s.events * entry_width s.kind) (length to)) 13 r e).1)
+      middle (inl e) = inner (or_else_some (rule_refusal s.events s.kind rule) (plain_unless (leb n state_limit) StateCount) r e)
+      middle (inr e) = inr (inr (plain_some (leb (n * s.events * entry_width s.kind) (length to)) BufferLength r e).1)
 
       outer : (setup_refusal s ≡ some r) ⊎ (or_else from_rule room ≡ some r) → Refused
       outer (inl e) = absurd (some-ne-none r (sym e ∙ fine))
@@ -64,10 +64,10 @@ module _ (s : Setup) where
 
 covered :
     (s : Setup) (rule to : List ℕ) → setup_refusal s ≡ none → LetThrough s rule → (r : Refusal) →
-    counted_refusal (compile_answer state_limit s rule to) ≡ some r → (r ≡ Plain 10) ⊎ (r ≡ Plain 13)
+    refusal_of (compile_answer state_limit s rule to) ≡ some r → (r ≡ StateCount) ⊎ (r ≡ BufferLength)
 covered s rule to fine h r met = by (refused_by s rule to fine r met)
   where
-    by : (rule_refusal s.events s.kind rule ≡ some r) ⊎ ((r ≡ Plain 10) ⊎ (r ≡ Plain 13)) → (r ≡ Plain 10) ⊎ (r ≡ Plain 13)
+    by : (rule_refusal s.events s.kind rule ≡ some r) ⊎ ((r ≡ StateCount) ⊎ (r ≡ BufferLength)) → (r ≡ StateCount) ⊎ (r ≡ BufferLength)
     by (inl e) = absurd (some-ne-none r (sym e ∙ (let_through_iff s rule).0 h))
     by (inr e) = e
 

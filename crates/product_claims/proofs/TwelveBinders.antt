@@ -4,7 +4,7 @@ use Prim.Native.Nat.{ℕ}
 use native.Mathlib.Omega.{arith}
 use Rattle.limits.specs.Limits.{node_limit, binder_limit, table_limit}
 use Rattle.theory.specs.Formula.{Formula}
-use Rattle.refusal.specs.Refusal.{count_of}
+use Rattle.refusal.specs.Refusal.{yield_of}
 use Rattle.values.specs.Setup.{Setup}
 use Rattle.formulas.specs.RuleConditions.{TooDeep}
 use Rattle.formulas.proofs.RuleClaims.{depth_claim, too_deep_claim}
@@ -15,7 +15,7 @@ use Rattle.product_claims.proofs.Compiled.{accepted_write}
 
 obeyed :
     (s : Setup) (states start : ℕ) (table old : List ℕ) (n : ℕ) →
-    count_of (write_answer table_limit node_limit s states start table old) ≡ some n →
+    yield_of (write_answer table_limit node_limit s states start table old) ≡ some n →
     (φ : Formula ℕ) → IsRuleOf s.events s.kind start table φ → ¬ TooDeep φ binder_limit
 obeyed s states start table old n h φ w deep =
     let made = (written_claim s states start table old (accepted_write s states start table old n h)).rule_written in

@@ -7,12 +7,12 @@ use Rattle.limits.specs.Limits.{event_limit, line_limit, node_limit, binder_limi
 use Rattle.theory.specs.ValueSets.{MeetSemilattice, Masks, OfLines, pack}
 use Rattle.theory.specs.Formula.{Formula, transition, conjunction, size, output_node, conjunction_node, Stands, Answers}
 use Rattle.theory.specs.{MealyMachine.{Machine, Word, after, Implies}, ReachableStates.{NodeSet, Demands, IsSetMachine}}
-use Rattle.refusal.specs.{declared.Refusal.{Refusal}, declared.Refusal.TheVariants.{Plain}, Refusal.{First, counted_refusal, count_of}}
+use Rattle.refusal.specs.{declared.Refusal.{Refusal, TheVariants.{BinderDepth, BufferLength, NodeCount, StateCount}}, Refusal.{First, refusal_of, yield_of}}
 use Rattle.values.specs.declared.{ValueKind.{ValueKind}, ValueKind.TheVariants.{Register}, Comparison.{Comparison}}
 use Rattle.values.specs.Setup.{register_setup}
 use Rattle.values.specs.{Setup.{Setup, SetupValue, ValueIn, setup_meet, setup_top, meet_of, ComparesAs}, SetupTests.{setup_refusal}, ValueTests.{comparison}}
-use Rattle.conformance.specs.declared.{Grade.TheVariants.{Same, Stricter}, Verdict.{Verdict}}
-use Rattle.conformance.specs.{Trial.{TrialInput, DeviceInOrder, Passes, EndsSame, refusal_of, Passed, grade}, TrialAnswer.{trial_answer}}
+use Rattle.conformance.specs.declared.{Grade.TheVariants.{Same, Stricter}}
+use Rattle.conformance.specs.{Trial.{TrialInput, DeviceInOrder, Passes, EndsSame, Answer, Passed, grade}, TrialAnswer.{trial_answer}}
 use Rattle.machines.specs.TableBytes.{entry_width, entry_bytes, machine_of}
 use Rattle.formulas.specs.RuleConditions.{encode_formula, node_width, node_bytes, Unbound, TooDeep, Unprotected, NodeAtFault, byte_conditions}
 use Rattle.synthesis.specs.{Compilation.{compile_answer, compile_contents}, KeptSets.{kept_set}}
@@ -38,7 +38,7 @@ pub record InnerBinders : Type 0 where
       ((i : ℕ) → ¬ Unbound φ i) → ¬ TooDeep φ binder_limit → LetThrough s (rule_bytes s φ) ↔ ((i : ℕ) → ¬ Unprotected φ i)
   -- "everything promised about rules covers the wider class": of what is let through, `compile` refuses by 10 and 13 alone
   pub covered : (s : Setup) (rule to : List ℕ) → setup_refusal s ≡ none → LetThrough s rule →
-      (r : Refusal) → counted_refusal (compile_answer state_limit s rule to) ≡ some r → (r ≡ Plain 10) ⊎ (r ≡ Plain 13)
+      (r : Refusal) → refusal_of (compile_answer state_limit s rule to) ≡ some r → (r ≡ StateCount) ⊎ (r ≡ BufferLength)
 
 -- F-9: binders twelve deep. 23's conditions are those of RuleConditions and of RuleOfTable; "A written rule is still always a rule that
 -- compiles" stands in DemandTwo (`table_to_rule_to_table`).
@@ -46,10 +46,10 @@ pub record TwelveBinders : Type 0 where
   -- "23, a path with more than twelve V nodes, after 8 and before 9 for a rule": where 5, 6 and 8 are not met, whatever 9 says
   pub refused : (s : Setup) (φ : Formula ℕ) → size φ ≤ node_limit →
       ((i : ℕ) → ¬ NodeAtFault (node_width s.kind) (node_bytes s.kind) (rule_bytes s φ) s.events (ValueIn s.kind) i) →
-      ((i : ℕ) → ¬ Unbound φ i) → First (byte_conditions s.events s.kind (rule_bytes s φ)) (some (Plain 23)) ↔ TooDeep φ binder_limit
+      ((i : ℕ) → ¬ Unbound φ i) → First (byte_conditions s.events s.kind (rule_bytes s φ)) (some BinderDepth) ↔ TooDeep φ binder_limit
   -- "A written rule obeys it too"
   pub obeyed : (s : Setup) (states start : ℕ) (table old : List ℕ) (n : ℕ) →
-      count_of (write_answer table_limit node_limit s states start table old) ≡ some n →
+      yield_of (write_answer table_limit node_limit s states start table old) ≡ some n →
       (φ : Formula ℕ) → IsRuleOf s.events s.kind start table φ → ¬ TooDeep φ binder_limit
 
 -- F-3: demands gathered before the walk. `kept_set φ i` is what the row of node i is, by the contract of synthesis `keep_demands`; the walk
@@ -94,14 +94,14 @@ pub record SameOrStricter : Type 1 where
   pub stricter : (x : TrialInput) (old : List ℕ) → refusal_of (trial_answer device_limit table_limit x old) ≡ none →
       (grade (trial_answer device_limit table_limit x old) ≡ some Stricter) ↔ (Passes x × ¬ EndsSame x)
   -- "if it matches the rule everywhere": against what `compile` stored, by the rule's meaning, which builds no table
-  pub same_as_the_rule : (s : Setup) (rule to : List ℕ) (n : ℕ) → count_of (compile_answer state_limit s rule to) ≡ some n →
+  pub same_as_the_rule : (s : Setup) (rule to : List ℕ) (n : ℕ) → yield_of (compile_answer state_limit s rule to) ≡ some n →
       (states start : ℕ) (device word : List ℕ) →
       DeviceInOrder device_limit table_limit (rule_trial_input s rule to n states start device) word → word_limit ≤ length word →
       (φ : Formula ℕ) → rule ≡ encode_formula (node_bytes s.kind) φ →
       (grade (trial_answer device_limit table_limit (rule_trial_input s rule to n states start device) word) ≡ some Same)
       ↔ MatchesRule s φ (machine_of s.kind s.events device) start
   -- "The two passes together are the old pass", which DemandThree (`passes`) says in the words it had
-  pub together : (answer : Verdict) → Passed answer ↔ ((grade answer ≡ some Same) ⊎ (grade answer ≡ some Stricter))
+  pub together : (answer : Answer) → Passed answer ↔ ((grade answer ≡ some Same) ⊎ (grade answer ≡ some Stricter))
 
 -- The trial of the first rule's table, of n states, as a device from state 0 against the second's, of k states; `compile` stored both.
 abbrev pub cover_trial_input : Setup → List ℕ → List ℕ → ℕ → List ℕ → List ℕ → ℕ → TrialInput
@@ -124,8 +124,8 @@ stored_value s rule to w e =
 pub record Covering : Type 1 where
   -- "a rule whose table has at most 64 states implies a second, itself within 10's limit, exactly when its table, taken as a device from
   -- state 0, passes against the second"; such a trial is not refused
-  pub covers : (s : Setup) (first to second to' : List ℕ) (n k : ℕ) → count_of (compile_answer state_limit s first to) ≡ some n → n ≤ device_limit →
-      count_of (compile_answer state_limit s second to') ≡ some k → (word : List ℕ) → word_limit ≤ length word →
+  pub covers : (s : Setup) (first to second to' : List ℕ) (n k : ℕ) → yield_of (compile_answer state_limit s first to) ≡ some n → n ≤ device_limit →
+      yield_of (compile_answer state_limit s second to') ≡ some k → (word : List ℕ) → word_limit ≤ length word →
       (φ χ : Formula ℕ) → first ≡ rule_bytes s φ → second ≡ rule_bytes s χ →
       (refusal_of (trial_answer device_limit table_limit (cover_trial_input s first to n second to' k) word) ≡ none)
       × (Passed (trial_answer device_limit table_limit (cover_trial_input s first to n second to' k) word)
@@ -135,13 +135,13 @@ pub record Covering : Type 1 where
       (b : ℕ) × (c : ℕ) × HasValue s φ w e b × HasValue s χ w e c × HasValue s (conjunction φ χ) w e (setup_meet s b c)
   -- the same in bytes, where `compile` accepts all three; of the joined bytes 5, 10 and 13 alone are to be met
   pub joined_bytes : (s : Setup) (φ χ : Formula ℕ) → joined s (rule_bytes s φ) (rule_bytes s χ) ≡ rule_bytes s (conjunction φ χ)
-  pub joined_tables : (s : Setup) (first to second to' to'' : List ℕ) (n k l : ℕ) → count_of (compile_answer state_limit s first to) ≡ some n →
-      count_of (compile_answer state_limit s second to') ≡ some k → count_of (compile_answer state_limit s (joined s first second) to'') ≡ some l →
+  pub joined_tables : (s : Setup) (first to second to' to'' : List ℕ) (n k l : ℕ) → yield_of (compile_answer state_limit s first to) ≡ some n →
+      yield_of (compile_answer state_limit s second to') ≡ some k → yield_of (compile_answer state_limit s (joined s first second) to'') ≡ some l →
       (w : List ℕ) → Word s.events w → (e : ℕ) → e < s.events →
       stored_value s (joined s first second) to'' w e ≡ setup_meet s (stored_value s first to w e) (stored_value s second to' w e)
   pub joined_refused : (s : Setup) (first second to : List ℕ) → setup_refusal s ≡ none → LetThrough s first → LetThrough s second →
-      (r : Refusal) → counted_refusal (compile_answer state_limit s (joined s first second) to) ≡ some r →
-      (r ≡ Plain 5) ⊎ ((r ≡ Plain 10) ⊎ (r ≡ Plain 13))
+      (r : Refusal) → refusal_of (compile_answer state_limit s (joined s first second) to) ≡ some r →
+      (r ≡ NodeCount) ⊎ ((r ≡ StateCount) ⊎ (r ≡ BufferLength))
 
 -- F-12: one store of rows for the tool. 10's and 11's limits are those of Limits, 25's conditions those of Store; what is said of the independence
 -- of channels, and of what a load leaves, stands in DemandThree (`independence`, `load_independence`, `loading`).

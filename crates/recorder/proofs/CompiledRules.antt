@@ -6,10 +6,9 @@ use borrow.Author.Tests.{le-leb}
 use lib.{Dec.{leb}, ListN.{length, drop, get_or-append}}
 use Rattle.limits.specs.Limits.{event_limit, state_limit}
 use Rattle.theory.specs.MealyMachine.{States, Runs}
-use Rattle.refusal.specs.declared.Refusal.{Refusal}
-use Rattle.refusal.specs.declared.Counted.TheVariants.{Count, Refused}
-use Rattle.refusal.specs.{Refusal.{put}, RefusalAnswers.{or_else, plain_unless, counted, put_unless}}
-use Rattle.refusal.proofs.Refusals.{counted_accepted, counted_refused}
+use Rattle.refusal.specs.{declared.Refusal.{Refusal}, declared.Refusal.TheVariants.{BufferLength}}
+use Rattle.refusal.specs.{Refusal.{put}, RefusalAnswers.{or_else, plain_unless, answered, put_unless}}
+use Rattle.refusal.proofs.Refusals.{answered_accepted, answered_refused}
 use Rattle.values.specs.declared.ValueKind.{ValueKind}
 use Rattle.values.specs.declared.ValueKind.TheVariants.{Numbered, Register}
 use Rattle.values.specs.{Setup.{Setup, SetupValue, setup_meet, setup_top, value_width, value_from}, SetupTests.{setup_refusal}}
@@ -24,6 +23,7 @@ use Rattle.synthesis.proofs.{CompiledTable.{table_runs}, LentTable.{laws, few, f
 use Rattle.recorder.specs.CompiledRule.{rule_judged, states_of_rule, table_of_rule, values_of_rule, nexts_of_rule}
 use Rattle.recorder.specs.Splicing.{entry_values, entry_nexts}
 use Rattle.recorder.proofs.Rows.{same_padded}
+use Rattle.std.specs.Prelude.{Err, Ok}
 
 -- A value at the front of bytes.
 value_front :
@@ -71,7 +71,7 @@ module _ (s : Setup) (rule : List ℕ) (ok : setup_refusal s ≡ none) where
 
   module _ (old : List ℕ) (room : state_limit * event_limit * entry_width s.kind ≤ length old) where
     abbrev thirteen : Option Refusal
-    thirteen = plain_unless (leb (states_of_rule s rule * s.events * entry_width s.kind) (length old)) 13
+    thirteen = plain_unless (leb (states_of_rule s rule * s.events * entry_width s.kind) (length old)) BufferLength
 
     -- Beside an accepted set-up and such a buffer only 5 to 10 are met.
     answer_is : compile_refusal state_limit s rule old ≡ rule_judged s rule
@@ -80,19 +80,19 @@ module _ (s : Setup) (rule : List ℕ) (ok : setup_refusal s ≡ none) where
       where
         go : (o : Option Refusal) → rule_judged s rule ≡ o → or_else o thirteen ≡ o
         go none e =
-            ap (λ b. plain_unless b 13)
+            ap (λ b. plain_unless b BufferLength)
             (le-leb (states_of_rule s rule * s.events * entry_width s.kind) (length old) (table_fits e (entry_width s.kind) (length old) room))
         go (some x) e = refl
 
-    verdict_is : compile_answer state_limit s rule old ≡ counted (rule_judged s rule) (states_of_rule s rule)
+    verdict_is : compile_answer state_limit s rule old ≡ answered (rule_judged s rule) (states_of_rule s rule)
     unfolding states_of_rule
-    verdict_is = ap (λ o. counted o (states_of_rule s rule)) answer_is
+    verdict_is = ap (λ o. answered o (states_of_rule s rule)) answer_is
 
-    pub rule_refused : (r : Refusal) → compile_answer state_limit s rule old ≡ Refused r → rule_judged s rule ≡ some r
-    rule_refused r e = counted_refused (rule_judged s rule) (states_of_rule s rule) r (sym verdict_is ∙ e)
+    pub rule_refused : (r : Refusal) → compile_answer state_limit s rule old ≡ Err r → rule_judged s rule ≡ some r
+    rule_refused r e = answered_refused (rule_judged s rule) (states_of_rule s rule) r (sym verdict_is ∙ e)
 
-    pub rule_counted : (n : ℕ) → compile_answer state_limit s rule old ≡ Count n → (rule_judged s rule ≡ none) × (n ≡ states_of_rule s rule)
-    rule_counted n e = let f = counted_accepted (rule_judged s rule) (states_of_rule s rule) n (sym verdict_is ∙ e) in (f.0, sym f.1)
+    pub rule_counted : (n : ℕ) → compile_answer state_limit s rule old ≡ Ok n → (rule_judged s rule ≡ none) × (n ≡ states_of_rule s rule)
+    rule_counted n e = let f = answered_accepted (rule_judged s rule) (states_of_rule s rule) n (sym verdict_is ∙ e) in (f.0, sym f.1)
 
     module _ (fine : rule_judged s rule ≡ none) where
       abbrev count : ℕ

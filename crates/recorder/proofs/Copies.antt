@@ -1,16 +1,17 @@
 -- Columns of a table's bytes; three copies into zeros make a splice.
-use mathlib.Core.{Path.{◌≡◌, refl, sym, ◌∙◌, ap, ap₂}, List.{List, ◌++◌}}
+use mathlib.Core.{Path.{◌≡◌, refl, sym, ◌∙◌, ap, ap₂}, List.{List, ◌++◌, append_assoc}}
 use Prim.Native.Nat.{ℕ, ◌+◌, ◌*◌, ◌-◌, ◌≤◌, ◌<◌}
 use native.Mathlib.{Nat.{add-zero, add-mul, one-mul, mul-le-mul_right}, Omega.{arith}}
-use lib.ListN.{length, get_or, take, drop, replicate, length-append, length-replicate}
-use lib.Seq.{paste, length-paste, length-take-le, take-length, take-append_seam, drop-append-add, drop-drop}
+use lib.ListN.{length, get_or, take, drop, replicate, length-append, length-drop, length-replicate}
+use lib.Seq.{paste, length-paste, length-take-le, take_all, take-take, take-append_seam, take-append-le, drop-append-le, drop_at}
 use Rattle.limits.specs.Limits.{store_limit}
 use Rattle.formulas.proofs.Padding.{padded_length, padded_field}
-use Rattle.values.specs.declared.ValueKind.TheVariants.{Numbered, Register}
+use Rattle.values.specs.{declared.ValueKind.{ValueKind}, declared.ValueKind.TheVariants.{Numbered, Register}}
+use Rattle.machines.specs.TableBytes.{entry_width}
 use Rattle.values.specs.ValueTests.{masks_from}
-use Rattle.recorder.specs.Splicing.{part, spliced, replaced, column, mask_column, entry_values, entry_nexts}
-use Rattle.recorder.specs.{declared.row_store.Room.{Room}, Store.{Store}, Called.{with_rows, with_entries}, Decisions.{room_of}}
-use Rattle.recorder.proofs.Rows.{length_part, drop_zeros, same_padded}
+use Rattle.recorder.specs.Splicing.{spliced, column, mask_column, entry_values, entry_nexts}
+use Rattle.recorder.specs.{declared.row_store.Room.{Room}, Store.{Store}, Called.{with_rows, with_entries}, Decisions.{room_of, roomed}}
+use Rattle.recorder.proofs.Rows.{same_padded}
 
 module _ (width which : ℕ) (table : List ℕ) (n : ℕ) where
   pub column_length : length (column width which table n) ≡ n
@@ -37,106 +38,90 @@ entry_inside width which count i len h g k =
     let e : (i + 1) * width ≤ count * width = mul-le-mul_right width (omega arith) in
     omega (arith, add-mul i 1 width, one-mul width)
 
--- The next states are one column for either kind, the values of numbers another.
+-- The values of numbers are one column of bytes, those of registers one of masks; the next states are one for either kind.
 pub number_values : (v : ℕ) (table : List ℕ) (n : ℕ) → column 2 0 table n ≡ entry_values (Numbered v) table n
 unfolding column entry_values
 number_values v table n =
     same_padded (λ i. get_or table (i * 2 + 0) 0) (λ i. get_or table (i * 2) 0) n (λ i h. ap (λ x. get_or table x 0) (add-zero (i * 2))) n 0
 
-pub number_nexts : (v : ℕ) (table : List ℕ) (n : ℕ) → column 2 1 table n ≡ entry_nexts (Numbered v) table n
-unfolding column entry_nexts
-number_nexts v table n = refl
-
 pub register_values : (lines : ℕ) (table : List ℕ) (n : ℕ) → mask_column table n ≡ entry_values (Register lines) table n
 unfolding mask_column entry_values
 register_values lines table n = refl
 
-pub register_nexts : (lines : ℕ) (table : List ℕ) (n : ℕ) → column 5 4 table n ≡ entry_nexts (Register lines) table n
+pub kind_nexts : (kind : ValueKind) (table : List ℕ) (n : ℕ) → column (entry_width kind) (entry_width kind - 1) table n ≡ entry_nexts kind table n
 unfolding column entry_nexts
-register_nexts lines table n = refl
+kind_nexts (Numbered v) table n = refl
+kind_nexts (Register lines) table n = refl
 
-abbrev empty : List ℕ
-empty = replicate store_limit 0
+-- A copy of the later rows and zeros behind them make room; the new entries pasted into it make a splice.
+module _ {A : Type 0} (blank : A) (rows : List A) (at old new later : ℕ) (sized : length rows ≡ store_limit)
+    (old_fits : at + old + later ≤ store_limit) (new_fits : at + new + later ≤ store_limit) where
+  abbrev moved : List A
+  moved = paste rows (at + new) (drop (at + old) rows) (at + old + later - (at + old))
 
--- A list at the front of zeros, and a copy right behind it.
-abbrev on_zeros : List ℕ → List ℕ
-on_zeros l = l ++ drop (length l) empty
+  pub moved_length : length moved ≡ store_limit
+  moved_length =
+      length-paste rows (at + new) (drop (at + old) rows) (at + old + later - (at + old)) (omega (arith, sized))
+      (simp length-drop (omega (arith, sized))) ∙ sized
 
-copy_behind : (l new : List ℕ) → paste (on_zeros l) (length l) new (length new) ≡ on_zeros (l ++ new)
-copy_behind l new =
-    ap₂ (λ a b. a ++ b ++ drop (length l + length new) (on_zeros l)) (take-append_seam l (drop (length l) empty)) (take-length new)
-    ∙ ap (λ x. l ++ new ++ x)
-    (drop-append-add l (drop (length l) empty) (length new)
-    ∙ drop-drop (length new) (length l) empty
-    ∙ ap (λ k. drop k empty) (sym (length-append l new)))
+  head_length : length (take (at + new) rows) ≡ at + new
+  head_length = length-take-le (at + new) rows (omega (arith, sized))
+
+  later_length : length (take later (drop (at + old) rows)) ≡ later
+  later_length = length-take-le later (drop (at + old) rows) (simp length-drop (omega (arith, sized)))
+
+  -- What is pasted lies in front of the zeros.
+  pub front_is : take (at + new + later) moved ≡ take (at + new) rows ++ take later (drop (at + old) rows)
+  front_is =
+      let e : at + old + later - (at + old) ≡ later = omega arith in
+      let l : length (take (at + new) rows ++ take later (drop (at + old) rows)) ≡ at + new + later =
+      omega (arith, length-append (take (at + new) rows) (take later (drop (at + old) rows)), head_length, later_length) in
+      ap (λ n. take (at + new + later) (take (at + new) rows ++ take n (drop (at + old) rows) ++ drop (at + new + n) rows)) e
+      ∙ ap (λ n. take n (take (at + new) rows ++ take later (drop (at + old) rows) ++ drop (at + new + later) rows)) (sym l)
+      ∙ take-append_seam (take (at + new) rows ++ take later (drop (at + old) rows)) (drop (at + new + later) rows)
 
 module _ (rows new : List ℕ) (at old n later : ℕ) (sized : length rows ≡ store_limit) (counted : length new ≡ n)
-    (old_fits : at + old + later ≤ store_limit) (new_fits : at + n + later ≤ store_limit) where
-  abbrev front : List ℕ
-  front = take at rows
-
-  -- What lies behind, as the code lends it.
+    (new_fits : at + n + later ≤ store_limit) where
   abbrev behind : List ℕ
-  behind = take (at + old + later - (at + old)) (drop (at + old) rows)
+  behind = take later (drop (at + old) rows) ++ replicate (store_limit - (at + n + later)) 0
 
-  pub front_length : length front ≡ at
-  front_length = length-take-le at rows (omega arith)
+  pub roomed_length : at + old + later ≤ store_limit → length (roomed 0 rows at old n later) ≡ store_limit
+  roomed_length old_fits =
+      let a : length (take (at + n) rows) ≡ at + n = length-take-le (at + n) rows (omega (arith, sized)) in
+      let b : length (take later (drop (at + old) rows)) ≡ later =
+      length-take-le later (drop (at + old) rows) (simp length-drop (omega (arith, sized))) in
+      omega (
+        arith,
+        length-append (take (at + n) rows ++ take later (drop (at + old) rows)) (replicate (store_limit - (at + n + later)) 0),
+        length-append (take (at + n) rows) (take later (drop (at + old) rows)),
+        a,
+        b,
+        length-replicate {A = ℕ} (store_limit - (at + n + later)) 0,
+      )
 
-  behind_is : behind ≡ part rows (at + old) later
-  behind_is = let e : at + old + later - (at + old) ≡ later = omega arith in ap (λ n. take n (drop (at + old) rows)) e
-
-  pub behind_length : length behind ≡ later
-  behind_length = ap length behind_is ∙ length_part rows (at + old) later (omega arith)
-
-  module _ (a b c : List ℕ) (first : a ≡ paste empty 0 front (length front)) (second : b ≡ paste a at new n)
-      (third : c ≡ paste b (at + n) behind (length behind)) where
-    one : a ≡ on_zeros front
-    one =
-        let z : 0 + length front ≡ length front = omega arith in
-        first ∙ ap₂ (λ l k. l ++ drop k empty) (take-length front) z
-
-    two : b ≡ on_zeros (front ++ new)
-    two =
-        second
-        ∙ ap (paste a at new) (sym counted)
-        ∙ ap₂ (λ l k. paste l k new (length new)) one (sym front_length)
-        ∙ copy_behind front new
-
-    three : c ≡ on_zeros (front ++ new ++ behind)
-    three =
-        let e : at + n ≡ length (front ++ new) = omega (arith, length-append front new, front_length) in
-        third ∙ ap₂ (λ l k. paste l k behind (length behind)) two e ∙ copy_behind (front ++ new) behind
-
-    pub copied : c ≡ spliced rows at old new later
-    unfolding spliced
-    copied =
-        let e : length (front ++ new ++ behind) ≡ at + length new + later =
-        omega (arith, length-append (front ++ new) behind, length-append front new, front_length, behind_length) in
-        three
-        ∙ ap₂ (λ l x. front ++ new ++ l ++ x) behind_is
-        (drop_zeros store_limit (length (front ++ new ++ behind)) ∙ ap (λ k. replicate (store_limit - k) 0) e)
-
-  -- Each copy leaves the length.
-  module _ (a b : List ℕ) (first : a ≡ paste empty 0 front (length front)) (second : b ≡ paste a at new n) where
-    pub one_length : length a ≡ store_limit
-    one_length =
-        ap length first
-        ∙ length-paste empty 0 front (length front) (omega (arith, front_length, length-replicate {A = ℕ} store_limit 0)) (omega arith)
-        ∙ length-replicate {A = ℕ} store_limit 0
-
-    pub two_length : length b ≡ store_limit
-    two_length =
-        ap length second ∙ length-paste a at new n (omega (arith, one_length)) (omega arith) ∙ one_length
+  pub filled_room : paste (roomed 0 rows at old n later) at new n ≡ spliced rows at old new later
+  unfolding spliced
+  filled_room =
+      let a : length (take (at + n) rows) ≡ at + n = length-take-le (at + n) rows (omega (arith, sized)) in
+      let l : length (take at rows) ≡ at = length-take-le at rows (omega (arith, sized)) in
+      let z : List ℕ = replicate (store_limit - (at + n + later)) 0 in
+      let b : List ℕ = take later (drop (at + old) rows) in
+      ap₂ (λ x y. x ++ take n new ++ y)
+      (take-append-le at (take (at + n) rows ++ b) z (omega (arith, length-append (take (at + n) rows) b, a))
+      ∙ take-append-le at (take (at + n) rows) b (omega (arith, a))
+      ∙ take-take at (at + n) rows (omega arith))
+      (drop-append-le (at + n) (take (at + n) rows ++ b) z (omega (arith, length-append (take (at + n) rows) b, a))
+      ∙ ap (λ x. x ++ z) (drop_at (take (at + n) rows) b (at + n) a))
+      ∙ ap (λ x. take at rows ++ x ++ (b ++ z)) (take_all n new (omega (arith, counted)))
+      ∙ ap (λ k. take at rows ++ new ++ (b ++ replicate (store_limit - (at + k + later)) 0)) (sym counted)
+      ∙ sym (append_assoc (take at rows ++ new) b (replicate (store_limit - (at + length new + later)) 0))
 
 -- What is stored: both lists spliced with what is read from a table's bytes.
 pub stored_is :
-    (t : Store) (c k : ℕ) (table : List ℕ) (room : Room) → room ≡ room_of t.setup.events t.states c k → (v n : List ℕ) (values nexts : ℕ → List ℕ) →
-    ((m : ℕ) → values m ≡ entry_values t.setup.kind table m) → ((m : ℕ) → nexts m ≡ entry_nexts t.setup.kind table m) →
-    v ≡ spliced t.value room.at room.old (values room.new) room.later →
-    n ≡ spliced t.next room.at room.old (nexts room.new) room.later → with_rows t c k v n ≡ with_entries t c k table
-stored_is t c k table room e v n values nexts is_values is_nexts e_value e_next =
+    (t : Store) (c k : ℕ) (table : List ℕ) (room : Room) → room ≡ room_of t.setup.events t.states c k → (v n : List ℕ) →
+    v ≡ spliced t.value room.at room.old (entry_values t.setup.kind table room.new) room.later →
+    n ≡ spliced t.next room.at room.old (entry_nexts t.setup.kind table room.new) room.later → with_rows t c k v n ≡ with_entries t c k table
+stored_is t c k table room e v n e_value e_next =
     ap₂ (with_rows t c k)
-    (e_value ∙ ap (λ r. spliced t.value r.at r.old (values r.new) r.later) e
-    ∙ ap (λ l. replaced t.setup.events t.states c l t.value) (is_values (k * t.setup.events)))
-    (e_next ∙ ap (λ r. spliced t.next r.at r.old (nexts r.new) r.later) e
-    ∙ ap (λ l. replaced t.setup.events t.states c l t.next) (is_nexts (k * t.setup.events)))
+    (e_value ∙ ap (λ r. spliced t.value r.at r.old (entry_values t.setup.kind table r.new) r.later) e)
+    (e_next ∙ ap (λ r. spliced t.next r.at r.old (entry_nexts t.setup.kind table r.new) r.later) e)

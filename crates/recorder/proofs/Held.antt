@@ -8,8 +8,7 @@ use lib.{Dec.{ltb, leb}, ListN.{get_or}}
 use Rattle.limits.specs.Limits.{channel_limit, event_limit, value_limit, table_limit, turn_limit, total_limit}
 use Rattle.theory.specs.ValueSetTests.{every}
 use Rattle.theory.proofs.ValueSets.{and_left, and_right, and_both, every_at, every_of}
-use Rattle.refusal.specs.declared.Refusal.TheVariants.{Plain}
-use Rattle.refusal.specs.declared.Refusal.{Refusal}
+use Rattle.refusal.specs.{declared.Refusal.{Refusal}, declared.Refusal.TheVariants.{ChannelEmpty, ChannelNumber, SetupWheel}}
 use Rattle.refusal.specs.RefusalAnswers.{or_else, plain_unless, judgement}
 use Rattle.refusal.proofs.Refusals.{or_else_none, plain_none}
 use Rattle.values.specs.declared.ValueKind.{ValueKind}
@@ -24,15 +23,16 @@ use Rattle.channel_log.proofs.Record.{test_passed}
 use Rattle.machines.specs.TableBytes.{entry_width, entry_bytes}
 use Rattle.machines.proofs.{EntryIndex.{index_below, every_entry}, EntryBytes.{table_length}, TableRoundTrip.{entry_length}}
 use Rattle.recorder.specs.Splicing.{part}
-use Rattle.recorder.specs.Store.{ToolSetup, tool_setup, table_at, loaded_at, held}
-use Rattle.recorder.specs.Store.{ChannelInOrder}
+use Rattle.recorder.specs.Store.{ToolSetup, table_at, loaded_at, held, ChannelInOrder}
 use Rattle.recorder.specs.ToolTests.{passed, turn_test, wheel_test, tool_setup_refusal, setup_test, entries_test, loaded_test}
-use Rattle.recorder.specs.Decisions.{wheel_judged, accepting}
+use Rattle.std.specs.Prelude.{Result, Ok, Err}
+use Rattle.std.specs.Result.{is_ok}
+use Rattle.refusal.specs.Refusal.{refusal_of}
 use Rattle.recorder.proofs.Rows.{get_d_part}
 
 -- 14.
 pub channel_below : (c : ℕ) → channel_refusal c ≡ none → c < channel_limit
-channel_below c h = ltb-true c channel_limit (test_passed (ltb c channel_limit) (Plain 14) h)
+channel_below c h = ltb-true c channel_limit (test_passed (ltb c channel_limit) ChannelNumber h)
 
 -- The test of a set-up.
 passed_none : (o : Option Refusal) → passed o ≡ true → o ≡ none
@@ -50,12 +50,12 @@ test_of_accepted s h = ap passed h
 -- An accepted set-up has an accepted value set, and a wheel in its range.
 pub values_accepted : (s : ToolSetup) → tool_setup_refusal s ≡ none → setup_refusal s.values ≡ none
 unfolding tool_setup_refusal
-values_accepted s h = (or_else_none (setup_refusal s.values) (plain_unless (wheel_test s.wheel) 18) h).0
+values_accepted s h = (or_else_none (setup_refusal s.values) (plain_unless (wheel_test s.wheel) SetupWheel) h).0
 
 pub wheel_accepted : (s : ToolSetup) → tool_setup_refusal s ≡ none → wheel_test s.wheel ≡ true
 unfolding tool_setup_refusal
 wheel_accepted s h =
-    plain_none (wheel_test s.wheel) 18 (or_else_none (setup_refusal s.values) (plain_unless (wheel_test s.wheel) 18) h).1
+    plain_none (wheel_test s.wheel) SetupWheel (or_else_none (setup_refusal s.values) (plain_unless (wheel_test s.wheel) SetupWheel) h).1
 
 turn_of_test : (n : ℕ) → turn_test n ≡ true → (1 ≤ n) × (n ≤ turn_limit)
 unfolding turn_test
@@ -89,37 +89,42 @@ pub few_events : (s : ToolSetup) → setup_test s ≡ true → s.values.events �
 few_events s h = (well_formed_of_test s h).few_events
 
 -- For numbered values.
-pub few_values : (e v t : ℕ) (m : List ℕ) (w : Wheel) → setup_test (tool_setup (setup e v t m) w) ≡ true → v ≤ value_limit
-few_values e v t m w h = (well_formed_of_test (tool_setup (setup e v t m) w) h).of_kind.few_values
+pub few_values : (e v t : ℕ) (m : List ℕ) → passed (setup_refusal (setup e v t m)) ≡ true → v ≤ value_limit
+few_values e v t m h = ((setup_accepted (setup e v t m)).0 (passed_none (setup_refusal (setup e v t m)) h)).of_kind.few_values
 
-pub some_values : (e v t : ℕ) (m : List ℕ) (w : Wheel) → setup_test (tool_setup (setup e v t m) w) ≡ true → 0 < v
-some_values e v t m w h = (well_formed_of_test (tool_setup (setup e v t m) w) h).of_kind.some_values
-
-pub many_values : (e v t : ℕ) (m : List ℕ) (w : Wheel) → value_limit < v → setup_test (tool_setup (setup e v t m) w) ≡ false
-many_values e v t m w h = go (setup_test (tool_setup (setup e v t m) w)) refl
+pub many_values : (e v t : ℕ) (m : List ℕ) → value_limit < v → passed (setup_refusal (setup e v t m)) ≡ false
+many_values e v t m h = go (passed (setup_refusal (setup e v t m))) refl
   where
-    go : (b : Bool) → setup_test (tool_setup (setup e v t m) w) ≡ b → b ≡ false
-    go true p = absurd (omega (arith, h, few_values e v t m w p))
+    go : (b : Bool) → passed (setup_refusal (setup e v t m)) ≡ b → b ≡ false
+    go true p = absurd (omega (arith, h, few_values e v t m p))
     go false p = refl
 
--- 18 after what else a set-up is judged by; and the test of a set-up from its judgement.
-pub judged_is :
-    (s : ToolSetup) → wheel_judged (judgement (setup_refusal s.values)) (wheel_test s.wheel) ≡ judgement (tool_setup_refusal s)
-unfolding tool_setup_refusal or_else plain_unless judgement
-judged_is s = go (setup_refusal s.values) (wheel_test s.wheel)
+-- 18 after what else a set-up is judgement by.
+module _ (s : ToolSetup) where
+  pub values_refused : (r : Refusal) → setup_refusal s.values ≡ some r → judgement (tool_setup_refusal s) ≡ Err r
+  unfolding tool_setup_refusal or_else judgement
+  values_refused r h = rw h refl
+
+  pub wheel_refused : setup_refusal s.values ≡ none → wheel_test s.wheel ≡ false → judgement (tool_setup_refusal s) ≡ Err SetupWheel
+  unfolding tool_setup_refusal or_else plain_unless judgement
+  wheel_refused h e = rw (h, e) refl
+
+  pub none_refused : setup_refusal s.values ≡ none → wheel_test s.wheel ≡ true → judgement (tool_setup_refusal s) ≡ Ok tt
+  unfolding tool_setup_refusal or_else plain_unless judgement
+  none_refused h e = rw (h, e) refl
+
+pub ok_passed : {A : Type 0} (r : Result A Refusal) → is_ok r ≡ passed (refusal_of r)
+ok_passed (Ok v) = refl
+ok_passed (Err r) = refl
+
+pub setup_parts : (s : ToolSetup) → (passed (setup_refusal s.values) && wheel_test s.wheel) ≡ setup_test s
+unfolding setup_test tool_setup_refusal or_else plain_unless
+setup_parts s = go (setup_refusal s.values) (wheel_test s.wheel)
   where
-    go : (o : Option Refusal) (b : Bool) → wheel_judged (judgement o) b ≡ judgement (or_else o (plain_unless b 18))
+    go : (o : Option Refusal) (b : Bool) → (passed o && b) ≡ passed (or_else o (plain_unless b SetupWheel))
     go none true = refl
     go none false = refl
     go (some r) b = refl
-
-pub accepting_is : (s : ToolSetup) → accepting (judgement (tool_setup_refusal s)) ≡ setup_test s
-unfolding setup_test judgement
-accepting_is s = go (tool_setup_refusal s)
-  where
-    go : (o : Option Refusal) → accepting (judgement o) ≡ passed o
-    go none = refl
-    go (some r) = refl
 
 -- What a channel holds.
 module _ (c at n k q total : ℕ) (L N : List ℕ) where
@@ -135,11 +140,11 @@ module _ (c at n k q total : ℕ) (L N : List ℕ) where
   unfolding held
   held_some h g = simp (lt-ltb c channel_limit h, lt-ltb 0 k g)
 
-  pub empty_held : c < channel_limit → empty_refusal (held c at n k q total L N) ≡ cond (ltb 0 k) none (some (Plain 15))
+  pub empty_held : c < channel_limit → empty_refusal (held c at n k q total L N) ≡ cond (ltb 0 k) none (some ChannelEmpty)
   unfolding held
   empty_held h = rw (lt-ltb c channel_limit h) (go (ltb 0 k))
     where
-      go : (j : Bool) → empty_refusal {X = Loaded ℕ} (cond j (some (loaded_at at n k q total L N)) none) ≡ cond j none (some (Plain 15))
+      go : (j : Bool) → empty_refusal {X = Loaded ℕ} (cond j (some (loaded_at at n k q total L N)) none) ≡ cond j none (some ChannelEmpty)
       go true = refl
       go false = refl
 

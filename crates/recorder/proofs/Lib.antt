@@ -1,5 +1,3 @@
--- Refusals as numbers.
-pub mod Numbers
 -- Parts of lists and copies into them; where channels' rows lie, and what a splice makes of them.
 pub mod Rows
 pub mod RowTotals

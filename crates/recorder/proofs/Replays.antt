@@ -1,32 +1,33 @@
 -- A sequence of events on one channel is the event call repeated; what is decided on it is what its definition says.
-use mathlib.Core.{Path.{◌≡◌, refl, sym, ◌∙◌, ap, ap₂, subst, subst⁻¹}, Bool.{Bool, true, false}, List.{List, [], ◌∷◌, ◌++◌, map}}
-use mathlib.Core.Option.{Option, none, some}
-use Prim.Native.Nat.{ℕ, zero, suc, ◌+◌, ◌%◌, ◌≤◌, ◌<◌, min}
-use native.Mathlib.{Nat.{mod-eq_of_lt}, Omega.{arith}}
-use borrow.Author.Tests.{ltb-true, lt-ltb, leb-true, leb-false, le-leb}
+use mathlib.Core.{Path.{◌≡◌, refl, sym, ◌∙◌, ap, ap₂, subst, subst⁻¹}, Bool.{Bool, true, false, cond}, List.{List, [], ◌∷◌, ◌++◌, map}}
+use mathlib.Core.Option.{Option, none, some, some-ne-none}
+use Prim.Native.Nat.{ℕ, zero, suc, ◌+◌, ◌-◌, ◌≤◌, ◌<◌, min}
+use native.Mathlib.Omega.{arith}
+use Rattle.std.specs.Prelude.{Ok, Err}
+use borrow.Author.Tests.{ltb-true, lt-ltb, leb-true, leb-false, le-leb, lt-leb}
 use lib.{Dec.{ltb, leb}, ListN.{length, get_or, set, take, drop, length-set}}
 use lib.Seq.{paste, take_all, take-nil, take-add, take-append_seam, get_or-set_same, set-get_or, set-set}
 use Rattle.theory.proofs.{Words.{length_word_values}, ValueSets.{and_both, every_at}}
-use Rattle.limits.specs.Limits.{channel_limit, row_limit, store_limit, total_limit}
+use Rattle.limits.specs.Limits.{channel_limit, row_limit, total_limit}
 use Rattle.theory.specs.MealyMachine.{Machine, Word, after}
 use Rattle.theory.specs.MachineRuns.{word_values}
-use Rattle.refusal.specs.declared.Refusal.{Refusal}
+use Rattle.refusal.specs.{declared.Refusal.{Refusal}, declared.Refusal.TheVariants.{BufferLength, EventNumber, PulseTotal}}
 use Rattle.refusal.specs.{Refusal.{put}, RefusalAnswers.{or_else, plain_unless, put_unless}}
 use Rattle.refusal.proofs.Refusals.{or_else_none, plain_none}
-use Rattle.channel_log.specs.Calls.{event, Reply, returned, replies, final, event_calls, last_returned}
+use Rattle.channel_log.specs.Calls.{event, restart, Reply, returned, refused, replies, final, event_calls, last_returned}
 use Rattle.channel_log.specs.{CallSteps.{channel_refusal, empty_refusal}, Log.{large_total}, Rows.{all_rows}}
 use Rattle.channel_log.specs.Distance.{Wheel, Occurrence, Reading, reading}
-use Rattle.recorder.specs.Store.{Store, table_at, channels, rows, occurrences, all_pulses}
+use Rattle.recorder.specs.Store.{Store, channels, rows, occurrences, all_pulses}
 use Rattle.channel_log.proofs.Record.{total_fits}
 use Rattle.recorder.specs.ToolTests.{channel_test}
-use Rattle.recorder.specs.Called.{with_current, called}
+use Rattle.recorder.specs.Called.{with_current, fault_refusal, called}
 use Rattle.recorder.specs.Replay.{all_returned, word_test, pulses_refusal, replay_refusal, replay_settled, replayed}
-use Rattle.recorder.specs.Decisions.{number_refusal, first_number, number_unless, total_number, limited, sum_of, replay_number, plain_reply}
-use Rattle.recorder.specs.Decisions.{Measurable, end_reply, Runnable}
-use Rattle.recorder.proofs.{Numbers.{first_refusal, unless_refusal, number_some, plain_refused}, RowCounts.{start, all_rows_are}}
-use Rattle.recorder.proofs.Held.{channel_below, held_some, held_cases, test_of_in_order, flat_next}
-use Rattle.recorder.proofs.Decided.{or_else_same, read_fault, faults, later_refused, Ready, ready_of, table_of, state_of, total_of, loaded_with, has}
-use Rattle.recorder.proofs.Decided.{ready_facts, ready_events, ready_room, measurable, limited_small, limited_refusal}
+use Rattle.recorder.specs.Decisions.{loaded_refusal, sum_of, Measurable, end_reply, run_of}
+use Rattle.refusal.specs.RefusalAnswers.{answered}
+use Rattle.recorder.proofs.RowCounts.{start, all_rows_are}
+use Rattle.recorder.proofs.Held.{held_some, held_cases, test_of_in_order, flat_next}
+use Rattle.recorder.proofs.Decided.{Ready, ready_of, first_three, table_of, state_of, total_of, loaded_with, has}
+use Rattle.recorder.proofs.Decided.{ready_facts, ready_events, ready_room, measurable, small_total, over_total}
 
 abbrev moved_to : Store → ℕ → ℕ → ℕ → Store
 moved_to t c q total = with_current t (set t.current c q) (set t.total c total)
@@ -210,6 +211,45 @@ sum_more [] i h = absurd (omega arith)
 sum_more (p ∷ pulses) zero h = omega arith
 sum_more (p ∷ pulses) (suc i) h = omega (arith, sum_more pulses i (omega arith))
 
+-- A total that is above the limit after some of the pulses is above it after all.
+pub total_over : (m : ℕ) (r : Refusal) → large_total m ≡ some r → (total_limit < m) × (r ≡ PulseTotal)
+total_over m r e = go (leb m total_limit) refl e
+  where
+    go : (b : Bool) → leb m total_limit ≡ b → cond b none (some PulseTotal) ≡ some r → (total_limit < m) × (r ≡ PulseTotal)
+    go true p e = absurd (some-ne-none r (sym e))
+    go false p e = (leb-false m total_limit p, cc)
+
+pub sum_to :
+    (total : ℕ) (pulses : List ℕ) (i m s b : ℕ) → s ≡ total + sum_of (take i pulses) → b ≡ sum_of (take (i + m - i) (drop i pulses)) →
+    s + b ≡ total + sum_of (take (i + m) pulses)
+sum_to total pulses i m s b e d =
+    let z : i + (i + m - i) ≡ i + m = omega arith in
+    omega (arith, e, d, sum_block pulses i (i + m - i), ap (λ k. sum_of (take k pulses)) z)
+
+module _ (total count : ℕ) (pulses : List ℕ) where
+  abbrev whole : ℕ
+  whole = total + sum_of (take count pulses)
+
+  pub over_in_part :
+      (n : ℕ) → n ≤ min count (length pulses) → (r : Refusal) → large_total (total + sum_of (take n pulses)) ≡ some r →
+      Err r ≡ answered (large_total whole) whole
+  unfolding answered
+  over_in_part n h r e =
+      let o = total_over (total + sum_of (take n pulses)) r e in
+      let z : n + (count - n) ≡ count = omega (arith, h) in
+      let m = ap (λ k. sum_of (take k pulses)) z in
+      let over : total_limit < whole = omega (arith, o.0, m, sum_block pulses n (count - n)) in
+      ap Err o.1 ∙ sym (ap (λ a. answered a whole) (over_total whole over))
+
+  pub within_all :
+      (n : ℕ) → n ≡ min count (length pulses) → (s : ℕ) → s ≡ total + sum_of (take n pulses) → s ≤ total_limit →
+      Ok s ≡ answered (large_total whole) whole
+  unfolding answered
+  within_all n e s d h =
+      let m = ap (λ k. sum_of (take k pulses)) e ∙ ap sum_of (take_min count pulses) in
+      let w : s ≡ whole = omega (arith, d, m) in
+      ap Ok w ∙ sym (ap (λ a. answered a whole) (small_total whole (subst (λ k. k ≤ total_limit) w h)))
+
 pub last_value :
     (wheel : Wheel) (l : List ℕ) (n total : ℕ) → n < length l → returned (reading wheel (get_or l n 0) total) ≡ end_reply wheel (take (suc n) l) total
 last_value wheel [] n total h = absurd (omega arith)
@@ -229,14 +269,14 @@ pub accepted_of : (t : Store) (c : ℕ) (word : List Occurrence) (out : List ℕ
 accepted_of t c word out h =
     let n = t.setup.events in
     let w = events_of word in
-    let O = plain_unless (word_test n w) 16 in
+    let O = plain_unless (word_test n w) EventNumber in
     let P = pulses_refusal (channels t c) (all_pulses word) in
-    let F = plain_unless (leb (length word) (length out)) 13 in
+    let F = plain_unless (leb (length word) (length out)) BufferLength in
     let r = ready_of t c (or_else O (or_else P F)) h in
     let o = or_else_none O (or_else P F) r.1 in
     let p = or_else_none P F o.1 in
     let below : (i : ℕ) → i < length w → get_or w i 0 < n =
-    λ i l. ltb-true (get_or w i 0) n (every_at (length w) (λ i. ltb (get_or w i 0) n) (plain_none (word_test n w) 16 o.0) i l) in
+    λ i l. ltb-true (get_or w i 0) n (every_at (length w) (λ i. ltb (get_or w i 0) n) (plain_none (word_test n w) EventNumber o.0) i l) in
     record {
       ready = r.0;
       events_in = below;
@@ -244,7 +284,7 @@ accepted_of t c word out h =
       small =
           total_fits (total_of t c + all_pulses word)
           (subst (λ x. pulses_refusal x (all_pulses word) ≡ none) (has t c r.0) p.0);
-      fits = leb-true (length word) (length out) (plain_none (leb (length word) (length out)) 13 p.1);
+      fits = leb-true (length word) (length out) (plain_none (leb (length word) (length out)) BufferLength p.1);
     }
 
 -- 19 of the total in the cells is that of what the channel holds, where it is not empty.
@@ -260,136 +300,119 @@ pulses_same t c n a b =
     ≡ or_else (empty_refusal o) (or_else a (or_else (pulses_refusal o n) b)))
     refl refl
 
-module _ (t : Store) (c : ℕ) (word pulses out : List ℕ) (f : ℕ) (e_fault : f ≡ read_fault t c) (i : Bool) (s : ℕ) (j : Bool)
-    (e_word : i ≡ word_test t.setup.events word)
-    (e_sum : s ≡ limited (get_or t.total (c % channel_limit) 0 + sum_of (take (length word) pulses)))
-    (e_fits : j ≡ leb (length word) (length out)) (m : ℕ)
-    (e_number : m ≡ replay_number f c (get_or t.states (c % channel_limit) 0) i s j) where
-  abbrev w : ℕ
-  w = c % channel_limit
-
-  abbrev k : ℕ
-  k = get_or t.states w 0
-
+module _ (t : Store) (c : ℕ) (word pulses out : List ℕ) where
   abbrev W : List Occurrence
   W = occurrences word pulses
 
-  abbrev sum : ℕ → ℕ
-  sum d = get_or t.total d 0 + all_pulses W
+  -- The total as the code adds it up.
+  abbrev sum : ℕ
+  sum = get_or t.total c 0 + sum_of (take (length word) pulses)
 
-  sum_is : s ≡ limited (sum w)
-  sum_is = e_sum ∙ ap (λ n. limited (get_or t.total w 0 + n)) (sym (pulses_are word pulses))
+  sum_is : get_or t.total c 0 + all_pulses W ≡ sum
+  sum_is = ap (λ n. get_or t.total c 0 + n) (pulses_are word pulses)
 
   abbrev sixteen : Option Refusal
-  sixteen = plain_unless (word_test t.setup.events (events_of W)) 16
+  sixteen = plain_unless (word_test t.setup.events word) EventNumber
 
   abbrev thirteen : Option Refusal
-  thirteen = plain_unless (leb (length W) (length out)) 13
+  thirteen = plain_unless (leb (length word) (length out)) BufferLength
 
-  later_is :
-      number_refusal (first_number (number_unless i 16) (first_number (total_number s) (number_unless j 13)))
-      ≡ or_else sixteen (or_else (large_total (sum w)) thirteen)
-  later_is =
-      first_refusal (number_unless i 16) (first_number (total_number s) (number_unless j 13))
-      ∙ ap₂ or_else
-      (unless_refusal i 15 ∙ ap (λ b. plain_unless b 16) (e_word ∙ ap (word_test t.setup.events) (sym (occurred word pulses))))
-      (first_refusal (total_number s) (number_unless j 13)
-      ∙ ap₂ or_else (ap (λ n. number_refusal (total_number n)) sum_is ∙ limited_refusal (sum w))
-      (unless_refusal j 12 ∙ ap (λ b. plain_unless b 13) (e_fits ∙ ap (λ n. leb n (length out)) (sym (length_occurrences word pulses)))))
+  found : replay_refusal t c W out ≡ or_else (loaded_refusal t c) (or_else sixteen (or_else (large_total sum) thirteen))
+  found =
+      let F = fault_refusal t (restart c) in
+      ap (λ o. or_else F (or_else (channel_refusal c) o))
+      (sym (pulses_same t c (all_pulses W) (plain_unless (word_test t.setup.events (events_of W)) EventNumber)
+      (plain_unless (leb (length W) (length out)) BufferLength))
+      ∙ ap₂ (λ w n. or_else (empty_refusal (channels t c)) (or_else (plain_unless (word_test t.setup.events w) EventNumber)
+      (or_else (large_total n) (plain_unless (leb (length W) (length out)) BufferLength)))) (occurred word pulses) sum_is
+      ∙ ap (λ n. or_else (empty_refusal (channels t c)) (or_else sixteen (or_else (large_total sum) (plain_unless (leb n (length out)) BufferLength))))
+      (length_occurrences word pulses))
+      ∙ first_three _ _ _ _
 
-  number_is : number_refusal m ≡ replay_refusal t c W out
-  number_is =
-      let n = first_number (number_unless i 16) (first_number (total_number s) (number_unless j 13)) in
-      let b = empty_refusal (channels t c) in
-      ap number_refusal e_number
-      ∙ later_refused t c f e_fault n
-      ∙ ap (or_else (faults t c f e_fault))
-      (or_else_same (channel_refusal c) (or_else b (number_refusal n))
-      (or_else b (or_else sixteen (or_else (pulses_refusal (channels t c) (all_pulses W)) thirteen)))
-      (λ h.
-      ap (or_else b) (later_is ∙ ap (λ d. or_else sixteen (or_else (large_total (sum d)) thirteen)) (mod-eq_of_lt (channel_below c h)))
-      ∙ pulses_same t c (all_pulses W) sixteen thirteen))
-
-  pub replay_refused : (a : Reply (Reading ℕ)) → a ≡ plain_reply m → 0 < m → ((a, t), out) ≡ replayed t c W out
+  refused_with : (r : Refusal) → replay_refusal t c W out ≡ some r → ((refused r, t), out) ≡ replayed t c W out
   unfolding replayed put_unless
-  replay_refused a e h =
-      ap (λ a. ((a, t), out)) (e ∙ sym (plain_refused m h)) ∙ sym (ap (replay_settled t c W out) (sym number_is ∙ number_some m h))
+  refused_with r h = sym (ap (replay_settled t c W out) h)
 
-  module _ (went : m ≡ 0) where
-    fine : replay_refusal t c W out ≡ none
-    fine = sym number_is ∙ ap number_refusal went
+  pub replay_refused : (r : Refusal) → loaded_refusal t c ≡ some r → ((refused r, t), out) ≡ replayed t c W out
+  unfolding or_else
+  replay_refused r h = refused_with r (found ∙ ap (λ o. or_else o (or_else sixteen (or_else (large_total sum) thirteen))) h)
 
-    facts : Accepted t c W out
-    facts = accepted_of t c W out fine
+  module _ (h : loaded_refusal t c ≡ none) where
+    found_later : replay_refusal t c W out ≡ or_else sixteen (or_else (large_total sum) thirteen)
+    unfolding or_else
+    found_later = found ∙ ap (λ o. or_else o (or_else sixteen (or_else (large_total sum) thirteen))) h
 
-    at_c : w ≡ c
-    at_c = mod-eq_of_lt facts.ready.channel
+    pub replay_large : word_test t.setup.events word ≡ false → ((refused EventNumber, t), out) ≡ replayed t c W out
+    unfolding or_else plain_unless
+    replay_large e = refused_with EventNumber (found_later ∙ ap (λ b. or_else (plain_unless b EventNumber) (or_else (large_total sum) thirteen)) e)
 
-    total_is : s ≡ sum c
-    total_is = sum_is ∙ ap (λ d. limited (sum d)) at_c ∙ limited_small (sum c) facts.small
+    module _ (e : word_test t.setup.events word ≡ true) where
+      found_last : replay_refusal t c W out ≡ or_else (large_total sum) thirteen
+      unfolding or_else plain_unless
+      found_last = found_later ∙ ap (λ b. or_else (plain_unless b EventNumber) (or_else (large_total sum) thirteen)) e
 
-    pub fits_out : length word ≤ length out
-    fits_out = subst (λ n. n ≤ length out) (length_occurrences word pulses) facts.fits
+      pub replay_many : (r : Refusal) → large_total sum ≡ some r → ((refused r, t), out) ≡ replayed t c W out
+      unfolding or_else
+      replay_many r l = refused_with r (found_last ∙ ap (λ o. or_else o thirteen) l)
 
-    pub runnable :
-        length t.value ≡ store_limit → length t.next ≡ store_limit →
-        Runnable (start t w) t.setup.events k (get_or t.current w 0) t.value t.next word out
-    runnable vl nl =
-        let g = ready_facts t c facts.ready in
-        let x = g.table in
-        let n = t.setup.events in
-        subst⁻¹ (λ x. Runnable (start t x) n (get_or t.states x 0) (get_or t.current x 0) t.value t.next word out) at_c
-        (record {
-          room = ready_room t c facts.ready;
-          few_states = x.few_states;
-          few_events = ready_events t c facts.ready;
-          value_length = vl;
-          next_length = nl;
-          state = x.start_in;
-          nexts = flat_next (start t c) n t.setup.kind (get_or t.states c 0) (state_of t c) (total_of t c) t.value t.next g;
-          word_in = subst (λ l. (i : ℕ) → i < length l → get_or l i 0 < n) (occurred word pulses) facts.events_in;
-          fits = fits_out;
-        })
+      module _ (l : large_total sum ≡ none) where
+        pub replay_short : length out < length word → ((refused BufferLength, t), out) ≡ replayed t c W out
+        unfolding or_else plain_unless
+        replay_short s =
+            refused_with BufferLength
+            (found_last ∙ ap (λ o. or_else o thirteen) l ∙ ap (λ b. plain_unless b BufferLength) (lt-leb (length word) (length out) s))
 
-    pub replay_measurable : Measurable t.wheel s
-    replay_measurable = subst⁻¹ (Measurable t.wheel) total_is (measurable t c facts.ready (sum c) facts.small)
+        module _ (room : length word ≤ length out) where
+          fine : replay_refusal t c W out ≡ none
+          unfolding or_else plain_unless
+          fine = found_last ∙ ap (λ o. or_else o thirteen) l ∙ ap (λ b. plain_unless b BufferLength) (le-leb (length word) (length out) room)
 
-    abbrev values_there : ℕ → List ℕ
-    values_there d = word_values (table_of t d) (state_of t d) word
+          facts : Accepted t c W out
+          facts = accepted_of t c W out fine
 
-    buffer_is : (b : List ℕ) → b ≡ paste out 0 (values_there w) (length word) → b ≡ put (values_there c) out
-    buffer_is b e =
-        e ∙ ap (λ d. paste out 0 (values_there d) (length word)) at_c
-        ∙ pasted_put out (values_there c) (length word) (length_word_values (table_of t c) (state_of t c) word)
+          pub runnable : run_of t c word out
+          runnable =
+              let g = ready_facts t c facts.ready in
+              let x = g.table in
+              let n = t.setup.events in
+              record {
+                room = ready_room t c facts.ready;
+                few_states = x.few_states;
+                few_events = ready_events t c facts.ready;
+                state = x.start_in;
+                nexts = flat_next (start t c) n t.setup.kind (get_or t.states c 0) (state_of t c) (total_of t c) t.value t.next g;
+                word_in = subst (λ l. (i : ℕ) → i < length l → get_or l i 0 < n) (occurred word pulses) facts.events_in;
+                fits = room;
+              }
 
-    values_in_buffer : (b : List ℕ) → b ≡ put (values_there c) out → take (length word) b ≡ values_there c
-    values_in_buffer b e =
-        ap₂ take (sym (length_word_values (table_of t c) (state_of t c) word)) e ∙ take_put out (values_there c)
+          pub replay_measurable : Measurable t.wheel sum
+          replay_measurable = subst (Measurable t.wheel) sum_is (measurable t c facts.ready (total_of t c + all_pulses W) facts.small)
 
-    pub replay_done :
-        (a : Reply (Reading ℕ)) (r : ℕ) (b : List ℕ) → length t.current ≡ channel_limit → length t.total ≡ channel_limit →
-        r ≡ after (table_at (start t w) t.setup.events k t.value t.next) (get_or t.current w 0) word →
-        b ≡ paste out 0 (values_there w) (length word) → a ≡ end_reply t.wheel (take (length word) b) s →
-        ((a, with_current t (set t.current w r) (set t.total w s)), b) ≡ replayed t c W out
-    unfolding replayed put_unless
-    replay_done a r b l n e1 e2 e3 =
-        let run = repeated W t c facts.ready l n facts.word_in facts.small in
-        let readings = word_readings t.wheel (table_of t c) (state_of t c) (total_of t c) W in
-        let q = after (table_of t c) (state_of t c) word in
-        let vs = values_there c in
-        let e4 : b ≡ put vs out = buffer_is b e2 in
-        let same : events_of W ≡ word = occurred word pulses in
-        ap₂ (λ a b. ((a, with_current t (set t.current w r) (set t.total w s)), b))
-        (e3 ∙ ap₂ (end_reply t.wheel) (values_in_buffer b e4) total_is) e4
-        ∙ ap₂ (λ r s. ((end_reply t.wheel vs (sum c), with_current t (set t.current w r) (set t.total w s)), put vs out))
-        (e1 ∙ ap (λ d. after (table_of t d) (state_of t d) word) at_c) total_is
-        ∙ ap (λ d. ((end_reply t.wheel vs (sum c), with_current t (set t.current d q) (set t.total d (sum c))), put vs out)) at_c
-        ∙ sym
-        (ap₂ (λ u l. ((last_returned l, u), put (map (λ r. r.value) l) out))
-        (run.1 ∙ ap (λ l. moved_to t c (after (table_of t c) (state_of t c) l) (sum c)) same) (ap all_returned run.0 ∙ returned_back readings)
-        ∙ ap₂ (λ x l. ((x, moved_to t c q (sum c)), put l out))
-        (last_reading t.wheel (table_of t c) (state_of t c) (total_of t c) W
-        ∙ ap (λ l. end_reply t.wheel (word_values (table_of t c) (state_of t c) l) (sum c)) same)
-        (reading_values t.wheel (table_of t c) (state_of t c) (total_of t c) W
-        ∙ ap (word_values (table_of t c) (state_of t c)) same))
-        ∙ sym (ap (replay_settled t c W out) fine)
+          abbrev values_there : List ℕ
+          values_there = word_values (table_of t c) (state_of t c) word
+
+          pub replay_done :
+              (a : Reply (Reading ℕ)) (b : List ℕ) → length t.current ≡ channel_limit → length t.total ≡ channel_limit →
+              b ≡ paste out 0 values_there (length word) → a ≡ end_reply t.wheel (take (length word) b) sum →
+              ((a, with_current t (set t.current c (after (table_of t c) (state_of t c) word)) (set t.total c sum)), b) ≡ replayed t c W out
+          unfolding replayed put_unless
+          replay_done a b k n e2 e3 =
+              let run = repeated W t c facts.ready k n facts.word_in facts.small in
+              let readings = word_readings t.wheel (table_of t c) (state_of t c) (total_of t c) W in
+              let q = after (table_of t c) (state_of t c) word in
+              let counted = length_word_values (table_of t c) (state_of t c) word in
+              let e4 : b ≡ put values_there out = e2 ∙ pasted_put out values_there (length word) counted in
+              let front : take (length word) b ≡ values_there = ap₂ take (sym counted) e4 ∙ take_put out values_there in
+              let same : events_of W ≡ word = occurred word pulses in
+              ap₂ (λ a b. ((a, with_current t (set t.current c q) (set t.total c sum)), b)) (e3 ∙ ap (λ v. end_reply t.wheel v sum) front) e4
+              ∙ ap (λ s. ((end_reply t.wheel values_there s, with_current t (set t.current c q) (set t.total c s)), put values_there out)) (sym sum_is)
+              ∙ sym
+              (ap₂ (λ u l. ((last_returned l, u), put (map (λ r. r.value) l) out))
+              (run.1 ∙ ap (λ l. moved_to t c (after (table_of t c) (state_of t c) l) (total_of t c + all_pulses W)) same)
+              (ap all_returned run.0 ∙ returned_back readings)
+              ∙ ap₂ (λ x l. ((x, moved_to t c q (total_of t c + all_pulses W)), put l out))
+              (last_reading t.wheel (table_of t c) (state_of t c) (total_of t c) W
+              ∙ ap (λ l. end_reply t.wheel (word_values (table_of t c) (state_of t c) l) (total_of t c + all_pulses W)) same)
+              (reading_values t.wheel (table_of t c) (state_of t c) (total_of t c) W
+              ∙ ap (word_values (table_of t c) (state_of t c)) same))
+              ∙ sym (ap (replay_settled t c W out) fine)

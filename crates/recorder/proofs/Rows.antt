@@ -1,9 +1,9 @@
 -- Parts of a list, copies into it and padding.
-use mathlib.Core.{Path.{◌≡◌, refl, sym, ◌∙◌, ap, ap₂, subst}, Logic.{◌⊎◌, inl, inr}, Bool.{Bool, true, false, cond}, List.{List, ◌∷◌, ◌++◌}}
-use Prim.Native.Nat.{ℕ, zero, suc, ◌+◌, ◌*◌, ◌-◌, ◌≤◌, ◌<◌}
+use mathlib.Core.{Path.{◌≡◌, refl, sym, ◌∙◌, ap, ap₂, subst}, Bool.{Bool, true, false, cond}, List.{List, ◌∷◌, ◌++◌}}
+use Prim.Native.Nat.{ℕ, zero, suc, ◌+◌, ◌*◌, ◌-◌, ◌≤◌, ◌<◌, min}
 use native.Mathlib.{Nat.{mul-le-mul_right}, Numerals.{add-one}, Omega.{arith}}
-use borrow.Author.Tests.{ltb-true}
-use lib.Dec.{ltb}
+use borrow.Author.Tests.{ltb-true, leb-true, leb-false}
+use lib.Dec.{ltb, leb}
 use lib.ListN.{length, get_or, set, take, drop, replicate, length-append, length-take, length-drop, length-replicate, get_or-append}
 use lib.Seq.{paste, paste-suc, length-take-le, take_all, get_or-take, get_or-drop, ext_get_or}
 use Rattle.limits.specs.Limits.{event_limit, table_limit, entry_limit}
@@ -42,21 +42,22 @@ module _ (n : ℕ) (l : List ℕ) (h : length l ≤ n) where
       ext_get_or 0 (take (length l) (filled n l)) l a
       (λ i g. get_or-take (length l) (filled n l) i 0 (omega arith) ∙ filled_at i (omega arith))
 
--- A copy into n zeros, as far as it goes.
-pub pasted_zeros : (n : ℕ) (l : List ℕ) (i : ℕ) → i ≤ length l → i ≤ n → (n ≤ i) ⊎ (length l ≤ i) → paste (replicate n 0) 0 l i ≡ filled n l
+-- The first elements over n zeros.
+pub front_filled : (n : ℕ) (l : List ℕ) → take (min n (length l)) l ++ drop (min n (length l)) (replicate n 0) ≡ filled n l
 unfolding filled
-pasted_zeros n l i h g (inl m) =
-    let e : i ≡ n = omega arith in
-    let z : 0 + i ≡ i = omega arith in
-    let f : n - i ≡ n - length l = omega arith in
-    ap₂ (λ a b. take a l ++ drop b (replicate n 0)) e z
-    ∙ ap (λ x. take n l ++ x) (drop_zeros n i ∙ ap (λ k. replicate k 0) f)
-pasted_zeros n l i h g (inr m) =
-    let e : i ≡ length l = omega arith in
-    let z : 0 + i ≡ i = omega arith in
-    let f : n - i ≡ n - length l = omega arith in
-    ap₂ (λ a b. a ++ drop b (replicate n 0)) (take_all i l m ∙ sym (take_all n l (omega arith))) z
-    ∙ ap (λ x. take n l ++ x) (drop_zeros n i ∙ ap (λ k. replicate k 0) f)
+front_filled n l = go (leb n (length l)) refl
+  where
+    go : (b : Bool) → leb n (length l) ≡ b → take (min n (length l)) l ++ drop (min n (length l)) (replicate n 0) ≡ take n l ++ replicate (n - length l) 0
+    go true p =
+        let h = leb-true n (length l) p in
+        let e : min n (length l) ≡ n = omega (arith, h) in
+        let f : n - n ≡ n - length l = omega (arith, h) in
+        ap (λ k. take k l ++ drop k (replicate n 0)) e ∙ ap (λ x. take n l ++ x) (drop_zeros n n ∙ ap (λ k. replicate k 0) f)
+    go false p =
+        let h = leb-false n (length l) p in
+        let e : min n (length l) ≡ length l = omega (arith, h) in
+        ap (λ k. take k l ++ drop k (replicate n 0)) e
+        ∙ ap₂ (λ a b. a ++ b) (take_all (length l) l (omega arith) ∙ sym (take_all n l (omega (arith, h)))) (drop_zeros n (length l))
 
 -- A turn of a copy to the front of a list.
 pub paste_next :

@@ -2,7 +2,7 @@
 use mathlib.Core.{Path.{◌≡◌, refl, sym, ◌∙◌, ap, ap₂}, Logic.{⊎_elim}, Bool.{Bool, true, false, ◌&&◌, and-false}, List.{List}}
 use Prim.Native.Nat.{ℕ, zero, suc, ◌+◌, ◌-◌, ◌/◌, ◌%◌, ◌^◌, ◌≤◌, ◌<◌, max, min}
 use native.Mathlib.{Nat.{eq-or-lt_of_le, le_of_suc-le-suc}, Numerals.{add-one}, Omega.{arith}}
-use borrow.Author.Tests.{lt-ltb, ltb-true, leb-true, leb-false}
+use borrow.Author.Tests.{lt-ltb, le-ltb, ltb-true, leb-true, leb-false}
 use lib.{Bits.{bit_or, or_add_and, and_le_l, and_le_r, or_lt, or_mod, or_shr}, Dec.{ltb, leb}, Pow.{pow_pos}, ListN.{length, get_or, get_or-eq_default}}
 use Rattle.limits.specs.Limits.{store_limit}
 use Rattle.theory.specs.ValueSetTests.{every}
@@ -64,8 +64,16 @@ max_below v a b =
     let q = ltb-true a v (and_right (ltb b v) (ltb a v) e) in
     lt-ltb (max a b) v (omega arith))
 
-pub largest_below : (v : ℕ) → 0 < v → (n : ℕ) (f : ℕ → ℕ) → ltb (together max n f) v ≡ every n (λ i. ltb (f i) v)
+largest_below : (v : ℕ) → 0 < v → (n : ℕ) (f : ℕ → ℕ) → ltb (together max n f) v ≡ every n (λ i. ltb (f i) v)
 largest_below v h = together_test max (λ x. ltb x v) (lt-ltb 0 v h) (max_below v)
+
+-- Of some numbers.
+pub some_below : (v n : ℕ) → 0 < n → (f : ℕ → ℕ) → ltb (together max n f) v ≡ every n (λ i. ltb (f i) v)
+unfolding every
+some_below zero zero h f = absurd (omega arith)
+some_below zero (suc n) h f =
+    le-ltb (together max (suc n) f) 0 (omega arith) ∙ sym (ap (λ b. b && every n (λ i. ltb (f i) 0)) (le-ltb (f n) 0 (omega arith)))
+some_below (suc v) n h f = largest_below (suc v) (omega arith) n f
 
 -- By or: no bit at or above the line count where no value has one.
 or_right : (a b : ℕ) → b ≤ bit_or a b

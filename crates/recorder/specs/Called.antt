@@ -3,7 +3,7 @@
 use mathlib.Core.{List.{List, [], ◌++◌}, Option.{Option, none, some}}
 use Rattle.std.specs.Prelude.{ℕ, ◌+◌, ◌*◌, ◌-◌, length, set, take, replicate}
 use Rattle.limits.specs.Limits.{meet_limit, channel_limit, store_limit}
-use Rattle.refusal.specs.{declared.Refusal.{Refusal}, RefusalAnswers.{or_else, plain_unless}}
+use Rattle.refusal.specs.{declared.Refusal.{Refusal}, RefusalAnswers.{or_else, plain_unless}, declared.Refusal.TheVariants.{ToolContents}}
 use Rattle.values.specs.{declared.ValueKind.{ValueKind}, declared.ValueKind.TheVariants.{Numbered, Register}}
 use Rattle.values.specs.Setup.{Setup, setup_of_kind, setup, register_setup}
 use Rattle.channel_log.specs.Distance.{Wheel, wheel_of_turn, Occurrence, Reading}
@@ -55,7 +55,7 @@ content t = recorded t.setup.events t.wheel (rule_judged (setup_of t)) (loaded_r
 
 -- What a handed-in tool is refused with: 17, then 25.
 abbrev pub fault_refusal : Store → Call Occurrence → Option Refusal
-fault_refusal t call = or_else (plain_unless (tool_test t call) 17) (rows_refusal (all_rows (rows t)))
+fault_refusal t call = or_else (plain_unless (tool_test t call) ToolContents) (rows_refusal (all_rows (rows t)))
 
 -- The first refusal in document 01's order: 17 and 25, then 14, 15, 16, 19, then 5 to 10 and 25.
 abbrev pub tool_refusal : Store → Call Occurrence → Option Refusal

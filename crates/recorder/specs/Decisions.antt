@@ -1,56 +1,27 @@
--- What the private functions decide before anything is written: the number of a refusal, 13 to 17, 19 or 25, or 0 where there is none (document
--- 01, "Who can cause a refusal"), and what an event comes to.
-use mathlib.Core.{Path.{◌≡◌}, Bool.{Bool, true, false, ◌&&◌, cond}, List.{List, [], ◌∷◌}, Option.{Option, none, some}}
-use Rattle.std.specs.Prelude.{ℕ, zero, suc, ◌+◌, ◌*◌, ◌≤◌, ◌<◌}
-use lib.{Dec.{ltb, leb}, ListN.{get_or, length, set, replicate}}
+-- What the private functions of the tool find: the first refusal so far, as each call goes on, and what an accepted call needs.
+use mathlib.Core.{Bool.{Bool}, List.{List, [], ◌∷◌, ◌++◌}, Option.{Option}}
+use Rattle.std.specs.Prelude.{ℕ, zero, suc, ◌+◌, ◌*◌, ◌-◌, ◌≤◌, ◌<◌, Result, Ok, Err}
+use lib.{ListN.{get_or, length, set, take, drop, replicate}}
 use Rattle.limits.specs.Limits.{channel_limit, event_limit, table_limit, entry_limit, row_limit, store_limit, turn_limit, total_limit}
-use Rattle.refusal.specs.{declared.Refusal.{Refusal}, declared.Refusal.TheVariants.{Plain}, declared.Counted.{Counted}}
-use Rattle.refusal.specs.{declared.Counted.TheVariants.{Count, Refused as NotCounted}, declared.Judgement.{Judgement}}
-use Rattle.refusal.specs.declared.Judgement.TheVariants.{Accepted, Refused}
-use Rattle.channel_log.specs.{Calls.{Reply, accepted, returned, refused}, Distance.{Wheel, Reading, reading}}
-use Rattle.theory.specs.ValueSetTests.{every}
-use Rattle.recorder.specs.{Store.{rows_start}, Splicing.{row_count, own_entries, later_entries}}
-use Rattle.recorder.specs.{declared.Decision.{Decision}, declared.row_store.Room.{Room}}
+use Rattle.theory.specs.MealyMachine.{Machine}
+use Rattle.refusal.specs.{declared.Refusal.{Refusal}, declared.Refusal.TheVariants.{ToolContents}}
+use Rattle.refusal.specs.RefusalAnswers.{or_else, plain_unless}
+use Rattle.channel_log.specs.{Calls.{Reply, accepted, returned, refused, restart}, Distance.{Wheel, Reading, reading}}
+use Rattle.channel_log.specs.CallSteps.{channel_refusal, empty_refusal}
+use Rattle.channel_log.specs.{Log.{rows_refusal}, Rows.{all_rows}}
+use Rattle.recorder.specs.{Store.{Store, reply_of, table_at, rows_start, channels, rows}, Called.{with_current, fault_refusal}}
+use Rattle.recorder.specs.Splicing.{row_count, own_entries, later_entries}
+use Rattle.recorder.specs.{declared.row_store.Room.{Room}, declared.Step.{Step}, declared.Settled.{Settled}}
 
--- The refusal of a number; 0 is none.
-abbrev pub number_refusal : ℕ → Option Refusal
-number_refusal zero = none
-number_refusal (suc n) = some (Plain (suc n))
+-- 17 by its test, and 25; of the named channel, then 14; then 15.
+abbrev pub fault_of : Store → Bool → Option Refusal
+fault_of t in_order = or_else (plain_unless in_order ToolContents) (rows_refusal (all_rows (rows t)))
 
--- The number of a test that fails where a refusal is met; the first of two numbers.
-abbrev pub number_unless : Bool → ℕ → ℕ
-number_unless test n = cond test 0 n
+abbrev pub named_refusal : Store → ℕ → Option Refusal
+named_refusal t c = or_else (fault_refusal t (restart c)) (channel_refusal c)
 
-abbrev pub first_number : ℕ → ℕ → ℕ
-first_number zero later = later
-first_number (suc n) later = suc n
-
--- 17's test of channel c with k states from a place on, where the test of its values says `fits`.
-unfoldable pub channel_fits : Bool → ℕ → ℕ → ℕ → ℕ → ℕ → ℕ → List ℕ → Bool
-channel_fits fits c at events k q total next =
-    cond (ltb c channel_limit && ltb 0 k)
-    (leb k table_limit && (ltb q k && (leb total total_limit && (fits && every (k * events) (λ i. ltb (get_or next (at + i) 0) k))))) true
-
--- 17, then 25; then 14; then 15; then 16 and 19; for a sequence 16, 19 and 13.
-abbrev pub fault_number : Bool → List ℕ → ℕ
-fault_number in_order states = first_number (number_unless in_order 17) (number_unless (leb (row_count states) row_limit) 25)
-
-abbrev pub channel_number : ℕ → ℕ → ℕ
-channel_number fault c = first_number fault (number_unless (ltb c channel_limit) 14)
-
-abbrev pub loaded_number : ℕ → ℕ → ℕ → ℕ
-loaded_number fault c states = first_number (channel_number fault c) (number_unless (ltb 0 states) 15)
-
-abbrev pub total_number : ℕ → ℕ
-total_number total = number_unless (leb total total_limit) 19
-
-abbrev pub event_number : ℕ → ℕ → ℕ → ℕ → ℕ → ℕ → ℕ
-event_number fault c states events e total =
-    first_number (loaded_number fault c states) (first_number (number_unless (ltb e events) 16) (total_number total))
-
-abbrev pub replay_number : ℕ → ℕ → ℕ → Bool → ℕ → Bool → ℕ
-replay_number fault c states allowed total fits =
-    first_number (loaded_number fault c states) (first_number (number_unless allowed 16) (first_number (total_number total) (number_unless fits 13)))
+abbrev pub loaded_refusal : Store → ℕ → Option Refusal
+loaded_refusal t c = or_else (named_refusal t c) (empty_refusal (channels t c))
 
 abbrev pub sum_of : List ℕ → ℕ
 sum_of [] = 0
@@ -60,22 +31,9 @@ sum_of (n ∷ l) = n + sum_of l
 abbrev pub pulse_block : ℕ
 pulse_block = 4096
 
--- A total, kept where it is not above the limit; above it, the first number there.
-abbrev pub limited : ℕ → ℕ
-limited total = cond (leb total total_limit) total (suc total_limit)
-
--- What an event comes to: its refusal, the state and the total as they were, or the value, the next state and the new total.
-abbrev pub decided : ℕ → ℕ → ℕ → ℕ → ℕ → ℕ → Decision
-decided zero old before value next total = record { refusal = 0; value = value; next = next; total = total }
-decided (suc n) old before value next total = record { refusal = suc n; value = 0; next = old; total = before }
-
--- Where its entry lies, within the arrays; and where one is read: beside a refusal the first.
+-- Where the entry of a state and an event lies, within the arrays.
 abbrev pub entry_place : ℕ → ℕ → ℕ → ℕ → ℕ
 entry_place at events q e = at + (q * events + e)
-
-abbrev pub read_place : ℕ → ℕ → ℕ
-read_place zero place = place
-read_place (suc n) place = 0
 
 pub record Bounds (at events q e : ℕ) : Type 0 where
   pub row : q * events ≤ entry_limit
@@ -93,52 +51,11 @@ pub record Measurable (wheel : Wheel) (total : ℕ) : Type 0 where
   pub few_millimetres : wheel.millimetres ≤ turn_limit
   pub small_total : total ≤ total_limit
 
--- The reply of a number, and of what an event comes to.
-abbrev pub plain_reply : ℕ → Reply (Reading ℕ)
-plain_reply zero = accepted
-plain_reply (suc n) = refused (Plain (suc n))
-
-abbrev pub decided_reply : ℕ → Reading ℕ → Reply (Reading ℕ)
-decided_reply zero r = returned r
-decided_reply (suc n) r = refused (Plain (suc n))
-
-abbrev pub value_reply : Wheel → Decision → Reply (Reading ℕ)
-value_reply wheel d = decided_reply d.refusal (reading wheel d.value d.total)
-
 -- The reply to a sequence: that of its last event.
 abbrev pub end_reply : Wheel → List ℕ → ℕ → Reply (Reading ℕ)
 end_reply wheel [] total = accepted
 end_reply wheel (v ∷ []) total = returned (reading wheel v total)
 end_reply wheel (v ∷ (w ∷ vs)) total = end_reply wheel (w ∷ vs) total
-
--- What stays beside a refusal and is 0 otherwise: for a restart the state and the total.
-abbrev pub kept_number : ℕ → ℕ → ℕ
-kept_number zero old = 0
-kept_number (suc n) old = old
-
--- The same for restart all, of the states and of the totals.
-abbrev pub kept_numbers : ℕ → List ℕ → List ℕ
-kept_numbers zero old = replicate channel_limit 0
-kept_numbers (suc n) old = old
-
--- For set up: 18 after what 1 to 3, or 1 and 20, say; whether nothing refuses; and what they say.
-abbrev pub wheel_judged : Judgement → Bool → Judgement
-wheel_judged Accepted true = Accepted
-wheel_judged Accepted false = Refused (Plain 18)
-wheel_judged (Refused r) test = Refused r
-
-abbrev pub accepting : Judgement → Bool
-accepting Accepted = true
-accepting (Refused r) = false
-
-abbrev pub judged_reply : Judgement → Reply (Reading ℕ)
-judged_reply Accepted = accepted
-judged_reply (Refused r) = refused r
-
--- For load: what 5 to 10 say.
-abbrev pub counted_reply : Counted → Reply (Reading ℕ)
-counted_reply (Count n) = accepted
-counted_reply (NotCounted r) = refused r
 
 -- What storing a table of k states in channel c needs: there is room, before and after.
 pub record Storable (events : ℕ) (states : List ℕ) (c k : ℕ) : Type 0 where
@@ -156,14 +73,35 @@ pub record RoomFits (room : Room) : Type 0 where
   pub old_fits : room.at + room.old + room.later ≤ store_limit
   pub new_fits : room.at + room.new + room.later ≤ store_limit
 
+-- The rows up to the end of the place for so many new entries, the later ones right behind it, then zeros.
+abbrev pub roomed : {A : Type 0} → A → List A → ℕ → ℕ → ℕ → ℕ → List A
+roomed blank rows at old new later =
+    take (at + new) rows ++ take later (drop (at + old) rows) ++ replicate (store_limit - (at + new + later)) blank
+
+-- The table in channel c.
+abbrev pub own_table : Store → ℕ → Machine ℕ ℕ
+own_table t c = table_at (rows_start t.setup.events t.states c) t.setup.events (get_or t.states c 0) t.value t.next
+
 -- What a run over a sequence needs: a table in the rows, a state of it, events of it, and room for the values.
 pub record Runnable (from events k q : ℕ) (value next word buffer : List ℕ) : Type 0 where
   pub room : from + k * events ≤ store_limit
   pub few_states : k ≤ table_limit
   pub few_events : events ≤ event_limit
-  pub value_length : length value ≡ store_limit
-  pub next_length : length next ≡ store_limit
   pub state : q < k
   pub nexts : (i : ℕ) → i < k * events → get_or next (from + i) 0 < k
   pub word_in : (i : ℕ) → i < length word → get_or word i 0 < events
   pub fits : length word ≤ length buffer
+
+abbrev pub run_of : Store → ℕ → List ℕ → List ℕ → Type 0
+run_of t c word buffer =
+    Runnable (rows_start t.setup.events t.states c) t.setup.events (get_or t.states c 0) (get_or t.current c 0) t.value t.next word buffer
+
+-- The reply and the store after an event or a restart, from what it comes to; and what is written: where it is refused, the state and the
+-- total that are there.
+abbrev pub stepped : Store → ℕ → Result Step Refusal → Reply (Reading ℕ) × Store
+stepped t c (Ok s) = (reply_of (Ok s.reading), with_current t (set t.current c s.state) (set t.total c s.total))
+stepped t c (Err r) = (refused r, t)
+
+abbrev pub settle : Result Step Refusal → ℕ → ℕ → Settled
+settle (Ok s) state total = record { reply = Ok s.reading; state = s.state; total = s.total }
+settle (Err r) state total = record { reply = Err r; state = state; total = total }

@@ -8,6 +8,7 @@ use Rattle.refusal.specs.{declared.Refusal.{Refusal}, RefusalAnswers.{or_else, p
 use Rattle.channel_log.specs.{Distance.{Occurrence, Reading}, CallSteps.{channel_refusal, empty_refusal}, Log.{large_total}}
 use Rattle.channel_log.specs.Calls.{restart, Loaded, Reply, accepted, returned, refused, replies, final, event_calls, last_returned}
 use Rattle.recorder.specs.{Store.{Store, channels, all_pulses}, Called.{fault_refusal, settled_store, called}}
+use Rattle.refusal.specs.declared.Refusal.TheVariants.{BufferLength, EventNumber}
 
 -- What replies return.
 abbrev pub all_returned : List (Reply (Reading ℕ)) → List (Reading ℕ)
@@ -31,8 +32,8 @@ replay_refusal t c word buffer =
     or_else (fault_refusal t (restart c))
     (or_else (channel_refusal c)
     (or_else (empty_refusal (channels t c))
-    (or_else (plain_unless (word_test t.setup.events (map (λ i. i.event) word)) 16)
-    (or_else (pulses_refusal (channels t c) (all_pulses word)) (plain_unless (leb (length word) (length buffer)) 13)))))
+    (or_else (plain_unless (word_test t.setup.events (map (λ i. i.event) word)) EventNumber)
+    (or_else (pulses_refusal (channels t c) (all_pulses word)) (plain_unless (leb (length word) (length buffer)) BufferLength)))))
 
 -- The reply, the store and the buffer. Accepted: what the last event call returns, the store after all of them, and the values that they return.
 abbrev pub replay_settled : Store → ℕ → List Occurrence → List ℕ → Option Refusal → (Reply (Reading ℕ) × Store) × List ℕ

@@ -5,7 +5,7 @@ use Rattle.std.specs.Prelude.{ℕ, ltb, leb}
 use Rattle.channel_log.specs.Distance.{Wheel, Occurrence}
 use Rattle.limits.specs.Limits.{channel_limit, table_limit, turn_limit, total_limit}
 use Rattle.theory.specs.{MealyMachine.{Machine}, ValueSetTests.{every}}
-use Rattle.refusal.specs.{declared.Refusal.{Refusal}, RefusalAnswers.{or_else, plain_unless}}
+use Rattle.refusal.specs.{declared.Refusal.{Refusal}, RefusalAnswers.{or_else, plain_unless}, declared.Refusal.TheVariants.{SetupWheel}}
 use Rattle.values.specs.{declared.ValueKind.{ValueKind}, ValueTests.{value_fits}, SetupTests.{setup_refusal}}
 use Rattle.channel_log.specs.Calls.{Call, load, event, restart, restart_all, clear, Loaded}
 use Rattle.recorder.specs.Store.{Store, ToolSetup, tool_setup_of, channels}
@@ -22,7 +22,7 @@ unfoldable pub wheel_test : Wheel → Bool
 wheel_test wheel = turn_test wheel.pulses && turn_test wheel.millimetres
 
 unfoldable pub tool_setup_refusal : ToolSetup → Option Refusal
-tool_setup_refusal s = or_else (setup_refusal s.values) (plain_unless (wheel_test s.wheel) 18)
+tool_setup_refusal s = or_else (setup_refusal s.values) (plain_unless (wheel_test s.wheel) SetupWheel)
 
 unfoldable pub setup_test : ToolSetup → Bool
 setup_test s = passed (tool_setup_refusal s)

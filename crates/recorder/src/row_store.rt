@@ -1,14 +1,18 @@
 // Document 02, F-12: one store of rows for all channels, packed in channel order. Where a channel's rows start follows from the counts of
-// states; no place is stored.
-ghost use Rattle.std.specs.Prelude.{◌≡◌, ◌+◌, ◌*◌, ◌-◌, ◌≤◌, ◌<◌, max, min, leb, length, get_or, set};
+// states; no place is stored. Its next states are bytes, its values bytes or masks of 32 bits.
+ghost use Rattle.std.specs.Prelude.{◌≡◌, ◌+◌, ◌*◌, ◌-◌, ◌≤◌, ◌<◌, max, min, ltb, leb, length, get_or, set};
+ghost use Rattle.std.specs.Int.Bits.{bit_or};
 ghost use Rattle.std.proofs.Math.Seq.{paste};
 ghost use Rattle.limits.specs.Limits.{channel_limit, row_limit, store_limit};
+ghost use Rattle.theory.specs.ValueSetTests.{every};
+ghost use Rattle.values.specs.ValueTests.{masks_fit};
 ghost use Rattle.recorder.specs.Store.{rows_start};
-ghost use Rattle.recorder.specs.Splicing.{rows_before, row_count, spliced, column};
-ghost use Rattle.recorder.specs.Decisions.{together, Storable, room_of, RoomFits};
+ghost use Rattle.recorder.specs.Splicing.{rows_before, row_count, column, mask_column};
+ghost use Rattle.recorder.specs.Decisions.{together, Storable, room_of, RoomFits, roomed};
 
-use crate::widths::{smaller, wide, wide16};
 use limits::{CHANNEL_LIMIT, ROW_LIMIT, STORE_LIMIT};
+use machines::value_at;
+use values::{ValueKind, value_fits};
 
 // What a splice goes by: where the old entries lie and how many they are, how many come for them, and how many lie behind.
 #[derive(Clone, Copy)]
@@ -25,10 +29,8 @@ pub fn rows_before(states: &[u16; CHANNEL_LIMIT], count: usize) -> usize
     ensures { (result ≡ rows_before states.now count) × (result ≤ count * 65535) }
 {
     let mut rows: usize = 0;
-    let mut i: usize = 0;
-    while i < count {
-        rows += wide16(states[i]);
-        i += 1;
+    for i in 0..count {
+        rows += usize::from(states[i]);
     }
     rows
 }
@@ -38,7 +40,7 @@ pub fn rows_start(states: &[u16; CHANNEL_LIMIT], channel: usize, events: u8) -> 
     requires { (channel ≤ channel_limit) × (length states.now ≡ channel_limit) }
     ensures { result ≡ rows_start events states.now channel }
 {
-    rows_before(states, channel) * wide(events)
+    rows_before(states, channel) * usize::from(events)
 }
 
 // Refusal 25's test of a tool.
@@ -55,7 +57,7 @@ pub fn rows_left(states: &[u16; CHANNEL_LIMIT], channel: usize, new: usize) -> b
     ensures { result ≡ leb (row_count (set states.now channel new)) row_limit }
 {
     let rows = rows_before(states, CHANNEL_LIMIT);
-    let own = wide16(states[channel]);
+    let own = usize::from(states[channel]);
     rows - own + new <= ROW_LIMIT
 }
 
@@ -64,59 +66,85 @@ pub fn room_for(states: &[u16; CHANNEL_LIMIT], channel: usize, events: u8, new: 
     requires { Storable events states.now channel new × (length states.now ≡ channel_limit) }
     ensures { (result ≡ room_of events states.now channel new) × RoomFits result }
 {
-    let n = wide(events);
+    let n = usize::from(events);
     let all = rows_before(states, CHANNEL_LIMIT);
     let passed = rows_before(states, channel + 1);
     Room {
         at: rows_start(states, channel, events),
-        old: wide16(states[channel]) * n,
-        new: wide16(new) * n,
+        old: usize::from(states[channel]) * n,
+        new: usize::from(new) * n,
         later: (all - passed) * n,
     }
 }
 
 // How many of so many entries from a place on lie in the store.
-pub fn entries_there(from: usize, count: usize) -> usize
+fn entries_there(from: usize, count: usize) -> usize
     ensures { result ≡ min count (store_limit - from) }
 {
     if STORE_LIMIT <= from {
         return 0;
     }
-    smaller(count, STORE_LIMIT - from)
+    count.min(STORE_LIMIT - from)
 }
 
 // The largest of so many entries from a place on, or 0; those that would lie behind the store are 0. No early exit: the loop is one of vectors.
-pub fn largest(entries: &[u8; STORE_LIMIT], from: usize, count: usize) -> u8
+fn largest(entries: &[u8; STORE_LIMIT], from: usize, count: usize) -> u8
     requires { length entries.now ≡ store_limit }
     ensures { result ≡ together max count (λ i. get_or entries.now (from + i) 0) }
 {
-    let end = entries_there(from, count);
     let mut most: u8 = 0;
-    let mut i: usize = 0;
-    while i < end {
-        let x = entries[from + i];
-        if most < x {
-            most = x;
-        }
-        i += 1;
+    for i in 0..entries_there(from, count) {
+        most = most.max(entries[from + i]);
     }
     most
 }
 
-// Copies entries into the store from a place on.
-fn copy_entries(store: &mut [u8; STORE_LIMIT], at: usize, entries: &[u8])
-    requires { (at + length entries.now ≤ store_limit) × (length store.old ≡ store_limit) }
-    ensures { store.new ≡ paste store.old at entries.now (length entries.now) }
+// Whether so many entries from a place on are below a bound. Those that would lie behind the store, where 25 answers, are 0.
+pub fn entries_below(entries: &[u8; STORE_LIMIT], from: usize, count: usize, bound: usize) -> bool
+    requires { length entries.now ≡ store_limit }
+    ensures { result ≡ every count (λ i. ltb (get_or entries.now (from + i) 0) bound) }
 {
-    let mut i: usize = 0;
-    while i < entries.len() {
-        store[at + i] = entries[i];
-        i += 1;
+    if count == 0 {
+        return true;
     }
+    usize::from(largest(entries, from, count)) < bound
+}
+
+// The bits of so many values from a place on; those that would lie behind the store are 0. No early exit: the loop is one of vectors.
+fn all_bits(values: &[u32; STORE_LIMIT], from: usize, count: usize) -> u32
+    requires { length values.now ≡ store_limit }
+    ensures { result ≡ together bit_or count (λ i. get_or values.now (from + i) 0) }
+{
+    let mut bits: u32 = 0;
+    for i in 0..entries_there(from, count) {
+        bits = bits | values[from + i];
+    }
+    bits
+}
+
+// Whether no mask of so many values from a place on has a bit at or above the line count.
+pub fn masks_in_order(values: &[u32; STORE_LIMIT], from: usize, count: usize, lines: u8) -> bool
+    requires { length values.now ≡ store_limit }
+    ensures { result ≡ every count (λ i. masks_fit lines (get_or values.now (from + i) 0)) }
+{
+    let bits = all_bits(values, from, count);
+    value_fits(ValueKind::Register(u32::from(lines)), bits)
+}
+
+// Room for new entries in the place of old ones: what lies behind them moves up or down, and zeros come last.
+pub fn make_room<T: Copy>(rows: &mut [T], room: Room, zero: T)
+    requires room { RoomFits room × (length rows.old ≡ store_limit) }
+    requires copied { T.is_infallible zero × ((y : T) → T.is_clone zero y → y ≡ zero) }
+    ensures { rows.new ≡ roomed zero rows.old room.at room.old room.new room.later }
+{
+    let behind = room.at + room.old;
+    let moved = room.at + room.new;
+    rows.copy_within(behind..behind + room.later, moved);
+    rows[moved + room.later..].fill(zero);
 }
 
 // Copies one byte of each entry of a table, whose entries have so many bytes, into the store from a place on.
-fn copy_column(
+pub fn copy_column(
     store: &mut [u8; STORE_LIMIT],
     at: usize,
     table: &[u8],
@@ -127,32 +155,17 @@ fn copy_column(
     requires { (at + count ≤ store_limit) × (which < width) × (width ≤ 5) × (count * width ≤ length table.now) × (length store.old ≡ store_limit) }
     ensures { store.new ≡ paste store.old at (column width which table.now count) count }
 {
-    let mut i: usize = 0;
-    while i < count {
+    for i in 0..count {
         store[at + i] = table[i * width + which];
-        i += 1;
     }
 }
 
-// One byte of each entry of a table for the old entries at a place; what lies behind them moves up or down, and zeros come last.
-pub fn splice<'a>(
-    rows: &'a [u8],
-    room: Room,
-    table: &'a [u8],
-    width: usize,
-    which: usize,
-) -> [u8; STORE_LIMIT]
-    requires { (length rows.now ≡ store_limit) × RoomFits room × (which < width) × (width ≤ 5) × (room.new * width ≤ length table.now) }
-    ensures { result ≡ spliced rows.now room.at room.old (column width which table.now room.new) room.later }
+// Copies the values of a table's entries, five bytes each whatever the line count, into the store from a place on.
+pub fn copy_masks(store: &mut [u32; STORE_LIMIT], at: usize, table: &[u8], count: usize)
+    requires { (at + count ≤ store_limit) × (count * 5 ≤ length table.now) × (length store.old ≡ store_limit) }
+    ensures { store.new ≡ paste store.old at (mask_column table.now count) count }
 {
-    let at = room.at;
-    let new = room.new;
-    let old = room.old;
-    let behind = at + old;
-    let end = behind + room.later;
-    let mut store = [0u8; STORE_LIMIT];
-    copy_entries(&mut store, 0, &rows[..at]);
-    copy_column(&mut store, at, table, width, which, new);
-    copy_entries(&mut store, at + new, &rows[behind..end]);
-    store
+    for i in 0..count {
+        store[at + i] = value_at(ValueKind::Register(16), table, i);
+    }
 }

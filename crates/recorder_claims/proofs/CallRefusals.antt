@@ -8,7 +8,6 @@ use lib.{Dec.{ltb, leb}, ListN.{length, get_or}}
 use Rattle.limits.specs.Limits.{channel_limit, row_limit, total_limit}
 use Rattle.theory.proofs.ValueSets.{and_left, every_at, every_some}
 use Rattle.refusal.specs.declared.Refusal.{Refusal}
-use Rattle.refusal.specs.declared.Refusal.TheVariants.{Plain}
 use Rattle.refusal.specs.Refusal.{has_place, part_of, order, condition_numbers, right_places, Condition, plain, First}
 use Rattle.refusal.specs.RefusalAnswers.{or_else, plain_unless}
 use Rattle.refusal.proofs.Refusals.{or_else_none, plain_none, plain_first, first_append, first_then, judged}
@@ -16,60 +15,58 @@ use Rattle.channel_log.specs.Calls.{Call, load, event, restart, restart_all, cle
 use Rattle.channel_log.specs.{CallSteps.{Content, channel_refusal, empty_refusal, on_event}, Log.{large_event, large_total, occurrence_refusal}}
 use Rattle.channel_log.specs.{Log.{rows_refusal}, Rows.{all_rows, other_rows}}
 use Rattle.channel_log.specs.{Calls.{map_option, Loaded}, Distance.{Occurrence, Reading, TotalAbove}}
-use Rattle.recorder.specs.Store.{Store, setup_of, tool_setup_of, channels, rows, all_pulses}
-use Rattle.recorder.specs.Store.{ToolFault}
+use Rattle.recorder.specs.Store.{Store, setup_of, tool_setup_of, channels, rows, all_pulses, ToolFault}
 use Rattle.recorder.specs.ToolTests.{setup_test, named_test, tool_test}
 use Rattle.recorder.specs.CompiledRule.{rule_judged, states_of_rule, table_of_rule}
 use Rattle.recorder.specs.{Called.{content, fault_refusal, tool_refusal}, Replay.{word_test, pulses_refusal, replay_refusal}}
 use Rattle.recorder.proofs.{Held.{accepted_of_test, values_accepted}, Replays.{events_of}}
 use Rattle.synthesis.specs.TableOfRule.{rule_conditions_of}
-use Rattle.recorder_claims.specs.Claims.{fault_condition, empty_condition, event_condition, total_condition}
-use Rattle.recorder.specs.Store.{channel_condition, store_condition, rows_condition, RowsAbove}
-use Rattle.recorder.specs.Store.{call_conditions}
-use Rattle.recorder.specs.Store.{replay_conditions}
-use Rattle.recorder_claims.specs.Claims.{CallRefusalClaim, ReplayRefusalClaim}
+use Rattle.recorder_claims.specs.Claims.{fault_condition, empty_condition, event_condition, total_condition, CallRefusalClaim, ReplayRefusalClaim}
+use Rattle.recorder.specs.Store.{channel_condition, store_condition, rows_condition, RowsAbove, call_conditions, replay_conditions}
 use Rattle.recorder_claims.proofs.{Claims.{fault_of, tool_tested}, LoadedRules.{accepted_code, rule_first, rule_well_formed, is_table_of}}
 use Rattle.theory.specs.{MealyMachine.{Word}, ReachableStates.{IsTableOf}}
 use Rattle.values.specs.{Setup.{Setup, SetupValue, setup_meet, setup_top}, SetupTests.{setup_refusal}}
 use Rattle.formulas.specs.{RuleConditions.{node_bytes, OfFormula}, RuleRefusal.{formula_of}}
 use Rattle.formulas.proofs.RuleClaims.{formula_of_only}
 use Rattle.synthesis.proofs.CompileClaims.{one_count}
+use Rattle.refusal.specs.declared.Refusal.TheVariants.{BufferLength, ChannelEmpty, EventNumber, PulseTotal, RowTotal, ToolContents, ChannelNumber}
 
 -- A test that fails exactly where a condition is met.
 told_first :
-    (n : ℕ) (Met : Type 0) (t : Bool) → (t ≡ false → Met) → (t ≡ true → ¬ Met) → First (plain n Met ∷ []) (cond t none (some (Plain n)))
+    (given : Refusal) (Met : Type 0) (t : Bool) → (t ≡ false → Met) → (t ≡ true → ¬ Met) → First (plain given Met ∷ []) (cond t none (some given))
 unfolding plain_unless
-told_first n Met true met unmet = plain_first n Met true met unmet
-told_first n Met false met unmet = plain_first n Met false met unmet
+told_first given Met true met unmet = plain_first given Met true met unmet
+told_first given Met false met unmet = plain_first given Met false met unmet
 
 -- A number that is not below another, and 19 of a total.
-pub number_first : (n a b : ℕ) → First (plain n (¬ (a < b)) ∷ []) (cond (ltb a b) none (some (Plain n)))
-number_first n a b = told_first n (¬ (a < b)) (ltb a b) (λ f l. omega (arith, ltb-false a b f)) (λ p f. f (ltb-true a b p))
+pub number_first : (given : Refusal) (a b : ℕ) → First (plain given (¬ (a < b)) ∷ []) (cond (ltb a b) none (some given))
+number_first given a b = told_first given (¬ (a < b)) (ltb a b) (λ f l. omega (arith, ltb-false a b f)) (λ p f. f (ltb-true a b p))
 
-total_first : (total pulses : ℕ) → First (plain 19 (TotalAbove (some total) pulses) ∷ []) (large_total (total + pulses))
+total_first : (total pulses : ℕ) → First (plain PulseTotal (TotalAbove (some total) pulses) ∷ []) (large_total (total + pulses))
 total_first total pulses =
-    told_first 19 (TotalAbove (some total) pulses) (leb (total + pulses) total_limit) (leb-false (total + pulses) total_limit)
+    told_first PulseTotal (TotalAbove (some total) pulses) (leb (total + pulses) total_limit) (leb-false (total + pulses) total_limit)
     (λ p l. omega (arith, l, leb-true (total + pulses) total_limit p))
 
 -- 15, and 16 and 19 after it, whatever a loaded channel holds beside its total.
 module _ {X : Type 0} (total : X → ℕ) where
-  pub empty_first : (o : Option X) → First (plain 15 (map_option total o ≡ none) ∷ []) (empty_refusal o)
+  pub empty_first : (o : Option X) → First (plain ChannelEmpty (map_option total o ≡ none) ∷ []) (empty_refusal o)
   unfolding First
-  empty_first none = inl (Plain 15, (refl, refl), refl)
+  empty_first none = inl (ChannelEmpty, (refl, refl), refl)
   empty_first (some x) = inr (λ r m. some-ne-none (total x) m.0, refl)
 
   pub on_event_first :
       (K : Content X Occurrence (Reading ℕ)) (n : ℕ) → ((x : X) (i : Occurrence) → occurrence_refusal n (total x) i ≡ K.event_refusal x i) →
       (o : Option X) (i : Occurrence) →
-      First (plain 15 (map_option total o ≡ none) ∷ plain 16 (¬ (i.event < n)) ∷ plain 19 (TotalAbove (map_option total o) i.pulses) ∷ []) (on_event K o i)
+      First (plain ChannelEmpty (map_option total o ≡ none) ∷ plain EventNumber (¬ (i.event < n)) ∷ plain PulseTotal (TotalAbove
+      (map_option total o) i.pulses) ∷ []) (on_event K o i)
   unfolding First
-  on_event_first K n same none i = inl (Plain 15, (refl, refl), refl)
+  on_event_first K n same none i = inl (ChannelEmpty, (refl, refl), refl)
   on_event_first K n same (some x) i =
       inr (
         λ r m. some-ne-none (total x) m.0,
-        subst (First (plain 16 (¬ (i.event < n)) ∷ plain 19 (TotalAbove (some (total x)) i.pulses) ∷ [])) (same x i)
-            (first_append (plain 16 (¬ (i.event < n)) ∷ []) (plain 19 (TotalAbove (some (total x)) i.pulses) ∷ []) (large_event n i.event)
-            (large_total (total x + i.pulses)) (number_first 16 i.event n) (total_first (total x) i.pulses)),
+        subst (First (plain EventNumber (¬ (i.event < n)) ∷ plain PulseTotal (TotalAbove (some (total x)) i.pulses) ∷ [])) (same x i)
+            (first_append (plain EventNumber (¬ (i.event < n)) ∷ []) (plain PulseTotal (TotalAbove (some (total x)) i.pulses) ∷ []) (large_event n i.event)
+            (large_total (total x + i.pulses)) (number_first EventNumber i.event n) (total_first (total x) i.pulses)),
       )
 
 pub no_conditions : First [] none
@@ -78,16 +75,16 @@ no_conditions = refl
 
 -- 14, and what comes after it.
 pub after_14 : (c : ℕ) (cs : List Condition) (later : Option Refusal) → First cs later → First (channel_condition c ∷ cs) (or_else (channel_refusal c) later)
-after_14 c cs later h = first_append (channel_condition c ∷ []) cs (channel_refusal c) later (number_first 14 c channel_limit) h
+after_14 c cs later h = first_append (channel_condition c ∷ []) cs (channel_refusal c) later (number_first ChannelNumber c channel_limit) h
 
 -- 25 of a tool, and of a load: `Others n` says that the other channels have n rows, and only as many as they have.
-pub rows_first : (n : ℕ) → First (plain 25 (row_limit < n) ∷ []) (rows_refusal n)
-rows_first n = told_first 25 (row_limit < n) (leb n row_limit) (leb-false n row_limit) (λ p l. omega (arith, l, leb-true n row_limit p))
+pub rows_first : (n : ℕ) → First (plain RowTotal (row_limit < n) ∷ []) (rows_refusal n)
+rows_first n = told_first RowTotal (row_limit < n) (leb n row_limit) (leb-false n row_limit) (λ p l. omega (arith, l, leb-true n row_limit p))
 
 module _ (s : Setup) (ok : setup_refusal s ≡ none) (rule : List ℕ) (Others : ℕ → Type 0) (others : ℕ) (have : Others others)
     (only : (n : ℕ) → Others n → n ≡ others) where
   load_rows_first : rule_judged s rule ≡ none → First (rows_condition s Others rule ∷ []) (rows_refusal (others + states_of_rule s rule))
-  load_rows_first fine = told_first 25 _ (leb (others + states_of_rule s rule) row_limit) met unmet
+  load_rows_first fine = told_first RowTotal _ (leb (others + states_of_rule s rule) row_limit) met unmet
     where
       met : leb (others + states_of_rule s rule) row_limit ≡ false → OfFormula (node_bytes s.kind) rule (RowsAbove s Others)
       met f = (
@@ -129,12 +126,12 @@ module _ (t : Store) where
   after_faults call cs later h =
       let test = tool_test t call in
       first_then (fault_condition t call ∷ store_condition t ∷ []) cs (fault_refusal t call) later
-      (first_append (fault_condition t call ∷ []) (store_condition t ∷ []) (plain_unless test 17) (rows_refusal (all_rows (rows t)))
-      (plain_first 17 (ToolFault t call) test (fault_of t call) (tool_tested t call).0) (rows_first (all_rows (rows t))))
+      (first_append (fault_condition t call ∷ []) (store_condition t ∷ []) (plain_unless test ToolContents) (rows_refusal (all_rows (rows t)))
+      (plain_first ToolContents (ToolFault t call) test (fault_of t call) (tool_tested t call).0) (rows_first (all_rows (rows t))))
       (λ e.
       h
       (and_left (setup_test (tool_setup_of t)) (named_test t call)
-      (plain_none test 17 (or_else_none (plain_unless test 17) (rows_refusal (all_rows (rows t))) e).0)))
+      (plain_none test ToolContents (or_else_none (plain_unless test ToolContents) (rows_refusal (all_rows (rows t))) e).0)))
 
 abbrev held_total : Loaded ℕ → ℕ
 held_total x = x.total
@@ -156,7 +153,7 @@ call_first t (restart c) =
     after_faults t (restart c) (channel_condition c ∷ empty_condition t c ∷ []) (or_else (channel_refusal c) (empty_refusal (channels t c)))
     (λ h. after_14 c (empty_condition t c ∷ []) (empty_refusal (channels t c)) (empty_first held_total (channels t c)))
 call_first t restart_all = after_faults t restart_all [] none (λ h. no_conditions)
-call_first t (clear c) = after_faults t (clear c) (channel_condition c ∷ []) (channel_refusal c) (λ h. number_first 14 c channel_limit)
+call_first t (clear c) = after_faults t (clear c) (channel_condition c ∷ []) (channel_refusal c) (λ h. number_first ChannelNumber c channel_limit)
 
 pub call_refusals : CallRefusalClaim
 unfolding call_conditions condition_numbers right_places has_place part_of order
@@ -176,8 +173,8 @@ word_of : (n : ℕ) (word : List ℕ) → ((i : ℕ) → i < length word → get
 word_of n [] h = tt
 word_of n (e ∷ word) h = (h zero (omega arith), word_of n word (λ i l. h (suc i) (omega (arith, l))))
 
-word_first : (n : ℕ) (word : List ℕ) → First (plain 16 (¬ Word n word) ∷ []) (plain_unless (word_test n word) 16)
-word_first n word = plain_first 16 (¬ Word n word) (word_test n word) large fits
+word_first : (n : ℕ) (word : List ℕ) → First (plain EventNumber (¬ Word n word) ∷ []) (plain_unless (word_test n word) EventNumber)
+word_first n word = plain_first EventNumber (¬ Word n word) (word_test n word) large fits
   where
     large : word_test n word ≡ false → ¬ Word n word
     large f w =
@@ -187,11 +184,11 @@ word_first n word = plain_first 16 (¬ Word n word) (word_test n word) large fit
     fits : word_test n word ≡ true → ¬ ¬ Word n word
     fits p f = f (word_of n word (λ i l. ltb-true (get_or word i 0) n (every_at (length word) (λ i. ltb (get_or word i 0) n) p i l)))
 
-room_first : (a b : ℕ) → First (plain 13 (b < a) ∷ []) (plain_unless (leb a b) 13)
-room_first a b = plain_first 13 (b < a) (leb a b) (λ f. leb-false a b f) (λ p l. omega (arith, leb-true a b p))
+room_first : (a b : ℕ) → First (plain BufferLength (b < a) ∷ []) (plain_unless (leb a b) BufferLength)
+room_first a b = plain_first BufferLength (b < a) (leb a b) (λ f. leb-false a b f) (λ p l. omega (arith, leb-true a b p))
 
 -- 19 of a sequence.
-pulses_first : (o : Option (Loaded ℕ)) (pulses : ℕ) → First (plain 19 (TotalAbove (map_option held_total o) pulses) ∷ []) (pulses_refusal o pulses)
+pulses_first : (o : Option (Loaded ℕ)) (pulses : ℕ) → First (plain PulseTotal (TotalAbove (map_option held_total o) pulses) ∷ []) (pulses_refusal o pulses)
 unfolding First
 pulses_first none pulses = inr (λ r m. m.0, refl)
 pulses_first (some x) pulses = total_first x.total pulses
@@ -201,12 +198,12 @@ replay_first :
 unfolding replay_conditions
 replay_first t c word buffer =
     let n = t.setup.events in
-    let O = plain_unless (word_test n (events_of word)) 16 in
+    let O = plain_unless (word_test n (events_of word)) EventNumber in
     let P = pulses_refusal (channels t c) (all_pulses word) in
-    let F = plain_unless (leb (length word) (length buffer)) 13 in
-    let large = plain 16 (¬ Word n (events_of word)) in
+    let F = plain_unless (leb (length word) (length buffer)) BufferLength in
+    let large = plain EventNumber (¬ Word n (events_of word)) in
     let heavy = total_condition t c (all_pulses word) in
-    let short = plain 13 (length buffer < length word) in
+    let short = plain BufferLength (length buffer < length word) in
     after_faults t (restart c) (channel_condition c ∷ empty_condition t c ∷ large ∷ heavy ∷ short ∷ [])
     (or_else (channel_refusal c) (or_else (empty_refusal (channels t c)) (or_else O (or_else P F))))
     (λ h.

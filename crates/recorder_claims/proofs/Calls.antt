@@ -2,7 +2,7 @@
 use mathlib.Core.{Path.{◌≡◌, refl, sym, ◌∙◌, ap, subst⁻¹}, Bool.{true}, List.{List, [], ◌∷◌, map}, Option.{Option, none, some}}
 use Prim.Native.Nat.{ℕ, ◌≤◌}
 use lib.ListN.{length}
-use Rattle.refusal.specs.{declared.Refusal.{Refusal}, declared.Refusal.TheVariants.{Plain}}
+use Rattle.refusal.specs.{declared.Refusal.{Refusal}, declared.Refusal.TheVariants.{ToolContents}}
 use Rattle.refusal.specs.Refusal.{Judged, JudgedCall, put}
 use Rattle.refusal.specs.RefusalAnswers.{plain_unless, put_unless}
 use Rattle.refusal.proofs.Refusals.{or_else_none, plain_none}
@@ -12,13 +12,11 @@ use Rattle.channel_log.specs.Distance.{Occurrence, Reading}
 use Rattle.channel_log.specs.Calls.{Call, load, event, restart, restart_all, clear, returned, refused, reply_refusal, Channels, replies, final}
 use Rattle.channel_log.specs.Calls.{event_calls, last_returned, accepted_on, replies_on}
 use Rattle.channel_log.specs.{CallSteps.{Content, call_refusal, event_reply, accepted_reply}, Log.{rows_refusal}, Rows.{all_rows, other_rows}}
-use Rattle.recorder.specs.Store.{Store, AllCells, ToolSetup, tool_setup_conditions, tool_setup_of, channels, rows}
+use Rattle.recorder.specs.Store.{Store, AllCells, ToolSetup, tool_setup_conditions, tool_setup_of, channels, rows, call_conditions, replay_conditions}
 use Rattle.recorder.specs.{ToolTests.{tool_setup_refusal, setup_test, named_test, tool_test}, Splicing.{row_count}}
 use Rattle.recorder.specs.Called.{content, fault_refusal, tool_refusal, effect_on, settled_store, called, new_store, set_up_answer, set_up_called}
 use Rattle.recorder.specs.Replay.{all_returned, replay_refusal, replay_settled, replayed}
 use Rattle.recorder.proofs.{Decided.{refused_call, accepted_call, rows_fitting}, Replays.{returned_back}}
-use Rattle.recorder.specs.Store.{call_conditions}
-use Rattle.recorder.specs.Store.{replay_conditions}
 use Rattle.recorder_claims.specs.ChannelLog.{AsLogged}
 use Rattle.recorder_claims.proofs.Claims.{sound, tool_own_calls, tool_other_rows, blank_refused, replay_repeated}
 use Rattle.recorder_claims.proofs.CallRefusals.{call_refusals, replay_refusals}
@@ -55,12 +53,12 @@ pub record Went (t : Store) (call : Call Occurrence) : Type 0 where
 pub went_of : (t : Store) (call : Call Occurrence) → reply_refusal (called call t).0 ≡ none → Went t call
 went_of t call e =
     let none_met : tool_refusal t call ≡ none = sym (call_refused t call) ∙ e in
-    let seventeen = plain_unless (tool_test t call) 17 in
+    let seventeen = plain_unless (tool_test t call) ToolContents in
     let over = rows_refusal (all_rows (rows t)) in
     let a = or_else_none (fault_refusal t call) (call_refusal (content t) (channels t) call) none_met in
     let b = or_else_none seventeen over a.0 in
     record {
-      set_up_passes = and_left (setup_test (tool_setup_of t)) (named_test t call) (plain_none (tool_test t call) 17 b.0);
+      set_up_passes = and_left (setup_test (tool_setup_of t)) (named_test t call) (plain_none (tool_test t call) ToolContents b.0);
       fits = rows_fitting t b.1;
       unrefused = a.1;
       outcome = accepted_call t call none_met;
@@ -133,9 +131,9 @@ module _ (s : ToolSetup) where
   -- Every call on what a refused one hands back is 17.
   pub refused_set_up :
       (r : Refusal) → reply_refusal (set_up_called s).0 ≡ some r → (call : Call Occurrence) →
-      called call (set_up_called s).1 ≡ (refused (Plain 17), (set_up_called s).1)
+      called call (set_up_called s).1 ≡ (refused ToolContents, (set_up_called s).1)
   refused_set_up r e call =
-      subst⁻¹ (λ o. called call (set_up_answer s o).1 ≡ (refused (Plain 17), (set_up_answer s o).1)) (sym set_up_refused ∙ e)
+      subst⁻¹ (λ o. called call (set_up_answer s o).1 ≡ (refused ToolContents, (set_up_answer s o).1)) (sym set_up_refused ∙ e)
       (blank_refused s.values.kind call)
 
   module _ (ok : reply_refusal (set_up_called s).0 ≡ none) where

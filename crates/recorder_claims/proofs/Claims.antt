@@ -8,8 +8,7 @@ use lib.{Dec.{T, eqb, ltb, eqb→eq, eqb_refl}, ListN.{take, replicate, length-r
 use Rattle.theory.specs.ValueSetTests.{every}
 use Rattle.theory.proofs.ValueSets.{and_left, and_right, and_failed, and_cases, every_at, every_some}
 use Rattle.limits.specs.Limits.{meet_limit, channel_limit, row_limit, store_limit}
-use Rattle.refusal.specs.declared.Refusal.{Refusal}
-use Rattle.refusal.specs.declared.Refusal.TheVariants.{Plain}
+use Rattle.refusal.specs.{declared.Refusal.{Refusal}, declared.Refusal.TheVariants.{ToolContents}}
 use Rattle.refusal.specs.Refusal.{First}
 use Rattle.refusal.specs.RefusalAnswers.{or_else, plain_unless}
 use Rattle.values.specs.declared.ValueKind.{ValueKind}
@@ -24,7 +23,7 @@ use Rattle.channel_log.specs.Calls.{Call, load, event, restart, restart_all, cle
 use Rattle.channel_log.specs.{CallSteps.{call_refusal}, Distance.{Occurrence}, Log.{rows_refusal}, Rows.{sum_below, all_rows}}
 use Rattle.channel_log.proofs.Record.{record_claim, own_calls_claim, other_rows_claim}
 use Rattle.recorder.specs.Store.{Store, ToolSetup, tool_setup, tool_setup_conditions, meet_part, tool_setup_of, channels, rows}
-use Rattle.recorder_claims.specs.Claims.{LooksAt, table_states}
+use Rattle.recorder_claims.specs.Claims.{LooksAt, table_states, ToolRecordClaim, ToolOwnCallsClaim, ToolOtherRowsClaim, BlankClaim, ToolTestClaim, ReplayClaim}
 use Rattle.recorder.specs.Store.{ToolFault, setup_fails, channel_fails}
 use Rattle.recorder.specs.ToolTests.{passed, tool_setup_refusal, setup_test, channel_test, test_of, named_test, tool_test}
 use Rattle.recorder.specs.{CompiledRule.{rule_judged, states_of_rule, loaded_rule}, Splicing.{row_count}}
@@ -32,7 +31,6 @@ use Rattle.recorder.specs.{Called.{content, called, filled, empty_store, meet_ce
 use Rattle.recorder.proofs.Rows.{take_filled}
 use Rattle.recorder.proofs.Held.{held_above, held_empty, accepted_of_test, values_accepted, in_order_of_test, test_of_in_order}
 use Rattle.recorder.proofs.{Decided.{table_of, state_of, total_of, refused_call}, Replays.{word_readings, length_readings, accepted_of, repeated}}
-use Rattle.recorder_claims.specs.Claims.{ToolRecordClaim, ToolOwnCallsClaim, ToolOtherRowsClaim, BlankClaim, ToolTestClaim, ReplayClaim}
 use Rattle.recorder_claims.proofs.{SetUps.{tool_setup_judged}, LoadedRules.{rule_well_formed, rule_table_is, judged_not_17}, Keeps.{Sound, keeps}}
 
 -- A meet table as it is kept and read.
@@ -113,10 +111,11 @@ blank_test (Register lines) = refl
 pub blank_refused : BlankClaim
 unfolding or_else plain_unless
 blank_refused kind x =
-    refused_call (blank kind) x (Plain 17)
+    refused_call (blank kind) x ToolContents
     (ap
     (λ b.
-    or_else (or_else (plain_unless b 17) (rows_refusal (all_rows (rows (blank kind))))) (call_refusal (content (blank kind)) (channels (blank kind)) x))
+    or_else (or_else (plain_unless b ToolContents) (rows_refusal (all_rows (rows (blank kind))))) (call_refusal (content (blank kind)) (channels
+    (blank kind)) x))
     (and_failed (named_test (blank kind) x) (blank_test kind)))
 
 -- The test of a set-up fails where it meets 1 to 3 or 18, and only there.

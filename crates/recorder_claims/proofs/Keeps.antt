@@ -7,22 +7,18 @@ use borrow.Author.Tests.{leb-true, le-leb}
 use lib.{Dec.{eqb, leb}, ListN.{length, set, replicate, length-set, length-replicate}}
 use Rattle.theory.proofs.ValueSets.{and_both, every_of}
 use Rattle.limits.specs.Limits.{channel_limit, event_limit, row_limit, store_limit, total_limit}
-use Rattle.refusal.specs.declared.Refusal.{Refusal}
-use Rattle.refusal.specs.declared.Refusal.TheVariants.{Plain}
+use Rattle.refusal.specs.{declared.Refusal.{Refusal}, declared.Refusal.TheVariants.{RowTotal, ToolContents}}
 use Rattle.refusal.specs.RefusalAnswers.{or_else, plain_unless}
 use Rattle.refusal.proofs.Refusals.{or_else_none}
 use Rattle.values.specs.declared.ValueKind.{ValueKind}
 use Rattle.values.specs.Setup.{Setup}
 use Rattle.channel_log.specs.Distance.{Wheel, Occurrence, Reading}
 use Rattle.channel_log.specs.{Log.{large_event, large_total, rows_refusal, load_rows_refusal}, Rows.{all_rows, other_rows}}
-use Rattle.channel_log.specs.Calls.{Call, load, event, restart, restart_all, clear, Reply, Channels, with_channel, map_option}
-use Rattle.channel_log.specs.CallSteps.{Content, channel_refusal}
-use Rattle.channel_log.specs.CallSteps.{empty_refusal, on_event, call_refusal, accepted_reply, effect, settled, step}
-use Rattle.channel_log.specs.Calls.{Loaded}
+use Rattle.channel_log.specs.Calls.{Call, load, event, restart, restart_all, clear, Reply, Channels, with_channel, map_option, Loaded}
+use Rattle.channel_log.specs.CallSteps.{Content, channel_refusal, empty_refusal, on_event, call_refusal, accepted_reply, effect, settled, step}
 use Rattle.channel_log.specs.Recorded.{at_state, recorded}
 use Rattle.channel_log.proofs.Record.{test_passed, event_fits, total_fits}
-use Rattle.recorder.specs.Store.{Store, ToolSetup, setup_of, tool_setup_of, channels, rows}
-use Rattle.recorder.specs.Store.{ChannelInOrder}
+use Rattle.recorder.specs.Store.{Store, ToolSetup, setup_of, tool_setup_of, channels, rows, ChannelInOrder}
 use Rattle.recorder.specs.ToolTests.{tool_setup_refusal, setup_test, channel_test, test_of, named_test, tool_test}
 use Rattle.recorder.specs.CompiledRule.{rule_judged, states_of_rule, values_of_rule, nexts_of_rule, loaded_rule}
 use Rattle.recorder.specs.Called.{with_current, with_rows, with_table, next_state, next_total, content, fault_refusal, effect_on, settled_store, called}
@@ -204,7 +200,7 @@ module _ (t : Store) (g : Sound (tool_setup_of t) t) where
   fits : (c k : ℕ) → c < channel_limit → load_rows_refusal c (rows t) k ≡ none → row_count (set t.states c k) ≤ row_limit
   fits c k i e =
       subst (λ m. m ≤ row_limit) (others_are t c i g.states_length k)
-      (leb-true (other_rows c (rows t) + k) row_limit (test_passed (leb (other_rows c (rows t) + k) row_limit) (Plain 25) e))
+      (leb-true (other_rows c (rows t) + k) row_limit (test_passed (leb (other_rows c (rows t) + k) row_limit) RowTotal e))
 
   cleared_fits : (c : ℕ) → c < channel_limit → row_count (set t.states c 0) ≤ row_limit
   cleared_fits c i = omega (arith, before_moved t.states c 0 (omega (arith, g.states_length)) channel_limit i, g.rows_fit)
@@ -262,11 +258,11 @@ module _ (t : Store) (g : Sound (tool_setup_of t) t) where
 
   rows_pass : rows_refusal (all_rows (rows t)) ≡ none
   rows_pass =
-      ap (λ b. cond b none (some (Plain 25))) (le-leb (all_rows (rows t)) row_limit (subst⁻¹ (λ m. m ≤ row_limit) (all_rows_are t) g.rows_fit))
+      ap (λ b. cond b none (some RowTotal)) (le-leb (all_rows (rows t)) row_limit (subst⁻¹ (λ m. m ≤ row_limit) (all_rows_are t) g.rows_fit))
 
   no_fault : (x : Call Occurrence) → fault_refusal t x ≡ none
   unfolding or_else plain_unless
-  no_fault x = ap (λ b. or_else (plain_unless b 17) (rows_refusal (all_rows (rows t)))) (tool_passes x) ∙ rows_pass
+  no_fault x = ap (λ b. or_else (plain_unless b ToolContents) (rows_refusal (all_rows (rows t)))) (tool_passes x) ∙ rows_pass
 
   keeps_here : (x : Call Occurrence) → Steps (called x t) (step (content t) x L)
   unfolding called or_else

@@ -5,7 +5,7 @@ use Prim.Native.Nat.{ℕ, ◌+◌, ◌≤◌, ◌<◌}
 use borrow.Author.Tests.{leb-true}
 use lib.{Dec.{leb}, ListN.{set}}
 use Rattle.limits.specs.Limits.{channel_limit, row_limit}
-use Rattle.refusal.specs.{declared.Refusal.{Refusal}, declared.Refusal.TheVariants.{Plain}, RefusalAnswers.{or_else}}
+use Rattle.refusal.specs.{declared.Refusal.{Refusal}, RefusalAnswers.{or_else}, declared.Refusal.TheVariants.{RowTotal}}
 use Rattle.refusal.proofs.Refusals.{or_else_none}
 use Rattle.values.specs.{Setup.{Setup, setup_meet, setup_top}, SetupTests.{setup_refusal}}
 use Rattle.formulas.specs.RuleConditions.{encode_formula, node_bytes}
@@ -13,9 +13,8 @@ use Rattle.formulas.specs.RuleRefusal.{formula_of}
 use Rattle.channel_log.specs.Calls.{load, accepted, reply_refusal, StandsAs}
 use Rattle.channel_log.specs.{CallSteps.{channel_refusal}, Log.{load_rows_refusal}, Rows.{other_rows}}
 use Rattle.channel_log.proofs.Record.{test_passed}
-use Rattle.recorder.specs.Store.{Store, AllCells, ToolSetup, setup_of, tool_setup_of, channels, rows}
+use Rattle.recorder.specs.Store.{Store, AllCells, ToolSetup, setup_of, tool_setup_of, channels, rows, ChannelInOrder}
 use Rattle.recorder.specs.Splicing.{row_count}
-use Rattle.recorder.specs.Store.{ChannelInOrder}
 use Rattle.recorder.specs.CompiledRule.{rule_judged, states_of_rule, values_of_rule, nexts_of_rule, loaded_rule}
 use Rattle.recorder.specs.Called.{called}
 use Rattle.recorder.proofs.Held.{channel_below, accepted_of_test, values_accepted, few_events}
@@ -54,7 +53,7 @@ module _ (t : Store) (cells : AllCells t) (c : ℕ) (rule : List ℕ) (went : (c
   new_fits =
       let n = other_rows c (rows t) + states_of_rule S rule in
       subst (λ m. m ≤ row_limit) (others_are t c channel_fine cells.states_are (states_of_rule S rule))
-      (leb-true n row_limit (test_passed (leb n row_limit) (Plain 25) (or_else_none (rule_judged S rule) over load_refusals.1).1))
+      (leb-true n row_limit (test_passed (leb n row_limit) RowTotal (or_else_none (rule_judged S rule) over load_refusals.1).1))
 
   table_fine : ChannelInOrder S.events S.kind (loaded_rule S rule)
   table_fine = rule_in_order S rule set_up_fine rule_fine

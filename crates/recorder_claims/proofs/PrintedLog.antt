@@ -6,7 +6,7 @@ use lib.Dec.{eqb}
 use Rattle.limits.specs.Limits.{channel_limit}
 use Rattle.theory.specs.{Formula.{Formula}, FormulaClasses.{WellFormed}, MealyMachine.{Machine}, ReachableStates.{IsTableOf}}
 use Rattle.theory.proofs.Claims.{answers}
-use Rattle.refusal.specs.declared.Refusal.{Refusal}
+use Rattle.refusal.specs.{declared.Refusal.{Refusal}, declared.Refusal.TheVariants.{ChannelNumber}}
 use Rattle.refusal.specs.Refusal.{First}
 use Rattle.refusal.proofs.Refusals.{first_unique, or_else_none}
 use Rattle.values.specs.{Setup.{Setup, SetupValue, setup_meet, setup_top}, SetupTests.{setup_refusal}}
@@ -21,8 +21,7 @@ use Rattle.channel_log.specs.{Distance.{Occurrence, Reading, reading}, Rows.{row
 use Rattle.recorder.specs.{Store.{Store, ToolSetup}, ToolTests.{tool_setup_refusal}, Called.{called, new_store}}
 use Rattle.recorder.specs.CompiledRule.{rule_judged, states_of_rule, table_of_rule}
 use Rattle.recorder.proofs.{Held.{values_accepted}, RowTotals.{sum_same}}
-use Rattle.recorder_claims.specs.ChannelLog.{history, begun, RowsOf, OthersHave, log_conditions}
-use Rattle.recorder_claims.specs.ChannelLog.{Takes, refuses, loads, returns, restarts, restarts_all, clears}
+use Rattle.recorder_claims.specs.ChannelLog.{history, begun, RowsOf, OthersHave, log_conditions, Takes, refuses, loads, returns, restarts, restarts_all, clears}
 use Rattle.recorder_claims.specs.{ChannelLog.{Logs, no_calls, one_more}, Claims.{table_states, setup_log, PrintedRecordClaim}}
 use Rattle.recorder_claims.proofs.{LoadedRules.{accepted_code, rule_well_formed, is_table_of}, Keeps.{Sound, keeps}, Claims.{sound, tool_record}}
 use Rattle.recorder_claims.proofs.CallRefusals.{number_first, empty_first, on_event_first, no_conditions, after_14, load_first}
@@ -128,7 +127,7 @@ module _ (s : ToolSetup) (ok : tool_setup_refusal s ≡ none) where
   log_first L (event c i) a = after_14 c _ (on_event K (L c) i) (on_event_first logged_total K v.events (λ h i. refl) (L c) i)
   log_first L (restart c) a = after_14 c _ (empty_refusal (L c)) (empty_first logged_total (L c))
   log_first L restart_all a = no_conditions
-  log_first L (clear c) a = number_first 14 c channel_limit
+  log_first L (clear c) a = number_first ChannelNumber c channel_limit
 
   -- What the computed log replies and has after a call with a refusal or none.
   abbrev reply_by : Channels (History ℕ) → Call Occurrence → Option Refusal → Reply (Reading ℕ)

@@ -7,15 +7,17 @@ use Rattle.values.proofs.Setups.{setup_first, judged_after_setup}
 use Rattle.channel_log.specs.Distance.{WheelFault}
 use Rattle.recorder.specs.{Store.{ToolSetup, tool_setup_conditions}, ToolTests.{wheel_test, tool_setup_refusal}}
 use Rattle.recorder.proofs.Held.{wheel_fault, no_wheel_fault}
+use Rattle.refusal.specs.declared.Refusal.TheVariants.{SetupWheel}
 
 tool_setup_first : (s : ToolSetup) → First (tool_setup_conditions s) (tool_setup_refusal s)
 unfolding tool_setup_conditions tool_setup_refusal
 tool_setup_first s =
-    first_append (setup_conditions s.values) (plain 18 (WheelFault s.wheel) ∷ []) (setup_refusal s.values) (plain_unless (wheel_test s.wheel) 18)
+    first_append (setup_conditions s.values) (plain SetupWheel (WheelFault s.wheel) ∷ []) (setup_refusal s.values) (plain_unless
+    (wheel_test s.wheel) SetupWheel)
     (setup_first s.values)
-    (plain_first 18 (WheelFault s.wheel) (wheel_test s.wheel) (wheel_fault s.wheel) (no_wheel_fault s.wheel))
+    (plain_first SetupWheel (WheelFault s.wheel) (wheel_test s.wheel) (wheel_fault s.wheel) (no_wheel_fault s.wheel))
 
 pub tool_setup_judged : (s : ToolSetup) → Judged (tool_setup_conditions s) (tool_setup_refusal s)
 unfolding tool_setup_conditions condition_numbers right_places has_place part_of order
 tool_setup_judged s =
-    judged_after_setup s.values (plain 18 (WheelFault s.wheel) ∷ []) (tool_setup_refusal s) (tool_setup_first s) refl refl refl
+    judged_after_setup s.values (plain SetupWheel (WheelFault s.wheel) ∷ []) (tool_setup_refusal s) (tool_setup_first s) refl refl refl

@@ -5,7 +5,7 @@ use Rattle.std.specs.Prelude.{ℕ, ◌<◌, length}
 use Rattle.limits.specs.Limits.{channel_limit, state_limit}
 use Rattle.recorder_claims.specs.ChannelLog.{AsLogged, LoadedAs}
 use Rattle.theory.specs.Formula.{Formula}
-use Rattle.refusal.specs.{declared.Refusal.TheVariants.{Plain}, Refusal.{Condition, Judged, plain}}
+use Rattle.refusal.specs.{Refusal.{Condition, Judged, plain}, declared.Refusal.TheVariants.{ChannelEmpty, EventNumber, PulseTotal, ToolContents}}
 use Rattle.values.specs.{declared.ValueKind.{ValueKind}, Setup.{setup_meet, setup_top}}
 use Rattle.formulas.specs.RuleRefusal.{formula_of}
 use Rattle.channel_log.specs.Distance.{Occurrence, Reading, TotalAbove}
@@ -47,7 +47,7 @@ ToolOtherRowsClaim =
 
 -- Every call on what a refused set-up hands back is 17.
 abbrev pub BlankClaim : Type 0
-BlankClaim = (kind : ValueKind) (call : Call Occurrence) → called call (blank kind) ≡ (refused (Plain 17), blank kind)
+BlankClaim = (kind : ValueKind) (call : Call Occurrence) → called call (blank kind) ≡ (refused ToolContents, blank kind)
 
 -- The tests of 17 pass exactly where it is not met.
 abbrev pub ToolTestClaim : Type 0
@@ -83,16 +83,16 @@ LooksAt (clear c) d = d ≡ c
 
 -- 17, 15, 16 and 19 of a call.
 abbrev pub fault_condition : Store → Call Occurrence → Condition
-fault_condition t call = plain 17 (ToolFault t call)
+fault_condition t call = plain ToolContents (ToolFault t call)
 
 abbrev pub empty_condition : Store → ℕ → Condition
-empty_condition t c = plain 15 (totals t c ≡ none)
+empty_condition t c = plain ChannelEmpty (totals t c ≡ none)
 
 abbrev pub event_condition : Store → ℕ → Condition
-event_condition t e = plain 16 (¬ (e < t.setup.events))
+event_condition t e = plain EventNumber (¬ (e < t.setup.events))
 
 abbrev pub total_condition : Store → ℕ → ℕ → Condition
-total_condition t c pulses = plain 19 (TotalAbove (totals t c) pulses)
+total_condition t c pulses = plain PulseTotal (TotalAbove (totals t c) pulses)
 
 -- A call is judged as document 01 asks, and so is a sequence of events.
 abbrev pub CallRefusalClaim : Type 0

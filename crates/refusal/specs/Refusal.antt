@@ -1,10 +1,45 @@
 -- Refusals (document 01, "Who can cause a refusal"): their order, which one a call gives, and what is claimed of every call.
 use mathlib.Core.{Path.{◌≡◌}, Logic.{◌⊎◌}, Bool.{Bool, true, false, cond, not, ◌&&◌, ◌||◌}, Option.{Option, none, some}, List.{List, [], ◌∷◌, ◌++◌}}
-use Rattle.std.specs.Prelude.{ℕ, ◌<◌}
+use Rattle.std.specs.Prelude.{ℕ, ◌<◌, Option as StdOption, Some, None, Result, Ok, Err}
 use lib.{Dec.{eqb, leb}, ListN.{length, drop}}
-use Rattle.refusal.specs.{declared.Refusal.{Refusal}, declared.Refusal.TheVariants.{Plain, At}, declared.Judgement.{Judgement}}
-use Rattle.refusal.specs.{declared.Judgement.TheVariants.{Accepted, Refused}, declared.Counted.{Counted}}
-use Rattle.refusal.specs.declared.Counted.TheVariants.{Count, Refused as Uncounted}
+use Rattle.refusal.specs.declared.Refusal.{Refusal}
+
+-- A refusal's number in the list.
+abbrev pub refusal_number : Refusal → ℕ
+refusal_number Refusal.SetupEvents = 1
+refusal_number Refusal.SetupValues = 2
+refusal_number Refusal.SetupMeet = 3
+refusal_number (Refusal.TextForm p) = 4
+refusal_number Refusal.NodeCount = 5
+refusal_number (Refusal.NodeFields p) = 6
+refusal_number (Refusal.NodeTree p) = 7
+refusal_number (Refusal.UnboundVariable p) = 8
+refusal_number (Refusal.UnprotectedVariable p) = 9
+refusal_number Refusal.StateCount = 10
+refusal_number Refusal.TableLimits = 11
+refusal_number Refusal.WrittenSize = 12
+refusal_number Refusal.BufferLength = 13
+refusal_number Refusal.ChannelNumber = 14
+refusal_number Refusal.ChannelEmpty = 15
+refusal_number Refusal.EventNumber = 16
+refusal_number Refusal.ToolContents = 17
+refusal_number Refusal.SetupWheel = 18
+refusal_number Refusal.PulseTotal = 19
+refusal_number Refusal.SetupLines = 20
+refusal_number Refusal.Kiss2Values = 21
+refusal_number Refusal.Kiss2Form = 22
+refusal_number Refusal.BinderDepth = 23
+refusal_number Refusal.SequenceLength = 24
+refusal_number Refusal.RowTotal = 25
+
+-- Its place, where it has one.
+abbrev pub refusal_place : Refusal → StdOption ℕ
+refusal_place (Refusal.TextForm p) = Some p
+refusal_place (Refusal.NodeFields p) = Some p
+refusal_place (Refusal.NodeTree p) = Some p
+refusal_place (Refusal.UnboundVariable p) = Some p
+refusal_place (Refusal.UnprotectedVariable p) = Some p
+refusal_place refusal = None
 
 -- "4 and 6 to 9 also a place".
 unfoldable pub has_place : ℕ → Bool
@@ -16,20 +51,31 @@ has_place n = eqb n 4 || (leb 6 n && leb n 9)
 unfoldable pub order : List ℕ
 order = 17 ∷ 25 ∷ 14 ∷ 15 ∷ 16 ∷ 19 ∷ 22 ∷ 4 ∷ 1 ∷ 2 ∷ 3 ∷ 20 ∷ 18 ∷ 5 ∷ 6 ∷ 7 ∷ 8 ∷ 23 ∷ 9 ∷ 10 ∷ 25 ∷ 11 ∷ 12 ∷ 23 ∷ 21 ∷ 24 ∷ 13 ∷ []
 
+-- The refusals with a place, and each at one.
+pub data PlacedRefusal : Type 0 where
+  form_place fields_place tree_place unbound_place unprotected_place : PlacedRefusal
+
+abbrev pub at_place : PlacedRefusal → ℕ → Refusal
+at_place form_place = Refusal.TextForm
+at_place fields_place = Refusal.NodeFields
+at_place tree_place = Refusal.NodeTree
+at_place unbound_place = Refusal.UnboundVariable
+at_place unprotected_place = Refusal.UnprotectedVariable
+
 -- The lowest place at which something holds.
 pub record Lowest (P : ℕ → Type 0) (p : ℕ) : Type 0 where
   pub holds : P p
   pub least : (i : ℕ) → i < p → ¬ P i
 
--- A condition of the list, for one input: its number and what the input meets; with a place, what it meets there.
+-- A condition of the list, for one input: the refusal and what the input meets; with a place, what it meets there.
 pub data Condition : Type 1 where
-  plain : ℕ → Type 0 → Condition
-  at_lowest : ℕ → (ℕ → Type 0) → Condition
+  plain : Refusal → Type 0 → Condition
+  at_lowest : PlacedRefusal → (ℕ → Type 0) → Condition
 
--- The refusal that it gives, where it is met: its number, and the lowest place where it is met.
+-- The refusal that it gives, where it is met: with the lowest place where it is met.
 abbrev pub Gives : Condition → Refusal → Type 0
-Gives (plain n Met) refusal = Met × (refusal ≡ Plain n)
-Gives (at_lowest n Met) refusal = (p : ℕ) × Lowest Met p × (refusal ≡ At n p)
+Gives (plain given Met) refusal = Met × (refusal ≡ given)
+Gives (at_lowest given Met) refusal = (p : ℕ) × Lowest Met p × (refusal ≡ at_place given p)
 
 -- "Each is tested over its whole input before the next": the first condition that gives a refusal gives the answer,
 -- and a call that meets none of the conditions is accepted.
@@ -46,13 +92,13 @@ part_of (n ∷ ns) (m ∷ ms) = cond (eqb n m) (part_of ns ms) (part_of (n ∷ n
 -- The numbers of a call's conditions, and whether each has a place exactly if its number has one.
 unfoldable pub condition_numbers : List Condition → List ℕ
 condition_numbers [] = []
-condition_numbers (plain n Met ∷ cs) = n ∷ condition_numbers cs
-condition_numbers (at_lowest n Met ∷ cs) = n ∷ condition_numbers cs
+condition_numbers (plain given Met ∷ cs) = refusal_number given ∷ condition_numbers cs
+condition_numbers (at_lowest given Met ∷ cs) = refusal_number (at_place given 0) ∷ condition_numbers cs
 
 unfoldable pub right_places : List Condition → Bool
 right_places [] = true
-right_places (plain n Met ∷ cs) = not (has_place n) && right_places cs
-right_places (at_lowest n Met ∷ cs) = has_place n && right_places cs
+right_places (plain given Met ∷ cs) = not (has_place (refusal_number given)) && right_places cs
+right_places (at_lowest given Met ∷ cs) = has_place (refusal_number (at_place given 0)) && right_places cs
 
 -- What is claimed of every call that can be refused, for each input: its answer is the first refusal that its conditions give, or
 -- none where they give none; there is no other answer; and the conditions stand in document 01's order.
@@ -67,18 +113,14 @@ pub record JudgedCall {M : Type 0} (cs : List Condition) (answer : Option Refusa
   pub judged : Judged cs answer
   pub kept : (refusal : Refusal) → answer ≡ some refusal → after ≡ before
 
--- Document 01's answer for each case of the enums: the refusal, where there is one, and the count of what was made.
-abbrev pub judgement_refusal : Judgement → Option Refusal
-judgement_refusal Accepted = none
-judgement_refusal (Refused refusal) = some refusal
+-- Document 01's answer for a call's result: the refusal, where there is one, and what an accepted call yields.
+abbrev pub refusal_of : {A : Type 0} → Result A Refusal → Option Refusal
+refusal_of (Ok yielded) = none
+refusal_of (Err refusal) = some refusal
 
-abbrev pub counted_refusal : Counted → Option Refusal
-counted_refusal (Count n) = none
-counted_refusal (Uncounted refusal) = some refusal
-
-abbrev pub count_of : Counted → Option ℕ
-count_of (Count n) = some n
-count_of (Uncounted refusal) = none
+abbrev pub yield_of : {A : Type 0} → Result A Refusal → Option A
+yield_of (Ok yielded) = some yielded
+yield_of (Err refusal) = none
 
 -- An output over the front of what a buffer held.
 unfoldable pub put : List ℕ → List ℕ → List ℕ

@@ -1,10 +1,8 @@
 -- Twin of Refusal, pinned by refusal JudgedClaim.
--- What contracts compute refusals with: the first of several answers, and the enums that hold them.
+-- What contracts compute refusals with: the first of several answers, and the results that hold them.
 use mathlib.Core.{Bool.{Bool, true, false}, Option.{Option, none, some}, List.{List}}
-use Rattle.std.specs.Prelude.{ℕ}
-use Rattle.refusal.specs.{declared.Refusal.{Refusal}, declared.Refusal.TheVariants.{Plain, At}, declared.Judgement.{Judgement}}
-use Rattle.refusal.specs.{declared.Judgement.TheVariants.{Accepted, Refused}, declared.Counted.{Counted}}
-use Rattle.refusal.specs.declared.Counted.TheVariants.{Count, Refused as Uncounted}
+use Rattle.std.specs.Prelude.{ℕ, Result, Ok, Err}
+use Rattle.refusal.specs.declared.Refusal.{Refusal}
 use Rattle.refusal.specs.Refusal.{put}
 
 -- The first of two answers that is a refusal.
@@ -13,24 +11,24 @@ or_else (some refusal) later = some refusal
 or_else none later = later
 
 -- The answer of a condition without a place, from a test that fails where the condition is met.
-unfoldable pub plain_unless : Bool → ℕ → Option Refusal
-plain_unless true n = none
-plain_unless false n = some (Plain n)
+unfoldable pub plain_unless : Bool → Refusal → Option Refusal
+plain_unless true given = none
+plain_unless false given = some given
 
 -- The answer of a condition with a place, from the lowest place where it is met.
-unfoldable pub at_found : Option ℕ → ℕ → Option Refusal
-at_found none n = none
-at_found (some p) n = some (At n p)
+unfoldable pub at_found : Option ℕ → (ℕ → Refusal) → Option Refusal
+at_found none given = none
+at_found (some p) given = some (given p)
 
--- The answer of a check.
-unfoldable pub judgement : Option Refusal → Judgement
-judgement none = Accepted
-judgement (some refusal) = Refused refusal
+-- The result of a check.
+unfoldable pub judgement : Option Refusal → Result (Unit {0}) Refusal
+judgement none = Ok tt
+judgement (some refusal) = Err refusal
 
--- The answer of a call that makes something, with its count where it is accepted.
-unfoldable pub counted : Option Refusal → ℕ → Counted
-counted none count = Count count
-counted (some refusal) count = Uncounted refusal
+-- The result of a call, with what it yields where it is accepted.
+unfoldable pub answered : {A : Type 0} → Option Refusal → A → Result A Refusal
+answered none yielded = Ok yielded
+answered (some refusal) yielded = Err refusal
 
 -- A lent buffer after a call that puts an output: beside a refusal it is as before.
 unfoldable pub put_unless : Option Refusal → List ℕ → List ℕ → List ℕ

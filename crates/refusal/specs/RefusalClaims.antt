@@ -1,20 +1,10 @@
 -- What is claimed of the first refusal of a list of conditions: there is one answer, and lists may be judged one after the other.
-use mathlib.Core.{Path.{◌≡◌}, Logic.{◌↔◌}, Bool.{true, false}, Option.{Option, none, some}, List.{List, [], ◌∷◌, ◌++◌}}
-use Rattle.std.specs.Prelude.{ℕ, ◌≤◌}
+use mathlib.Core.{Path.{◌≡◌}, Logic.{◌↔◌}, Bool.{true, false}, Option.{Option, none}, List.{List, [], ◌∷◌, ◌++◌}}
+use Rattle.std.specs.Prelude.{ℕ, ◌≤◌, Some, None}
 use Rattle.refusal.specs.declared.Refusal.{Refusal}
-use Rattle.refusal.specs.declared.Refusal.TheVariants.{Plain, At}
-use Rattle.refusal.specs.Refusal.{order, Condition, Gives, Lowest, First, part_of, condition_numbers, right_places, Judged, has_place}
+use Rattle.refusal.specs.Refusal.{refusal_number, refusal_place, order, Condition, Gives, Lowest}
+use Rattle.refusal.specs.Refusal.{First, part_of, condition_numbers, right_places, Judged, has_place}
 use Rattle.refusal.specs.RefusalAnswers.{or_else}
-
--- A refusal's refusal-number in the list of document 01.
-unfoldable pub refusal_number : Refusal → ℕ
-refusal_number (Plain n) = n
-refusal_number (At n p) = n
-
--- A refusal's refusal-place, where it has one.
-unfoldable pub refusal_place : Refusal → Option ℕ
-refusal_place (Plain n) = none
-refusal_place (At n p) = some p
 
 -- There is at most one lowest refusal-place.
 abbrev pub LowestUniqueClaim : Type 1
@@ -47,9 +37,9 @@ NoneMetClaim = (cs : List Condition) (a : Option Refusal) → First cs a → (a 
 pub record ListedRefusal (refusal : Refusal) : Type 0 where
   pub some_number : 1 ≤ refusal_number refusal
   pub last_number : refusal_number refusal ≤ 25
-  pub with_place : (p : ℕ) → refusal_place refusal ≡ some p → has_place (refusal_number refusal) ≡ true
-  pub without_place : refusal_place refusal ≡ none → has_place (refusal_number refusal) ≡ false
+  pub with_place : (p : ℕ) → refusal_place refusal ≡ Some p → has_place (refusal_number refusal) ≡ true
+  pub without_place : refusal_place refusal ≡ None → has_place (refusal_number refusal) ≡ false
 
--- Every refusal that conditions in order give is one of the list; none has the refusal-number 0.
-abbrev pub ListedRefusalClaim : Type 1
-ListedRefusalClaim = (cs : List Condition) (refusal : Refusal) → Judged cs (some refusal) → ListedRefusal refusal
+-- Every refusal is one of the list; none has the refusal-number 0.
+abbrev pub ListedRefusalClaim : Type 0
+ListedRefusalClaim = (refusal : Refusal) → ListedRefusal refusal

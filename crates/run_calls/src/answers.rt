@@ -1,42 +1,41 @@
 // What the program prints.
 use recorder::{Reading, Reply};
-use refusal::Refusal;
-use std::io;
-use std::io::Stdout;
+use std::fmt;
 
-pub fn say(stdout: Stdout, text: &[u8]) -> io::Result<()> {
-    stdout.write_all(text)
-}
+#[derive(Drop)]
+pub struct ReplyText(pub Reply);
 
-pub fn say_number(stdout: Stdout, n: usize) -> io::Result<()> {
-    stdout.print(n)
-}
-
-fn say_refusal(stdout: Stdout, r: Refusal) -> io::Result<()> {
-    say(stdout, b"refused=")?;
-    match r {
-        Refusal::Plain(n) => say_number(stdout, n as usize),
-        Refusal::At(n, p) => {
-            say_number(stdout, n as usize)?;
-            say(stdout, b" ")?;
-            say_number(stdout, p)
+impl fmt::Display for ReplyText {
+    fn fmt<W: fmt::Write>(&self, f: &mut fmt::Formatter<W>) -> fmt::Result {
+        match self.0 {
+            Ok(None) => write!(f, "accepted"),
+            Ok(Some(reading)) => write!(f, "{}", ReadingText(reading)),
+            Err(refusal) => write!(f, "refused={refusal}"),
         }
     }
 }
 
-fn say_reading(stdout: Stdout, r: Reading) -> io::Result<()> {
-    say(stdout, b"value=")?;
-    say_number(stdout, r.value as usize)?;
-    say(stdout, b" mm=")?;
-    say_number(stdout, r.millimetres as usize)?;
-    say(stdout, b" rest=")?;
-    say_number(stdout, r.remainder as usize)
+#[derive(Drop)]
+struct ReadingText(Reading);
+
+impl fmt::Display for ReadingText {
+    fn fmt<W: fmt::Write>(&self, f: &mut fmt::Formatter<W>) -> fmt::Result {
+        let value = self.0.value;
+        let millimetres = self.0.millimetres;
+        let remainder = self.0.remainder;
+        write!(f, "value={value} mm={millimetres} rest={remainder}")
+    }
 }
 
-pub fn say_reply(stdout: Stdout, r: Reply) -> io::Result<()> {
-    match r {
-        Reply::Accepted => say(stdout, b"accepted"),
-        Reply::Value(x) => say_reading(stdout, x),
-        Reply::Refused(x) => say_refusal(stdout, x),
+// Numbers, each with a space before it.
+#[derive(Drop)]
+pub struct Items<'a>(pub &'a [u8]);
+
+impl fmt::Display for Items<'_> {
+    fn fmt<W: fmt::Write>(&self, f: &mut fmt::Formatter<W>) -> fmt::Result {
+        for item in self.0 {
+            write!(f, " {item}")?;
+        }
+        Ok(())
     }
 }

@@ -10,130 +10,111 @@ mod same;
 mod spoilt;
 mod stores;
 
-use answers::{say, say_number, say_reply};
-use recorder::Tool;
+use answers::ReplyText;
+use recorder::NumberTool;
 use replays::replays;
 use spoilt::spoilt_tools;
 use std::io;
 use std::io::Stdout;
 use stores::stores;
 
-fn say_call(stdout: Stdout, name: &[u8], channel: usize) -> io::Result<()> {
-    say(stdout, name)?;
-    say(stdout, b" ")?;
-    say_number(stdout, channel)?;
-    say(stdout, b": ")
+fn load(stdout: Stdout, tool: &mut NumberTool, channel: usize, rule: &[u8]) -> io::Result<()> {
+    println!(stdout; "load {channel}: {}", calls::load(tool, channel, rule))
 }
 
-fn load(stdout: Stdout, tool: Tool, channel: usize, rule: &[u8]) -> io::Result<Tool> {
-    say_call(stdout, b"load", channel)?;
-    let t = calls::load(stdout, tool, channel, rule)?;
-    say(stdout, b"\n")?;
-    Ok(t)
+fn event(
+    stdout: Stdout,
+    tool: &mut NumberTool,
+    channel: usize,
+    e: usize,
+    pulses: u32,
+) -> io::Result<()> {
+    println!(stdout;
+        "event {channel}: {}",
+        calls::event(tool, channel, e, pulses)
+    )
 }
 
-fn event(stdout: Stdout, tool: Tool, channel: usize, e: usize, pulses: u32) -> io::Result<Tool> {
-    say_call(stdout, b"event", channel)?;
-    let t = calls::event(stdout, tool, channel, e, pulses)?;
-    say(stdout, b"\n")?;
-    Ok(t)
+fn restart(stdout: Stdout, tool: &mut NumberTool, channel: usize) -> io::Result<()> {
+    println!(stdout; "restart {channel}: {}", calls::restart(tool, channel))
 }
 
-fn restart(stdout: Stdout, tool: Tool, channel: usize) -> io::Result<Tool> {
-    say_call(stdout, b"restart", channel)?;
-    let t = calls::restart(stdout, tool, channel)?;
-    say(stdout, b"\n")?;
-    Ok(t)
+fn clear(stdout: Stdout, tool: &mut NumberTool, channel: usize) -> io::Result<()> {
+    println!(stdout; "clear {channel}: {}", calls::clear(tool, channel))
 }
 
-fn clear(stdout: Stdout, tool: Tool, channel: usize) -> io::Result<Tool> {
-    say_call(stdout, b"clear", channel)?;
-    let t = calls::clear(stdout, tool, channel)?;
-    say(stdout, b"\n")?;
-    Ok(t)
-}
-
-fn restart_all(stdout: Stdout, tool: Tool) -> io::Result<Tool> {
-    say(stdout, b"restart all: ")?;
-    let t = calls::restart_all(stdout, tool)?;
-    say(stdout, b"\n")?;
-    Ok(t)
+fn restart_all(stdout: Stdout, tool: &mut NumberTool) -> io::Result<()> {
+    println!(stdout; "restart all: {}", calls::restart_all(tool))
 }
 
 // Two events on a channel, the first with no pulses and the second with the most.
 fn twice(
     stdout: Stdout,
-    tool: Tool,
+    tool: &mut NumberTool,
     channel: usize,
     first: usize,
     second: usize,
-) -> io::Result<Tool> {
-    let t = event(stdout, tool, channel, first, 0)?;
-    event(stdout, t, channel, second, 4294967295)
+) -> io::Result<()> {
+    event(stdout, tool, channel, first, 0)?;
+    event(stdout, tool, channel, second, u32::MAX)
 }
 
 // One event on each channel, with other pulses on each.
-fn round(stdout: Stdout, tool: Tool, e: usize) -> io::Result<Tool> {
-    let t = event(stdout, tool, 0, e, 1)?;
-    let t = event(stdout, t, 1, e, 2)?;
-    let t = event(stdout, t, 2, e, 3)?;
-    let t = event(stdout, t, 3, e, 4)?;
-    let t = event(stdout, t, 4, e, 5)?;
-    let t = event(stdout, t, 5, e, 6)?;
-    let t = event(stdout, t, 6, e, 7)?;
-    event(stdout, t, 7, e, 8)
+fn round(stdout: Stdout, tool: &mut NumberTool, e: usize) -> io::Result<()> {
+    for (channel, pulses) in (1..9).enumerate() {
+        event(stdout, tool, channel, e, pulses)?;
+    }
+    Ok(())
 }
 
 // Rules of document 01's cases, accepted and refused, and numbers above 7.
-fn loads(stdout: Stdout, tool: Tool) -> io::Result<Tool> {
+fn loads(stdout: Stdout, tool: &mut NumberTool) -> io::Result<()> {
     // V A G1 O1.1 G1 X0
-    let t = load(
+    load(
         stdout,
         tool,
         0,
         &[5, 0, 0, 4, 0, 0, 2, 1, 0, 3, 1, 1, 2, 1, 0, 1, 0, 0],
     )?;
     // A O1.1 V G1 X0
-    let t = load(stdout, t, 3, &[4, 0, 0, 3, 1, 1, 5, 0, 0, 2, 1, 0, 1, 0, 0])?;
+    load(
+        stdout,
+        tool,
+        3,
+        &[4, 0, 0, 3, 1, 1, 5, 0, 0, 2, 1, 0, 1, 0, 0],
+    )?;
     // A O0.1 O0.2
-    let t = load(stdout, t, 7, &[4, 0, 0, 3, 0, 1, 3, 0, 2])?;
+    load(stdout, tool, 7, &[4, 0, 0, 3, 0, 1, 3, 0, 2])?;
     // T
-    let t = load(stdout, t, 5, &[0, 0, 0])?;
+    load(stdout, tool, 5, &[0, 0, 0])?;
     // V X0
-    let t = load(stdout, t, 0, &[5, 0, 0, 1, 0, 0])?;
+    load(stdout, tool, 0, &[5, 0, 0, 1, 0, 0])?;
     // X0
-    let t = load(stdout, t, 3, &[1, 0, 0])?;
+    load(stdout, tool, 3, &[1, 0, 0])?;
     // A T
-    let t = load(stdout, t, 1, &[4, 0, 0, 0, 0, 0])?;
+    load(stdout, tool, 1, &[4, 0, 0, 0, 0, 0])?;
     // G9
-    let t = load(stdout, t, 1, &[2, 9, 0])?;
-    load(stdout, t, 8, &[0, 0, 0])
+    load(stdout, tool, 1, &[2, 9, 0])?;
+    load(stdout, tool, 8, &[0, 0, 0])
 }
 
 // A loaded and a cleared channel that are loaded again start with no pulses; a refused loading keeps them.
-fn loads_again(stdout: Stdout, tool: Tool) -> io::Result<Tool> {
+fn loads_again(stdout: Stdout, tool: &mut NumberTool) -> io::Result<()> {
     // T
-    let t = load(stdout, tool, 3, &[0, 0, 0])?;
-    let t = event(stdout, t, 3, 0, 9)?;
-    let t = load(stdout, t, 5, &[0, 0, 0])?;
-    let t = event(stdout, t, 5, 0, 9)?;
+    load(stdout, tool, 3, &[0, 0, 0])?;
+    event(stdout, tool, 3, 0, 9)?;
+    load(stdout, tool, 5, &[0, 0, 0])?;
+    event(stdout, tool, 5, 0, 9)?;
     // X0
-    let t = load(stdout, t, 5, &[1, 0, 0])?;
-    event(stdout, t, 5, 0, 9)
+    load(stdout, tool, 5, &[1, 0, 0])?;
+    event(stdout, tool, 5, 0, 9)
 }
 
 // A set-up of the four values with a wheel.
 fn set_up(stdout: Stdout, top: usize, pulses: usize, millimetres: usize) -> io::Result<()> {
     let meet = values::four_values();
-    let made = recorder::set_up(2, 4, top, &meet, pulses, millimetres);
-    let reply = made.reply;
-    say(stdout, b"wheel ")?;
-    say_number(stdout, pulses)?;
-    say(stdout, b" ")?;
-    say_number(stdout, millimetres)?;
-    say(stdout, b": ")?;
-    say_reply(stdout, reply)?;
-    say(stdout, b"\n")
+    let made = NumberTool::set_up(2, 4, top, &meet, pulses, millimetres);
+    println!(stdout; "wheel {pulses} {millimetres}: {}", ReplyText(made.reply))
 }
 
 // 18 comes after 1 to 3, and no number wraps.
@@ -146,45 +127,40 @@ fn set_ups(stdout: Stdout) -> io::Result<()> {
     set_up(stdout, 3, 1, 65536)?;
     set_up(stdout, 3, 65537, 65537)?;
     set_up(stdout, 3, 4294967297, 1)?;
-    set_up(stdout, 3, 1, 18446744073709551615)?;
+    set_up(stdout, 3, 1, usize::MAX)?;
     set_up(stdout, 4, 0, 0)
 }
 
 fn main(rt: HostRuntime) -> io::Result<()> {
     let stdout = rt.stdout();
     let meet = values::four_values();
-    let made = recorder::set_up(2, 4, 3, &meet, 7, 10);
-    let reply = made.reply;
-    say_reply(stdout, reply)?;
-    say(stdout, b"\n")?;
-    let tool = made.tool;
-    let t = round(stdout, tool, 1)?;
-    let t = loads(stdout, t)?;
-    let t = round(stdout, t, 1)?;
-    let t = round(stdout, t, 1)?;
-    let t = twice(stdout, t, 7, 0, 2)?;
-    let t = twice(stdout, t, 0, 0, 1)?;
-    let t = twice(stdout, t, 9, 0, 1)?;
-    let t = restart(stdout, t, 0)?;
-    let t = restart(stdout, t, 1)?;
-    let t = restart(stdout, t, 8)?;
-    let t = round(stdout, t, 1)?;
-    let t = restart_all(stdout, t)?;
-    let t = round(stdout, t, 0)?;
-    let t = clear(stdout, t, 3)?;
-    let t = clear(stdout, t, 2)?;
-    let t = clear(stdout, t, 8)?;
-    let t = round(stdout, t, 1)?;
-    let t = loads_again(stdout, t)?;
-    let again = values::four_values();
-    let spoilt = recorder::set_up(2, 4, 4, &again, 7, 10);
-    let reply = spoilt.reply;
-    say_reply(stdout, reply)?;
-    say(stdout, b"\n")?;
-    let blank = spoilt.tool;
-    let u = event(stdout, blank, 0, 0, 0)?;
-    restart_all(stdout, u)?;
-    restart_all(stdout, t)?;
+    let made = NumberTool::set_up(2, 4, 3, &meet, 7, 10);
+    println!(stdout; "{}", ReplyText(made.reply))?;
+    let mut t = made.tool;
+    round(stdout, &mut t, 1)?;
+    loads(stdout, &mut t)?;
+    round(stdout, &mut t, 1)?;
+    round(stdout, &mut t, 1)?;
+    twice(stdout, &mut t, 7, 0, 2)?;
+    twice(stdout, &mut t, 0, 0, 1)?;
+    twice(stdout, &mut t, 9, 0, 1)?;
+    restart(stdout, &mut t, 0)?;
+    restart(stdout, &mut t, 1)?;
+    restart(stdout, &mut t, 8)?;
+    round(stdout, &mut t, 1)?;
+    restart_all(stdout, &mut t)?;
+    round(stdout, &mut t, 0)?;
+    clear(stdout, &mut t, 3)?;
+    clear(stdout, &mut t, 2)?;
+    clear(stdout, &mut t, 8)?;
+    round(stdout, &mut t, 1)?;
+    loads_again(stdout, &mut t)?;
+    let spoilt = NumberTool::set_up(2, 4, 4, &meet, 7, 10);
+    println!(stdout; "{}", ReplyText(spoilt.reply))?;
+    let mut blank = spoilt.tool;
+    event(stdout, &mut blank, 0, 0, 0)?;
+    restart_all(stdout, &mut blank)?;
+    restart_all(stdout, &mut t)?;
     set_ups(stdout)?;
     replays(stdout)?;
     stores(stdout)?;

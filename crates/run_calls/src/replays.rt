@@ -1,62 +1,46 @@
 // Sequences of events with their pulses, on channel 7 of a tool with a wheel of 7 pulses and 10 millimetres a turn.
-use crate::answers::{say, say_number, say_reply};
-use crate::calls::say_item;
+use crate::answers::{Items, ReplyText};
 use crate::spoilt::sound;
 use limits::TOTAL_LIMIT;
-use recorder::Tool;
+use recorder::NumberTool;
 use std::io;
 use std::io::Stdout;
 
-// The channel after the call.
-fn say_channel(stdout: Stdout, tool: Tool) -> io::Result<()> {
-    let current = tool.current;
-    let total = tool.total;
-    say(stdout, b", state=")?;
-    say_number(stdout, current[7] as usize)?;
-    say(stdout, b" total=")?;
-    say_number(stdout, total[7] as usize)?;
-    say(stdout, b"\n")
-}
-
 // The reply, three bytes that were 9 before the call, and the channel.
-fn replay<'a>(
+fn replay(
     stdout: Stdout,
-    name: &[u8],
-    tool: Tool,
-    word: &'a [u8],
-    pulses: &'a [u32],
+    name: &str,
+    tool: NumberTool,
+    word: &[u8],
+    pulses: &[u32],
 ) -> io::Result<()> {
     let mut values = [9u8; 3];
-    let answer = recorder::replay(tool, 7, word, pulses, &mut values);
-    let reply = answer.reply;
-    say(stdout, name)?;
-    say(stdout, b": ")?;
-    say_reply(stdout, reply)?;
-    say(stdout, b", values")?;
-    say_item(stdout, values[0])?;
-    say_item(stdout, values[1])?;
-    say_item(stdout, values[2])?;
-    say_channel(stdout, answer.tool)
+    let answer = tool.replay(7, word, pulses, &mut values);
+    let reply = ReplyText(answer.reply);
+    let values = Items(&values);
+    let state = answer.tool.current[7];
+    let total = answer.tool.total[7];
+    println!(stdout; "{name}: {reply}, values{values}, state={state} total={total}")
 }
 
 // Events for which there are no more pulses have none, and pulses behind the last event are not looked at.
 fn counts(stdout: Stdout) -> io::Result<()> {
-    replay(stdout, b"three pulses", sound(), &[1, 1, 0], &[3, 4, 5])?;
-    replay(stdout, b"two pulses", sound(), &[1, 1, 0], &[3, 4])?;
-    replay(stdout, b"no pulses", sound(), &[1, 1, 0], &[])?;
+    replay(stdout, "three pulses", sound(), &[1, 1, 0], &[3, 4, 5])?;
+    replay(stdout, "two pulses", sound(), &[1, 1, 0], &[3, 4])?;
+    replay(stdout, "no pulses", sound(), &[1, 1, 0], &[])?;
     replay(
         stdout,
-        b"five pulses",
+        "five pulses",
         sound(),
         &[1, 1, 0],
         &[3, 4, 5, 6, 4294967295],
     )?;
-    replay(stdout, b"no events", sound(), &[], &[3, 4])?;
-    replay(stdout, b"neither", sound(), &[], &[])
+    replay(stdout, "no events", sound(), &[], &[3, 4])?;
+    replay(stdout, "neither", sound(), &[], &[])
 }
 
 // Channel 7 has a total.
-fn with_total(total: u64) -> Tool {
+fn with_total(total: u64) -> NumberTool {
     let mut t = sound();
     t.total[7] = total;
     t
@@ -65,23 +49,17 @@ fn with_total(total: u64) -> Tool {
 // The total may become the limit; 19 refuses one more, and nothing changes.
 fn totals(stdout: Stdout) -> io::Result<()> {
     let near = with_total(TOTAL_LIMIT - 9);
-    replay(stdout, b"to the limit", near, &[1, 1, 0], &[3, 4, 2])?;
-    replay(stdout, b"one more", near, &[1, 1, 0], &[3, 4, 3])?;
-    replay(stdout, b"one more at once", near, &[1, 1, 0], &[10])?;
-    replay(
-        stdout,
-        b"far more",
-        near,
-        &[1, 1],
-        &[4294967295, 4294967295],
-    )?;
-    replay(stdout, b"behind the last event", near, &[1, 1], &[3, 4, 3])?;
+    replay(stdout, "to the limit", near, &[1, 1, 0], &[3, 4, 2])?;
+    replay(stdout, "one more", near, &[1, 1, 0], &[3, 4, 3])?;
+    replay(stdout, "one more at once", near, &[1, 1, 0], &[10])?;
+    replay(stdout, "far more", near, &[1, 1], &[4294967295, 4294967295])?;
+    replay(stdout, "behind the last event", near, &[1, 1], &[3, 4, 3])?;
     let full = with_total(TOTAL_LIMIT);
-    replay(stdout, b"none at the limit", full, &[1, 1], &[0, 0])?;
-    replay(stdout, b"no events at the limit", full, &[], &[1])?;
+    replay(stdout, "none at the limit", full, &[1, 1], &[0, 0])?;
+    replay(stdout, "no events at the limit", full, &[], &[1])?;
     replay(
         stdout,
-        b"above the limit",
+        "above the limit",
         with_total(TOTAL_LIMIT + 1),
         &[1, 1],
         &[],
@@ -91,9 +69,9 @@ fn totals(stdout: Stdout) -> io::Result<()> {
 // 16, then 19, then 13.
 fn order(stdout: Stdout) -> io::Result<()> {
     let near = with_total(TOTAL_LIMIT - 9);
-    replay(stdout, b"16 before 19", near, &[1, 1, 2], &[3, 4, 3])?;
-    replay(stdout, b"19 before 13", near, &[1, 1, 0, 0], &[3, 4, 3])?;
-    replay(stdout, b"13", near, &[1, 1, 0, 0], &[3, 4, 2])
+    replay(stdout, "16 before 19", near, &[1, 1, 2], &[3, 4, 3])?;
+    replay(stdout, "19 before 13", near, &[1, 1, 0, 0], &[3, 4, 3])?;
+    replay(stdout, "13", near, &[1, 1, 0, 0], &[3, 4, 2])
 }
 
 pub fn replays(stdout: Stdout) -> io::Result<()> {

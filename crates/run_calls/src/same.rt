@@ -1,210 +1,64 @@
 // What a call left as it was.
-ghost use Rattle.std.specs.Prelude.{◌*◌, ◌≤◌};
+ghost use Rattle.std.specs.Prelude.{◌<◌};
 
 use limits::CHANNEL_LIMIT;
-use recorder::Tool;
+use recorder::{NumberTool, Numbers, ToolSetup};
 
-fn same_bytes<'a>(a: &'a [u8], b: &'a [u8]) -> bool {
-    if a.len() != b.len() {
-        return false;
-    }
-    let mut i: usize = 0;
-    while i < a.len() {
-        if a[i] != b[i] {
-            return false;
-        }
-        i += 1;
-    }
-    true
-}
-
-fn same_counts<'a>(a: &'a [u16], b: &'a [u16]) -> bool {
-    if a.len() != b.len() {
-        return false;
-    }
-    let mut i: usize = 0;
-    while i < a.len() {
-        if a[i] != b[i] {
-            return false;
-        }
-        i += 1;
-    }
-    true
-}
-
-fn same_totals<'a>(a: &'a [u64], b: &'a [u64]) -> bool {
-    if a.len() != b.len() {
-        return false;
-    }
-    let mut i: usize = 0;
-    while i < a.len() {
-        if a[i] != b[i] {
-            return false;
-        }
-        i += 1;
-    }
-    true
-}
-
-fn same_setup(a: Tool, b: Tool) -> bool {
-    if a.setup.events != b.setup.events {
-        return false;
-    }
-    if a.setup.values != b.setup.values {
-        return false;
-    }
-    if a.setup.top != b.setup.top {
-        return false;
-    }
-    if a.setup.wheel.pulses != b.setup.wheel.pulses {
-        return false;
-    }
-    if a.setup.wheel.millimetres != b.setup.wheel.millimetres {
-        return false;
-    }
-    same_bytes(&a.setup.meet, &b.setup.meet)
+fn same_setup(a: &ToolSetup<Numbers>, b: &ToolSetup<Numbers>) -> bool {
+    a.events == b.events
+        && a.kind.values == b.kind.values
+        && a.kind.top == b.kind.top
+        && a.wheel.pulses == b.wheel.pulses
+        && a.wheel.millimetres == b.wheel.millimetres
+        && a.kind.meet == b.kind.meet
 }
 
 // Whether two tools are the same in every cell.
-pub fn same(a: Tool, b: Tool) -> bool {
-    if !same_setup(a, b) {
-        return false;
-    }
-    if !same_counts(&a.states, &b.states) {
-        return false;
-    }
-    if !same_bytes(&a.current, &b.current) {
-        return false;
-    }
-    if !same_totals(&a.total, &b.total) {
-        return false;
-    }
-    if !same_bytes(&a.value, &b.value) {
-        return false;
-    }
-    same_bytes(&a.next, &b.next)
+pub fn same(a: &NumberTool, b: &NumberTool) -> bool {
+    same_setup(&a.setup, &b.setup)
+        && a.states == b.states
+        && a.current == b.current
+        && a.total == b.total
+        && a.value == b.value
+        && a.next == b.next
 }
 
-fn wide(n: u16) -> usize
-    ensures { result ≤ 65535 }
+// The entries of the rows of the first so many channels.
+fn entries_before(tool: &NumberTool, count: usize) -> usize {
+    let states = tool.states.iter().take(count);
+    let rows = states.fold(0usize, |rows, &n| rows.saturating_add(usize::from(n)));
+    rows.saturating_mul(usize::from(tool.setup.events))
+}
+
+// A channel's part of an array of entries; none where it lies behind the array.
+fn part_of<'a>(tool: &NumberTool, entries: &'a [u8], channel: usize) -> &'a [u8]
+    requires { channel < 8 }
 {
-    n as usize
+    let from = entries_before(tool, channel);
+    let to = entries_before(tool, channel + 1);
+    entries.get(from..to).unwrap_or(&[])
 }
 
-// The rows of the first so many channels.
-fn rows_before(states: [u16; CHANNEL_LIMIT], count: usize) -> usize
-    ensures { result ≤ 524280 }
+// Whether a channel is the same in two tools of one set-up, wherever its rows lie.
+fn same_channel(a: &NumberTool, b: &NumberTool, channel: usize) -> bool
+    requires { channel < 8 }
 {
-    if CHANNEL_LIMIT < count {
-        return 0;
-    }
-    let mut rows: usize = 0;
-    let mut i: usize = 0;
-    while i < count {
-        rows += wide(states[i]);
-        i += 1;
-    }
-    rows
-}
-
-// So many bytes from a place on; none where there are fewer.
-fn part(bytes: &[u8], at: usize, count: usize) -> &[u8] {
-    if bytes.len() < at {
-        return &bytes[bytes.len()..];
-    }
-    if bytes.len() - at < count {
-        return &bytes[bytes.len()..];
-    }
-    let end = at + count;
-    &bytes[at..end]
-}
-
-// The entries of so many rows; a set-up has at most 16 events.
-fn entries(rows: usize, events: u8) -> usize
-    ensures { result ≤ 8388480 }
-{
-    if 524280 < rows {
-        return 0;
-    }
-    if 16 < events {
-        return 0;
-    }
-    rows * (events as usize)
-}
-
-// Whether the rows of a channel are the same in two tools of one set-up, wherever they lie.
-fn same_rows(a: Tool, b: Tool, channel: usize) -> bool {
-    let before = a.states;
-    let after = b.states;
-    if CHANNEL_LIMIT <= channel {
-        return true;
-    }
-    let events = a.setup.events;
-    let count = entries(wide(before[channel]), events);
-    let from = entries(rows_before(before, channel), events);
-    let to = entries(rows_before(after, channel), events);
-    if !same_bytes(part(&a.value, from, count), part(&b.value, to, count)) {
-        return false;
-    }
-    same_bytes(part(&a.next, from, count), part(&b.next, to, count))
-}
-
-// Whether a channel is the same in two tools of one set-up.
-fn same_channel(a: Tool, b: Tool, channel: usize) -> bool {
-    if CHANNEL_LIMIT <= channel {
-        return true;
-    }
-    if a.states[channel] != b.states[channel] {
-        return false;
-    }
-    if a.current[channel] != b.current[channel] {
-        return false;
-    }
-    if a.total[channel] != b.total[channel] {
-        return false;
-    }
-    same_rows(a, b, channel)
+    a.states[channel] == b.states[channel]
+        && a.current[channel] == b.current[channel]
+        && a.total[channel] == b.total[channel]
+        && part_of(a, &a.value, channel) == part_of(b, &b.value, channel)
+        && part_of(a, &a.next, channel) == part_of(b, &b.next, channel)
 }
 
 // Whether every channel but one is the same in two tools of one set-up.
-pub fn others_same(a: Tool, b: Tool, channel: usize) -> bool {
-    let mut i: usize = 0;
-    while i < CHANNEL_LIMIT {
-        if i != channel {
-            if !same_channel(a, b, i) {
-                return false;
-            }
-        }
-        i += 1;
-    }
-    true
-}
-
-fn all_zero(bytes: &[u8]) -> bool {
-    let mut i: usize = 0;
-    while i < bytes.len() {
-        if bytes[i] != 0 {
-            return false;
-        }
-        i += 1;
-    }
-    true
-}
-
-// All but so many bytes.
-fn behind(bytes: &[u8], at: usize) -> &[u8] {
-    if bytes.len() < at {
-        return &bytes[bytes.len()..];
-    }
-    &bytes[at..]
+pub fn others_same(a: &NumberTool, b: &NumberTool, channel: usize) -> bool {
+    (0..CHANNEL_LIMIT).all(|i| i == channel || same_channel(a, b, i))
 }
 
 // Whether the cells behind the last table are 0.
-pub fn zeros_behind(t: Tool) -> bool {
-    let states = t.states;
-    let at = entries(rows_before(states, CHANNEL_LIMIT), t.setup.events);
-    if !all_zero(behind(&t.value, at)) {
-        return false;
-    }
-    all_zero(behind(&t.next, at))
+pub fn zeros_behind(tool: &NumberTool) -> bool {
+    let used = entries_before(tool, CHANNEL_LIMIT);
+    let value = tool.value.iter().skip(used);
+    let next = tool.next.iter().skip(used);
+    value.chain(next).all(|entry| *entry == 0)
 }

@@ -2,13 +2,13 @@
 // limits.
 #![tactic(auto)]
 
-ghost use Rattle.std.specs.Prelude.{◌≡◌, length};
-
 use conformance::{Grade, Verdict, trial};
 use limits::{NODE_LIMIT, TABLE_BYTES, TABLE_LIMIT, WORD_LIMIT};
-use refusal::{Counted, Refusal};
-use std::io;
+use machines::{Device, Table};
+use refusal::Refusal;
 use std::io::Stdout;
+use std::{array, fmt, io};
+use values::{SetUp, Values};
 
 // A rule of as many nodes as there may be: those before its last, and its bytes.
 const TRANSITIONS: usize = NODE_LIMIT - 1;
@@ -22,155 +22,129 @@ const LOOP_ROOM: usize = LOOP_STATES * 2;
 
 const LAST_VALUE: usize = TABLE_LIMIT * 2;
 
-fn print_refusal(stdout: Stdout, r: Refusal) -> io::Result<()> {
-    stdout.write_all(b"refused=")?;
-    match r {
-        Refusal::Plain(n) => stdout.print(n)?,
-        Refusal::At(n, p) => {
-            stdout.print(n)?;
-            stdout.write_all(b" ")?;
-            stdout.print(p)?;
-        }
-    }
-    stdout.write_all(b"\n")
-}
+// An answer as its line. A count stands behind its key.
+#[derive(Drop)]
+struct CountLine<'a>(&'a str, Result<usize, Refusal>);
 
-fn print_counted(stdout: Stdout, key: &[u8], c: Counted) -> io::Result<()> {
-    match c {
-        Counted::Count(n) => {
-            stdout.write_all(key)?;
-            stdout.print(n)?;
-            stdout.write_all(b"\n")
+impl fmt::Display for CountLine<'_> {
+    fn fmt<W: fmt::Write>(&self, f: &mut fmt::Formatter<W>) -> fmt::Result {
+        let key = self.0;
+        match self.1 {
+            Ok(n) => write!(f, "{key}={n}"),
+            Err(refusal) => write!(f, "refused={refusal}"),
         }
-        Counted::Refused(r) => print_refusal(stdout, r),
     }
 }
 
-// The grade of a pass, or the length of the failing word.
-fn print_verdict(stdout: Stdout, v: Verdict) -> io::Result<()> {
-    match v {
-        Verdict::Pass(grade) => match grade {
-            Grade::Same => stdout.write_all(b"pass=same\n"),
-            Grade::Stricter => stdout.write_all(b"pass=stricter\n"),
-        },
-        Verdict::Fail(n) => {
-            stdout.write_all(b"fail=")?;
-            stdout.print(n)?;
-            stdout.write_all(b"\n")
+#[derive(Drop)]
+struct VerdictLine(Result<Verdict, Refusal>);
+
+impl fmt::Display for VerdictLine {
+    fn fmt<W: fmt::Write>(&self, f: &mut fmt::Formatter<W>) -> fmt::Result {
+        match self.0 {
+            Ok(Verdict::Pass(Grade::Same)) => write!(f, "pass=same"),
+            Ok(Verdict::Pass(Grade::Stricter)) => write!(f, "pass=stricter"),
+            Ok(Verdict::Fail(n)) => write!(f, "fail={n}"),
+            Err(refusal) => write!(f, "refused={refusal}"),
         }
-        Verdict::Refused(r) => print_refusal(stdout, r),
     }
 }
 
 // G0 255 times, then T.
-fn chain_of_transitions() -> [u8; RULE_ROOM]
-    ensures { length result ≡ 768 }
-{
+fn chain_of_transitions() -> [u8; RULE_ROOM] {
     let mut rule = [0u8; RULE_ROOM];
-    let mut i: usize = 0;
-    while i < TRANSITIONS {
-        rule[i * 3] = 2;
-        i += 1;
+    for kind in rule.iter_mut().step_by(3).take(TRANSITIONS) {
+        *kind = 2;
     }
     rule
 }
 
 // The state after entry i of a chain whose state 0 is entry `first` of 64; the last state returns to itself.
-fn next_in_chain(i: u8, first: u8) -> u8 {
-    if i < first {
-        return 0;
-    }
-    if i < 63 { i - first + 1 } else { i - first }
+fn next_in_chain(i: usize, first: usize) -> u8 {
+    (i.min(62) + 1).saturating_sub(first) as u8
 }
 
 // One event, value 3: the entries of a chain, two bytes each, that starts at entry `first` of 64.
-fn chain_of_states(first: u8) -> [u8; 128]
-    ensures { length result ≡ 128 }
-{
-    let mut table = [3u8; 128];
-    let mut i: u8 = 0;
-    while i < 64 {
-        table[2 * (i as usize) + 1] = next_in_chain(i, first);
-        i += 1;
+fn chain_of_states(first: usize) -> [u8; 128] {
+    array::from_fn(|b| {
+        if b % 2 == 0 {
+            3
+        } else {
+            next_in_chain(b / 2, first)
+        }
+    })
+}
+
+// The four values, with so many events.
+fn set_up(events: usize, meet: &[u8]) -> SetUp<'_> {
+    SetUp {
+        events,
+        values: Values::Numbered {
+            values: 4,
+            top: 3,
+            meet,
+        },
     }
-    table
 }
 
-// The states of a chain of transitions from a node on.
-fn compile_chain(stdout: Stdout, rule: &[u8]) -> io::Result<()> {
-    let meet = values::four_values();
-    let mut table = [0u8; TABLE_BYTES];
-    print_counted(
-        stdout,
-        b"states=",
-        synthesis::compile(2, 4, 3, &meet, rule, &mut table),
-    )
+// A table for one event, of as many states as it has entries.
+fn table_of(entries: &[u8]) -> Table<'_> {
+    Table {
+        states: entries.len() / 2,
+        entries,
+    }
 }
 
-// The states of a rule for one event.
-fn compile_back(stdout: Stdout, rule: &[u8]) -> io::Result<()> {
+// A device that starts at state 0 of such a table.
+fn device_of(entries: &[u8]) -> Device<'_> {
+    Device {
+        table: table_of(entries),
+        start: 0,
+    }
+}
+
+// The states of a rule; its table goes to a lent buffer.
+fn compile(stdout: Stdout, events: usize, rule: &[u8], table: &mut [u8]) -> io::Result<()> {
     let meet = values::four_values();
-    let mut table = [0u8; 128];
-    print_counted(
-        stdout,
-        b"states=",
-        synthesis::compile(1, 4, 3, &meet, rule, &mut table),
-    )
+    let compiled = synthesis::compile(set_up(events, &meet), rule, table);
+    println!(stdout; "{}", CountLine("states", compiled))
 }
 
 // The nodes of the rule of a chain of states; and the states of that rule, which fills the lent buffer.
-fn write_chain(stdout: Stdout, table: &[u8], states: usize, rule: &mut [u8]) -> io::Result<()> {
+fn write_chain(stdout: Stdout, entries: &[u8], rule: &mut [u8]) -> io::Result<()> {
     let meet = values::four_values();
-    let written = characteristic::write_rule(1, 4, 3, &meet, states, 0, table, rule);
-    print_counted(stdout, b"nodes=", written)?;
-    if let Counted::Count(_) = written {
-        compile_back(stdout, &*rule)?;
+    let written = characteristic::write_rule(set_up(1, &meet), device_of(entries), rule);
+    println!(stdout; "{}", CountLine("nodes", written))?;
+    if written.is_ok() {
+        compile(stdout, 1, rule, &mut [0u8; 128])?;
     }
     Ok(())
 }
 
 // The state after entry i of a loop whose state 0 is entry `first` of 257, in one byte; the last state returns to 0.
 fn next_in_loop(i: usize, first: usize) -> u8 {
-    if i < first {
-        return 0;
-    }
     if i < TABLE_LIMIT {
-        ((i - first + 1) % 256) as u8
+        ((i + 1).saturating_sub(first) % 256) as u8
     } else {
         0
     }
 }
 
 // One event: the entries of a loop, two bytes each, that starts at entry `first` of 257; the last state has a value of its own.
-fn loop_of_states(first: usize, value: u8, last_value: u8) -> [u8; LOOP_ROOM]
-    ensures { length result ≡ 514 }
-{
-    let mut table = [value; LOOP_ROOM];
-    let mut i: usize = 0;
-    while i < LOOP_STATES {
-        table[2 * i + 1] = next_in_loop(i, first);
-        i += 1;
-    }
-    table[LAST_VALUE] = last_value;
-    table
+fn loop_of_states(first: usize, value: u8, last_value: u8) -> [u8; LOOP_ROOM] {
+    array::from_fn(|b| match b {
+        LAST_VALUE => last_value,
+        _ if b % 2 == 0 => value,
+        _ => next_in_loop(b / 2, first),
+    })
 }
 
-// The trial of a device against a table, both for one event and with states for all their bytes.
+// The trial of a device against a table, both for one event.
 fn try_device(stdout: Stdout, device: &[u8], table: &[u8], word: &mut [u8]) -> io::Result<()> {
     let meet = values::four_values();
-    let verdict = trial(
-        1,
-        4,
-        3,
-        &meet,
-        table.len() / 2,
-        table,
-        device.len() / 2,
-        0,
-        device,
-        word,
-    );
-    print_verdict(stdout, verdict)
+
+    let verdict = trial(set_up(1, &meet), table_of(table), device_of(device), word);
+    println!(stdout; "{}", VerdictLine(verdict))
 }
 
 // A device of value 0, and 3 in its last state, against a table of value 3, and 1 in its last state, both loops: it fails where both are in
@@ -219,26 +193,27 @@ fn trials(stdout: Stdout) -> io::Result<()> {
 fn writings(stdout: Stdout) -> io::Result<()> {
     let mut exact = [0u8; 147];
     let twelve = chain_of_states(52);
-    write_chain(stdout, &twelve[104..], 12, &mut exact)?;
+    write_chain(stdout, &twelve[104..], &mut exact)?;
     let mut room = [0u8; RULE_ROOM];
     let thirteen = chain_of_states(51);
-    write_chain(stdout, &thirteen[102..], 13, &mut room)?;
+    write_chain(stdout, &thirteen[102..], &mut room)?;
     let sixty_three = chain_of_states(1);
-    write_chain(stdout, &sixty_three[2..], 63, &mut room)?;
+    write_chain(stdout, &sixty_three[2..], &mut room)?;
     let sixty_four = chain_of_states(0);
-    write_chain(stdout, &sixty_four, 64, &mut room)?;
+    write_chain(stdout, &sixty_four, &mut room)?;
     let most = loop_of_states(1, 3, 3);
-    write_chain(stdout, &most[2..], 256, &mut room)?;
+    write_chain(stdout, &most[2..], &mut room)?;
     let more = loop_of_states(0, 3, 3);
-    write_chain(stdout, &more, 257, &mut room)
+    write_chain(stdout, &more, &mut room)
 }
 
 fn main(rt: HostRuntime) -> io::Result<()> {
     let stdout = rt.stdout();
     let rule = chain_of_transitions();
-    compile_chain(stdout, &rule[576..])?;
-    compile_chain(stdout, &rule[573..])?;
-    compile_chain(stdout, &rule)?;
+    let mut table = [0u8; TABLE_BYTES];
+    compile(stdout, 2, &rule[576..], &mut table)?;
+    compile(stdout, 2, &rule[573..], &mut table)?;
+    compile(stdout, 2, &rule, &mut table)?;
     writings(stdout)?;
     trials(stdout)
 }

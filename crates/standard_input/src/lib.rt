@@ -14,6 +14,7 @@ pub fn read_full<R: Read>(input: &mut R, buffer: &mut [u8]) -> io::Result<usize>
     ensures end { IfOk result (λ n. n < length buffer.new → IsAtEnd (R.remaining input.new)) }
 {
     let mut done = 0;
+    // a read takes as many bytes as it finds, so that no range or iterator counts them
     while done < buffer.len() {
         let n = input.read(&mut buffer[done..])?;
         if n == 0 {

@@ -5,6 +5,9 @@ use native.Mathlib.{Numerals.{add-one}, Omega.{arith}}
 use lib.ListN.{get_or}
 use Rattle.limits.specs.Limits.{binder_limit}
 use Rattle.theory.specs.Formula.{Formula, truth, variable, transition, output, conjunction, greatest, size}
+use Rattle.formulas.specs.declared.NodeKind.TheVariants.{Variable, Transition, Conjunction, Greatest}
+use Rattle.formulas.specs.RuleReading.{kind_of}
+use Rattle.formulas.proofs.KindFacts.{IsLeaf, not_leaf}
 use Rattle.formulas.specs.NodeWalks.{field}
 use Rattle.formulas.proofs.Walking.{size_positive}
 use Rattle.synthesis.specs.{NodeWalks.{Ends, Binds}, Binding.{OwnBinder, AllBound}}
@@ -33,14 +36,14 @@ module _ (kinds firsts : List ℕ) (at left depth : ℕ) (stack : List ℕ) wher
   bound_none e b value φ σ d h sc sh st = absurd (omega (arith, size_positive φ))
 
   pub bound_leaf :
-      (b : List ℕ) → ¬ (kind ≡ 1) → ¬ (kind ≡ 2) → ¬ (kind ≡ 4) → ¬ (kind ≡ 5) → AllBound kinds firsts at left depth stack b
+      (b : List ℕ) → IsLeaf (kind_of kind) → AllBound kinds firsts at left depth stack b
   unfolding AllBound
-  bound_leaf b k1 k2 k4 k5 value truth σ d h sc sh st = tt
-  bound_leaf b k1 k2 k4 k5 value (variable m) σ d h sc sh st = absurd (k1 d.0)
-  bound_leaf b k1 k2 k4 k5 value (transition a φ) σ d h sc sh st = absurd (k2 d.0)
-  bound_leaf b k1 k2 k4 k5 value (output a v) σ d h sc sh st = tt
-  bound_leaf b k1 k2 k4 k5 value (conjunction φ χ) σ d h sc sh st = absurd (k4 d.0)
-  bound_leaf b k1 k2 k4 k5 value (greatest φ) σ d h sc sh st = absurd (k5 d.0)
+  bound_leaf b l value truth σ d h sc sh st = tt
+  bound_leaf b l value (variable m) σ d h sc sh st = absurd (not_leaf Variable kind d.0 l)
+  bound_leaf b l value (transition a φ) σ d h sc sh st = absurd (not_leaf Transition kind d.0 l)
+  bound_leaf b l value (output a v) σ d h sc sh st = tt
+  bound_leaf b l value (conjunction φ χ) σ d h sc sh st = absurd (not_leaf Conjunction kind d.0 l)
+  bound_leaf b l value (greatest φ) σ d h sc sh st = absurd (not_leaf Greatest kind d.0 l)
 
   pub bound_variable :
       (b : List ℕ) → kind ≡ 1 → OwnBinder stack depth (field firsts at) (get_or b at 0) → AllBound kinds firsts at left depth stack b

@@ -11,17 +11,13 @@ use Rattle.theory.specs.FormulaClasses.{WellFormed}
 use Rattle.theory.specs.MealyMachine.{Machine}
 use Rattle.theory.specs.{ReachableStates.{IsTable, IsTableOf, StatesAtMost}, DemandSets.{set_machine, first_set}}
 use Rattle.theory.proofs.{Claims.{numbering, table_values}, SetMachine.{table_of_iff}}
-use Rattle.refusal.specs.declared.Refusal.{Refusal}
-use Rattle.refusal.specs.declared.Refusal.TheVariants.{Plain}
-use Rattle.refusal.specs.Refusal.{Condition, First, has_place, part_of, order, condition_numbers, right_places}
-use Rattle.refusal.specs.RefusalAnswers.{or_else, plain_unless}
+use Rattle.refusal.specs.{declared.Refusal.{Refusal}, declared.Refusal.TheVariants.{BufferLength, StateCount}}
+use Rattle.refusal.specs.Refusal.{Condition, First, has_place, part_of, order, condition_numbers, right_places, put}
+use Rattle.refusal.specs.RefusalAnswers.{or_else, plain_unless, put_unless}
 use Rattle.refusal.proofs.Refusals.{first_then, or_else_none, or_else_assoc, plain_none}
-use Rattle.refusal.specs.Refusal.{put}
-use Rattle.refusal.specs.RefusalAnswers.{put_unless}
 use Rattle.values.specs.declared.ValueKind.{ValueKind}
 use Rattle.values.specs.declared.ValueKind.TheVariants.{Numbered, Register}
-use Rattle.values.specs.Setup.{ValueIn, value_width, Setup, setup_meet, setup_top, setup_conditions}
-use Rattle.values.specs.Setup.{masks_value, value_from}
+use Rattle.values.specs.Setup.{ValueIn, value_width, Setup, setup_meet, setup_top, setup_conditions, masks_value, value_from}
 use Rattle.values.specs.SetupTests.{setup_refusal}
 use Rattle.values.proofs.Setups.{setup_first, judged_after_setup}
 use Rattle.formulas.specs.RuleRefusal.{rule_refusal, formula_of}
@@ -32,8 +28,7 @@ use Rattle.machines.specs.{TableBytes.{table_bytes, entry_width, entry_bytes, ma
 use Rattle.machines.proofs.{EntryBytes.{table_length}, EntryIndex.{index_below}}
 use Rattle.machines.proofs.TableRoundTrip.{read_back, entry_length, entry_width_is, entry_within}
 use Rattle.synthesis.specs.FormulaTable.{formula_states, formula_table}
-use Rattle.synthesis.specs.Compilation.{rule_states, rule_table_refusal}
-use Rattle.synthesis.specs.Compilation.{setup_states, setup_table, compile_refusal, compile_contents}
+use Rattle.synthesis.specs.Compilation.{rule_states, rule_table_refusal, setup_states, setup_table, compile_refusal, compile_contents}
 use Rattle.synthesis.specs.TableOfRule.{states_condition, buffer_condition, compile_conditions, rule_conditions_of, pair_table_conditions, IsRuleTable}
 use Rattle.synthesis.specs.Claims.{CompileRefusalClaim, RuleTable, CompiledBytes, CompileClaim}
 use Rattle.synthesis.proofs.{CompiledTable.{few_states, is_table}, LentTable.{contents_at, laws, few}}
@@ -88,11 +83,11 @@ module _ (meet : ℕ → ℕ → ℕ) (top events : ℕ) (kind : ValueKind) (lim
   at_most : (states ≤ limit) ↔ StatesAtMost meet top events φ₀ limit
   at_most = few_states (ValueIn kind) meet top L events limit φ₀ well small
 
-  states_first : First (states_condition meet top events kind rule limit ∷ []) (plain_unless (leb states limit) 10)
+  states_first : First (states_condition meet top events kind rule limit ∷ []) (plain_unless (leb states limit) StateCount)
   unfolding First plain_unless
   states_first = go (leb states limit) refl
     where
-      go : (b : Bool) → leb states limit ≡ b → First (states_condition meet top events kind rule limit ∷ []) (plain_unless b 10)
+      go : (b : Bool) → leb states limit ≡ b → First (states_condition meet top events kind rule limit ∷ []) (plain_unless b StateCount)
       go true e =
           inr (
             (λ r m. m.0.2
@@ -101,11 +96,11 @@ module _ (meet : ℕ → ℕ → ℕ) (top events : ℕ) (kind : ValueKind) (lim
             refl,
           )
       go false e =
-          inl (Plain 10, ((φ₀, there.written, λ h. omega (arith, at_most.1 h, leb-false states limit e)), refl), refl)
+          inl (StateCount, ((φ₀, there.written, λ h. omega (arith, at_most.1 h, leb-false states limit e)), refl), refl)
 
   buffer_first :
       (old : List ℕ) → states ≤ limit →
-      First (buffer_condition meet top events kind rule old ∷ []) (plain_unless (leb (states * events * entry_width kind) (length old)) 13)
+      First (buffer_condition meet top events kind rule old ∷ []) (plain_unless (leb (states * events * entry_width kind) (length old)) BufferLength)
   unfolding First plain_unless
   buffer_first old h = go (leb (states * events * entry_width kind) (length old)) refl
     where
@@ -114,7 +109,7 @@ module _ (meet : ℕ → ℕ → ℕ) (top events : ℕ) (kind : ValueKind) (lim
 
       go :
           (b : Bool) → leb (states * events * entry_width kind) (length old) ≡ b →
-          First (buffer_condition meet top events kind rule old ∷ []) (plain_unless b 13)
+          First (buffer_condition meet top events kind rule old ∷ []) (plain_unless b BufferLength)
       go true e =
           inr (
             (λ r m.
@@ -127,7 +122,7 @@ module _ (meet : ℕ → ℕ → ℕ) (top events : ℕ) (kind : ValueKind) (lim
           )
       go false e =
           inl (
-            Plain 13,
+            BufferLength,
             (
               (
                 φ₀,
@@ -165,18 +160,19 @@ ten_first :
     (more : List Condition) (later : Option Refusal) →
     (rule_refusal events kind rule ≡ none → formula_states meet top (formula_of kind rule) events limit ≤ limit → First more later) →
     First (byte_conditions events kind rule ++ ((states_condition meet top events kind rule limit ∷ []) ++ more))
-    (or_else (or_else (rule_refusal events kind rule) (plain_unless (leb (formula_states meet top (formula_of kind rule) events limit) limit) 10)) later)
+    (or_else (or_else (rule_refusal events kind rule) (plain_unless (leb (formula_states meet top (formula_of kind rule) events limit) limit) StateCount))
+    later)
 ten_first meet top events kind limit rule L more later rest =
     subst (First (byte_conditions events kind rule ++ ((states_condition meet top events kind rule limit ∷ []) ++ more)))
-    (or_else_assoc (rule_refusal events kind rule) (plain_unless (leb (formula_states meet top (formula_of kind rule) events limit) limit) 10) later)
+    (or_else_assoc (rule_refusal events kind rule) (plain_unless (leb (formula_states meet top (formula_of kind rule) events limit) limit) StateCount) later)
     (first_then (byte_conditions events kind rule) ((states_condition meet top events kind rule limit ∷ []) ++ more)
-    (rule_refusal events kind rule) (or_else (plain_unless (leb (formula_states meet top (formula_of kind rule) events limit) limit) 10) later)
+    (rule_refusal events kind rule) (or_else (plain_unless (leb (formula_states meet top (formula_of kind rule) events limit) limit) StateCount) later)
     (rule_judged events kind rule).first
     (λ ok. first_then (states_condition meet top events kind rule limit ∷ []) more
-    (plain_unless (leb (formula_states meet top (formula_of kind rule) events limit) limit) 10) later
+    (plain_unless (leb (formula_states meet top (formula_of kind rule) events limit) limit) StateCount) later
     (states_first meet top events kind limit rule L ok)
     (λ e. rest ok (leb-true (formula_states meet top (formula_of kind rule) events limit) limit
-    (plain_none (leb (formula_states meet top (formula_of kind rule) events limit) limit) 10 e)))))
+    (plain_none (leb (formula_states meet top (formula_of kind rule) events limit) limit) StateCount e)))))
 
 -- A value that is read depends on its bytes alone.
 value_same :
@@ -220,7 +216,7 @@ module _ (limit : ℕ) (s : Setup) (rule old : List ℕ) (accepted : compile_ref
   from_rule = rule_table_refusal s.kind s.events (setup_top s) s.meet rule limit
 
   abbrev room : Option Refusal
-  room = plain_unless (leb (n * s.events * entry_width s.kind) (length old)) 13
+  room = plain_unless (leb (n * s.events * entry_width s.kind) (length old)) BufferLength
 
   none_of : (setup_refusal s ≡ none) × (from_rule ≡ none) × (room ≡ none)
   unfolding compile_refusal
@@ -237,11 +233,11 @@ module _ (limit : ℕ) (s : Setup) (rule old : List ℕ) (accepted : compile_ref
   output_length = table_length ℕ (entry_bytes s.kind) (entry_width s.kind) (entry_length s.kind) s.events t n
 
   enough : n * s.events * entry_width s.kind ≤ length old
-  enough = leb-true (n * s.events * entry_width s.kind) (length old) (plain_none (leb (n * s.events * entry_width s.kind) (length old)) 13 none_of.2)
+  enough = leb-true (n * s.events * entry_width s.kind) (length old) (plain_none (leb (n * s.events * entry_width s.kind) (length old)) BufferLength none_of.2)
 
   rule_fine : rule_refusal s.events s.kind rule ≡ none
   unfolding rule_table_refusal
-  rule_fine = (or_else_none (rule_refusal s.events s.kind rule) (plain_unless (leb n limit) 10) none_of.1).0
+  rule_fine = (or_else_none (rule_refusal s.events s.kind rule) (plain_unless (leb n limit) StateCount) none_of.1).0
 
   byte_at : (i : ℕ) → i < n * s.events * entry_width s.kind → get_or (compile_contents limit s rule old) i 0 ≡ get_or output i 0
   byte_at i h =
@@ -303,7 +299,7 @@ module _ (s : Setup) (rule : List ℕ) where
   rule_first ok =
       subst (First (rule_conditions_of s rule))
       (append_none (or_else (rule_refusal s.events s.kind rule)
-      (plain_unless (leb (rule_states s.kind s.events (setup_top s) s.meet rule state_limit) state_limit) 10)))
+      (plain_unless (leb (rule_states s.kind s.events (setup_top s) s.meet rule state_limit) state_limit) StateCount)))
       (ten_first (setup_meet s) (setup_top s) s.events s.kind state_limit rule (laws s ok) [] none (λ fine h. refl))
 
   pub setup_rule_first :

@@ -7,9 +7,8 @@ use borrow.Author.Tests.{le-ltb}
 use lib.{Dec.{ltb}, ListN.{length, get_or}}
 use Rattle.limits.specs.Limits.{node_limit}
 use Rattle.theory.specs.ValueSets.{MeetSemilattice}
-use Rattle.theory.specs.Formula.{Formula, size}
+use Rattle.theory.specs.Formula.{Formula, size, Answers}
 use Rattle.theory.specs.FormulaClasses.{WellFormed}
-use Rattle.theory.specs.Formula.{Answers}
 use Rattle.theory.specs.MealyMachine.{Word, after, States, Runs}
 use Rattle.theory.specs.ReachableStates.{IsTableOf, StatesAtMost}
 use Rattle.theory.specs.Exploration.{add_events, explore, numbered, same_bits, bit_machine, first_bits, sequences_of}

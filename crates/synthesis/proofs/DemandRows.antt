@@ -1,46 +1,31 @@
 -- Rows of demands: what a step of the walk that gathers makes of them, for each kind of node, and one more formula of the loop.
 use mathlib.Core.{Path.{◌≡◌, refl, sym, ◌∙◌, ap, ap₂, subst}, List.{List, [], ◌∷◌, map}}
-use Prim.Native.Nat.{ℕ, suc, ◌+◌, ◌*◌, ◌-◌, ◌/◌, ◌%◌, ◌^◌, ◌≤◌, ◌<◌}
+use Prim.Native.Nat.{ℕ, suc, ◌+◌, ◌-◌, ◌≤◌, ◌<◌}
 use native.Mathlib.{Decide.{dec_lt, ℕ_discrete}, Numerals.{add-one}, Omega.{arith}}
-use lib.{Bits.{bit_or}, ListN.{length, get_or, set, length-set}, Seq.{get_or-set_other}}
-use Rattle.limits.specs.Limits.{node_limit}
+use lib.{ListN.{length, set}, Seq.{get_or-set_same, get_or-set_other}}
 use Rattle.theory.specs.Formula.{Formula, truth, variable, transition, output, conjunction, greatest, size}
 use Rattle.theory.specs.FormulaClasses.{GuardedIn}
 use Rattle.theory.specs.ReachableStates.{NodeSet}
 use Rattle.theory.specs.DemandSets.{empty, union, only, demands}
-use Rattle.theory.proofs.NodeSets.{empty_union, swap_at, demands_swap}
+use Rattle.theory.proofs.NodeSets.{swap_at, demands_swap}
+use Rattle.formulas.specs.declared.NodeKind.TheVariants.{Variable, Transition, Output, Conjunction, Greatest}
+use Rattle.formulas.specs.RuleReading.{kind_of}
+use Rattle.synthesis.proofs.NodeKinds.{IsTruth, not_truth}
 use Rattle.formulas.specs.{NodeReading.{Reads}, NodeWalks.{field}}
 use Rattle.formulas.proofs.Walking.{size_positive}
-use Rattle.synthesis.specs.{NodeWords.{row_words, row, WordsTo}, NodeWalks.{Ends}}
+use Rattle.synthesis.specs.{NodeWords.{set_of, row}, NodeWalks.{Ends}}
 use Rattle.synthesis.specs.DemandRows.{RowStored, AllBelow, UnguardedRows, Gathers, Gathered, RowsAt, RowsTo}
-use Rattle.synthesis.proofs.{NodeWords.{set_insert, set_else}, NodeSetLaws.{binder_map}}
+use Rattle.synthesis.proofs.{NodeSetLaws.{binder_map}}
 use Rattle.synthesis.proofs.NodeWalks.{reads_at, binds_at, end_none, end_greatest, end_conjunction}
 
--- Four words stored for a node.
+-- A set stored for a node.
 pub row_stored :
-    (f : ℕ → ℕ) (i : ℕ) (before after : List ℕ) (D : NodeSet) → length before ≡ row_words → WordsTo f (i * 4) 4 before after →
-    row after i ≡ D → RowStored before after i D
-row_stored f i before after D n s e =
-    record { sized = s.sized ∙ n; here = e; others = λ j d. set_else before after i j s.below s.above d }
-
--- A node inserted into its own row.
-pub row_inserted :
-    (i v : ℕ) (before l : List ℕ) → i < node_limit → v ≡ 2 ^ (i % 64) → RowStored before l i empty →
-    RowStored before (set l (i * 4 + i / 64) (bit_or (get_or l (i * 4 + i / 64) 0) v)) i (only i)
-row_inserted i v before l h e old =
-    let at : ℕ = i * 4 + i / 64 in
-    let x : ℕ = bit_or (get_or l at 0) v in
+    (i : ℕ) (words : List ℕ) (before : List (List ℕ)) (D : NodeSet) → i < length before → set_of words ≡ D →
+    RowStored before (set before i words) i D
+row_stored i words before D h e =
     record {
-      sized = length-set l at x ∙ old.sized;
-      here =
-          ap (λ y. row (set l at (bit_or (get_or l at 0) y)) i) e
-          ∙ set_insert l (i * 4) i h (omega (arith, old.sized))
-          ∙ ap (λ C. union C (only i)) old.here
-          ∙ empty_union (only i);
-      others = λ j d.
-          set_else l (set l at x) i j (λ y u. get_or-set_other l at y x 0 (λ q. omega (arith, q)))
-          (λ y u. get_or-set_other l at y x 0 (λ q. omega (arith, q))) d
-          ∙ old.others j d;
+      here = ap set_of (get_or-set_same before i words [] h) ∙ e;
+      others = λ j d. ap set_of (get_or-set_other before i j words [] d);
     }
 
 pub below_later : (i j : ℕ) (σ : List ℕ) → i ≤ j → AllBelow i σ → AllBelow j σ
@@ -53,7 +38,7 @@ map_below f g i (x ∷ σ) u h = ap₂ ◌∷◌ (h x u.0) (map_below f g i σ u
 
 -- The formula's own node is one of them.
 pub unguarded_row :
-    (rows : List ℕ) (ρ : List NodeSet) (i : ℕ) (φ : Formula ℕ) → UnguardedRows rows ρ i φ → row rows i ≡ demands ρ i φ
+    (rows : List (List ℕ)) (ρ : List NodeSet) (i : ℕ) (φ : Formula ℕ) → UnguardedRows rows ρ i φ → row rows i ≡ demands ρ i φ
 unguarded_row rows ρ i truth u = u
 unguarded_row rows ρ i (variable n) u = u
 unguarded_row rows ρ i (transition e φ) u = u
@@ -63,7 +48,7 @@ unguarded_row rows ρ i (greatest φ) u = u.0
 
 -- Only the rows of the formula's nodes matter.
 unguarded_same :
-    (rows after : List ℕ) (ρ : List NodeSet) (i : ℕ) (φ : Formula ℕ) →
+    (rows after : List (List ℕ)) (ρ : List NodeSet) (i : ℕ) (φ : Formula ℕ) →
     ((j : ℕ) → i ≤ j → j < i + size φ → row after j ≡ row rows j) → UnguardedRows rows ρ i φ → UnguardedRows after ρ i φ
 unguarded_same rows after ρ i truth h u = h i (omega arith) (omega arith) ∙ u
 unguarded_same rows after ρ i (variable n) h u = h i (omega arith) (omega arith) ∙ u
@@ -83,7 +68,7 @@ unguarded_same rows after ρ i (greatest φ) h u =
 
 -- What is put for a guarded variable is no matter.
 unguarded_swap :
-    (rows : List ℕ) (n : ℕ) (C : NodeSet) (ρ : List NodeSet) (i : ℕ) (φ : Formula ℕ) → GuardedIn n φ →
+    (rows : List (List ℕ)) (n : ℕ) (C : NodeSet) (ρ : List NodeSet) (i : ℕ) (φ : Formula ℕ) → GuardedIn n φ →
     UnguardedRows rows ρ i φ → UnguardedRows rows (swap_at n C ρ) i φ
 unguarded_swap rows n C ρ i truth g u = u
 unguarded_swap rows n C ρ i (variable k) g u = u ∙ sym (demands_swap {B = ℕ} n C ρ i (variable k) g)
@@ -103,20 +88,19 @@ module _ (kinds b : List ℕ) (at left : ℕ) where
   abbrev kind_at : ℕ
   kind_at = field kinds at
 
-  pub gathered_none : left ≡ 0 → (rows : List ℕ) → length rows ≡ row_words → Gathered kinds b at left rows rows at
-  gathered_none e rows n =
+  pub gathered_none : left ≡ 0 → (rows : List (List ℕ)) → Gathered kinds b at left rows rows at
+  gathered_none e rows =
       record {
         low = omega arith;
         high = omega arith;
         end = end_none kinds at left e at;
-        sized = n;
         below = λ j h. refl;
         beyond = λ j h. refl;
         rows = λ first value φ σ d h. absurd (omega (arith, size_positive φ));
       }
 
   -- One row is stored, the node's own.
-  module _ (before after : List ℕ) (D : NodeSet) (s : RowStored before after at D) where
+  module _ (before after : List (List ℕ)) (D : NodeSet) (s : RowStored before after at D) where
     pub gathered_one :
         (r : ℕ) → at < r → r ≤ at + left → Ends kinds at left r → Gathers kinds b at left before after →
         Gathered kinds b at left before after r
@@ -125,21 +109,20 @@ module _ (kinds b : List ℕ) (at left : ℕ) where
           low = omega arith;
           high = h;
           end = e;
-          sized = s.sized;
           below = λ j m. s.others j (λ q. omega (arith, q));
           beyond = λ j m. s.others j (λ q. omega (arith, q));
           rows = g;
         }
 
     pub gathers_truth :
-        D ≡ empty → ¬ (kind_at ≡ 1) → ¬ (kind_at ≡ 2) → ¬ (kind_at ≡ 3) → ¬ (kind_at ≡ 4) → ¬ (kind_at ≡ 5) →
+        D ≡ empty → IsTruth (kind_of kind_at) →
         Gathers kinds b at left before after
-    gathers_truth e k1 k2 k3 k4 k5 first value truth σ d h w n o = s.here ∙ e
-    gathers_truth e k1 k2 k3 k4 k5 first value (variable m) σ d h w n o = absurd (k1 d.0)
-    gathers_truth e k1 k2 k3 k4 k5 first value (transition a φ) σ d h w n o = absurd (k2 d.0)
-    gathers_truth e k1 k2 k3 k4 k5 first value (output a v) σ d h w n o = absurd (k3 d.0)
-    gathers_truth e k1 k2 k3 k4 k5 first value (conjunction φ χ) σ d h w n o = absurd (k4 d.0)
-    gathers_truth e k1 k2 k3 k4 k5 first value (greatest φ) σ d h w n o = absurd (k5 d.0)
+    gathers_truth e l first value truth σ d h w n o = s.here ∙ e
+    gathers_truth e l first value (variable m) σ d h w n o = absurd (not_truth Variable kind_at d.0 l)
+    gathers_truth e l first value (transition a φ) σ d h w n o = absurd (not_truth Transition kind_at d.0 l)
+    gathers_truth e l first value (output a v) σ d h w n o = absurd (not_truth Output kind_at d.0 l)
+    gathers_truth e l first value (conjunction φ χ) σ d h w n o = absurd (not_truth Conjunction kind_at d.0 l)
+    gathers_truth e l first value (greatest φ) σ d h w n o = absurd (not_truth Greatest kind_at d.0 l)
 
     pub gathers_variable : D ≡ row before (field b at) → kind_at ≡ 1 → Gathers kinds b at left before after
     gathers_variable e k first value truth σ d h w n o = absurd (omega (arith, k, d))
@@ -167,7 +150,7 @@ module _ (kinds b : List ℕ) (at left : ℕ) where
     gathers_output e k first value (greatest φ) σ d h w n o = absurd (omega (arith, k, d.0))
 
   -- The rows of the part, then the node's own.
-  module _ (before after last : List ℕ) (r : ℕ) (p : Gathered kinds b (at + 1) (left - 1) before after r)
+  module _ (before after last : List (List ℕ)) (r : ℕ) (p : Gathered kinds b (at + 1) (left - 1) before after r)
       (s : RowStored after last at (row after (at + 1))) where
     pub gathers_greatest : kind_at ≡ 5 → Gathers kinds b at left before last
     gathers_greatest k first value truth σ d h w n o = absurd (omega (arith, k, d))
@@ -196,14 +179,13 @@ module _ (kinds b : List ℕ) (at left : ℕ) where
           low = omega (arith, p.low);
           high = omega (arith, p.high);
           end = end_greatest kinds at left r p.end k;
-          sized = s.sized;
           below = λ j h. s.others j (λ t. omega (arith, t)) ∙ p.below j (omega arith);
           beyond = λ j h. s.others j (λ t. omega (arith, t, p.low)) ∙ p.beyond j h;
           rows = gathers_greatest k;
         }
 
   -- The rows of both parts, then the node's own.
-  module _ (before middle after last : List ℕ) (m r : ℕ) (p : Gathered kinds b (at + 1) (left - 1) before middle m)
+  module _ (before middle after last : List (List ℕ)) (m r : ℕ) (p : Gathered kinds b (at + 1) (left - 1) before middle m)
       (q : Gathered kinds b m (at + left - m) middle after r)
       (s : RowStored after last at (union (row after (at + 1)) (row after m))) where
     pub gathers_conjunction : kind_at ≡ 4 → Gathers kinds b at left before last
@@ -243,7 +225,6 @@ module _ (kinds b : List ℕ) (at left : ℕ) where
           low = omega (arith, p.low, q.low);
           high = omega (arith, p.low, p.high, q.high);
           end = end_conjunction kinds at left m r p.end q.end k;
-          sized = s.sized;
           below = λ j h. s.others j (λ t. omega (arith, t)) ∙ q.below j (omega (arith, p.low)) ∙ p.below j (omega arith);
           beyond = λ j h. s.others j (λ t. omega (arith, t, p.low, q.low)) ∙ q.beyond j h ∙ p.beyond j (omega (arith, q.low));
           rows = gathers_conjunction k;
@@ -302,7 +283,7 @@ module _ (kinds : List ℕ) (first value : ℕ → ℕ) (i : ℕ) (k : field kin
       go (no q) f = f q
 
 -- The part of the transition at node i is gathered.
-module _ (kinds b : List ℕ) (total : ℕ) (rows after : List ℕ) (i r : ℕ) (k : field kinds i ≡ 2)
+module _ (kinds b : List ℕ) (total : ℕ) (rows after : List (List ℕ)) (i r : ℕ) (k : field kinds i ≡ 2)
     (g : Gathered kinds b (i + 1) (total - i - 1) rows after r) where
   -- The rows of formulas that start before it stay.
   unguarded_kept :
@@ -373,7 +354,7 @@ module _ (kinds b : List ℕ) (total : ℕ) (rows after : List ℕ) (i r : ℕ) 
       go j h e (no q) = kept_at (suc j) (omega arith) (old.parts j (omega arith) e)
 
 module _ (kinds b : List ℕ) (total : ℕ) where
-  pub rows_root : (rows after : List ℕ) (r : ℕ) → Gathered kinds b 0 total rows after r → RowsTo kinds b total after 0
+  pub rows_root : (rows after : List (List ℕ)) (r : ℕ) → Gathered kinds b 0 total rows after r → RowsTo kinds b total after 0
   rows_root rows after r g =
       record {
         root = λ first value φ σ d h w n o.
@@ -383,7 +364,7 @@ module _ (kinds b : List ℕ) (total : ℕ) where
       }
 
   pub rows_other :
-      (rows : List ℕ) (i : ℕ) → ¬ (field kinds i ≡ 2) → RowsTo kinds b total rows i → RowsTo kinds b total rows (i + 1)
+      (rows : List (List ℕ)) (i : ℕ) → ¬ (field kinds i ≡ 2) → RowsTo kinds b total rows i → RowsTo kinds b total rows (i + 1)
   rows_other rows i k old = record { root = old.root; parts = λ j h e. go j h e (ℕ_discrete j i) }
     where
       go : (j : ℕ) → j < i + 1 → field kinds j ≡ 2 → Dec (j ≡ i) → RowsAt kinds b total rows (suc j)

@@ -8,9 +8,9 @@ use lib.Seq.{get_or-append_seam, get_or-set_same, get_or-set_other}
 use Rattle.limits.specs.Limits.{node_limit}
 use Rattle.theory.specs.Exploration.{reached, has_state, add, add_events, explore, index, bits, same_bits}
 use Rattle.theory.proofs.{BitSets.{same_bits_iff}, Exploration.{add_grows}}
-use Rattle.synthesis.specs.NodeWords.{set_at, bits_at, Stored}
+use Rattle.synthesis.specs.NodeWords.{set_of, set_bits, row, bits_at, Stored}
 use Rattle.synthesis.specs.Exploring.{stepped, next_bits, Found, state_of, events_to, Entry, Kept, Expanded, sequences}
-use Rattle.synthesis.proofs.NodeWords.{member_bits_at, stored_there, stored_else, bits_of}
+use Rattle.synthesis.proofs.NodeWords.{member_set_bits, stored_there, stored_else}
 
 same_true : (L K : List Bool) → L ≡ K → same_bits L K ≡ true
 same_true L K e = go (same_bits L K) ((same_bits_iff L K).1 e)
@@ -28,12 +28,12 @@ same_false L K h = go (same_bits L K) (λ t. h ((same_bits_iff L K).0 t))
 
 -- The set that the code steps to, as bits.
 pub step_bits :
-    (kinds firsts rows states from : List ℕ) (n base e : ℕ) →
-    set_at from 0 ≡ stepped kinds firsts rows n (set_at states base) e →
-    bits_at from 0 ≡ next_bits kinds firsts rows n (bits_at states base) e
-unfolding bits_at next_bits
-step_bits kinds firsts rows states from n base e h =
-    ap (bits node_limit 0) (h ∙ ap (λ D. stepped kinds firsts rows n D e) (sym (member_bits_at states base)))
+    (kinds firsts : List ℕ) (rows states : List (List ℕ)) (from : List ℕ) (n i e : ℕ) →
+    set_of from ≡ stepped kinds firsts rows n (row states i) e →
+    set_bits from ≡ next_bits kinds firsts rows n (bits_at states i) e
+unfolding set_bits next_bits
+step_bits kinds firsts rows states from n i e h =
+    ap (bits node_limit 0) (h ∙ ap (λ D. stepped kinds firsts rows n D e) (sym (member_set_bits (get_or states i []))))
 
 module _ (next : List Bool → ℕ → List Bool) (start : List Bool) where
   abbrev Seqs : Type 0
@@ -112,7 +112,7 @@ module _ (next : List Bool → ℕ → List Bool) (start : List Bool) where
 
     -- One more entry.
     kept_entry :
-        (P : Seqs) (n m : ℕ) (states nexts : List ℕ) (v : ℕ) → m < length nexts → m / events < n → v < n →
+        (P : Seqs) (n m : ℕ) (states : List (List ℕ)) (nexts : List ℕ) (v : ℕ) → m < length nexts → m / events < n → v < n →
         number_in P (next (st (get_or P (m / events) [])) (m % events)) ≡ v →
         Kept next start events P n m states nexts → Kept next start events P n (m + 1) states (set nexts m v)
     kept_entry P n m states nexts v fits of to q k =
@@ -137,8 +137,8 @@ module _ (next : List Bool → ℕ → List Bool) (start : List Bool) where
 
     -- The candidate is a state that is kept, or a new one.
     keep_old :
-        (P : Seqs) (w : List ℕ) (k m : ℕ) (states nexts from : List ℕ) (j : ℕ) → Kept next start events P k m states nexts →
-        Found states k from j → j < k → bits_at from 0 ≡ st w →
+        (P : Seqs) (w : List ℕ) (k m : ℕ) (states : List (List ℕ)) (nexts from : List ℕ) (j : ℕ) → Kept next start events P k m states nexts →
+        Found states k from j → j < k → set_bits from ≡ st w →
         Kept next start events (plus P w) k m states nexts × (number_in (plus P w) (st w) ≡ j)
     keep_old P w k m states nexts from j v f h e =
         let at : st (get_or P j []) ≡ st w = sym (v.state j h) ∙ f.here h ∙ e in
@@ -150,21 +150,21 @@ module _ (next : List Bool → ℕ → List Bool) (start : List Bool) where
         )
 
     new_one :
-        (P : Seqs) (w : List ℕ) (k m : ℕ) (states nexts from : List ℕ) → Kept next start events P k m states nexts →
-        Found states k from k → bits_at from 0 ≡ st w → plus P w ≡ P ++ (w ∷ [])
+        (P : Seqs) (w : List ℕ) (k m : ℕ) (states : List (List ℕ)) (nexts from : List ℕ) → Kept next start events P k m states nexts →
+        Found states k from k → set_bits from ≡ st w → plus P w ≡ P ++ (w ∷ [])
     new_one P w k m states nexts from v f e =
         add_no P w
         (has_no P (st w) (λ j h q. f.before j (omega (arith, v.count)) (v.state j (omega (arith, v.count)) ∙ q ∙ sym e)))
 
     too_many :
-        (P : Seqs) (w : List ℕ) (k m : ℕ) (states nexts from : List ℕ) → Kept next start events P k m states nexts →
-        Found states k from k → bits_at from 0 ≡ st w → k < length (plus P w)
+        (P : Seqs) (w : List ℕ) (k m : ℕ) (states : List (List ℕ)) (nexts from : List ℕ) → Kept next start events P k m states nexts →
+        Found states k from k → set_bits from ≡ st w → k < length (plus P w)
     too_many P w k m states nexts from v f e =
         omega (arith, ap length (new_one P w k m states nexts from v f e), end_length P w, v.count)
 
     keep_new :
-        (P : Seqs) (w : List ℕ) (k m : ℕ) (states nexts from after : List ℕ) → Kept next start events P k m states nexts →
-        Found states k from k → bits_at from 0 ≡ st w → Stored states after (k * 4) from →
+        (P : Seqs) (w : List ℕ) (k m : ℕ) (states : List (List ℕ)) (nexts from : List ℕ) (after : List (List ℕ)) → Kept next start events P k m states nexts →
+        Found states k from k → set_bits from ≡ st w → Stored states after k from →
         Kept next start events (plus P w) (k + 1) m after nexts × (number_in (plus P w) (st w) ≡ k)
     keep_new P w k m states nexts from after v f e stored =
         let q : plus P w ≡ P ++ (w ∷ []) = new_one P w k m states nexts from v f e in (
@@ -184,14 +184,14 @@ module _ (next : List Bool → ℕ → List Bool) (start : List Bool) where
         last : get_or (P ++ (w ∷ [])) k [] ≡ w
         last = ap (λ x. get_or (P ++ (w ∷ [])) x []) (sym v.count) ∙ get_or-append_seam P w [] []
 
-        go : (j : ℕ) → j < k + 1 → Dec (j ≡ k) → bits_at after (j * 4) ≡ st (get_or (P ++ (w ∷ [])) j [])
+        go : (j : ℕ) → j < k + 1 → Dec (j ≡ k) → bits_at after j ≡ st (get_or (P ++ (w ∷ [])) j [])
         go j h (yes c) =
-            ap (λ x. bits_at after (x * 4)) c
-            ∙ bits_of after from (k * 4) 0 (stored_there states after from (k * 4) stored)
+            ap (bits_at after) c
+            ∙ ap set_bits (stored_there states after from k stored)
             ∙ e
             ∙ ap st (sym last ∙ ap (λ x. get_or (P ++ (w ∷ [])) x []) (sym c))
         go j h (no c) =
-            bits_of after states (j * 4) (j * 4) (stored_else states after from k j stored c)
+            ap set_bits (stored_else states after from k j stored c)
             ∙ v.state j (omega arith)
             ∙ ap st (sym (get_or-append P (w ∷ []) [] j (omega (arith, v.count))))
 
@@ -334,9 +334,10 @@ below {j} {k} h d = go (dec_lt j k)
     go (no u) = absurd (d (omega arith))
 
 -- A candidate found by the code: the set that event e leads to from state i.
-module _ (kinds firsts rows : List ℕ) (count events i n k e : ℕ) (before₀ nexts₀ states nexts from : List ℕ) (small : i < n)
+module _ (kinds firsts : List ℕ) (rows : List (List ℕ)) (count events i n k e : ℕ) (before₀ : List (List ℕ)) (nexts₀ : List ℕ)
+    (states : List (List ℕ)) (nexts from : List ℕ) (small : i < n)
     (less : n ≤ k) (event : e < events)
-    (moved : set_at from 0 ≡ stepped kinds firsts rows count (set_at states (i * 4)) e) where
+    (moved : set_of from ≡ stepped kinds firsts rows count (row states i) e) where
   abbrev go_to : List Bool → ℕ → List Bool
   go_to = next_bits kinds firsts rows count
 
@@ -354,15 +355,15 @@ module _ (kinds firsts rows : List ℕ) (count events i n k e : ℕ) (before₀ 
     one_more_is = ap (λ x. events_to go_to start x P at_i) (sym (add-one e))
 
     module _ (v : Kept go_to start events so_far k (i * events + e) states nexts) where
-      candidate : bits_at from 0 ≡ reached go_to start (e ∷ at_i)
+      candidate : set_bits from ≡ reached go_to start (e ∷ at_i)
       candidate =
-          step_bits kinds firsts rows states from count (i * 4) e moved
+          step_bits kinds firsts rows states from count i e moved
           ∙ ap (λ L. go_to L e)
           (v.state i (omega arith) ∙ ap (reached go_to start) (upto_at go_to start e P at_i i (omega (arith, old.count))))
 
       -- The entry of state i and event e.
       entered :
-          (k' j at value : ℕ) (after : List ℕ) → k ≤ k' → j < k' → at ≡ i * events + e → value ≡ j → at < length nexts →
+          (k' j at value : ℕ) (after : List (List ℕ)) → k ≤ k' → j < k' → at ≡ i * events + e → value ≡ j → at < length nexts →
           Kept go_to start events one_more k' (i * events + e) after nexts →
           index same_bits go_to start one_more (reached go_to start (e ∷ at_i)) ≡ j →
           Kept go_to start events one_more k' (i * events + (e + 1)) after (set nexts at value)
@@ -390,7 +391,7 @@ module _ (kinds firsts rows : List ℕ) (count events i n k e : ℕ) (before₀ 
           (subst (λ Q. index same_bits go_to start Q (reached go_to start (e ∷ at_i)) ≡ j) one_more_is r.1)
 
       pub candidate_new :
-          (after : List ℕ) (j at value : ℕ) → j ≡ k → Found states k from j → Stored states after (k * 4) from →
+          (after : List (List ℕ)) (j at value : ℕ) → j ≡ k → Found states k from j → Stored states after k from →
           at ≡ i * events + e → value ≡ j → at < length nexts →
           Kept go_to start events one_more (k + 1) (i * events + (e + 1)) after (set nexts at value)
       candidate_new after j at value c f stored a q l =
@@ -415,7 +416,7 @@ module _ (kinds firsts rows : List ℕ) (count events i n k e : ℕ) (before₀ 
           )
 
 -- The loop over states.
-module _ (next : List Bool → ℕ → List Bool) (rows : List ℕ) (events : ℕ) where
+module _ (next : List Bool → ℕ → List Bool) (rows : List (List ℕ)) (events : ℕ) where
   abbrev from_here : List Bool
   from_here = bits_at rows 0
 
@@ -423,14 +424,14 @@ module _ (next : List Bool → ℕ → List Bool) (rows : List ℕ) (events : �
   all_to k = from_start next from_here events k
 
   pub kept_start :
-      (states nexts : List ℕ) → bits_at states 0 ≡ from_here → Kept next from_here events (all_to 0) 1 (0 * events) states nexts
+      (states : List (List ℕ)) (nexts : List ℕ) → bits_at states 0 ≡ from_here → Kept next from_here events (all_to 0) 1 (0 * events) states nexts
   kept_start states nexts e = record { count = refl; state = one; entry = λ x h. absurd (omega (arith, zero-mul events)) }
     where
-      one : (j : ℕ) → j < 1 → bits_at states (j * 4) ≡ state_of next from_here (get_or ([] ∷ []) j [])
+      one : (j : ℕ) → j < 1 → bits_at states j ≡ state_of next from_here (get_or ([] ∷ []) j [])
       one zero h = e
       one (suc j) h = absurd (omega arith)
 
-  module _ (limit i n m : ℕ) (now nexts after nexts' : List ℕ) (h : i < n)
+  module _ (limit i n m : ℕ) (now : List (List ℕ)) (nexts : List ℕ) (after : List (List ℕ)) (nexts' : List ℕ) (h : i < n)
       (k : Kept next from_here events (all_to i) n (i * events) now nexts)
       (x : Expanded next events limit i n now nexts m after nexts') where
     the_row : all_to (i + 1) ≡ events_to next from_here events (all_to i) (get_or (all_to i) i [])
@@ -456,7 +457,7 @@ module _ (next : List Bool → ℕ → List Bool) (rows : List ℕ) (events : �
         )
 
   pub all_kept :
-      (limit i n : ℕ) (now nexts : List ℕ) → n ≡ i → i ≤ limit → Kept next from_here events (all_to i) n (i * events) now nexts →
+      (limit i n : ℕ) (now : List (List ℕ)) (nexts : List ℕ) → n ≡ i → i ≤ limit → Kept next from_here events (all_to i) n (i * events) now nexts →
       Kept next from_here events (sequences next from_here events limit) n (n * events) now nexts
   unfolding sequences
   all_kept limit i n now nexts h u k =

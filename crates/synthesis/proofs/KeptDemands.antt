@@ -13,7 +13,7 @@ use Rattle.synthesis.proofs.{DemandRows.{below_later}, KeptSets.{kept_of, kept_f
 use Rattle.synthesis.proofs.Stepping.{KeptFrom, stepped_moved}
 
 -- A node's own row, and those behind it.
-module _ (rows : List ℕ) where
+module _ (rows : List (List ℕ)) where
   kept_from :
       (ρ : List NodeSet) (i : ℕ) (φ : Formula ℕ) → row rows i ≡ demands ρ i φ →
       ((m : ℕ) → suc m < size φ → row rows (suc i + m) ≡ kept_of ρ i φ (suc m)) → KeptFrom rows ρ i φ
@@ -21,7 +21,7 @@ module _ (rows : List ℕ) where
   kept_from ρ i φ own behind (suc m) h = ap (row rows) (omega arith) ∙ behind m h
 
 -- Rows that were filled: the formula at the root, and the part of each transition.
-module _ (kinds firsts b rows : List ℕ) (total : ℕ) (value : ℕ → ℕ) (filled : RowsTo kinds b total rows total) where
+module _ (kinds firsts b : List ℕ) (rows : List (List ℕ)) (total : ℕ) (value : ℕ → ℕ) (filled : RowsTo kinds b total rows total) where
   rows_kept :
       (φ : Formula ℕ) (σ : List ℕ) (i : ℕ) → Reads (field kinds) (field firsts) value i φ → i + size φ ≤ total → Guarded φ →
       Binds (field b) σ i φ → AllBelow i σ → UnguardedRows rows (map (row rows) σ) i φ → KeptFrom rows (map (row rows) σ) i φ
@@ -58,7 +58,7 @@ module _ (kinds firsts b rows : List ℕ) (total : ℕ) (value : ℕ → ℕ) (f
 
 -- What `bind` and `fill_rows` promise is what `keep_demands` does.
 pub keeps_demands :
-    (kinds firsts stack b rows : List ℕ) (count : ℕ) → AllBound kinds firsts 0 count 0 stack b → RowsTo kinds b count rows count →
+    (kinds firsts stack b : List ℕ) (rows : List (List ℕ)) (count : ℕ) → AllBound kinds firsts 0 count 0 stack b → RowsTo kinds b count rows count →
     KeepsDemands kinds firsts count rows
 unfolding AllBound
 keeps_demands kinds firsts stack b rows count bound filled value φ d counted shallow closed guarded i h =

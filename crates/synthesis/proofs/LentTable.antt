@@ -1,24 +1,21 @@
 -- The answer and the buffer's later contents of `compile`, case by case.
-use mathlib.Core.{Path.{◌≡◌, refl, sym, ◌∙◌, ap, ap₂, subst}, Logic.{⊎_elim}, Bool.{Bool, true, false}, List.{List, []}, Option.{Option, none, some}}
-use Prim.Native.Nat.{ℕ, ◌*◌, ◌/◌, ◌%◌, ◌≤◌, ◌<◌, min}
+use mathlib.Core.{Path.{◌≡◌, refl, sym, ◌∙◌, ap, ap₂, subst}, Logic.{⊎_elim}, Bool.{Bool, true, false}, List.{List}, Option.{Option, none, some}}
+use Prim.Native.Nat.{ℕ, ◌*◌, ◌/◌, ◌%◌, ◌≤◌, ◌<◌}
 use native.Mathlib.{Nat.{mul-le-mul_right}, Decide.{dec_le}, Omega.{arith}}
 use borrow.Author.Tests.{leb-true, le-leb, lt-leb}
 use lib.{Dec.{leb}, ListN.{length}}
 use Rattle.theory.specs.Formula.{size}
 use Rattle.theory.specs.FormulaClasses.{WellFormed}
 use Rattle.theory.specs.MealyMachine.{States, Runs}
-use Rattle.refusal.specs.declared.{Refusal.{Refusal}, Counted.{Counted}}
-use Rattle.refusal.specs.declared.Refusal.TheVariants.{Plain}
-use Rattle.refusal.specs.declared.Judgement.TheVariants.{Accepted as AcceptedJudgement, Refused as RefusedJudgement}
-use Rattle.refusal.specs.declared.Counted.TheVariants.{Count, Refused}
-use Rattle.refusal.specs.RefusalAnswers.{or_else, plain_unless, judgement, counted}
+use Rattle.refusal.specs.{declared.{Refusal.{Refusal}}, declared.Refusal.TheVariants.{BufferLength, NodeCount, StateCount}}
+use Rattle.refusal.specs.RefusalAnswers.{or_else, plain_unless, judgement, answered, put_unless}
 use Rattle.refusal.specs.Refusal.{put}
-use Rattle.refusal.specs.RefusalAnswers.{put_unless}
 use Rattle.refusal.proofs.Refusals.{judgement_accepted, judgement_refused, or_else_none, plain_none}
 use Rattle.values.specs.declared.ValueKind.{ValueKind}
 use Rattle.values.specs.declared.ValueKind.TheVariants.{Numbered, Register}
-use Rattle.theory.specs.ValueSets.{pack, top_masks}
-use Rattle.values.specs.Setup.{ValueIn, meet_of, top_of, Setup, setup_of_kind, setup, register_setup, setup_meet, setup_top}
+use Rattle.values.specs.Setup.{ValueIn, meet_of, top_of, Setup, setup_of_kind, setup_meet, setup_top}
+use Rattle.values.specs.{HandedIn.{setup_of}, declared.SetUp.{SetUp}, declared.Values.{Values}}
+use Rattle.values.specs.declared.Values.TheVariants.{Numbered as NumberedValues, Register as RegisterValues}
 use Rattle.values.specs.SetupInOrder.{SetupLaws}
 use Rattle.values.specs.SetupTests.{kind_refusal, setup_refusal}
 use Rattle.values.specs.ValueTests.{value_fits}
@@ -33,7 +30,8 @@ use Rattle.machines.proofs.{Stores.{stored_table, storable_room, after_none, aft
 use Rattle.synthesis.specs.Compilation.{rule_states, rule_table, rule_table_refusal, setup_states, setup_table}
 use Rattle.synthesis.specs.{Compilation.{compile_refusal, compile_answer, compile_contents}, MadeTable.{Tabled, Attempted, Answered, attempt_answer}}
 use Rattle.synthesis.proofs.{Compilation.{judged_nodes, answer_many, answer_short, answer_stored}, CompiledTable.{table_runs, wider}}
-use Rattle.limits.specs.Limits.{event_limit, value_limit, line_limit, node_limit, state_limit}
+use Rattle.limits.specs.Limits.{event_limit, node_limit, state_limit}
+use Rattle.std.specs.Prelude.{Err, Ok, Result}
 
 -- The lent buffer beside an answer.
 pub contents_at :
@@ -64,15 +62,15 @@ module _ (s : Setup) (ok : setup_refusal s ≡ none) where
     rule_fine : rule_refusal s.events s.kind rule ≡ none
     unfolding rule_table_refusal
     rule_fine = (or_else_none (rule_refusal s.events s.kind rule) (plain_unless
-        (leb (rule_states s.kind s.events (setup_top s) s.meet rule limit) limit) 10) fine).0
+        (leb (rule_states s.kind s.events (setup_top s) s.meet rule limit) limit) StateCount) fine).0
 
     pub few : rule_states s.kind s.events (setup_top s) s.meet rule limit ≤ limit
     unfolding rule_table_refusal
     few =
         leb-true (rule_states s.kind s.events (setup_top s) s.meet rule limit) limit
-        (plain_none (leb (rule_states s.kind s.events (setup_top s) s.meet rule limit) limit) 10
+        (plain_none (leb (rule_states s.kind s.events (setup_top s) s.meet rule limit) limit) StateCount
         (or_else_none (rule_refusal s.events s.kind rule) (plain_unless
-        (leb (rule_states s.kind s.events (setup_top s) s.meet rule limit) limit) 10) fine).1)
+        (leb (rule_states s.kind s.events (setup_top s) s.meet rule limit) limit) StateCount) fine).1)
 
     pub formula_well_formed : WellFormed s.events (ValueIn s.kind) (formula_of s.kind rule)
     formula_well_formed = (accepted_formula_of s.events s.kind rule rule_fine).accepted.well_formed
@@ -99,7 +97,7 @@ module _ (limit : ℕ) (s : Setup) (rule old : List ℕ) where
   from_rule = rule_table_refusal s.kind s.events (setup_top s) s.meet rule limit
 
   abbrev room : Option Refusal
-  room = plain_unless (leb (states * s.events * entry_width s.kind) (length old)) 13
+  room = plain_unless (leb (states * s.events * entry_width s.kind) (length old)) BufferLength
 
   answer_setup : (r : Refusal) → setup_refusal s ≡ some r → answer ≡ some r
   unfolding compile_refusal or_else
@@ -114,31 +112,30 @@ module _ (limit : ℕ) (s : Setup) (rule old : List ℕ) where
   answer_room e q = ap (λ a. or_else a (or_else from_rule room)) e ∙ ap (λ a. or_else a room) q
 
   refused_there :
-      (r : Refusal) → answer ≡ some r → (Refused r ≡ counted answer states) × (old ≡ compile_contents limit s rule old)
-  unfolding counted put_unless
-  refused_there r e = (sym (ap (λ a. counted a states) e), sym (contents_at limit s rule old _ e))
+      (r : Refusal) → answer ≡ some r → (Err r ≡ answered answer states) × (old ≡ compile_contents limit s rule old)
+  unfolding answered put_unless
+  refused_there r e = (sym (ap (λ a. answered a states) e), sym (contents_at limit s rule old _ e))
 
   accepted_there :
       answer ≡ none →
-      (Count states ≡ counted answer states)
+      (Ok states ≡ answered answer states)
       × (put (table_bytes (entry_bytes s.kind) s.events (setup_table limit s rule) states) old ≡ compile_contents limit s rule old)
-  unfolding counted put_unless
-  accepted_there e = (sym (ap (λ a. counted a states) e), sym (contents_at limit s rule old _ e))
+  unfolding answered put_unless
+  accepted_there e = (sym (ap (λ a. answered a states) e), sym (contents_at limit s rule old _ e))
 
   module _ (ok : setup_refusal s ≡ none) where
-    from_nodes : (o : Option Refusal) → rule_refusal s.events s.kind rule ≡ o → from_rule ≡ or_else o (plain_unless (leb states limit) 10)
+    from_nodes : (o : Option Refusal) → rule_refusal s.events s.kind rule ≡ o → from_rule ≡ or_else o (plain_unless (leb states limit) StateCount)
     unfolding rule_table_refusal
-    from_nodes o e = ap (λ a. or_else a (plain_unless (leb states limit) 10)) e
+    from_nodes o e = ap (λ a. or_else a (plain_unless (leb states limit) StateCount)) e
 
     case_rule :
         (r : Refusal) → rule_refusal s.events s.kind rule ≡ some r →
-        (Refused r ≡ counted answer states) × (old ≡ compile_contents limit s rule old)
+        (Err r ≡ answered answer states) × (old ≡ compile_contents limit s rule old)
     unfolding or_else
     case_rule r e = refused_there r (answer_rule ok r (from_nodes (some r) e))
 
     module _ (fine : rule_refusal s.events s.kind rule ≡ none) (new : List ℕ) (n : ℕ) (b : Bool)
-        (t : Attempted s.kind (decoded s.kind rule).kinds (decoded s.kind rule).firsts (decoded s.kind rule).values
-        (decoded s.kind rule).count (setup_meet s) (setup_top s) s.events limit old new n b) where
+        (t : Attempted s.kind (decoded s.kind rule) (setup_meet s) (setup_top s) s.events limit old new n b) where
       tabled : Tabled (setup_meet s) (setup_top s) (formula_of s.kind rule) s.events limit t.values t.nexts n
       tabled =
           let a = accepted_formula_of s.events s.kind rule fine in
@@ -146,11 +143,11 @@ module _ (limit : ℕ) (s : Setup) (rule old : List ℕ) where
           let w = a.accepted.well_formed in
           t.tables (formula_of s.kind rule) d.reads (sym d.counted) a.accepted.shallow w.closed w.guarded
 
-      case_many : limit < n → (attempt_answer limit n b ≡ counted answer states) × (new ≡ compile_contents limit s rule old)
+      case_many : limit < n → (attempt_answer limit n b ≡ answered answer states) × (new ≡ compile_contents limit s rule old)
       unfolding or_else plain_unless
       case_many h =
           let ten : leb states limit ≡ false = lt-leb states limit (tabled.more (omega (arith, tabled.at_most, h))) in
-          let w = refused_there (Plain 10) (answer_rule ok (Plain 10) (from_nodes none fine ∙ ap (λ x. plain_unless x 10) ten)) in
+          let w = refused_there StateCount (answer_rule ok StateCount (from_nodes none fine ∙ ap (λ x. plain_unless x StateCount) ten)) in
           (sym (answer_many limit n b h) ∙ w.0, t.more h ∙ w.1)
 
       module _ (h : n ≤ limit) where
@@ -159,7 +156,7 @@ module _ (limit : ℕ) (s : Setup) (rule old : List ℕ) where
 
         through : from_rule ≡ none
         unfolding or_else plain_unless
-        through = from_nodes none fine ∙ ap (λ x. plain_unless x 10) (le-leb states limit (omega (arith, states_are, h)))
+        through = from_nodes none fine ∙ ap (λ x. plain_unless x StateCount) (le-leb states limit (omega (arith, states_are, h)))
 
         room_is : b ≡ leb (states * s.events * entry_width s.kind) (length old)
         room_is =
@@ -180,30 +177,29 @@ module _ (limit : ℕ) (s : Setup) (rule old : List ℕ) where
             (subst (λ x. i / s.events < x) (sym states_are) (state_below s.events n i l)) (i % s.events) (event_below s.events n i l))))
             ∙ ap (table_bytes (entry_bytes s.kind) s.events (setup_table limit s rule)) (sym states_are)
 
-        case_few : (attempt_answer limit n b ≡ counted answer states) × (new ≡ compile_contents limit s rule old)
+        case_few : (attempt_answer limit n b ≡ answered answer states) × (new ≡ compile_contents limit s rule old)
         unfolding plain_unless
         case_few = go b refl
           where
             fit : (x : Bool) → b ≡ x → storable (entry_width s.kind) t.values t.nexts (n * s.events) old ≡ x
             fit x e = sym (t.fits h) ∙ e
 
-            go : (x : Bool) → b ≡ x → (attempt_answer limit n b ≡ counted answer states) × (new ≡ compile_contents limit s rule old)
+            go : (x : Bool) → b ≡ x → (attempt_answer limit n b ≡ answered answer states) × (new ≡ compile_contents limit s rule old)
             go true e =
-                let w = accepted_there (answer_room ok through ∙ ap (λ y. plain_unless y 13) (sym room_is ∙ e)) in (
-                  sym (answer_stored limit n b h e) ∙ ap Count (sym states_are) ∙ w.0,
+                let w = accepted_there (answer_room ok through ∙ ap (λ y. plain_unless y BufferLength) (sym room_is ∙ e)) in (
+                  sym (answer_stored limit n b h e) ∙ ap Ok (sym states_are) ∙ w.0,
                   t.contents h ∙ after_all (entry_width s.kind) (kept_bytes s.kind) t.values t.nexts (n * s.events) old (fit true e)
                       ∙ ap (λ x. put x old) bytes_are ∙ w.1,
                 )
             go false e =
-                let w = refused_there (Plain 13) (answer_room ok through ∙ ap (λ y. plain_unless y 13) (sym room_is ∙ e)) in (
+                let w = refused_there BufferLength (answer_room ok through ∙ ap (λ y. plain_unless y BufferLength) (sym room_is ∙ e)) in (
                   sym (answer_short limit n b h e) ∙ w.0,
                   t.contents h ∙ after_none (entry_width s.kind) (kept_bytes s.kind) t.values t.nexts (n * s.events) old (fit false e) ∙ w.1,
                 )
 
   pub case_setup :
-      (r : Refusal) → judgement (setup_refusal s) ≡ RefusedJudgement r →
-      (Refused r ≡ counted answer states) × (old ≡ compile_contents limit s rule old)
-  case_setup r e = refused_there r (answer_setup r (judgement_refused (setup_refusal s) r e))
+      (r : Refusal) → setup_refusal s ≡ some r → (Err r ≡ answered answer states) × (old ≡ compile_contents limit s rule old)
+  case_setup r e = refused_there r (answer_setup r e)
 
 -- What is answered within a limit is answered within a larger one.
 module _ (a c : ℕ) (s : Setup) (rule old : List ℕ) (few_states : setup_states a s rule ≤ a) (l : a ≤ c) where
@@ -213,12 +209,12 @@ module _ (a c : ℕ) (s : Setup) (rule old : List ℕ) (few_states : setup_state
   wider_refusal : compile_refusal a s rule old ≡ compile_refusal c s rule old
   unfolding compile_refusal rule_table_refusal
   wider_refusal =
-      ap₂ (λ t n. or_else (setup_refusal s) (or_else (or_else (rule_refusal s.events s.kind rule) (plain_unless t 10))
-      (plain_unless (leb (n * s.events * entry_width s.kind) (length old)) 13)))
+      ap₂ (λ t n. or_else (setup_refusal s) (or_else (or_else (rule_refusal s.events s.kind rule) (plain_unless t StateCount))
+      (plain_unless (leb (n * s.events * entry_width s.kind) (length old)) BufferLength)))
       (le-leb (setup_states a s rule) a few_states ∙ sym (le-leb (setup_states c s rule) c (omega (arith, same.0, few_states, l)))) (sym same.0)
 
   wider_answer : compile_answer a s rule old ≡ compile_answer c s rule old
-  wider_answer = ap₂ counted wider_refusal (sym same.0)
+  wider_answer = ap₂ answered wider_refusal (sym same.0)
 
   wider_contents : compile_contents a s rule old ≡ compile_contents c s rule old
   unfolding compile_contents
@@ -234,22 +230,22 @@ module _ (events : ℕ) (kind : ValueKind) (top : ℕ) (meet rule : List ℕ) (o
 
   abbrev judged : Option Refusal
   judged =
-      or_else (plain_unless (count_fits (node_width kind) node_limit (length rule)) 5)
+      or_else (plain_unless (count_fits (node_width kind) node_limit (length rule)) NodeCount)
       (fields_refusal (field nodes.kinds) (field nodes.firsts) (field nodes.values) nodes.count (value_fits kind) events)
 
   pub rule_case :
-      (old : List ℕ) (r : Refusal) → judgement judged ≡ RefusedJudgement r →
-      (Refused r ≡ compile_answer state_limit s₀ rule old) × (old ≡ compile_contents state_limit s₀ rule old)
+      (old : List ℕ) (r : Refusal) → judgement judged ≡ Err r →
+      (Err r ≡ compile_answer state_limit s₀ rule old) × (old ≡ compile_contents state_limit s₀ rule old)
   rule_case old r e =
       case_rule state_limit s₀ rule old ok r (sym (judged_nodes events kind rule nodes d) ∙ judgement_refused judged r e)
 
-  module _ (accepted : judgement judged ≡ AcceptedJudgement) (old new : List ℕ) (answer : Counted)
-      (x : Answered kind nodes.kinds nodes.firsts nodes.values nodes.count (meet_of kind meet) top events old new answer) where
+  module _ (accepted : judgement judged ≡ (Ok tt)) (old new : List ℕ) (answer : Result ℕ Refusal)
+      (x : Answered kind nodes (meet_of kind meet) top events old new answer) where
     fine : rule_refusal events kind rule ≡ none
     fine = sym (judged_nodes events kind rule nodes d) ∙ judgement_accepted judged accepted
 
     abbrev By : Nodes → ℕ → Type 0
-    By y t = Attempted kind y.kinds y.firsts y.values y.count (meet_of kind meet) t events x.limit old new x.states x.is_stored
+    By y t = Attempted kind y (meet_of kind meet) t events x.limit old new x.states x.is_stored
 
     attempt₀ : By (decoded kind rule) (top_of kind top)
     attempt₀ = subst (λ y. By y (top_of kind top)) d (subst (By nodes) (sym top_is) x.attempt)
@@ -263,7 +259,7 @@ module _ (events : ℕ) (kind : ValueKind) (top : ℕ) (meet rule : List ℕ) (o
         let w = case_few x.limit s₀ rule old ok fine new x.states x.is_stored attempt₀ h in
         let k : setup_states x.limit s₀ rule ≤ x.limit =
         omega (arith, states_are x.limit s₀ rule old ok fine new x.states x.is_stored attempt₀ h, h) in (
-          ap (λ b. counted (or_else (plain_unless b 10) (plain_unless x.is_stored 13)) x.states)
+          ap (λ b. answered (or_else (plain_unless b StateCount) (plain_unless x.is_stored BufferLength)) x.states)
               (le-leb x.states state_limit (omega (arith, h, x.few)) ∙ sym (le-leb x.states x.limit h))
               ∙ w.0 ∙ wider_answer x.limit state_limit s₀ rule old k x.few,
           w.1 ∙ wider_contents x.limit state_limit s₀ rule old k x.few,
@@ -278,32 +274,10 @@ module _ (events : ℕ) (kind : ValueKind) (top : ℕ) (meet rule : List ℕ) (o
         let w = ⊎_elim within (λ e. at_last e (dec_le x.states x.limit)) x.last in
         (x.answer_is ∙ w.0, w.1)
 
--- Document 01's set-up as it is handed in.
-module _ (events values top : ℕ) (meet : List ℕ) (e : judgement (setup_refusal (setup events values top meet)) ≡ AcceptedJudgement) where
-  pub setup_fine : setup_refusal (setup events values top meet) ≡ none
-  setup_fine = judgement_accepted (setup_refusal (setup events values top meet)) e
-
-  pub in_limits : (values ≤ value_limit) × (top < values)
-  in_limits = let w = (setup_accepted (setup events values top meet)).0 setup_fine in (w.of_kind.few_values, w.laws.top_in)
-
--- A register's.
-module _ (events lines : ℕ) (e : judgement (setup_refusal (register_setup events lines)) ≡ AcceptedJudgement) where
-  pub register_fine : setup_refusal (register_setup events lines) ≡ none
-  register_fine = judgement_accepted (setup_refusal (register_setup events lines)) e
-
-  pub few_lines : lines ≤ line_limit
-  few_lines = ((setup_accepted (register_setup events lines)).0 register_fine).of_kind.few_lines
-
-  pub top_is : pack (top_masks (min lines line_limit)) ≡ pack (top_masks lines)
-  top_is = ap (λ n. pack (top_masks n)) (omega (arith, few_lines))
-
-  -- What is answered of a set-up with that top is answered of the register's.
-  pub register_answer :
-      (limit top : ℕ) (rule old : List ℕ) (a : Counted) (new : List ℕ) → top ≡ pack (top_masks (min lines line_limit)) →
-      (a ≡ compile_answer limit (setup_of_kind events (Register lines) top []) rule old)
-      × (new ≡ compile_contents limit (setup_of_kind events (Register lines) top []) rule old) →
-      (a ≡ compile_answer limit (register_setup events lines) rule old) × (new ≡ compile_contents limit (register_setup events lines) rule old)
-  register_answer limit top rule old a new t h =
-      subst
-      (λ x. (a ≡ compile_answer limit (setup_of_kind events (Register lines) x []) rule old)
-      × (new ≡ compile_contents limit (setup_of_kind events (Register lines) x []) rule old)) (t ∙ top_is) h
+-- The top of a set-up as it is handed in is whole: all lines' bits.
+pub whole_top : (s : SetUp) → setup_top (setup_of s) ≡ (setup_of s).top
+whole_top s = go s.events s.values
+  where
+    go : (events : ℕ) (v : Values) → setup_top (setup_of (record { events = events; values = v })) ≡ (setup_of (record { events = events; values = v })).top
+    go events (NumberedValues values top meet) = refl
+    go events (RegisterValues lines) = refl

@@ -3,6 +3,7 @@ pub mod Bits
 pub mod NodeWords
 pub mod MarkedNodes
 pub mod NodeSetLaws
+pub mod NodeKinds
 pub mod NodeWalks
 pub mod Binding
 pub mod DemandRows

@@ -8,21 +8,21 @@ use lib.{Bits.{bit_and, bit_or}, Dec.{eqb, ltb}, ListN.{length, get_or, set}, Po
 use Rattle.limits.specs.Limits.{node_limit}
 use Rattle.theory.specs.{ReachableStates.{NodeSet}, DemandSets.{empty, union, only}}
 use Rattle.formulas.specs.NodeWalks.{field}
-use Rattle.synthesis.specs.{NodeWords.{set_words, bit_at, set_at}, Exploring.{for_event}}
+use Rattle.synthesis.specs.{NodeWords.{set_words, bit_at, set_of}, Exploring.{for_event}}
 use Rattle.synthesis.specs.MarkedNodes.{LastSet, word_set, Marks, marked_in, Came, none_yet, not_in, node_in}
 use Rattle.synthesis.proofs.{Bits.{low_bits, no_rest, and_bit}, NodeWords.{in_words, no_words, set_insert}}
 
 -- ---- walks
 
-module _ {step : ℕ → List ℕ → List ℕ → Type 0} {m : ℕ} {before : List ℕ} where
-  came_low : {D : NodeSet} {n : ℕ} {l : List ℕ} → Came step D m before n l → n ≤ m
+module _ {A : Type 0} {step : ℕ → A → A → Type 0} {m : ℕ} {before : A} where
+  came_low : {D : NodeSet} {n : ℕ} {l : A} → Came step D m before n l → n ≤ m
   came_low none_yet = omega arith
   came_low (not_in e c) = omega (arith, came_low c)
   came_low (node_in e s c) = omega (arith, came_low c)
 
   -- Nodes that are not in the set are passed over.
   skip_by :
-      {D : NodeSet} {l : List ℕ} (d r : ℕ) → ((j : ℕ) → r ≤ j → j < r + d → D j ≡ false) →
+      {D : NodeSet} {l : A} (d r : ℕ) → ((j : ℕ) → r ≤ j → j < r + d → D j ≡ false) →
       Came step D m before (r + d) l → Came step D m before r l
   skip_by {D} {l} zero r f c = let z : r + zero ≡ r = omega arith in subst (λ x. Came step D m before x l) z c
   skip_by {D} {l} (suc d) r f c =
@@ -31,7 +31,7 @@ module _ {step : ℕ → List ℕ → List ℕ → Type 0} {m : ℕ} {before : L
       (skip_by d (suc r) (λ j h u. f j (omega arith) (omega arith)) (subst (λ x. Came step D m before x l) z c))
 
   came_skip :
-      {D : NodeSet} {l : List ℕ} (n r : ℕ) → r ≤ n → ((j : ℕ) → r ≤ j → j < n → D j ≡ false) →
+      {D : NodeSet} {l : A} (n r : ℕ) → r ≤ n → ((j : ℕ) → r ≤ j → j < n → D j ≡ false) →
       Came step D m before n l → Came step D m before r l
   came_skip {D} {l} n r h f c =
       let z : n ≡ r + (n - r) = omega arith in
@@ -39,7 +39,7 @@ module _ {step : ℕ → List ℕ → List ℕ → Type 0} {m : ℕ} {before : L
 
 -- After one walk another one, over a set that agrees with the first walk's.
 came_more :
-    {step : ℕ → List ℕ → List ℕ → Type 0} {D E : NodeSet} {m n : ℕ} {before between : List ℕ} {k : ℕ} {l : List ℕ} →
+    {A : Type 0} {step : ℕ → A → A → Type 0} {D E : NodeSet} {m n : ℕ} {before between : A} {k : ℕ} {l : A} →
     ((j : ℕ) → k ≤ j → j < n → D j ≡ E j) → Came step E m before n between → Came step D n between k l → Came step E m before k l
 came_more f old none_yet = old
 came_more {k = k} f old (not_in e c) =
@@ -50,12 +50,12 @@ came_more {k = k} f old (node_in e s c) =
 -- ---- the set bits of a word
 
 -- The nodes from bit `end` of a word on came, and `rest` is what is left of it.
-pub record WordWalk (step : ℕ → List ℕ → List ℕ → Type 0) (word base : ℕ) (before : List ℕ) (rest end : ℕ) (l : List ℕ) : Type 0 where
+pub record WordWalk {A : Type 0} (step : ℕ → A → A → Type 0) (word base : ℕ) (before : A) (rest end : ℕ) (l : A) : Type 0 where
   pub high : end ≤ 64
   pub left : rest ≡ word % 2 ^ end
   pub came : Came step (word_set word base) (base + 64) before (base + end) l
 
-module _ (step : ℕ → List ℕ → List ℕ → Type 0) (word base : ℕ) (before : List ℕ) where
+module _ {A : Type 0} (step : ℕ → A → A → Type 0) (word base : ℕ) (before : A) where
   pub walk_start : word < 2 ^ 64 → WordWalk step word base before word 64 before
   walk_start h = record { high = omega arith; left = sym (mod-eq_of_lt h); came = none_yet }
 
@@ -63,7 +63,7 @@ module _ (step : ℕ → List ℕ → List ℕ → Type 0) (word base : ℕ) (be
   unfolding word_set
   none_there j e = ap (λ x. eqb x 1) e
 
-  module _ (rest end : ℕ) (l : List ℕ) (walk : WordWalk step word base before rest end l) where
+  module _ (rest end : ℕ) (l : A) (walk : WordWalk step word base before rest end l) where
     -- The last set bit of what is left.
     module _ (r : ℕ) (last : LastSet rest r) where
       pub walk_less : r < end
@@ -92,7 +92,7 @@ module _ (step : ℕ → List ℕ → List ℕ → Type 0) (word base : ℕ) (be
 
       -- Its node comes, and it is taken off.
       pub walk_next :
-          (p : ℕ) (after : List ℕ) → p ≡ 2 ^ r → step (base + r) l after → WordWalk step word base before (rest % p) r after
+          (p : ℕ) (after : A) → p ≡ 2 ^ r → step (base + r) l after → WordWalk step word base before (rest % p) r after
       walk_next p after e s =
           record {
             high = omega (arith, last.low);
@@ -117,37 +117,35 @@ module _ (step : ℕ → List ℕ → List ℕ → Type 0) (word base : ℕ) (be
 
 -- ---- the words of a set
 
-module _ (step : ℕ → List ℕ → List ℕ → Type 0) (states : List ℕ) (base : ℕ) (marks before : List ℕ) where
+module _ {A : Type 0} (step : ℕ → A → A → Type 0) (set marks : List ℕ) (before : A) where
   word_marked :
       (v j : ℕ) → v < set_words → v * 64 ≤ j → j < v * 64 + 64 →
-      word_set (bit_and (get_or states (base + v) 0) (get_or marks v 0)) (v * 64) j ≡ marked_in (set_at states base) marks j
+      word_set (bit_and (get_or set v 0) (get_or marks v 0)) (v * 64) j ≡ marked_in (set_of set) marks j
   unfolding word_set
   word_marked v j h u l =
       let d : j / 64 ≡ v = omega arith in
-      let e : 0 + v ≡ v = omega arith in
       let m : j % 64 ≡ j - v * 64 = omega arith in
-      and_bit (get_or states (base + v) 0) (get_or marks v 0) (j - v * 64)
+      and_bit (get_or set v 0) (get_or marks v 0) (j - v * 64)
       ∙ ap₂ ◌&&◌
-      (sym (in_words states base j (omega arith) ∙ ap₂ (λ x y. eqb (bit_at (get_or states (base + x) 0) y) 1) d m))
-      (sym (in_words marks 0 j (omega arith) ∙ ap₂ (λ x y. eqb (bit_at (get_or marks (0 + x) 0) y) 1) d m
-      ∙ ap (λ x. eqb (bit_at (get_or marks x 0) (j - v * 64)) 1) e))
+      (sym (in_words set j (omega arith) ∙ ap₂ (λ x y. eqb (bit_at (get_or set x 0) y) 1) d m))
+      (sym (in_words marks j (omega arith) ∙ ap₂ (λ x y. eqb (bit_at (get_or marks x 0) y) 1) d m))
 
   -- One word more.
   pub words_next :
-      (w : ℕ) (l after : List ℕ) → 0 < w → w ≤ set_words →
-      Came step (marked_in (set_at states base) marks) node_limit before (w * 64) l →
-      Came step (word_set (bit_and (get_or states (base + (w - 1)) 0) (get_or marks (w - 1) 0)) ((w - 1) * 64)) ((w - 1) * 64 + 64) l ((w - 1) * 64) after →
-      Came step (marked_in (set_at states base) marks) node_limit before ((w - 1) * 64) after
+      (w : ℕ) (l after : A) → 0 < w → w ≤ set_words →
+      Came step (marked_in (set_of set) marks) node_limit before (w * 64) l →
+      Came step (word_set (bit_and (get_or set (w - 1) 0) (get_or marks (w - 1) 0)) ((w - 1) * 64)) ((w - 1) * 64 + 64) l ((w - 1) * 64) after →
+      Came step (marked_in (set_of set) marks) node_limit before ((w - 1) * 64) after
   words_next w l after some few old new =
       let z : w * 64 ≡ (w - 1) * 64 + 64 = omega arith in
       came_more (λ j h u. word_marked (w - 1) j (omega arith) h u)
-      (subst (λ x. Came step (marked_in (set_at states base) marks) node_limit before x l) z old) new
+      (subst (λ x. Came step (marked_in (set_of set) marks) node_limit before x l) z old) new
 
   -- No word is left.
   pub words_done :
-      (w : ℕ) (l : List ℕ) → w ≡ 0 → Came step (marked_in (set_at states base) marks) node_limit before (w * 64) l →
-      Came step (marked_in (set_at states base) marks) node_limit before 0 l
-  words_done w l e c = subst (λ x. Came step (marked_in (set_at states base) marks) node_limit before (x * 64) l) e c
+      (w : ℕ) (l : A) → w ≡ 0 → Came step (marked_in (set_of set) marks) node_limit before (w * 64) l →
+      Came step (marked_in (set_of set) marks) node_limit before 0 l
+  words_done w l e c = subst (λ x. Came step (marked_in (set_of set) marks) node_limit before (x * 64) l) e c
 
 -- ---- all marked nodes of a set
 
@@ -167,10 +165,10 @@ below_mark true false k e = absurd (true≢false (sym e))
 below_mark false b k e = absurd (true≢false (sym e))
 
 -- What holds from `count` on, and one node more each time, holds from node 0 on, after all marked nodes came: P n is that it holds from n on.
-module _ (kinds firsts : List ℕ) (count k : ℕ) (marks : List ℕ) (marked : Marks kinds count k marks) (D : NodeSet)
-    (step : ℕ → List ℕ → List ℕ → Type 0) (before : List ℕ) (P : ℕ → List ℕ → Type 0)
-    (pass : (n : ℕ) (l : List ℕ) → n < count → ((e : ℕ) → D n && for_event kinds firsts k e n ≡ false) → P (suc n) l → P n l)
-    (come : (n : ℕ) (l after : List ℕ) → n < count → ((e : ℕ) → D n && for_event kinds firsts k e n ≡ eqb (field firsts n) e) →
+module _ {A : Type 0} (kinds firsts : List ℕ) (count k : ℕ) (marks : List ℕ) (marked : Marks kinds count k marks) (D : NodeSet)
+    (step : ℕ → A → A → Type 0) (before : A) (P : ℕ → A → Type 0)
+    (pass : (n : ℕ) (l : A) → n < count → ((e : ℕ) → D n && for_event kinds firsts k e n ≡ false) → P (suc n) l → P n l)
+    (come : (n : ℕ) (l after : A) → n < count → ((e : ℕ) → D n && for_event kinds firsts k e n ≡ eqb (field firsts n) e) →
     step n l after → P (suc n) l → P n after) where
   abbrev upto : ℕ → ℕ
   upto n = n - (n - count)
@@ -181,7 +179,7 @@ module _ (kinds firsts : List ℕ) (count k : ℕ) (marks : List ℕ) (marked : 
   in_kind : (n : ℕ) (t : Bool) → n < count → D n && (ltb n count && eqb (field kinds n) k) ≡ t → D n && eqb (field kinds n) k ≡ t
   in_kind n t h e = ap (λ b. D n && (b && eqb (field kinds n) k)) (sym (lt-ltb n count h)) ∙ e
 
-  pass_one : (n : ℕ) (l : List ℕ) → n < node_limit → marked_in D marks n ≡ false → P (upto (suc n)) l → P (upto n) l
+  pass_one : (n : ℕ) (l : A) → n < node_limit → marked_in D marks n ≡ false → P (upto (suc n)) l → P (upto n) l
   unfolding for_event
   pass_one n l u e x = one (dec_lt n count)
     where
@@ -195,7 +193,7 @@ module _ (kinds firsts : List ℕ) (count k : ℕ) (marks : List ℕ) (marked : 
       one (no h) = let z : upto (suc n) ≡ upto n = omega arith in subst (λ i. P i l) z x
 
   come_one :
-      (n : ℕ) (l after : List ℕ) → n < node_limit → marked_in D marks n ≡ true → step n l after → P (upto (suc n)) l → P (upto n) after
+      (n : ℕ) (l after : A) → n < node_limit → marked_in D marks n ≡ true → step n l after → P (upto (suc n)) l → P (upto n) after
   unfolding for_event
   come_one n l after u e s x =
       let t = is_marked n true u e in
@@ -205,29 +203,29 @@ module _ (kinds firsts : List ℕ) (count k : ℕ) (marks : List ℕ) (marked : 
       subst (λ i. P i after) z
       (come n l after h (λ v. hit_yes (D n) (eqb (field kinds n) k) (eqb (field firsts n) v) (in_kind n true h t)) s (subst (λ i. P i l) y x))
 
-  go : {n : ℕ} {l : List ℕ} → P count before → Came step (marked_in D marks) node_limit before n l → P (upto n) l
+  go : {n : ℕ} {l : A} → P count before → Came step (marked_in D marks) node_limit before n l → P (upto n) l
   go start none_yet = let z : count ≡ upto node_limit = omega (arith, marked.few) in subst (λ i. P i before) z start
-  go start (not_in {n} {l} e c) = pass_one n l (came_low c) e (go start c)
-  go start (node_in {n} {l} {l'} e s c) = come_one n l l' (came_low c) e s (go start c)
+  go start (not_in {n} {a} e c) = pass_one n a (came_low c) e (go start c)
+  go start (node_in {n} {a} {b} e s c) = come_one n a b (came_low c) e s (go start c)
 
-  pub all_marked : (l : List ℕ) → P count before → Came step (marked_in D marks) node_limit before 0 l → P 0 l
+  pub all_marked : (l : A) → P count before → Came step (marked_in D marks) node_limit before 0 l → P 0 l
   all_marked l start c = let z : upto 0 ≡ 0 = omega arith in subst (λ x. P x l) z (go start c)
 
 -- ---- marks made one by one
 
 module _ (kinds : List ℕ) (k : ℕ) (marks : List ℕ) where
-  pub marks_none : ((w : ℕ) → w < set_words → get_or marks (0 + w) 0 ≡ 0) → Marks kinds 0 k marks
+  pub marks_none : ((w : ℕ) → w < set_words → get_or marks w 0 ≡ 0) → Marks kinds 0 k marks
   unfolding empty
   marks_none f =
       record {
         few = omega arith;
-        there = λ j h. ap (λ D. D j) (no_words marks 0 f) ∙ sym (ap (λ t. t && eqb (field kinds j) k) (le-ltb j 0 (omega arith)));
+        there = λ j h. ap (λ D. D j) (no_words marks f) ∙ sym (ap (λ t. t && eqb (field kinds j) k) (le-ltb j 0 (omega arith)));
       }
 
   -- Node i: marked where it is of the kind.
   module _ (i : ℕ) (small : i < node_limit) (old : Marks kinds i k marks) where
     more :
-        (after : List ℕ) → ((j : ℕ) → set_at after 0 j ≡ set_at marks 0 j || (eqb i j && eqb (field kinds i) k)) →
+        (after : List ℕ) → ((j : ℕ) → set_of after j ≡ set_of marks j || (eqb i j && eqb (field kinds i) k)) →
         Marks kinds (i + 1) k after
     more after f = record { few = omega arith; there = λ j h. f j ∙ ap (λ t. t || (eqb i j && eqb (field kinds i) k)) (old.there j h) ∙ one j }
       where
@@ -249,15 +247,12 @@ module _ (kinds : List ℕ) (k : ℕ) (marks : List ℕ) where
     unfolding union only
     marks_with p sized power here =
         more (set marks (i / 64) (bit_or (get_or marks (i / 64) 0) p))
-        (λ j. ap₂ (λ x y. set_at (set marks x (bit_or (get_or marks x 0) y)) 0 j) z power
-        ∙ ap (λ D. D j) (set_insert marks 0 i small (omega arith))
-        ∙ ap (λ t. set_at marks 0 j || t) (sym (ap (λ t. eqb i j && t) (eq-eqb (field kinds i) k here) ∙ and-true (eqb i j))))
-      where
-        z : i / 64 ≡ 0 + i / 64
-        z = omega arith
+        (λ j. ap (λ y. set_of (set marks (i / 64) (bit_or (get_or marks (i / 64) 0) y)) j) power
+        ∙ ap (λ D. D j) (set_insert marks i small (omega arith))
+        ∙ ap (λ t. set_of marks j || t) (sym (ap (λ t. eqb i j && t) (eq-eqb (field kinds i) k here) ∙ and-true (eqb i j))))
 
     pub marks_without : ¬ (field kinds i ≡ k) → Marks kinds (i + 1) k marks
     marks_without other =
         more marks
-        (λ j. sym (ap (λ t. set_at marks 0 j || t) (ap (λ t. eqb i j && t) (ne_eqb (field kinds i) k other) ∙ and-false (eqb i j))
-        ∙ or-false (set_at marks 0 j)))
+        (λ j. sym (ap (λ t. set_of marks j || t) (ap (λ t. eqb i j && t) (ne_eqb (field kinds i) k other) ∙ and-false (eqb i j))
+        ∙ or-false (set_of marks j)))

@@ -1,5 +1,9 @@
 -- One step of a walk over nodes, for each kind of node.
-use mathlib.Core.{Path.{◌≡◌, refl, sym, subst}, List.{List}}
+use mathlib.Core.{Path.{◌≡◌, refl, sym, subst}, Logic.{◌⊎◌, inl, inr}, List.{List}}
+use Rattle.std.specs.Prelude.{Option as StdOption, Some}
+use Rattle.formulas.specs.declared.NodeKind.{NodeKind, TheVariants.{Transition, Greatest}}
+use Rattle.formulas.specs.RuleReading.{kind_of as read_kind}
+use Rattle.synthesis.proofs.NodeKinds.{NoParts, kind_read}
 use Prim.Native.Nat.{ℕ, suc, ◌+◌, ◌-◌, ◌<◌}
 use native.Mathlib.{Decide.{ℕ_discrete}, Numerals.{add-one}, Omega.{arith}}
 use lib.{ListN.{length, get_or, set}, Seq.{get_or-set_same, get_or-set_other}}
@@ -23,13 +27,13 @@ module _ (kinds : List ℕ) (at left : ℕ) where
   pub end_none : left ≡ 0 → (r : ℕ) → Ends kinds at left r
   end_none e r first value φ d h = absurd (omega (arith, size_positive φ))
 
-  pub end_leaf : ¬ (kind_here ≡ 2) → ¬ (kind_here ≡ 4) → ¬ (kind_here ≡ 5) → Ends kinds at left (at + 1)
-  end_leaf g a v first value truth d h = refl
-  end_leaf g a v first value (variable n) d h = refl
-  end_leaf g a v first value (transition e φ) d h = absurd (g d.0)
-  end_leaf g a v first value (output e b) d h = refl
-  end_leaf g a v first value (conjunction φ χ) d h = absurd (a d.0)
-  end_leaf g a v first value (greatest φ) d h = absurd (v d.0)
+  pub end_leaf : NoParts kind_here → Ends kinds at left (at + 1)
+  end_leaf w first value truth d h = refl
+  end_leaf w first value (variable n) d h = refl
+  end_leaf w first value (transition e φ) d h = absurd (w.no_transition d.0)
+  end_leaf w first value (output e b) d h = refl
+  end_leaf w first value (conjunction φ χ) d h = absurd (w.no_conjunction d.0)
+  end_leaf w first value (greatest φ) d h = absurd (w.no_greatest d.0)
 
   module _ (r : ℕ) (part : Ends kinds (at + 1) (left - 1) r) where
     pub end_transition : kind_here ≡ 2 → Ends kinds at left r
@@ -74,8 +78,8 @@ module _ (kinds ends : List ℕ) (at : ℕ) where
   next_walked total h f =
       subst (λ n. Walked kinds (at + 1) n next_end) (omega arith) (f (at + 1) (omega arith) (omega arith))
 
-  pub here_leaf : ¬ (kind_of ≡ 2) → ¬ (kind_of ≡ 4) → ¬ (kind_of ≡ 5) → EndsHere kinds ends at (at + 1)
-  here_leaf g a v total h f = record { low = omega arith; high = omega arith; end = end_leaf kinds at (total - at) g a v }
+  pub here_leaf : NoParts kind_of → EndsHere kinds ends at (at + 1)
+  here_leaf w total h f = record { low = omega arith; high = omega arith; end = end_leaf kinds at (total - at) w }
 
   pub here_transition : kind_of ≡ 2 → EndsHere kinds ends at next_end
   here_transition g total h f =
@@ -94,6 +98,12 @@ module _ (kinds ends : List ℕ) (at : ℕ) where
         high = omega (arith, w.high);
         end = end_greatest kinds at (total - at) next_end w.end g;
       }
+
+  pub here_part :
+      {o : StdOption NodeKind} {k : NodeKind} → o ≡ read_kind kind_of → o ≡ Some k → (k ≡ Transition) ⊎ (k ≡ Greatest) →
+      EndsHere kinds ends at next_end
+  here_part a b (inl h) = here_transition (kind_read kind_of Transition a b h)
+  here_part a b (inr h) = here_greatest (kind_read kind_of Greatest a b h)
 
   pub here_conjunction : kind_of ≡ 4 → EndsHere kinds ends at (get_or ends next_end 0)
   here_conjunction g total h f =

@@ -1,38 +1,35 @@
 -- States found by their sets: equal sets have equal places, and what one more state does to places and links.
-use mathlib.Core.{Path.{◌≡◌, refl, sym, ◌∙◌, ap, ap₂, subst}, List.{List}}
-use Prim.Native.Nat.{ℕ, zero, suc, ◌+◌, ◌*◌, ◌/◌, ◌%◌, ◌^◌, ◌<◌}
+use mathlib.Core.{Path.{◌≡◌, refl, sym, ◌∙◌, ap, ap₂, subst}, List.{List, []}}
+use Prim.Native.Nat.{ℕ, zero, suc, ◌+◌, ◌/◌, ◌%◌, ◌^◌, ◌<◌}
 use native.Mathlib.{Nat.{mod-lt, mod-eq_of_lt}, Decide.{ℕ_discrete}, Omega.{arith}}
 use lib.{Bits.{bit_xor}, Dec.{eqb}, ListN.{length, get_or, set, replicate}, Pow.{pow_pos}, Seq.{get_or-set_same, get_or-set_other}}
-use Rattle.synthesis.specs.{NodeWords.{bits_at, Stored}, Exploring.{Found}}
+use Rattle.synthesis.specs.{NodeWords.{set_bits, bits_at, Stored}, Exploring.{Found}}
 use Rattle.synthesis.specs.StatePlaces.{place_count, set_word, set_place, Different, Linked, there, further, Chained}
-use Rattle.synthesis.proofs.{Bits.{low_bits, same_number}, NodeWords.{word_bits, bits_of, stored_there, stored_else}}
+use Rattle.synthesis.proofs.{Bits.{low_bits, same_number}, NodeWords.{word_bits, stored_there, stored_else}}
 
 -- Equal sets have equal places.
-words_same : (l m : List ℕ) (b c : ℕ) → bits_at l b ≡ bits_at m c → (w : ℕ) → w < 4 → set_word l b w ≡ set_word m c w
-words_same l m b c e w h =
-    same_number 64 (set_word l b w) (set_word m c w) (mod-lt (get_or l (b + w) 0) (pow_pos 64)) (mod-lt (get_or m (c + w) 0) (pow_pos 64))
-    (λ k q. ap (λ x. eqb x 1) (low_bits (get_or l (b + w) 0) 64 k q) ∙ word_bits l m b c e w h k q
-    ∙ sym (ap (λ x. eqb x 1) (low_bits (get_or m (c + w) 0) 64 k q)))
+words_same : (l m : List ℕ) → set_bits l ≡ set_bits m → (w : ℕ) → w < 4 → set_word l w ≡ set_word m w
+words_same l m e w h =
+    same_number 64 (set_word l w) (set_word m w) (mod-lt (get_or l w 0) (pow_pos 64)) (mod-lt (get_or m w 0) (pow_pos 64))
+    (λ k q. ap (λ x. eqb x 1) (low_bits (get_or l w 0) 64 k q) ∙ word_bits l m e w h k q
+    ∙ sym (ap (λ x. eqb x 1) (low_bits (get_or m w 0) 64 k q)))
 
-place_from :
-    (l m : List ℕ) (b c : ℕ) → ((w : ℕ) → w < 4 → set_word l b w ≡ set_word m c w) → set_place l b ≡ set_place m c
+place_from : (l m : List ℕ) → ((w : ℕ) → w < 4 → set_word l w ≡ set_word m w) → set_place l ≡ set_place m
 unfolding set_place
-place_from l m b c f =
+place_from l m f =
     ap (λ x. x % place_count)
     (ap₂ bit_xor (ap₂ bit_xor (ap₂ bit_xor (f 0 (omega arith)) (ap (λ x. x / 2 ^ 1) (f 1 (omega arith)))) (ap (λ x. x / 2 ^ 2) (f 2 (omega arith))))
     (ap (λ x. x / 2 ^ 3) (f 3 (omega arith))))
 
-pub place_same : (l m : List ℕ) (b c : ℕ) → bits_at l b ≡ bits_at m c → set_place l b ≡ set_place m c
-place_same l m b c e = place_from l m b c (words_same l m b c e)
+pub place_same : (l m : List ℕ) → set_bits l ≡ set_bits m → set_place l ≡ set_place m
+place_same l m e = place_from l m (words_same l m e)
 
-pub whole_word : (l : List ℕ) (k x : ℕ) → x ≡ get_or l k 0 → x < 2 ^ 64 → x ≡ set_word l 0 k
-whole_word l k x e h =
-    let z : k ≡ 0 + k = omega arith in
-    sym (mod-eq_of_lt h) ∙ ap (λ y. y % 2 ^ 64) (e ∙ ap (λ y. get_or l y 0) z)
+pub whole_word : (l : List ℕ) (k : ℕ) → get_or l k 0 < 2 ^ 64 → get_or l k 0 ≡ set_word l k
+whole_word l k h = sym (mod-eq_of_lt h)
 
-pub place_below : (l : List ℕ) (b x : ℕ) → x ≡ set_place l b → x < place_count
+pub place_below : (l : List ℕ) (x : ℕ) → x ≡ set_place l → x < place_count
 unfolding set_place
-place_below l b x e = subst (λ y. y < place_count) (sym e) (mod-lt _ (omega arith))
+place_below l x e = subst (λ y. y < place_count) (sym e) (mod-lt _ (omega arith))
 
 -- Further on than the state itself.
 pub leave : {links : List ℕ} {j i : ℕ} → Linked links j i → ¬ (j ≡ i) → (get_or links j 0 < j) × Linked links (get_or links j 0) i
@@ -46,31 +43,30 @@ getD_zeros (suc m) zero = refl
 getD_zeros (suc m) (suc p) = getD_zeros m p
 
 pub chained_one :
-    (states heads links : List ℕ) → ((p : ℕ) → get_or heads p 0 ≡ 0) → Chained 1 states heads links
+    (states : List (List ℕ)) (heads links : List ℕ) → ((p : ℕ) → get_or heads p 0 ≡ 0) → Chained 1 states heads links
 chained_one states heads links none =
     record { heads_are = λ p. omega (arith, none p); linked = λ i h. subst (λ x. Linked links x i) (z i h) there }
   where
-    z : (i : ℕ) → i < 1 → i ≡ get_or heads (set_place states (i * 4)) 0
-    z i h = omega (arith, h, none (set_place states (i * 4)))
+    z : (i : ℕ) → i < 1 → i ≡ get_or heads (set_place (get_or states i [])) 0
+    z i h = omega (arith, h, none (set_place (get_or states i [])))
 
 -- A set that is none of the states is stored behind them: state k.
-module _ (k : ℕ) (states from after : List ℕ) (stored : Stored states after (k * 4) from) where
-  stays : (l : ℕ) → ¬ (l ≡ k) → bits_at after (l * 4) ≡ bits_at states (l * 4)
-  stays l d = bits_of after states (l * 4) (l * 4) (stored_else states after from k l stored d)
+module _ (k : ℕ) (states : List (List ℕ)) (from : List ℕ) (after : List (List ℕ)) (stored : Stored states after k from) where
+  stays : (l : ℕ) → ¬ (l ≡ k) → bits_at after l ≡ bits_at states l
+  stays l d = ap set_bits (stored_else states after from k l stored d)
 
-  new_bits : bits_at after (k * 4) ≡ bits_at from 0
-  new_bits = bits_of after from (k * 4) 0 (stored_there states after from (k * 4) stored)
+  new_bits : bits_at after k ≡ set_bits from
+  new_bits = ap set_bits (stored_there states after from k stored)
 
   pub different_more : Different k states → Found states k from k → Different (k + 1) after
   different_more old found j i h u e = go (ℕ_discrete i k)
     where
       go : Dec (i ≡ k) → ⊥
-      go (yes q) =
-          found.before j (omega arith) (sym (stays j (λ d. omega (arith, d))) ∙ e ∙ ap (λ x. bits_at after (x * 4)) q ∙ new_bits)
+      go (yes q) = found.before j (omega arith) (sym (stays j (λ d. omega (arith, d))) ∙ e ∙ ap (bits_at after) q ∙ new_bits)
       go (no d) = old j i h (omega arith) (sym (stays j (λ q. omega (arith, q))) ∙ e ∙ stays i d)
 
   -- It becomes the head of its place, linked to the head before it.
-  module _ (heads links : List ℕ) (place : ℕ) (its : place ≡ set_place from 0) (inside : place < length heads) (room : k < length links)
+  module _ (heads links : List ℕ) (place : ℕ) (its : place ≡ set_place from) (inside : place < length heads) (room : k < length links)
       (old : Chained k states heads links) where
     abbrev heads' : List ℕ
     heads' = set heads place k
@@ -106,12 +102,12 @@ module _ (k : ℕ) (states from after : List ℕ) (stored : Stored states after 
         head p (yes q) = omega (arith, ap (λ x. get_or heads' x 0) q ∙ get_or-set_same heads place k 0 inside)
         head p (no d) = omega (arith, get_or-set_other heads place p k 0 d, old.heads_are p)
 
-        state : (i : ℕ) → i < k + 1 → Dec (i ≡ k) → Linked links' (get_or heads' (set_place after (i * 4)) 0) i
+        state : (i : ℕ) → i < k + 1 → Dec (i ≡ k) → Linked links' (get_or heads' (set_place (get_or after i [])) 0) i
         state i h (yes q) =
-            let at : set_place after (i * 4) ≡ place
-            = ap (λ x. set_place after (x * 4)) q ∙ place_same after from (k * 4) 0 new_bits ∙ sym its in
+            let at : set_place (get_or after i []) ≡ place
+            = ap (λ x. set_place (get_or after x [])) q ∙ ap set_place (stored_there states after from k stored) ∙ sym its in
             subst (λ x. Linked links' x i)
             (q ∙ sym (ap (λ x. get_or heads' x 0) at ∙ get_or-set_same heads place k 0 inside)) there
         state i h (no d) =
-            subst (λ x. Linked links' (get_or heads' x 0) i) (sym (place_same after states (i * 4) (i * 4) (stays i d)))
-            (from_head (set_place states (i * 4)) i (old.linked i (omega arith)))
+            subst (λ x. Linked links' (get_or heads' x 0) i) (sym (ap set_place (stored_else states after from k i stored d)))
+            (from_head (set_place (get_or states i [])) i (old.linked i (omega arith)))

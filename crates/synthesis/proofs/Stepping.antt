@@ -35,10 +35,10 @@ module _ (kinds firsts : List ℕ) (k e i : ℕ) where
   same_kind h = ap (λ t. t && eqb (field firsts i) e) (eq-eqb (field kinds i) k h)
 
 -- The rows from i on are the sets kept for the formula at i.
-abbrev pub KeptFrom : List ℕ → List NodeSet → ℕ → Formula ℕ → Type 0
+abbrev pub KeptFrom : List (List ℕ) → List NodeSet → ℕ → Formula ℕ → Type 0
 KeptFrom rows ρ i φ = (n : ℕ) → n < size φ → row rows (i + n) ≡ kept_of ρ i φ n
 
-module _ (kinds firsts rows : List ℕ) (value : ℕ → ℕ) (D : NodeSet) (e : ℕ) where
+module _ (kinds firsts : List ℕ) (rows : List (List ℕ)) (value : ℕ → ℕ) (D : NodeSet) (e : ℕ) where
   brings_not : (i k : ℕ) → ¬ (field kinds i ≡ 2) → brings kinds firsts rows D e k i ≡ false
   brings_not i k h =
       ap (λ t. t && row rows (suc i) k) (ap (λ t. D i && t) (other_kind kinds firsts 2 e i h) ∙ and-false (D i))
@@ -80,7 +80,7 @@ module _ (kinds firsts rows : List ℕ) (value : ℕ → ℕ) (D : NodeSet) (e :
 
 -- For a whole formula.
 pub stepped_moved :
-    (kinds firsts rows : List ℕ) (value : ℕ → ℕ) (φ : Formula ℕ) → Reads (field kinds) (field firsts) value 0 φ → RowsKept rows φ →
+    (kinds firsts : List ℕ) (rows : List (List ℕ)) (value : ℕ → ℕ) (φ : Formula ℕ) → Reads (field kinds) (field firsts) value 0 φ → RowsKept rows φ →
     (D : NodeSet) (e : ℕ) → stepped kinds firsts rows (size φ) D e ≡ moved D e [] 0 φ
 unfolding stepped
 stepped_moved kinds firsts rows value φ d kept D e =

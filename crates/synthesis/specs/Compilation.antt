@@ -1,11 +1,11 @@
 -- Twin of TableOfRule, pinned by product_claims DemandTwo.
 -- What the compiler answers: the computing twins of the conditions and claims in `Claims`.
 use mathlib.Core.{List.{List}, Option.{Option}}
-use Rattle.std.specs.Prelude.{ℕ, ◌*◌, ◌/◌, ◌%◌}
+use Rattle.std.specs.Prelude.{ℕ, ◌*◌, ◌/◌, ◌%◌, Result}
 use lib.{Dec.{leb}, ListN.{length}}
 use Rattle.theory.specs.MealyMachine.{Machine}
-use Rattle.refusal.specs.{declared.Refusal.{Refusal}, declared.Counted.{Counted}}
-use Rattle.refusal.specs.RefusalAnswers.{or_else, plain_unless, counted, put_unless}
+use Rattle.refusal.specs.{declared.Refusal.{Refusal}, declared.Refusal.TheVariants.{BufferLength, StateCount}}
+use Rattle.refusal.specs.RefusalAnswers.{or_else, plain_unless, answered, put_unless}
 use Rattle.values.specs.{declared.ValueKind.{ValueKind}, Setup.{meet_of, Setup, setup_top}, SetupTests.{setup_refusal}}
 use Rattle.formulas.specs.{RuleRefusal.{rule_refusal, formula_of}, NodeArrays.{padded}}
 use Rattle.machines.specs.TableBytes.{table_bytes, entry_width, entry_bytes}
@@ -22,7 +22,7 @@ module _ (kind : ValueKind) (events top : ℕ) (table rule : List ℕ) where
 
   -- 5 to 10.
   unfoldable pub rule_table_refusal : ℕ → Option Refusal
-  rule_table_refusal limit = or_else (rule_refusal events kind rule) (plain_unless (leb (rule_states limit) limit) 10)
+  rule_table_refusal limit = or_else (rule_refusal events kind rule) (plain_unless (leb (rule_states limit) limit) StateCount)
 
 -- Entries by state and then event, and zeros after them.
 unfoldable pub flat : (ℕ → ℕ → ℕ) → ℕ → ℕ → ℕ → List ℕ
@@ -42,11 +42,11 @@ module _ (limit : ℕ) (s : Setup) (rule : List ℕ) where
     compile_refusal =
         or_else (setup_refusal s)
         (or_else (rule_table_refusal s.kind s.events (setup_top s) s.meet rule limit)
-        (plain_unless (leb (setup_states * s.events * entry_width s.kind) (length old)) 13))
+        (plain_unless (leb (setup_states * s.events * entry_width s.kind) (length old)) BufferLength))
 
     -- The count of states, or the refusal.
-    abbrev pub compile_answer : Counted
-    compile_answer = counted compile_refusal setup_states
+    abbrev pub compile_answer : Result ℕ Refusal
+    compile_answer = answered compile_refusal setup_states
 
     -- The buffer afterwards: the table's bytes, and what lies after them as it was; beside a refusal all as it was.
     unfoldable pub compile_contents : List ℕ

@@ -9,11 +9,11 @@ use Rattle.formulas.specs.{NodeReading.{Reads}, NodeWalks.{field}}
 use Rattle.synthesis.specs.{NodeWords.{row}, Exploring.{stepped}, KeptSets.{kept_set}}
 
 -- The rows of a formula's nodes are the sets kept for them.
-abbrev pub RowsKept : List ℕ → Formula ℕ → Type 0
+abbrev pub RowsKept : List (List ℕ) → Formula ℕ → Type 0
 RowsKept rows φ = (i : ℕ) → i < size φ → row rows i ≡ kept_set φ i
 
 -- So for each formula in order whose nodes these are, whether or not 10 refuses it: what `keep_demands` promises.
-abbrev pub KeepsDemands : List ℕ → List ℕ → ℕ → List ℕ → Type 0
+abbrev pub KeepsDemands : List ℕ → List ℕ → ℕ → List (List ℕ) → Type 0
 KeepsDemands kinds firsts count rows =
     (value : ℕ → ℕ) (φ : Formula ℕ) → Reads (field kinds) (field firsts) value 0 φ → size φ ≡ count → binder_depth φ ≤ binder_limit →
     Closed φ → Guarded φ → RowsKept rows φ
@@ -31,7 +31,8 @@ KeptDemandsClaim =
 -- `stepped`, as `advance` promises.
 abbrev pub KeptUnionClaim : Type 0
 KeptUnionClaim =
-    (kinds firsts rows : List ℕ) (value : ℕ → ℕ) (φ : Formula ℕ) → Reads (field kinds) (field firsts) value 0 φ → Guarded φ → RowsKept rows φ →
+    (kinds firsts : List ℕ) (rows : List (List ℕ)) (value : ℕ → ℕ) (φ : Formula ℕ) → Reads (field kinds) (field firsts) value 0 φ → Guarded φ → RowsKept
+    rows φ →
     (D : NodeSet) (e d : ℕ) →
     T (stepped kinds firsts rows (size φ) D e d)
     ↔ ((i : ℕ) × (bs : List ℕ) × (ψ : Formula ℕ) × T (D i) × Stands φ i bs (transition e ψ) × T (kept_set φ (suc i) d))

@@ -16,7 +16,7 @@ module _ (meet : ℕ → ℕ → ℕ) (top : ℕ) (kinds firsts values : List �
       cond (D i && for_event kinds firsts 3 e i) (meet (field values i) rest) rest
 
   -- The value of a state that is kept.
-  abbrev pub state_value : ℕ → List ℕ → ℕ → ℕ → ℕ
+  abbrev pub state_value : ℕ → List (List ℕ) → ℕ → ℕ → ℕ
   state_value count states l e = meet_from (row states l) e 0 count
 
 -- The first m entries are those of f.

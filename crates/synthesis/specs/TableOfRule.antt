@@ -3,7 +3,7 @@ use mathlib.Core.{Path.{◌≡◌}, List.{List, [], ◌∷◌, ◌++◌}}
 use Rattle.std.specs.Prelude.{ℕ, zero, ◌*◌, ◌<◌, length}
 use Rattle.theory.specs.{Formula.{Formula, Answers}, MealyMachine.{Machine, Word, after}, ReachableStates.{IsTableOf, StatesAtMost}}
 use Rattle.limits.specs.Limits.{state_limit}
-use Rattle.refusal.specs.Refusal.{Condition, plain}
+use Rattle.refusal.specs.{Refusal.{Condition, plain}, declared.Refusal.TheVariants.{BufferLength, StateCount}}
 use Rattle.values.specs.{declared.ValueKind.{ValueKind}, Setup.{Setup, setup_meet, setup_top, setup_conditions}}
 use Rattle.formulas.specs.RuleConditions.{node_bytes, encode_formula, OfFormula, byte_conditions}
 use Rattle.machines.specs.TableBytes.{entry_width}
@@ -18,11 +18,11 @@ module _ (meet : ℕ → ℕ → ℕ) (top events : ℕ) (kind : ValueKind) wher
 
   -- 10: over the limit of states.
   abbrev pub states_condition : List ℕ → ℕ → Condition
-  states_condition rule limit = plain 10 (OfFormula (node_bytes kind) rule (λ φ. ¬ StatesAtMost meet top events φ limit))
+  states_condition rule limit = plain StateCount (OfFormula (node_bytes kind) rule (λ φ. ¬ StatesAtMost meet top events φ limit))
 
   -- 13: lent buffer shorter than the output.
   abbrev pub buffer_condition : List ℕ → List ℕ → Condition
-  buffer_condition rule old = plain 13 (OfFormula (node_bytes kind) rule (λ φ. TableShort φ old))
+  buffer_condition rule old = plain BufferLength (OfFormula (node_bytes kind) rule (λ φ. TableShort φ old))
 
 -- The conditions of compiling, in order: those of the set-up, 5 to 9, 10, 13.
 abbrev pub compile_conditions : ℕ → Setup → List ℕ → List ℕ → List Condition

@@ -1,64 +1,56 @@
 // The states that event sequences reach, in document 01's order ("Table of a rule"), and the next state of each on each event.
-ghost use Rattle.std.specs.Prelude.{◌≡◌, ℕ, ◌+◌, ◌*◌, ◌<◌, ◌≤◌, length, get_or, set};
+ghost use Rattle.std.specs.Prelude.{◌≡◌, ℕ, ◌+◌, ◌*◌, ◌<◌, ◌≤◌, length, get_or, set, IfSome, unwrap_or};
 ghost use Rattle.theory.specs.DemandSets.{empty};
 ghost use Rattle.limits.specs.Limits.{event_limit, node_limit, state_limit};
-ghost use Rattle.synthesis.specs.NodeWords.{set_words};
-ghost use Rattle.synthesis.specs.NodeWords.{row_words, next_words, set_at, row, bits_at};
+ghost use Rattle.synthesis.specs.NodeWords.{set_of, row, bits_at};
 ghost use Rattle.synthesis.specs.StatePlaces.{place_count, link_count, set_place, Different, Chained};
-ghost use Rattle.synthesis.specs.Exploring.{PassedStates, NextSets, next_bits, Found, Counted, MarkedExpanded, sequences};
+ghost use Rattle.synthesis.specs.Exploring.{PassedStates, NextSets, next_bits, Found, Counted, MarkedExpanded, sequences, said};
 ghost use Rattle.synthesis.specs.MarkedNodes.{word_set, Came};
 
-use crate::node_sets::{
-    NEXT_WORDS, ROW_WORDS, copy_row, last_set, marks_of, power, same, store, unite_row,
-};
-use crate::numbers::{entry_at, narrow, wide, word};
-use formulas::TRANSITION;
-use limits::{NODE_LIMIT, SET_WORDS, STATE_LIMIT};
+use crate::entries::entry_at;
+use crate::node_sets::{EMPTY, NodeSet, ROWS, last_set, marks_of, power, same, unite};
+use formulas::{NodeKind, Nodes};
+use limits::{EVENT_LIMIT, SET_WORDS, STATE_LIMIT};
 
 // A G node of a set is passed: the demands of its part come into the next set on its event.
 fn advance_node(
-    firsts: &[u8; NODE_LIMIT],
-    rows: &[u64; ROW_WORDS],
+    nodes: &Nodes,
+    rows: &[NodeSet; ROWS],
     events: usize,
     node: usize,
-    sets: &mut [u64; NEXT_WORDS],
+    sets: &mut [NodeSet; EVENT_LIMIT],
 )
-    requires { (node < node_limit) × (events ≤ event_limit) × (length firsts.now ≡ node_limit) × (length rows.now ≡ row_words)
-        × (length sets.old ≡ next_words) }
-    ensures { (length sets.new ≡ next_words)
-        × PassedStates firsts.now rows.now events node sets.old sets.new }
+    requires { (node < node_limit) × (events ≤ event_limit) }
+    ensures { PassedStates nodes.now.firsts rows.now events node sets.old sets.new }
 {
-    let event = wide(firsts[node]);
+    let event = usize::from(nodes.firsts[node]);
     if event < events {
-        unite_row(sets, event, rows, (node + 1) * SET_WORDS);
+        sets[event] = unite(&sets[event], &rows[node + 1]);
     }
 }
 
 // The first n sets are emptied.
-fn clear(sets: &mut [u64; NEXT_WORDS], n: usize)
-    requires { (n ≤ event_limit) × (length sets.old ≡ next_words) }
-    ensures { (length sets.new ≡ next_words) × ((e : ℕ) → e < n → row sets.new e ≡ empty) }
+fn clear(sets: &mut [NodeSet; EVENT_LIMIT], n: usize)
+    requires { n ≤ event_limit }
+    ensures { (e : ℕ) → e < n → row sets.new e ≡ empty }
 {
-    let mut w: usize = 0;
-    while w < n * SET_WORDS {
-        sets[w] = 0;
-        w += 1;
+    for e in 0..n {
+        sets[e] = EMPTY;
     }
 }
 
 // The nodes of one word, the first of which is base, are passed, the last node first. Each turn takes the last bit off what is left.
+// Its twin is `meet_word`: as one function they would take the step as a closure over what is lent, which is no plainer.
 fn advance_word(
-    firsts: &[u8; NODE_LIMIT],
-    rows: &[u64; ROW_WORDS],
+    nodes: &Nodes,
+    rows: &[NodeSet; ROWS],
     events: usize,
     word: u64,
     base: usize,
-    sets: &mut [u64; NEXT_WORDS],
+    sets: &mut [NodeSet; EVENT_LIMIT],
 )
-    requires { (base + 64 ≤ node_limit) × (events ≤ event_limit) × (length firsts.now ≡ node_limit) × (length rows.now ≡ row_words)
-        × (length sets.old ≡ next_words) }
-    ensures { (length sets.new ≡ next_words)
-        × Came (PassedStates firsts.now rows.now events) (word_set word base) (base + 64) sets.old base
+    requires { (base + 64 ≤ node_limit) × (events ≤ event_limit) }
+    ensures { Came (PassedStates nodes.now.firsts rows.now events) (word_set word base) (base + 64) sets.old base
         sets.new }
 {
     let mut rest = word;
@@ -66,31 +58,26 @@ fn advance_word(
     while 0 < rest {
         end = last_set(rest);
         rest = rest % power(end);
-        advance_node(firsts, rows, events, base + end, sets);
+        advance_node(nodes, rows, events, base + end, sets);
     }
 }
 
 // The next sets of a state, one for each event: the demands of the parts of the set's G nodes, which are marked, for the event.
 fn advance(
-    firsts: &[u8; NODE_LIMIT],
-    marks: &[u64; SET_WORDS],
-    rows: &[u64; ROW_WORDS],
-    states: &[u64],
-    base: usize,
+    nodes: &Nodes,
+    marks: &NodeSet,
+    rows: &[NodeSet; ROWS],
+    set: &NodeSet,
     events: usize,
-    sets: &mut [u64; NEXT_WORDS],
+    sets: &mut [NodeSet; EVENT_LIMIT],
 )
-    requires { (base + set_words ≤ length states.now) × (events ≤ event_limit) × (length firsts.now ≡ node_limit)
-        × (length marks.now ≡ set_words) × (length rows.now ≡ row_words) × (length sets.old ≡ next_words) }
-    ensures { (length sets.new ≡ next_words)
-        × NextSets marks.now firsts.now rows.now (set_at states.now base) events sets.new }
+    requires { events ≤ event_limit }
+    ensures { NextSets marks.now nodes.now.firsts rows.now (set_of set.now) events sets.new }
 {
     clear(sets, events);
-    let mut w: usize = SET_WORDS;
-    while 0 < w {
-        w -= 1;
-        let word = states[base + w] & marks[w];
-        advance_word(firsts, rows, events, word, w * 64, sets);
+    for w in (0..SET_WORDS).rev() {
+        let word = set[w] & marks[w];
+        advance_word(nodes, rows, events, word, w * 64, sets);
     }
 }
 
@@ -101,150 +88,138 @@ const PLACES: usize = 131;
 const LINKS: usize = STATE_LIMIT;
 
 // The place of a set.
-fn place_of(set: &[u64; SET_WORDS]) -> usize
-    requires { length set.now ≡ set_words }
-    ensures { result ≡ set_place set.now 0 }
+fn place_of(set: NodeSet) -> usize
+    ensures { result ≡ set_place set }
 {
-    let mixed = word(set[0]) ^ (word(set[1]) >> 1) ^ (word(set[2]) >> 2) ^ (word(set[3]) >> 3);
+    let [first, second, third, last] = set;
+    let mixed = first ^ (second >> 1) ^ (third >> 2) ^ (last >> 3);
     (mixed % PLACES as u64) as usize
 }
 
-// The first of n states that is the set, or n. All states of a place are linked, from the head of the place on, and no two are the same.
-fn look_up(
-    states: &[u64],
-    n: usize,
-    set: &[u64; SET_WORDS],
-    place: usize,
-    heads: &[u8; PLACES],
-    links: &[u8; LINKS],
-) -> usize
-    requires { (n * set_words ≤ length states.now) × (n ≤ link_count) × (length set.now ≡ set_words) × (place ≡ set_place set.now 0)
-        × (length heads.now ≡ place_count) × (length links.now ≡ link_count) × Different n states.now
-        × Chained n states.now heads.now links.now }
-    ensures { Found states.now n set.now result }
-{
-    let mut j = wide(heads[place]);
-    loop {
-        if same(states, j * SET_WORDS, set) {
-            return j;
+// How a state is found by its set: the head of each place, and the links.
+#[derive(Drop)]
+struct Places {
+    heads: [u8; PLACES],
+    links: [u8; LINKS],
+}
+
+impl Places {
+    // The one of n states that is the set. All states of a place are linked, from the head of the place on, and no two are the same.
+    fn find(&self, states: &[NodeSet], n: usize, set: &NodeSet, place: usize) -> Option<usize>
+        requires { (n ≤ length states.now) × (n ≤ link_count) × (place ≡ set_place set.now) × Different n states.now
+            × Chained n states.now self.now.heads self.now.links }
+        ensures few { IfSome result (λ j. j < n) }
+        ensures found { Found states.now n set.now (unwrap_or result n) }
+    {
+        let mut j = usize::from(self.heads[place]);
+        loop {
+            if same(&states[j], set) {
+                return Some(j);
+            }
+            let next = usize::from(self.links[j]);
+            if j <= next {
+                return None;
+            }
+            j = next;
         }
-        let next = wide(links[j]);
-        if j <= next {
-            return n;
-        }
-        j = next;
+    }
+
+    // State k becomes the head of a place, linked to the head before it.
+    fn link(&mut self, place: usize, k: usize)
+        requires { (place < place_count) × (k < link_count) }
+        ensures head { self.new.heads ≡ set self.old.heads place k }
+        ensures linked { self.new.links ≡ set self.old.links k (get_or self.old.heads place 0) }
+    {
+        self.links[k] = self.heads[place];
+        self.heads[place] = k as u8;
     }
 }
 
-// State k becomes the head of a place, linked to the head before it.
-fn link(place: usize, k: usize, heads: &mut [u8; PLACES], links: &mut [u8; LINKS])
-    requires { (place < place_count) × (k < link_count) × (length heads.old ≡ place_count) × (length links.old ≡ link_count) }
-    ensures { (heads.new ≡ set heads.old place k)
-        × (links.new ≡ set links.old k (get_or heads.old place 0)) }
-{
-    links[k] = heads[place];
-    heads[place] = narrow(k);
-}
-
-// The states that the events lead to from state i come after the n there are, and the entries of state i get their numbers;
-// the limit and one where there are more. The sets are room for the next sets; heads and links tell where a
-// set may be found.
+// The states that the events lead to from state i come after the n there are, and the entries of state i get their numbers; the answer is
+// the number of states then, or none where there are more than the limit. The sets are room for the next sets.
 fn expand(
-    firsts: &[u8; NODE_LIMIT],
-    marks: &[u64; SET_WORDS],
-    rows: &[u64; ROW_WORDS],
+    nodes: &Nodes,
+    marks: &NodeSet,
+    rows: &[NodeSet; ROWS],
     events: usize,
     limit: usize,
     i: usize,
     n: usize,
-    states: &mut [u64],
+    states: &mut [NodeSet],
     nexts: &mut [u8],
-    sets: &mut [u64; NEXT_WORDS],
-    heads: &mut [u8; PLACES],
-    links: &mut [u8; LINKS],
-) -> usize
-    requires { (i < n) × (n ≤ limit) × (limit ≤ state_limit) × (events ≤ event_limit) × (length firsts.now ≡ node_limit)
-        × (length marks.now ≡ set_words) × (length rows.now ≡ row_words) × (limit * set_words ≤ length states.old) × (limit * events ≤ length nexts.old)
-        × (length sets.old ≡ next_words) × (length heads.old ≡ place_count) × (length links.old ≡ link_count) × Different n states.old
-        × Chained n states.old heads.old links.old }
-    ensures { (length states.new ≡ length states.old) × (length nexts.new ≡ length nexts.old) × (n ≤ result)
-        × MarkedExpanded marks.now firsts.now rows.now events limit i n
-        states.old nexts.old result states.new nexts.new × (length sets.new ≡ next_words)
-        × (length heads.new ≡ place_count) × (length links.new ≡ link_count)
-        × (result ≤ limit → Different result states.new × Chained result states.new heads.new links.new) }
+    sets: &mut [NodeSet; EVENT_LIMIT],
+    places: &mut Places,
+) -> Option<usize>
+    requires { (i < n) × (n ≤ limit) × (limit ≤ state_limit) × (events ≤ event_limit) × (limit ≤ length states.old)
+        × (limit * events ≤ length nexts.old) × Different n states.old × Chained n states.old places.old.heads places.old.links }
+    ensures sizes { (length states.new ≡ length states.old) × (length nexts.new ≡ length nexts.old) }
+    ensures found { IfSome result (λ k. (n ≤ k) × (k ≤ limit) × Different k states.new × Chained k states.new places.new.heads places.new.links) }
+    ensures expanded { MarkedExpanded marks.now nodes.now.firsts rows.now events limit i n states.old nexts.old (said limit result)
+        states.new nexts.new }
 {
-    advance(firsts, marks, rows, &*states, i * SET_WORDS, events, sets);
+    advance(nodes, marks, rows, &states[i], events, sets);
     let mut k = n;
-    let mut event: usize = 0;
-    while event < events {
-        let mut set = [0u64; SET_WORDS];
-        copy_row(&mut set, &*sets, event);
-        let place = place_of(&set);
-        let j = look_up(&*states, k, &set, place, &*heads, &*links);
-        if j == k {
+    for event in 0..events {
+        let set = sets[event];
+        let place = place_of(set);
+        let found = places.find(&*states, k, &set, place);
+        let j = found.unwrap_or(k);
+        if found.is_none() {
             if k == limit {
-                return limit + 1;
+                return None;
             }
-            store(states, k * SET_WORDS, &set);
-            link(place, k, heads, links);
+            states[k] = set;
+            places.link(place, k);
             k += 1;
         }
-        let at = entry_at(i, events, event);
-        nexts[at] = narrow(j);
-        event += 1;
+        nexts[entry_at(i, events, event)] = j as u8;
     }
-    k
-}
-
-// The first state: the demands of node 0.
-fn copy_first(states: &mut [u64], rows: &[u64; ROW_WORDS])
-    requires { (set_words ≤ length states.old) × (length rows.now ≡ row_words) }
-    ensures { (length states.new ≡ length states.old) × (bits_at states.new 0 ≡ bits_at rows.now 0) }
-{
-    let mut w: usize = 0;
-    while w < SET_WORDS {
-        states[w] = rows[w];
-        w += 1;
-    }
+    Some(k)
 }
 
 // The states that event sequences reach, in order, from the demands of node 0, and the numbers of the next states, by state and then event;
-// the limit and one where there are more.
+// none where there are more than the limit.
 pub fn explore(
-    kinds: &[u8; NODE_LIMIT],
-    firsts: &[u8; NODE_LIMIT],
-    count: usize,
-    rows: &[u64; ROW_WORDS],
+    nodes: &Nodes,
+    rows: &[NodeSet; ROWS],
     events: usize,
     limit: usize,
-    states: &mut [u64],
+    states: &mut [NodeSet],
     nexts: &mut [u8],
-) -> usize
-    requires { (0 < limit) × (limit ≤ state_limit) × (count ≤ node_limit) × (events ≤ event_limit) × (length kinds.now ≡ node_limit)
-        × (length firsts.now ≡ node_limit) × (length rows.now ≡ row_words)
-        × (limit * set_words ≤ length states.old) × (limit * events ≤ length nexts.old) }
-    ensures { (length states.new ≡ length states.old) × (length nexts.new ≡ length nexts.old)
-        × Counted (next_bits kinds.now firsts.now rows.now count) (bits_at rows.now 0) events limit
-        (sequences (next_bits kinds.now firsts.now rows.now count) (bits_at rows.now 0) events limit)
-        result (result * events) states.new nexts.new }
+) -> Option<usize>
+    requires { (0 < limit) × (limit ≤ state_limit) × (nodes.now.count ≤ node_limit) × (events ≤ event_limit)
+        × (limit ≤ length states.old) × (limit * events ≤ length nexts.old) }
+    ensures sizes { (length states.new ≡ length states.old) × (length nexts.new ≡ length nexts.old) }
+    ensures few { IfSome result (λ n. n ≤ limit) }
+    ensures counted { Counted (next_bits nodes.now.kinds nodes.now.firsts rows.now nodes.now.count) (bits_at rows.now 0) events limit
+        (sequences (next_bits nodes.now.kinds nodes.now.firsts rows.now nodes.now.count) (bits_at rows.now 0) events limit)
+        (said limit result) (said limit result * events) states.new nexts.new }
 {
-    let marks = marks_of(kinds, count, TRANSITION);
-    copy_first(states, rows);
-    let mut sets = [0u64; NEXT_WORDS];
-    let mut heads = [0u8; PLACES];
-    let mut links = [0u8; LINKS];
+    let marks = marks_of(nodes, NodeKind::Transition);
+    states[0] = rows[0];
+    let mut sets = [EMPTY; EVENT_LIMIT];
+    let mut places = Places {
+        heads: [0; PLACES],
+        links: [0; LINKS],
+    };
     let mut n: usize = 1;
     let mut i: usize = 0;
+    // No `for`: n grows on the way.
     while i < n {
-        let m = expand(
-            firsts, &marks, rows, events, limit, i, n, states, nexts, &mut sets, &mut heads,
-            &mut links,
-        );
-        if limit < m {
-            return limit + 1;
-        }
-        n = m;
+        n = expand(
+            nodes,
+            &marks,
+            rows,
+            events,
+            limit,
+            i,
+            n,
+            states,
+            nexts,
+            &mut sets,
+            &mut places,
+        )?;
         i += 1;
     }
-    n
+    Some(n)
 }

@@ -7,8 +7,7 @@ use borrow.Author.Tests.{eq-eqb, ne_eqb}
 use Rattle.limits.specs.Limits.{entry_limit}
 use Rattle.theory.specs.MealyMachine.{Machine, States, Runs}
 use Rattle.values.specs.{declared.ValueKind.{ValueKind}, declared.ValueKind.TheVariants.{Numbered, Register}, Setup.{ValueIn}}
-use Rattle.text_format.specs.Texts.{ascii}
-use Rattle.text_format.specs.Texts.{numeral, each}
+use Rattle.text_format.specs.Texts.{ascii, numeral, each}
 use Rattle.text_output.proofs.Outputs.{numeral_short, each_length}
 use Rattle.table_rows.specs.{TableText.{value_text}, Rendering.{count_refusal}, Claims.{FewEntries}}
 use Rattle.table_rows.proofs.Texts.{value_room, value_length}

@@ -1,13 +1,17 @@
 -- The call that renders a table as a digraph.
-use Rattle.std.specs.Prelude.{ℕ, ◌+◌, ◌*◌, ◌≤◌}
+use Rattle.std.specs.Prelude.{ℕ, ◌+◌, ◌*◌, ◌≤◌, length, Result}
 use mathlib.Core.{Path.{◌≡◌}, List.{List}, Option.{Option, none}}
-use Rattle.std.specs.Prelude.{length}
 use Rattle.limits.specs.Limits.{entry_limit}
-use Rattle.refusal.specs.{declared.Refusal.{Refusal}, declared.Counted.{Counted}, Refusal.{Condition, Judged}}
+use Rattle.refusal.specs.{declared.Refusal.{Refusal}, Refusal.{Condition, Judged}}
 use Rattle.values.specs.{declared.ValueKind.{ValueKind}, declared.ValueKind.TheVariants.{Numbered, Register}, Setup.{top_of}}
 use Rattle.machines.specs.TableBytes.{machine_of}
-use Rattle.table_rows.specs.{TableConditions.{rendering_conditions}, Rendering.{handed_refusal, rendering_refusal, Renders}}
+use Rattle.table_rows.specs.{declared.accepted.AcceptedTable.{AcceptedTable}, TableConditions.{rendering_conditions}}
+use Rattle.table_rows.specs.Rendering.{handed_refusal, rendering_refusal, Renders}
 use Rattle.table_graph.specs.GraphText.{digraph_text}
+
+-- An accepted table as a digraph.
+abbrev pub table_digraph : AcceptedTable → List ℕ
+table_digraph t = digraph_text t.kind t.events t.table.states t.top (machine_of t.kind t.events t.table.entries.now)
 
 -- A register's top is fixed: what is handed in is not looked at.
 abbrev pub graph_text : ℕ → ValueKind → ℕ → ℕ → List ℕ → List ℕ
@@ -22,7 +26,7 @@ abbrev pub graph_refusal : ℕ → ValueKind → ℕ → ℕ → List ℕ → �
 graph_refusal events kind top states bytes room =
     rendering_refusal (handed_refusal events kind top states bytes) (graph_text events kind top states bytes) room
 
-abbrev pub Draws : ℕ → ValueKind → ℕ → ℕ → List ℕ → List ℕ → List ℕ → Counted → Type 0
+abbrev pub Draws : ℕ → ValueKind → ℕ → ℕ → List ℕ → List ℕ → List ℕ → Result ℕ Refusal → Type 0
 Draws events kind top states bytes old new r =
     Renders (handed_refusal events kind top states bytes) (graph_text events kind top states bytes) old new r
 

@@ -1,7 +1,6 @@
 -- A table as a digraph of the Graphviz language: an arrow a line, by state, then event, labelled with event and value.
-use Rattle.std.specs.Prelude.{ℕ, ◌*◌, ◌/◌, ◌%◌}
+use Rattle.std.specs.Prelude.{ℕ, ◌*◌, ◌/◌, ◌%◌, eqb}
 use mathlib.Core.{Bool.{cond}, List.{List, ◌++◌}}
-use Rattle.std.specs.Prelude.{eqb}
 use Rattle.theory.specs.MealyMachine.{Machine}
 use Rattle.values.specs.declared.ValueKind.{ValueKind}
 use Rattle.text_format.specs.Texts.{ascii, numeral, each}

@@ -3,9 +3,8 @@ use Prim.Native.Nat.{ℕ, ◌≤◌}
 use mathlib.Core.{Path.{◌≡◌, refl, sym, ap, ap₂, ◌∙◌}, List.{List}, Option.{Option, none}}
 use native.Mathlib.Omega.{arith}
 use lib.ListN.{length}
-use Rattle.refusal.specs.declared.{Refusal.{Refusal}, Counted.{Counted}}
-use Rattle.refusal.specs.declared.Counted.TheVariants.{Count}
-use Rattle.refusal.proofs.Refusals.{counted_accepted}
+use Rattle.refusal.specs.declared.{Refusal.{Refusal}}
+use Rattle.refusal.proofs.Refusals.{answered_accepted}
 use Rattle.values.specs.declared.ValueKind.{ValueKind}
 use Rattle.values.specs.Setup.{Setup}
 use Rattle.text_format.specs.Format.{Outcome}
@@ -15,6 +14,7 @@ use Rattle.table_rows.specs.{Rendering.{handed_refusal, Renders}, Rows.{rows_tex
 use Rattle.table_rows.proofs.Renderings.{renders_as}
 use Rattle.table_report.specs.{PrintedTable.{refusal_text}, Report.{answer_text, outcome_text, ReportsText}, Claims.{ReportsAs}}
 use Rattle.table_report.proofs.Tables.{handed_passed}
+use Rattle.std.specs.Prelude.{Ok, Result}
 
 module _ {F : FileForm} {read : List ℕ → Outcome F.Inside} {limit : ℕ} (k : ReportsAs F (λ t. outcome_text F (read t)) limit) where
   -- a file that was refused, where the meet entries and the table had room
@@ -29,8 +29,8 @@ module _ {F : FileForm} {read : List ℕ → Outcome F.Inside} {limit : ℕ} (k 
         ∙ ap (λ (o : Option Refusal). answer_text o (F.setup_of c) (F.nodes_of c))
         (sym (table_fits (F.setup_of c) (F.nodes_of c) meet to (wide c) (room c)) ∙ f))
 
-    pub refused_reports : {old new : List ℕ} {r : Refusal} {answer : Counted} → Unmade F read t meet to r → Renders none (refusal_text r) old new answer
-        → ReportsText (outcome_text F (read t)) limit old new answer
+    pub refused_reports : {old new : List ℕ} {r : Refusal} {answer : Result ℕ Refusal} → Unmade F read t meet to r
+        → Renders none (refusal_text r) old new answer → ReportsText (outcome_text F (read t)) limit old new answer
     refused_reports w h = record { rendered = renders_as refl (refused_text w) h; within = k.within t }
 
   -- a file whose table was made, by its numbers and the table
@@ -41,7 +41,7 @@ module _ {F : FileForm} {read : List ℕ → Outcome F.Inside} {limit : ℕ} (k 
     abbrev nodes : List ℕ
     nodes = F.nodes_of w.inside
 
-    pub made_reports : {events : ℕ} {kind : ValueKind} {bytes old new : List ℕ} {answer : Counted}
+    pub made_reports : {events : ℕ} {kind : ValueKind} {bytes old new : List ℕ} {answer : Result ℕ Refusal}
         → events ≡ s.events → kind ≡ s.kind → bytes ≡ pair_table s nodes
         → Renders (handed_refusal events kind 0 states bytes) (rows_text events kind states bytes) old new answer
         → ReportsText (outcome_text F (read t)) limit old new answer
@@ -61,7 +61,8 @@ module _ {F : FileForm} {read : List ℕ → Outcome F.Inside} {limit : ℕ} (k 
         same f = ap₂ (λ (e : ℕ) (v : ValueKind). f e v states bytes) events_are kind_is ∙ ap₂ (f s.events s.kind) w.states_are table_is
 
 -- what a caller with a buffer of the limit's length knows
-pub count_within : {s old new : List ℕ} {limit : ℕ} {r : Counted} {n : ℕ} → ReportsText s limit old new r → limit ≤ length old → r ≡ Count n → n ≤ length old
+pub count_within : {s old new : List ℕ} {limit : ℕ} {r : Result ℕ Refusal} {n : ℕ} → ReportsText s limit old new r → limit ≤ length old → r ≡ Ok n
+    → n ≤ length old
 count_within {s} {n = n} k h e =
-    let d = (counted_accepted _ (length s) n (sym k.rendered.answer ∙ e)).1 in
+    let d = (answered_accepted _ (length s) n (sym k.rendered.answer ∙ e)).1 in
     omega (arith, k.within)

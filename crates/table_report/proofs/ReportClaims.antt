@@ -9,8 +9,7 @@ use Rattle.refusal.specs.Refusal.{First}
 use Rattle.values.specs.declared.ValueKind.{ValueKind}
 use Rattle.values.specs.Setup.{Setup, ValueIn, setup_meet, setup_top}
 use Rattle.text_format.specs.Format.{Outcome, contents, refused}
-use Rattle.text_format.specs.Texts.{ascii}
-use Rattle.text_format.specs.Texts.{numeral}
+use Rattle.text_format.specs.Texts.{ascii, numeral}
 use Rattle.text_output.proofs.Outputs.{each_same}
 use Rattle.channel_file.specs.{ChannelFile.{line}, Reading.{AnswersBy, read_file}, Claims.{AnswerOf, OneAnswerOf}}
 use Rattle.channel_file.specs.RegisterReading.{read_file as read_register_file}

@@ -4,15 +4,14 @@ use mathlib.Core.{Path.{◌≡◌, refl, ap}, List.{List}, Bool.{Bool, true, fal
 use native.Mathlib.Omega.{arith}
 use lib.{Dec.{leb}, ListN.{length}}
 use borrow.Author.Tests.{leb-true, leb-false}
-use Rattle.refusal.specs.declared.Refusal.{Refusal}
-use Rattle.refusal.specs.declared.Counted.{Counted}
+use Rattle.refusal.specs.{declared.Refusal.{Refusal}, declared.Refusal.TheVariants.{BufferLength}}
 use Rattle.refusal.specs.RefusalAnswers.{or_else}
-use Rattle.refusal.specs.Refusal.{put}
-use Rattle.refusal.specs.Refusal.{First, has_place, part_of, order, condition_numbers, right_places, JudgedCall, counted_refusal, count_of}
-use Rattle.refusal.proofs.{Refusals.{plain_first, judged}, Answers.{counted_judged, counted_put}}
+use Rattle.refusal.specs.Refusal.{put, First, has_place, part_of, order, condition_numbers, right_places, JudgedCall, refusal_of, yield_of}
+use Rattle.refusal.proofs.{Refusals.{plain_first, judged}, Answers.{answered_judged, answered_put}}
 use Rattle.channel_io.specs.FileConditions.{FileForm}
 use Rattle.table_rows.specs.Rendering.{rendering_refusal}
 use Rattle.table_report.specs.{PrintedTable.{Prints, report_conditions}, Report.{ReportsText}, Claims.{ReportsAs}}
+use Rattle.std.specs.Prelude.{Result}
 
 module _ {F : FileForm} {printed_for : List ℕ → List ℕ} {limit : ℕ} (k : ReportsAs F printed_for limit) where
   module _ (t old : List ℕ) where
@@ -34,18 +33,18 @@ module _ {F : FileForm} {printed_for : List ℕ → List ℕ} {limit : ℕ} (k :
 
     report_first : First (report_conditions F t old) answer
     unfolding rendering_refusal or_else
-    report_first = plain_first 13 Short room text_short text_room
+    report_first = plain_first BufferLength Short room text_short text_room
 
-  pub reporting : (t old new : List ℕ) (r : Counted) → ReportsText (printed_for t) limit old new r
-      → JudgedCall (report_conditions F t old) (counted_refusal r) old new
+  pub reporting : (t old new : List ℕ) (r : Result ℕ Refusal) → ReportsText (printed_for t) limit old new r
+      → JudgedCall (report_conditions F t old) (refusal_of r) old new
   unfolding has_place part_of order condition_numbers right_places
   reporting t old new r w =
-      counted_judged (answer t old) (length (printed_for t)) (printed_for t) old w.rendered.answer w.rendered.buffer
+      answered_judged (answer t old) (length (printed_for t)) (printed_for t) old w.rendered.answer w.rendered.buffer
       (judged (report_conditions F t old) (answer t old) (report_first t old) refl refl)
 
   pub file_to_report :
-      (t old new : List ℕ) (r : Counted) → ReportsText (printed_for t) limit old new r → (n : ℕ) → count_of r ≡ some n →
+      (t old new : List ℕ) (r : Result ℕ Refusal) → ReportsText (printed_for t) limit old new r → (n : ℕ) → yield_of r ≡ some n →
       (s : List ℕ) × Prints F t s × ((other : List ℕ) → Prints F t other → other ≡ s) × (n ≡ length s) × (new ≡ put s old)
   file_to_report t old new r w n is =
-      let a = counted_put (answer t old) (length (printed_for t)) (printed_for t) old w.rendered.answer w.rendered.buffer n is in
+      let a = answered_put (answer t old) (length (printed_for t)) (printed_for t) old w.rendered.answer w.rendered.buffer n is in
       (printed_for t, k.prints t, k.only t, a.1, a.2)

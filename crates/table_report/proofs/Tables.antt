@@ -6,8 +6,7 @@ use lib.{Dec.{leb}, ListN.{length}}
 use borrow.Author.Tests.{lt-ltb}
 use Rattle.limits.specs.Limits.{value_limit}
 use Rattle.theory.proofs.ValueSets.{and_both, and_left, and_right}
-use Rattle.refusal.specs.declared.Refusal.{Refusal}
-use Rattle.refusal.specs.declared.Refusal.TheVariants.{At}
+use Rattle.refusal.specs.{declared.Refusal.{Refusal}, declared.Refusal.TheVariants.{SetupValues, TextForm}}
 use Rattle.refusal.specs.RefusalAnswers.{plain_unless}
 use Rattle.refusal.proofs.Refusals.{or_else_none, plain_none}
 use Rattle.values.specs.declared.ValueKind.{ValueKind}
@@ -37,7 +36,7 @@ unfolding count_refusal kind_refusal setup_refusal
 counts_passed events (Numbered values) top meet e =
     let s = setup_of_kind events (Numbered values) top meet in
     counts_none events values 0 (accepted_events s e)
-    (zero_top values top (plain_none _ 2 (or_else_none (plain_unless (values_test values top) 2) _ (kind_passed s e)).0))
+    (zero_top values top (plain_none _ SetupValues (or_else_none (plain_unless (values_test values top) SetupValues) _ (kind_passed s e)).0))
 counts_passed events (Register lines) top meet e = e
 
 module _ (s : Setup) (nodes : List ℕ) where
@@ -63,5 +62,5 @@ module _ (s : Setup) (nodes : List ℕ) where
 pub outcome_length : (F : FileForm) (limit : ℕ) → 50 ≤ limit → ((c : F.Inside) → rows_room (F.setup_of c).kind ≤ limit)
     → (x : Outcome F.Inside) → length (outcome_text F x) ≤ limit
 unfolding outcome_text
-outcome_length F limit some_room room (refused p) = omega (arith, refusal_length (At 4 p))
+outcome_length F limit some_room room (refused p) = omega (arith, refusal_length (TextForm p))
 outcome_length F limit some_room room (contents c) = omega (arith, answer_length (F.setup_of c) (F.nodes_of c), room c)

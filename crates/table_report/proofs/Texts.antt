@@ -1,36 +1,38 @@
 -- The line of a refusal, piece by piece, and how long it is.
 use Prim.Native.Nat.{ℕ, ◌≤◌}
-use mathlib.Core.{Path.{◌≡◌, sym, ap, ◌∙◌}, List.{List, [], ◌∷◌, ◌++◌, append_assoc}}
+use mathlib.Core.{Path.{◌≡◌, sym, ap, ap₂, ◌∙◌}, List.{List, [], ◌∷◌, ◌++◌, append_assoc}}
 use native.Mathlib.Omega.{arith}
 use lib.ListN.{length, length-append}
-use Rattle.refusal.specs.declared.Refusal.{Refusal}
-use Rattle.refusal.specs.declared.Refusal.TheVariants.{Plain, At}
-use Rattle.text_format.specs.Texts.{ascii}
-use Rattle.text_format.specs.Texts.{numeral}
+use Rattle.refusal.specs.{declared.Refusal.{Refusal}, Refusal.{refusal_number, refusal_place}}
+use Rattle.text_format.specs.Texts.{ascii, numeral}
 use Rattle.text_output.proofs.Outputs.{numeral_length}
 use Rattle.channel_file.specs.ChannelFile.{line}
 use Rattle.table_rows.proofs.Texts.{line_length}
-use Rattle.table_report.specs.PrintedTable.{refusal_text}
+use Rattle.table_report.specs.PrintedTable.{refusal_line, refusal_text}
+use Rattle.std.specs.Prelude.{Option, Some, None}
 
-pub refusal_plain : (r : Refusal) (n x : ℕ) → r ≡ Plain n → x ≡ n → line (ascii "refused=") (numeral x) ≡ refusal_text r
-unfolding refusal_text
-refusal_plain r n x e h = ap (λ (y : ℕ). line (ascii "refused=") (numeral y)) h ∙ sym (ap refusal_text e)
+-- the line by its number and its place
+pub number_parts : {n number : ℕ} {place : Option ℕ} → n ≡ number → place ≡ None → line (ascii "refused=") (numeral n) ≡ refusal_line number place
+unfolding refusal_line
+number_parts d e = ap₂ refusal_line d (sym e)
 
-pub refusal_at : (r : Refusal) (n p x : ℕ) → r ≡ At n p → x ≡ n → (ascii "refused=" ++ numeral x) ++ line (ascii " ") (numeral p) ≡ refusal_text r
-unfolding refusal_text
-refusal_at r n p x e h =
-    ap (λ (y : ℕ). (ascii "refused=" ++ numeral y) ++ line (ascii " ") (numeral p)) h
-    ∙ ap (λ (s : List ℕ). ascii "refused=" ++ s) (sym (append_assoc (numeral n) (32 ∷ numeral p) (10 ∷ [])))
-    ∙ sym (ap refusal_text e)
+pub place_parts : {n p number : ℕ} {place : Option ℕ} → n ≡ number → place ≡ Some p
+    → (ascii "refused=" ++ numeral n) ++ line (ascii " ") (numeral p) ≡ refusal_line number place
+unfolding refusal_line
+place_parts {n} {p} d e =
+    ap (λ (s : List ℕ). ascii "refused=" ++ s) (sym (append_assoc (numeral n) (32 ∷ numeral p) (10 ∷ []))) ∙ ap₂ refusal_line d (sym e)
 
 pub refusal_length : (r : Refusal) → length (refusal_text r) ≤ 50
-unfolding refusal_text
-refusal_length (Plain n) = omega (arith, line_length (ascii "refused=") (numeral n), numeral_length n)
-refusal_length (At n p) =
-    omega (
-      arith,
-      line_length (ascii "refused=") (numeral n ++ (32 ∷ numeral p)),
-      length-append (numeral n) (32 ∷ numeral p),
-      numeral_length n,
-      numeral_length p,
-    )
+unfolding refusal_line
+refusal_length r = go (refusal_number r) (refusal_place r)
+  where
+    go : (number : ℕ) (place : Option ℕ) → length (refusal_line number place) ≤ 50
+    go number None = omega (arith, line_length (ascii "refused=") (numeral number), numeral_length number)
+    go number (Some p) =
+        omega (
+          arith,
+          line_length (ascii "refused=") (numeral number ++ (32 ∷ numeral p)),
+          length-append (numeral number) (32 ∷ numeral p),
+          numeral_length number,
+          numeral_length p,
+        )

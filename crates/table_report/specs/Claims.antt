@@ -1,7 +1,6 @@
 -- What is claimed of the program's output, for both forms of files; inhabited in proofs/ReportClaims.
-use Rattle.std.specs.Prelude.{ℕ, ◌≤◌}
+use Rattle.std.specs.Prelude.{ℕ, ◌≤◌, length}
 use mathlib.Core.{Path.{◌≡◌}, List.{List}}
-use Rattle.std.specs.Prelude.{length}
 use Rattle.channel_io.specs.{FileConditions.{FileForm, number_file}, RegisterFiles.{register_file}}
 use Rattle.table_report.specs.PrintedTable.{Prints}
 use Rattle.table_report.specs.Report.{report_text, report_limit, register_report_text, register_report_limit}

@@ -1,9 +1,8 @@
 -- Twin of PrintedTable, pinned by table_report OneReportClaim.
 -- What is printed for a text: the table of its rule, or the refusal, where 4, those of the set-up, 5 to 9 and 10 are looked at in this order.
-use Rattle.std.specs.Prelude.{ℕ, ◌≤◌}
+use Rattle.std.specs.Prelude.{ℕ, ◌≤◌, length, Result}
 use mathlib.Core.{List.{List}, Option.{Option, none, some}}
-use Rattle.std.specs.Prelude.{length}
-use Rattle.refusal.specs.{declared.Refusal.{Refusal}, declared.Refusal.TheVariants.{At}, declared.Counted.{Counted}}
+use Rattle.refusal.specs.{declared.Refusal.{Refusal}, declared.Refusal.TheVariants.{TextForm}}
 use Rattle.values.specs.Setup.{Setup}
 use Rattle.text_format.specs.Format.{Outcome, contents, refused}
 use Rattle.channel_file.specs.Reading.{read_file}
@@ -19,11 +18,11 @@ answer_text (some refusal) s nodes = refusal_text refusal
 
 -- For a text, by what the file reader says of it.
 unfoldable pub outcome_text : (F : FileForm) → Outcome F.Inside → List ℕ
-outcome_text F (refused p) = refusal_text (At 4 p)
+outcome_text F (refused p) = refusal_text (TextForm p)
 outcome_text F (contents c) = answer_text (pair_table_refusal (F.setup_of c) (F.nodes_of c)) (F.setup_of c) (F.nodes_of c)
 
 -- Answer and buffer of a call that renders such an output: its length, or 13, which a buffer of the limit's length never is.
-pub record ReportsText (s : List ℕ) (limit : ℕ) (old new : List ℕ) (r : Counted) : Type 0 where
+pub record ReportsText (s : List ℕ) (limit : ℕ) (old new : List ℕ) (r : Result ℕ Refusal) : Type 0 where
   pub rendered : Renders none s old new r
   pub within : length s ≤ limit
 
@@ -34,7 +33,7 @@ report_text t = outcome_text number_file (read_file t)
 abbrev pub report_limit : ℕ
 report_limit = rows_limit
 
-abbrev pub Reports : List ℕ → List ℕ → List ℕ → Counted → Type 0
+abbrev pub Reports : List ℕ → List ℕ → List ℕ → Result ℕ Refusal → Type 0
 Reports t = ReportsText (report_text t) report_limit
 
 abbrev pub register_report_text : List ℕ → List ℕ
@@ -43,5 +42,5 @@ register_report_text t = outcome_text register_file (read_register_file t)
 abbrev pub register_report_limit : ℕ
 register_report_limit = register_rows_limit
 
-abbrev pub RegisterReports : List ℕ → List ℕ → List ℕ → Counted → Type 0
+abbrev pub RegisterReports : List ℕ → List ℕ → List ℕ → Result ℕ Refusal → Type 0
 RegisterReports t = ReportsText (register_report_text t) register_report_limit

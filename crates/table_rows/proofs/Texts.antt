@@ -1,22 +1,20 @@
 -- Lines, piece by piece, and how long they are: numbers of an accepted table have at most three digits, a register's masks five.
 use Prim.Native.Nat.{ℕ, ◌+◌, ◌*◌, ◌/◌, ◌%◌, ◌^◌, ◌≤◌, ◌<◌}
-use mathlib.Core.{Path.{◌≡◌, refl, sym, ap, ap₂, ◌∙◌}, List.{List, [], ◌∷◌, ◌++◌, append_assoc}, Bool.{true}, Option.{none}}
-use native.Mathlib.{Omega.{arith}, Nat.{div-add-mod', mod-lt, div-lt_iff_lt-mul, mul-le-mul, mul-le-mul_right}}
+use mathlib.Core.{Path.{◌≡◌, refl, ap}, List.{List, [], ◌∷◌, ◌++◌, append_assoc}, Bool.{true}, Option.{none}}
+use native.Mathlib.{Omega.{arith}, Nat.{mod-lt, div-lt_iff_lt-mul, mul-le-mul, mul-le-mul_right}}
 use lib.ListN.{length, length-append}
 use Rattle.limits.specs.Limits.{entry_limit}
 use Rattle.theory.specs.ValueSets.{unpack}
 use Rattle.theory.specs.MealyMachine.{Machine, States, Runs}
-use Rattle.refusal.specs.RefusalAnswers.{plain_unless}
+use Rattle.refusal.specs.{RefusalAnswers.{plain_unless}, declared.Refusal.TheVariants.{SetupEvents, SetupValues}}
 use Rattle.refusal.proofs.Refusals.{or_else_none, plain_none}
 use Rattle.values.specs.declared.ValueKind.{ValueKind}
 use Rattle.values.specs.declared.ValueKind.TheVariants.{Numbered, Register}
 use Rattle.values.specs.{Setup.{ValueIn, register_setup}, SetupTests.{events_test, values_test}}
 use Rattle.values.proofs.Setups.{values_small, setup_accepted}
-use Rattle.text_format.specs.Texts.{ascii}
-use Rattle.text_format.specs.Texts.{numeral, each}
+use Rattle.text_format.specs.Texts.{ascii, numeral, each}
 use Rattle.text_output.proofs.Outputs.{numeral_digits, numeral_short, each_length}
 use Rattle.channel_file.specs.ChannelFile.{line}
-use Rattle.machines.specs.{TableBytes.{machine_of}, TableRefusal.{entry_value, entry_next}}
 use Rattle.table_rows.specs.TableText.{value_text, row_line, entry_line, table_text}
 use Rattle.table_rows.specs.{Rendering.{count_refusal}, Rows.{rows_room}}
 use Rattle.table_rows.specs.Claims.{FewEntries}
@@ -32,13 +30,6 @@ pub row_parts : (kind : ValueKind) (l e v n : ℕ)
 unfolding row_line
 row_parts kind l e v n = simp append_assoc
 
--- a text of an entry, from the bytes at its place
-pub entry_text : (events : ℕ) (kind : ValueKind) (bytes : List ℕ) (i v n : ℕ) (text : ℕ → ℕ → List ℕ)
-    → v ≡ entry_value kind bytes i → n ≡ entry_next kind bytes i
-    → text v n ≡ text ((machine_of kind events bytes).value (i / events) (i % events)) ((machine_of kind events bytes).next (i / events) (i % events))
-entry_text events kind bytes i v n text hv hn =
-    ap₂ text (hv ∙ ap (entry_value kind bytes) (sym (div-add-mod' i events))) (hn ∙ ap (entry_next kind bytes) (sym (div-add-mod' i events)))
-
 pub table_parts : (events : ℕ) (kind : ValueKind) (n : ℕ) (m : Machine ℕ ℕ)
     → line (ascii "events=") (numeral events) ++ (line (ascii "states=") (numeral n) ++ each (entry_line kind events m) (n * events) 0)
     ≡ table_text kind events n m
@@ -53,7 +44,7 @@ line_length key s = omega (arith, length-append key (s ++ (10 ∷ [])), length-a
 pub values_passed : (events values top : ℕ) → count_refusal events (Numbered values) top ≡ none → values_test values top ≡ true
 unfolding count_refusal
 values_passed events values top passed =
-    plain_none (values_test values top) 2 (or_else_none (plain_unless (events_test events) 1) _ passed).1
+    plain_none (values_test values top) SetupValues (or_else_none (plain_unless (events_test events) SetupEvents) _ passed).1
 
 -- at most 16 values or lines
 abbrev pub size : ValueKind → ℕ

@@ -1,7 +1,6 @@
--- What is claimed of a call that renders a table, and what private functions ask.
-use Rattle.std.specs.Prelude.{ℕ, ◌≤◌}
+-- What is claimed of a call that renders a table, and what is known of a table that was accepted.
+use Rattle.std.specs.Prelude.{ℕ, ◌≤◌, length}
 use mathlib.Core.{Path.{◌≡◌}, List.{List}, Option.{none}}
-use Rattle.std.specs.Prelude.{length}
 use Rattle.limits.specs.Limits.{table_limit, event_limit}
 use Rattle.refusal.specs.Refusal.{Judged}
 use Rattle.values.specs.declared.ValueKind.{ValueKind}
@@ -22,7 +21,7 @@ RowsLengthClaim =
     (events : ℕ) (kind : ValueKind) (states : ℕ) (bytes : List ℕ) → handed_refusal events kind 0 states bytes ≡ none
     → length (rows_text events kind states bytes) ≤ rows_room kind
 
--- What the functions ask that put a table's entries: its counts are within the limits.
+-- The counts of an accepted table are within the limits.
 pub record FewEntries (events states : ℕ) : Type 0 where
   pub some_events : 1 ≤ events
   pub few_events : events ≤ event_limit

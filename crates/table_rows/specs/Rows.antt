@@ -1,17 +1,17 @@
 -- Twin of TableText, pinned by table_rows RowsLengthClaim.
 -- The call that prints a table handed in.
-use Rattle.std.specs.Prelude.{ℕ, ◌+◌, ◌*◌, List}
+use Rattle.std.specs.Prelude.{ℕ, ◌+◌, ◌*◌, List, Result}
 use Rattle.limits.specs.Limits.{entry_limit}
-use Rattle.refusal.specs.declared.Counted.{Counted}
 use Rattle.values.specs.{declared.ValueKind.{ValueKind}, declared.ValueKind.TheVariants.{Numbered, Register}}
 use Rattle.machines.specs.TableBytes.{machine_of}
 use Rattle.table_rows.specs.{TableText.{table_text}, Rendering.{handed_refusal, Renders}}
+use Rattle.refusal.specs.declared.Refusal.{Refusal}
 
 abbrev pub rows_text : ℕ → ValueKind → ℕ → List ℕ → List ℕ
 rows_text events kind states bytes = table_text kind events states (machine_of kind events bytes)
 
 -- A top is not handed in: 0 is below every count of values that 2 lets through, and a register's is not looked at.
-abbrev pub PrintsRows : ℕ → ValueKind → ℕ → List ℕ → List ℕ → List ℕ → Counted → Type 0
+abbrev pub PrintsRows : ℕ → ValueKind → ℕ → List ℕ → List ℕ → List ℕ → Result ℕ Refusal → Type 0
 PrintsRows events kind states bytes old new r =
     Renders (handed_refusal events kind 0 states bytes) (rows_text events kind states bytes) old new r
 

@@ -5,8 +5,7 @@ use native.Mathlib.Omega.{arith}
 use lib.{ListN.{length, take, drop, length-append, take-append-drop}, Seq.{take_at, take-append-le}}
 use Rattle.text_format.specs.Format.{Parsed, ok, bad, bind, Format, Stuck, Laws, Outcome, contents, refused, at_end, whole, outcome, read}
 use Rattle.text_format.specs.Texts.{Begins, Refused, at, early, FormOf}
-use Rattle.text_format.specs.Claims.{AnswersText}
-use Rattle.text_format.specs.Claims.{FormatRenders, AnswerClaim, OneAnswerClaim, PlaceClaim, FormatReadBackClaim}
+use Rattle.text_format.specs.Claims.{AnswersText, FormatRenders, AnswerClaim, OneAnswerClaim, PlaceClaim, FormatReadBackClaim}
 use Rattle.text_format.proofs.Combinators.{not_both}
 
 -- ---- any form

@@ -4,12 +4,11 @@ use mathlib.Core.{Path.{◌≡◌, refl, sym, ap, ◌∙◌, subst}, List.{List,
 use native.Mathlib.Omega.{arith}
 use lib.ListN.{length, length-append}
 use Rattle.text_format.specs.Format.{Parsed, ok, bad, bind, Format, Stuck, Laws}
-use Rattle.text_format.specs.Texts.{ascii, decimal}
+use Rattle.text_format.specs.Texts.{ascii, decimal, separated, OneOrMore}
 use Rattle.text_format.specs.Combinators.{Alphabet}
 use Rattle.text_format.specs.Decimal.{is_digit}
 use Rattle.text_format.specs.Series.{Separator, space, newline, separator_byte, separator, number_item, series_print, series_fits, series_go}
 use Rattle.text_format.specs.Series.{series_within, series_parse, series}
-use Rattle.text_format.specs.Texts.{separated, OneOrMore}
 use Rattle.text_format.proofs.{Combinators.{letter_laws, not_both}, Decimal.{numbered_laws}}
 
 -- ---- separators

@@ -1,8 +1,7 @@
 -- Twin of Texts, pinned by text_format AnswerClaim.
 -- Formats put together from formats. Their laws are in proofs/Combinators.
-use Rattle.std.specs.Prelude.{ℕ}
+use Rattle.std.specs.Prelude.{ℕ, eqb}
 use mathlib.Core.{Path.{◌≡◌}, List.{List, [], ◌∷◌, ◌++◌}, Bool.{cond}, Option.{Option, some, none}}
-use Rattle.std.specs.Prelude.{eqb}
 use Rattle.text_format.specs.Format.{Parsed, ok, bad, bind, Format}
 
 -- One value after another; the second format may depend on the first value.

@@ -1,9 +1,8 @@
 -- Twin of Texts, pinned by text_format AnswerClaim.
 -- Two-way formats: how the values of a type stand as text (print), a parser that reads a value from the front of a text
 -- (parse), and the laws that tie the two together. A text is a list of byte values.
-use Rattle.std.specs.Prelude.{ℕ, ◌-◌}
+use Rattle.std.specs.Prelude.{ℕ, ◌-◌, length}
 use mathlib.Core.{Path.{◌≡◌}, List.{List, [], ◌∷◌, ◌++◌}}
-use Rattle.std.specs.Prelude.{length}
 
 -- A parser's answer: a value and what is left behind it, or what is left at the first byte that cannot stand there.
 pub data Parsed (A : Type 0) : Type 0 where

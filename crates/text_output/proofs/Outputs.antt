@@ -5,9 +5,8 @@ use native.Mathlib.{Omega.{arith}, Numerals.{add-one}, Nat.{suc-mul}}
 use lib.{Dec.{ltb, leb}, ListN.{length, get_or, take, drop, set, length-append}, Seq.{take-suc, set_out, sets, sets-eq, length-sets}}
 use borrow.Author.Tests.{leb-true, leb-false}
 use Rattle.text_format.specs.Decimal.{limit}
-use Rattle.text_format.specs.Texts.{decimal}
+use Rattle.text_format.specs.Texts.{decimal, numeral, each}
 use Rattle.text_format.proofs.Decimal.{decimal_small, decimal_large, decimal_more}
-use Rattle.text_format.specs.Texts.{numeral, each}
 use Rattle.text_output.specs.Output.{offset_limit, Puts}
 
 -- ---- buffers
@@ -68,10 +67,6 @@ puts_then {l} {s} {l'} {u} {l''} {i} {r} {q} h g =
 -- the same text
 pub puts_as : {l s u l' : List ℕ} {i r : ℕ} → s ≡ u → Puts l s l' i r → Puts l u l' i r
 puts_as {l} {s} {u} {l'} {i} {r} e h = subst (λ (z : List ℕ). Puts l z l' i r) e h
-
--- a byte behind the end
-pub puts_out : (l : List ℕ) (i b r : ℕ) → length l ≤ i → r ≡ min (i + 1) offset_limit → length l < offset_limit → Puts l (b ∷ []) l i r
-puts_out l i b r h e n = record { same = sym (set_out l i b h); next = e; end = n }
 
 -- one byte more of a word
 pub puts_on : {l l' l'' : List ℕ} {i r q : ℕ} (w : List ℕ) (j : ℕ) → j < length w → Puts l (take j w) l' i r

@@ -6,21 +6,11 @@ ghost use Rattle.std.specs.Prelude.{◌≡◌, ◌∷◌, [], ◌++◌, ◌+◌,
 ghost use Rattle.text_format.specs.Texts.{numeral};
 ghost use Rattle.text_output.specs.Output.{offset_limit, Puts};
 
-// The greatest offset.
-const OFFSET_LIMIT: usize = 18446744073709551615;
-
-// The offset behind a byte.
-fn behind(at: usize) -> usize
-    ensures { result ≡ min (at + 1) offset_limit }
-{
-    if at < OFFSET_LIMIT { at + 1 } else { at }
-}
-
 fn digit(v: usize) -> u8
     requires { v < 10 }
     ensures { result ≡ 48 + v }
 {
-    48 + v as u8
+    b'0' + v as u8
 }
 
 // A byte.
@@ -29,9 +19,8 @@ pub fn put(out: &mut [u8], at: usize, b: u8) -> usize
 {
     if at < out.len() {
         out[at] = b;
-        return at + 1;
     }
-    behind(at)
+    at.saturating_add(1)
 }
 
 // The bytes of a word.
@@ -39,10 +28,8 @@ pub fn put_word(out: &mut [u8], at: usize, w: &[u8]) -> usize
     ensures { Puts out.old w.now out.new at result }
 {
     let mut n = at;
-    let mut i = 0;
-    while i < w.len() {
-        n = put(out, n, w[i]);
-        i += 1;
+    for b in w {
+        n = put(out, n, *b);
     }
     n
 }
@@ -71,5 +58,5 @@ pub fn put_line(out: &mut [u8], at: usize, key: &[u8], v: usize) -> usize
     ensures { Puts out.old (key.now ++ (numeral v ++ (10 ∷ []))) out.new at result }
 {
     let n = put_field(out, at, key, v);
-    put(out, n, 10)
+    put(out, n, b'\n')
 }

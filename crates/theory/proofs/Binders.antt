@@ -3,9 +3,8 @@ use mathlib.Core.{Path.{◌≡◌, refl, sym, ap, subst, subst⁻¹}, List.{List
 use Prim.Native.Nat.{ℕ, zero, suc, ◌<◌}
 use native.Mathlib.Nat.{not-suc-le-zero, le_of_suc-le-suc}
 use lib.ListN.{length, get_or}
-use Rattle.theory.specs.Formula.{Formula, greatest}
+use Rattle.theory.specs.Formula.{Formula, greatest, Stands, root, part_of_transition, left_part, right_part, part_of_greatest}
 use Rattle.theory.specs.FormulaClasses.{FreeBelow, Closed, Guarded, Fits, WellFormed}
-use Rattle.theory.specs.Formula.{Stands, root, part_of_transition, left_part, right_part, part_of_greatest}
 use Rattle.theory.specs.ReachableStates.{NodeSet}
 use Rattle.theory.specs.DemandSets.{binder_set, demands}
 use Rattle.theory.proofs.Instantiation.{instantiate, nth, instantiate_greatest, AllWellFormed, well_formed_instantiate}

@@ -8,13 +8,11 @@ use native.Mathlib.{Nat.{mul-suc, mul-add, mul_assoc, suc-mul}, Omega.{arith}}
 use lib.{Dec.{eqb}, ListN.{length}}
 use borrow.Author.Tests.{eqb-true, eqb-false}
 use Rattle.theory.specs.Formula.{Formula, truth, variable, transition, output, conjunction, greatest, size}
-use Rattle.theory.specs.FormulaClasses.{binders, FreeBelow, OpenPosition}
+use Rattle.theory.specs.FormulaClasses.{binders, FreeBelow, OpenPosition, ClosedPosition, Fits, WellFormed, Accepted}
 use Rattle.theory.specs.BinderDepth.{binder_depth}
-use Rattle.theory.specs.FormulaClasses.{ClosedPosition, Fits, WellFormed, Accepted}
 use Rattle.theory.specs.MealyMachine.{Machine, States, Runs}
 use Rattle.theory.specs.CharacteristicFormula.{OpenAt, here, above, Writes, already_open, opened, Rows, last_row, row}
-use Rattle.theory.specs.FormulaWriting.{one_more, open_at, variable_or}
-use Rattle.theory.specs.FormulaWriting.{rows, write, written}
+use Rattle.theory.specs.FormulaWriting.{one_more, open_at, variable_or, rows, write, written}
 use Rattle.theory.proofs.{Substitution.{closed_position_guarded}, DistinctLists.{Distinct, distinct_below}}
 
 -- ---- where a state is open on a path

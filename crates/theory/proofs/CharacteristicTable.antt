@@ -13,8 +13,7 @@ use Rattle.theory.specs.ReachableStates.{NodeSet, Numbering, IsTable}
 use Rattle.theory.specs.{CharacteristicFormula.{Writes}, DemandSets.{empty, union, binder_set, demands, moved, set_machine, first_set}}
 use Rattle.theory.proofs.{NodeSets.{union_empty, empty_union}, WordOrder.{word_append}, ReachableStates.{after_append}}
 use Rattle.theory.proofs.DistinctLists.{distinct_length, member_at, number_of, distinct_by_number}
-use Rattle.theory.proofs.CharacteristicFormula.{Tree, bound, binding, Branches, last_branch, branch, open_below, writes_tree, tree_position}
-use Rattle.theory.proofs.CharacteristicFormula.{branches_position}
+use Rattle.theory.proofs.CharacteristicFormula.{Tree, bound, binding, Branches, last_branch, branch, open_below, writes_tree, tree_position, branches_position}
 use Rattle.theory.proofs.CharacteristicSets.{demands_below, demands_beyond, demands_alone, moved_clear, binder_sets, length_binder_sets, part_node}
 use Rattle.theory.proofs.CharacteristicSets.{rest_node, Agrees, agrees_rest, moved_own, to_part, to_rest, tree_distinct}
 

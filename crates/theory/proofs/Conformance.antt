@@ -7,11 +7,9 @@ use native.Mathlib.{Nat.{mul-le-mul_right, suc-mul}, Omega.{arith}}
 use lib.{Dec.{T, eqb, eqb→eq, eqb_refl, T_not, not_T}, ListN.{length, length-reverse}}
 use mir.Facts.{and_yes, yes_and}
 use Rattle.theory.specs.ValueSets.{AtOrBelow}
-use Rattle.theory.specs.MealyMachine.{Machine, Word, after, States, Runs}
+use Rattle.theory.specs.MealyMachine.{Machine, Word, after, States, Runs, NoLater, FirstCounterexample}
 use Rattle.theory.specs.MachineRuns.{RelatedOnWords}
-use Rattle.theory.specs.MealyMachine.{NoLater}
 use Rattle.theory.specs.Exploration.{reached, explored}
-use Rattle.theory.specs.MealyMachine.{FirstCounterexample}
 use Rattle.theory.specs.ConformanceCheck.{first_bad, next_pair, bad_pair, same_pair, in_play_order, counterexample}
 use Rattle.theory.proofs.{Numbers.{digits_equal, pigeonhole}, WordOrder.{word_reverse, word_left, word_right, no_later_iff_number}}
 use Rattle.theory.proofs.{Exploration.{at, Kept, invariant}, ReachableStates.{reached_reverse}, FirstBad.{Answer, answer}}

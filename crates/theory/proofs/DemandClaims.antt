@@ -2,9 +2,8 @@
 use mathlib.Core.{Path.{◌∙◌, subst, subst⁻¹}, List.{List}}
 use Prim.Native.Nat.{ℕ}
 use Rattle.theory.specs.ValueSets.{MeetSemilattice}
-use Rattle.theory.specs.Formula.{Formula}
+use Rattle.theory.specs.Formula.{Formula, Answers}
 use Rattle.theory.specs.FormulaClasses.{WellFormed}
-use Rattle.theory.specs.Formula.{Answers}
 use Rattle.theory.specs.MealyMachine.{after}
 use Rattle.theory.specs.{DemandSets.{set_machine, first_set}, Claims.{DemandClaim, DemandValuesClaim}}
 use Rattle.theory.proofs.{SemanticsEquality.{answers}, Demands.{shown_is_value}, ReachedSets.{reached_nodes}, DemandValues.{demand_values}}

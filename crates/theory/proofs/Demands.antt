@@ -9,12 +9,9 @@ use Rattle.theory.specs.ValueSets.{MeetSemilattice}
 use Rattle.theory.specs.Formula.{Formula, truth, variable, transition, output, conjunction, greatest, size}
 use Rattle.theory.specs.FormulaClasses.{Guarded, Fits}
 use Rattle.theory.specs.Formula.{Node, nodes, Stands, root, part_of_transition, left_part, right_part, part_of_greatest}
-use Rattle.theory.specs.ReachableStates.{NodeSet, Demands, of_left, of_right, of_variable, InNextSet}
-use Rattle.theory.specs.DemandSets.{IsFirstSet}
-use Rattle.theory.specs.ReachableStates.{of_transition, of_output, of_greatest}
-use Rattle.theory.specs.DemandSets.{IsNextSet}
+use Rattle.theory.specs.ReachableStates.{NodeSet, Demands, of_left, of_right, of_variable, InNextSet, of_transition, of_output, of_greatest}
+use Rattle.theory.specs.DemandSets.{IsFirstSet, IsNextSet, empty, binder_set, demands, moved, first_set}
 use Rattle.theory.specs.ReachableStates.{outputs, meet_all, value_of_set}
-use Rattle.theory.specs.DemandSets.{empty, binder_set, demands, moved, first_set}
 use Rattle.theory.proofs.{Order.{top_meet}, PrefixCode.{stands_once}}
 use Rattle.theory.proofs.NodeSets.{shown, not_in_empty, in_only, in_union, same_members, demands_swap, shown_in}
 use Rattle.theory.proofs.Binders.{binder_demands, binder_of, part_guarded}

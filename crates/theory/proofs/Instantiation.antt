@@ -4,8 +4,7 @@ use Prim.Native.Nat.{ℕ, zero, suc, ◌+◌, ◌<◌, zero-le}
 use native.Mathlib.{Nat.{le_of_suc-le-suc, not-suc-le-zero}, Omega.{arith}}
 use lib.ListN.{length}
 use Rattle.theory.specs.Formula.{Formula, truth, variable, transition, output, conjunction, greatest, substitute}
-use Rattle.theory.specs.FormulaClasses.{FreeBelow, Closed, Guarded, Fits}
-use Rattle.theory.specs.FormulaClasses.{WellFormed}
+use Rattle.theory.specs.FormulaClasses.{FreeBelow, Closed, Guarded, Fits, WellFormed}
 use Rattle.theory.proofs.Substitution.{substitute_same, substitute_other, substitute_free, free_substitute, guarded_substitute, fits_substitute}
 
 module _ {B : Type 0} where

@@ -5,8 +5,7 @@ use mathlib.Core.List.{List, [], ◌∷◌, ◌++◌, reverse, reverse-cons, rev
 use Prim.Native.Nat.{ℕ, zero, suc, ◌≤◌, ◌<◌, zero-le}
 use native.Mathlib.Omega.{arith}
 use lib.{ListN.{length, get_or}, Seq.{ext_get_or}}
-use Rattle.theory.specs.MealyMachine.{Machine, Word, after, States, Runs}
-use Rattle.theory.specs.MealyMachine.{Before, NoLater}
+use Rattle.theory.specs.MealyMachine.{Machine, Word, after, States, Runs, Before, NoLater}
 use Rattle.theory.specs.{ReachableStates.{state_at, Numbering, IsTable}, Exploration.{reached}}
 use Rattle.theory.proofs.Numbers.{Trichotomy, less, equal, greater, trichotomy}
 use Rattle.theory.proofs.WordOrder.{not_before_empty, before_irreflexive, before_asymmetric, no_later_antisymmetric}

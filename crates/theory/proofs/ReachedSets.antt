@@ -4,8 +4,7 @@ use Prim.Native.Nat.{ℕ, zero}
 use lib.Dec.{T}
 use Rattle.theory.specs.Formula.{Formula, root}
 use Rattle.theory.specs.MealyMachine.{after}
-use Rattle.theory.specs.ReachableStates.{NodeSet, Demands, of_left, of_right, of_variable}
-use Rattle.theory.specs.ReachableStates.{of_transition, of_output, of_greatest}
+use Rattle.theory.specs.ReachableStates.{NodeSet, Demands, of_left, of_right, of_variable, of_transition, of_output, of_greatest}
 use Rattle.theory.specs.Claims.{IsTransitionOrOutput}
 use Rattle.theory.specs.DemandSets.{moved, set_machine, first_set}
 use Rattle.theory.proofs.Demands.{demands_sound, next_set_sound}

@@ -7,8 +7,7 @@ use borrow.Author.Tests.{eqb-true, eqb-false, eq-eqb, ne_eqb}
 use Rattle.theory.specs.Formula.{Formula, truth, variable, transition, output, conjunction, greatest, unfolded}
 use Rattle.theory.specs.FormulaClasses.{WellFormed}
 use Rattle.theory.specs.Formula.{Steps, of_truth, of_other_transition, of_other_output, of_conjunction, Answers}
-use Rattle.theory.specs.Formula.{of_transition, of_output, of_greatest}
-use Rattle.theory.specs.Formula.{now, later}
+use Rattle.theory.specs.Formula.{of_transition, of_output, of_greatest, now, later}
 use Rattle.theory.specs.MealyMachine.{after}
 use Rattle.theory.specs.Evaluation.{unguarded_depth, step_in, step, value, follower, formulas}
 use Rattle.theory.specs.Claims.{SemanticsClaim, AnswersClaim, ConjunctionClaim}

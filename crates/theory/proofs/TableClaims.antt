@@ -3,9 +3,8 @@ use mathlib.Core.Logic.Iff
 use mathlib.Core.{Path.{subst, subst⁻¹}, Logic.{◌↔◌}}
 use Prim.Native.Nat.{ℕ, zero, ◌≤◌}
 use Rattle.theory.specs.ValueSets.{MeetSemilattice}
-use Rattle.theory.specs.Formula.{Formula, size}
+use Rattle.theory.specs.Formula.{Formula, size, Answers}
 use Rattle.theory.specs.FormulaClasses.{WellFormed}
-use Rattle.theory.specs.Formula.{Answers}
 use Rattle.theory.specs.{DemandSets.{set_machine, first_set}, ReachableStates.{ReachesAtMost, IsTable}}
 use Rattle.theory.specs.Exploration.{same_bits, bit_machine, first_bits, state_count, table_of}
 use Rattle.theory.specs.Claims.{NumberingClaim, TableClaim, TableValuesClaim}

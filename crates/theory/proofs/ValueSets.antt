@@ -4,12 +4,9 @@ use Prim.Native.Nat.{ℕ, zero, suc, ◌+◌, ◌*◌, ◌-◌, ◌/◌, ◌%◌
 use native.Mathlib.{Nat.{le_of_suc-le-suc, not-suc-le-zero, mod-eq_of_lt, eq-or-lt_of_le, lt_of_lt_of_le}, Numerals.{add-one}, Omega.{arith}}
 use borrow.Author.Tests.{ltb-true, eqb-true, lt-ltb, eq-eqb}
 use lib.{Dec.{ltb}, Pow.{pow_pos, pow_mono}, Bits.{bit_and, and_comm, and_self, and_lt, and_mask, and_step, and_zero_l, and_mod, and_shr}}
-use Rattle.theory.specs.ValueSets.{MeetSemilattice}
-use Rattle.theory.specs.ValueSets.{Below, meet_at, four_value_meet, Masks, OfLines, top_masks, pack, unpack}
-use Rattle.theory.specs.ValueSetClaims.{meet_masks}
+use Rattle.theory.specs.ValueSets.{MeetSemilattice, Below, meet_at, four_value_meet, Masks, OfLines, top_masks, pack, unpack}
+use Rattle.theory.specs.ValueSetClaims.{meet_masks, LawfulClaim, FourValueClaim, MasksClaim, PackingClaim, PackedClaim}
 use Rattle.theory.specs.ValueSetTests.{every, closed_test, idempotent_test, commutative_test, associative_test, neutral_test, lawful}
-use Rattle.theory.specs.ValueSetClaims.{LawfulClaim}
-use Rattle.theory.specs.ValueSetClaims.{FourValueClaim, MasksClaim, PackingClaim, PackedClaim}
 
 -- Tests joined by `&&`.
 pub and_left : (a b : Bool) → (a && b) ≡ true → a ≡ true

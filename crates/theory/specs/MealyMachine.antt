@@ -1,9 +1,8 @@
 -- Mealy machines, values on event sequences, and simulation (source 000, section 2, definition 1); the words on which one machine fails
 -- against another (document 01, "Trial"). Document 01 calls a machine whose states are numbers a table, or a device where it is judged.
 use mathlib.Core.{List.{List, [], ◌∷◌, ◌++◌}, Path.{◌≡◌}, Logic.{◌⊎◌, Lift}}
-use Rattle.std.specs.Prelude.{ℕ, ◌<◌, zero, suc}
+use Rattle.std.specs.Prelude.{ℕ, ◌<◌, zero, suc, length}
 use Rattle.theory.specs.{ValueSets.{AtOrBelow}, Formula.{Formula, truth, variable, transition, output, conjunction, greatest}}
-use Rattle.std.specs.Prelude.{length}
 
 -- In each state, on each event, a value and a next state.
 pub record Machine (S B : Type 0) : Type 0 where

@@ -8,3 +8,7 @@ pub mod Setups
 pub mod Comparisons
 -- The laws of a meet table by sets of values.
 pub mod DownSets
+-- What the check of a set-up passes on and tells.
+pub mod HandedIn
+-- A meet table is a square.
+pub mod MeetTables

@@ -5,9 +5,7 @@ use Prim.Native.Nat.{ℕ, ◌+◌, ◌*◌, ◌/◌, ◌%◌, ◌^◌, ◌≤◌
 use native.Mathlib.{Nat.{div-add-mod', mod-lt, div-lt_iff_lt-mul, mul-le-mul, lt_of_lt_of_le}, Omega.{arith}}
 use borrow.Author.Tests.{ltb-true, leb-true, eqb-true, lt-ltb, le-leb, eq-eqb, ne_eqb}
 use lib.{Arith.{digits_lt}, Dec.{leb, eqb, lit≤}, ListN.{length, get_or}}
-use Rattle.refusal.specs.declared.Refusal.{Refusal}
-use Rattle.refusal.specs.declared.Refusal.TheVariants.{Plain}
-use Rattle.refusal.specs.declared.Judgement.TheVariants.{Accepted, Refused}
+use Rattle.refusal.specs.{declared.Refusal.{Refusal}, declared.Refusal.TheVariants.{SetupEvents, SetupLines, SetupMeet, SetupValues}}
 use Rattle.refusal.specs.Refusal.{Condition, plain, First, has_place, order, part_of, condition_numbers, right_places, Judged}
 use Rattle.refusal.specs.RefusalAnswers.{plain_unless, or_else, judgement}
 use Rattle.refusal.proofs.Refusals.{plain_first, first_append, judged, or_else_none, plain_none}
@@ -25,6 +23,7 @@ use Rattle.values.specs.SetupInOrder.{KindInLimits, AcceptedSetup}
 use Rattle.values.specs.SetupTests.{events_test, values_test, entries_test, meet_test, lines_test, kind_refusal, setup_refusal, Square}
 use Rattle.values.specs.Claims.{SetupClaim, SetupAcceptedClaim, LawsClaim, FourValueSetupClaim}
 use Rattle.values.proofs.ValueKinds.{register_semilattice}
+use Rattle.std.specs.Prelude.{Err, Ok}
 
 differ : {b : Bool} → b ≡ true → b ≡ false → ⊥
 differ p q = let z : ◌≡◌ {A = ℕ} 0 1 = cc in omega arith
@@ -103,40 +102,40 @@ meet_test_laws values top meet limits whole entries =
 
 -- The judgement of a set-up, by the tests in order.
 module _ (events values top : ℕ) (meet : List ℕ) where
-  pub judged_events : events_test events ≡ false → judgement (setup_refusal (setup events values top meet)) ≡ Refused (Plain 1)
+  pub judged_events : events_test events ≡ false → judgement (setup_refusal (setup events values top meet)) ≡ Err SetupEvents
   unfolding judgement setup_refusal or_else plain_unless
   judged_events e = rw e
 
   pub judged_values :
-      events_test events ≡ true → values_test values top ≡ false → judgement (setup_refusal (setup events values top meet)) ≡ Refused (Plain 2)
+      events_test events ≡ true → values_test values top ≡ false → judgement (setup_refusal (setup events values top meet)) ≡ Err SetupValues
   unfolding judgement setup_refusal kind_refusal or_else plain_unless
   judged_values e v = rw (e, v)
 
   pub judged_meet :
       events_test events ≡ true → values_test values top ≡ true → meet_test values top meet ≡ false
-      → judgement (setup_refusal (setup events values top meet)) ≡ Refused (Plain 3)
+      → judgement (setup_refusal (setup events values top meet)) ≡ Err SetupMeet
   unfolding judgement setup_refusal kind_refusal or_else plain_unless
   judged_meet e v m = rw (e, v, m)
 
   pub judged_accepted :
       events_test events ≡ true → values_test values top ≡ true → meet_test values top meet ≡ true
-      → judgement (setup_refusal (setup events values top meet)) ≡ Accepted
+      → judgement (setup_refusal (setup events values top meet)) ≡ (Ok tt)
   unfolding judgement setup_refusal kind_refusal or_else plain_unless
   judged_accepted e v m = rw (e, v, m)
 
 -- The same for a register.
 module _ (events lines : ℕ) where
-  pub judged_register_events : events_test events ≡ false → judgement (setup_refusal (register_setup events lines)) ≡ Refused (Plain 1)
+  pub judged_register_events : events_test events ≡ false → judgement (setup_refusal (register_setup events lines)) ≡ Err SetupEvents
   unfolding judgement setup_refusal or_else plain_unless
   judged_register_events e = rw e
 
   pub judged_lines :
-      events_test events ≡ true → lines_test lines ≡ false → judgement (setup_refusal (register_setup events lines)) ≡ Refused (Plain 20)
+      events_test events ≡ true → lines_test lines ≡ false → judgement (setup_refusal (register_setup events lines)) ≡ Err SetupLines
   unfolding judgement setup_refusal kind_refusal or_else plain_unless
   judged_lines e l = rw (e, l)
 
   pub judged_register :
-      events_test events ≡ true → lines_test lines ≡ true → judgement (setup_refusal (register_setup events lines)) ≡ Accepted
+      events_test events ≡ true → lines_test lines ≡ true → judgement (setup_refusal (register_setup events lines)) ≡ (Ok tt)
   unfolding judgement setup_refusal kind_refusal or_else plain_unless
   judged_register e l = rw (e, l)
 
@@ -166,12 +165,12 @@ events_tested : (events : ℕ) → (1 ≤ events) × (events ≤ event_limit) �
 unfolding events_test
 events_tested events ok = and_both (le-leb _ _ ok.0) (le-leb _ _ ok.1)
 
-pub events_first : (events : ℕ) → First (plain 1 (EventsFault events) ∷ []) (plain_unless (events_test events) 1)
+pub events_first : (events : ℕ) → First (plain SetupEvents (EventsFault events) ∷ []) (plain_unless (events_test events) SetupEvents)
 events_first events =
-    plain_first 1 (EventsFault events) (events_test events) (λ failed ok. differ (events_tested events ok) failed)
+    plain_first SetupEvents (EventsFault events) (events_test events) (λ failed ok. differ (events_tested events ok) failed)
     (λ passed fault. fault (events_few events passed))
 
-lines_few : (lines : ℕ) → lines_test lines ≡ true → (1 ≤ lines) × (lines ≤ line_limit)
+pub lines_few : (lines : ℕ) → lines_test lines ≡ true → (1 ≤ lines) × (lines ≤ line_limit)
 unfolding lines_test
 lines_few lines e = (leb-true _ _ (and_left (leb 1 lines) _ e), leb-true _ _ (and_right (leb 1 lines) _ e))
 
@@ -179,9 +178,9 @@ lines_tested : (lines : ℕ) → (1 ≤ lines) × (lines ≤ line_limit) → lin
 unfolding lines_test
 lines_tested lines ok = and_both (le-leb _ _ ok.0) (le-leb _ _ ok.1)
 
-lines_first : (lines : ℕ) → First (plain 20 (LinesFault lines) ∷ []) (plain_unless (lines_test lines) 20)
+lines_first : (lines : ℕ) → First (plain SetupLines (LinesFault lines) ∷ []) (plain_unless (lines_test lines) SetupLines)
 lines_first lines =
-    plain_first 20 (LinesFault lines) (lines_test lines) (λ failed ok. differ (lines_tested lines ok) failed)
+    plain_first SetupLines (LinesFault lines) (lines_test lines) (λ failed ok. differ (lines_tested lines ok) failed)
     (λ passed fault. fault (lines_few lines passed))
 
 module _ (values top : ℕ) where
@@ -199,8 +198,8 @@ module _ (values top : ℕ) where
   values_passed passed (values_out_of_limits fault) = fault (leb-true _ _ (and_left (leb 1 values) _ passed), values_small values top passed)
   values_passed passed (top_not_below fault) = fault (top_below values top passed)
 
-  pub values_first : First (plain 2 (ValuesFault values top) ∷ []) (plain_unless (values_test values top) 2)
-  values_first = plain_first 2 (ValuesFault values top) (values_test values top) values_failed values_passed
+  pub values_first : First (plain SetupValues (ValuesFault values top) ∷ []) (plain_unless (values_test values top) SetupValues)
+  values_first = plain_first SetupValues (ValuesFault values top) (values_test values top) values_failed values_passed
 
   module _ (meet : List ℕ) where
     meet_failed : meet_test values top meet ≡ false → MeetFault values top meet
@@ -227,8 +226,8 @@ module _ (values top : ℕ) where
         fault
         (laws_of_test values meet top (and_right (entries_test values meet) _ (and_right (eqb (length meet) (values * values)) _ passed)))
 
-    meet_first : First (plain 3 (MeetFault values top meet) ∷ []) (plain_unless (meet_test values top meet) 3)
-    meet_first = plain_first 3 (MeetFault values top meet) (meet_test values top meet) meet_failed meet_passed
+    meet_first : First (plain SetupMeet (MeetFault values top meet) ∷ []) (plain_unless (meet_test values top meet) SetupMeet)
+    meet_first = plain_first SetupMeet (MeetFault values top meet) (meet_test values top meet) meet_failed meet_passed
 
 kind_first : (kind : ValueKind) (top : ℕ) (meet : List ℕ) → First (kind_conditions kind top meet) (kind_refusal kind top meet)
 unfolding kind_conditions kind_refusal
@@ -273,8 +272,8 @@ accepted_kind :
 unfolding kind_refusal meet_of values_test meet_test
 accepted_kind (Numbered values) top meet e =
     let parts = or_else_none _ _ e in
-    let v = plain_none _ 2 parts.0 in
-    let m = plain_none _ 3 parts.1 in (
+    let v = plain_none _ SetupValues parts.0 in
+    let m = plain_none _ SetupMeet parts.1 in (
       record {
         some_values = leb-true _ _ (and_left (leb 1 values) _ v);
         few_values = values_small values top v;
@@ -283,14 +282,14 @@ accepted_kind (Numbered values) top meet e =
       laws_of_test values meet top (and_right (entries_test values meet) _ (and_right (eqb (length meet) (values * values)) _ m)),
     )
 accepted_kind (Register lines) top meet e =
-    let few = lines_few lines (plain_none _ 20 e) in
+    let few = lines_few lines (plain_none _ SetupLines e) in
     (record { some_lines = few.0; few_lines = few.1 }, register_semilattice lines few.1)
 
 accepted_well_formed : (s : Setup) → setup_refusal s ≡ none → AcceptedSetup s
 unfolding setup_refusal
 accepted_well_formed s e =
     let parts = or_else_none _ _ e in
-    let events = events_few s.events (plain_none _ 1 parts.0) in
+    let events = events_few s.events (plain_none _ SetupEvents parts.0) in
     let k = accepted_kind s.kind s.top s.meet parts.1 in
     record { some_events = events.0; few_events = events.1; of_kind = k.0; laws = k.1 }
 
@@ -322,7 +321,7 @@ laws_hold s e = (accepted_well_formed s e).laws
 -- What an accepted set-up has: 1 to 16 events; and at most 16 values, where they are numbers.
 pub accepted_events : (s : Setup) → setup_refusal s ≡ none → events_test s.events ≡ true
 unfolding setup_refusal
-accepted_events s e = plain_none _ 1 (or_else_none _ _ e).0
+accepted_events s e = plain_none _ SetupEvents (or_else_none _ _ e).0
 
 pub accepted_count : (n top : ℕ) (meet : List ℕ) → kind_refusal (Numbered n) top meet ≡ none → n ≤ value_limit
 accepted_count n top meet e = (accepted_kind (Numbered n) top meet e).0.few_values

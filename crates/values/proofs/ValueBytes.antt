@@ -8,8 +8,7 @@ use Rattle.theory.specs.ValueSets.{unpack}
 use Rattle.theory.proofs.ValueSets.{and_left, and_right, and_both}
 use Rattle.values.specs.declared.ValueKind.{ValueKind}
 use Rattle.values.specs.declared.ValueKind.TheVariants.{Numbered, Register}
-use Rattle.values.specs.Setup.{ValueIn}
-use Rattle.values.specs.Setup.{value_width, value_bytes, masks_value, value_from}
+use Rattle.values.specs.Setup.{ValueIn, value_width, value_bytes, masks_value, value_from}
 use Rattle.values.specs.ValueTests.{masks_from}
 use Rattle.values.specs.Claims.{ValueBytesClaim}
 

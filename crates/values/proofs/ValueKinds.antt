@@ -4,9 +4,8 @@ use Prim.Native.Nat.{ℕ, ◌*◌, ◌/◌, ◌%◌, ◌^◌, ◌≤◌, ◌<◌
 use native.Mathlib.{Omega.{arith}, Nat.{lt_of_lt_of_le, mod-eq_of_lt, one-mul}}
 use borrow.Author.Tests.{eqb-true, eq-eqb, ltb-true, lt-ltb, le-ltb}
 use lib.{Dec.{ltb}, Bits.{bit_and}, Pow.{pow-lt, pow_pos, pow_mono}}
-use Rattle.theory.specs.ValueSets.{MeetSemilattice}
+use Rattle.theory.specs.ValueSets.{MeetSemilattice, pack, unpack, top_masks}
 use Rattle.theory.specs.ValueSetClaims.{Packed}
-use Rattle.theory.specs.ValueSets.{pack, unpack, top_masks}
 use Rattle.theory.proofs.ValueSets.{and_left, and_right, and_both, packed_semilattice}
 use Rattle.values.specs.declared.ValueKind.{ValueKind}
 use Rattle.values.specs.declared.ValueKind.TheVariants.{Numbered, Register}

@@ -6,8 +6,7 @@ use Rattle.refusal.specs.Refusal.{Judged}
 use Rattle.theory.specs.{ValueSets.{AtOrBelow, four_value_meet}, ValueSetTests.{lawful}}
 use Rattle.values.specs.declared.{ValueKind.{ValueKind}, Comparison.{Comparison}}
 use Rattle.values.specs.declared.Comparison.TheVariants.{NotBelow}
-use Rattle.values.specs.Setup.{ValueIn, meet_of, ComparesAs, value_width, value_bytes, value_from, Setup, setup, setup_conditions}
-use Rattle.values.specs.Setup.{SetupValue, setup_meet}
+use Rattle.values.specs.Setup.{ValueIn, meet_of, ComparesAs, value_width, value_bytes, value_from, Setup, setup, setup_conditions, SetupValue, setup_meet}
 use Rattle.values.specs.SetupInOrder.{SetupLaws}
 use Rattle.values.specs.{ValueTests.{value_fits, at_or_below, comparison}, SetupInOrder.{AcceptedSetup}, SetupTests.{setup_refusal}}
 use Rattle.values.specs.DownSets.{lawful_by_sets}

@@ -6,7 +6,7 @@ use Rattle.theory.specs.ValueSets.{AtOrBelow, Below, meet_at, OfLines, pack, unp
 use Rattle.values.specs.{declared.ValueKind.{ValueKind}, declared.ValueKind.TheVariants.{Numbered, Register}}
 use Rattle.values.specs.{declared.Comparison.{Comparison}, declared.Comparison.TheVariants.{Equal, StrictlyBelow, NotBelow}}
 use Rattle.limits.specs.Limits.{event_limit, value_limit, line_limit}
-use Rattle.refusal.specs.Refusal.{Condition, plain}
+use Rattle.refusal.specs.{Refusal.{Condition, plain}, declared.Refusal.TheVariants.{SetupEvents, SetupLines, SetupMeet, SetupValues}}
 
 -- A value of a register is two 16-bit masks; no bit at or above the line count is set.
 pub record RegisterValue (lines v : ℕ) : Type 0 where
@@ -104,9 +104,9 @@ LinesFault lines = ¬ ((1 ≤ lines) × (lines ≤ line_limit))
 
 -- After 1: 2 and 3 for numbers with a meet table, 20 in their place for a register.
 unfoldable pub kind_conditions : ValueKind → ℕ → List ℕ → List Condition
-kind_conditions (Numbered values) top meet = plain 2 (ValuesFault values top) ∷ plain 3 (MeetFault values top meet) ∷ []
-kind_conditions (Register lines) top meet = plain 20 (LinesFault lines) ∷ []
+kind_conditions (Numbered values) top meet = plain SetupValues (ValuesFault values top) ∷ plain SetupMeet (MeetFault values top meet) ∷ []
+kind_conditions (Register lines) top meet = plain SetupLines (LinesFault lines) ∷ []
 
 -- The conditions that a set-up meets, in document 01's order.
 unfoldable pub setup_conditions : Setup → List Condition
-setup_conditions s = plain 1 (EventsFault s.events) ∷ kind_conditions s.kind s.top s.meet
+setup_conditions s = plain SetupEvents (EventsFault s.events) ∷ kind_conditions s.kind s.top s.meet

@@ -7,6 +7,7 @@ use Rattle.limits.specs.Limits.{event_limit, value_limit, line_limit}
 use Rattle.refusal.specs.{declared.Refusal.{Refusal}, RefusalAnswers.{or_else, plain_unless}}
 use Rattle.theory.specs.ValueSetTests.{every, lawful}
 use Rattle.values.specs.{declared.ValueKind.{ValueKind}, declared.ValueKind.TheVariants.{Numbered, Register}, Setup.{Setup}}
+use Rattle.refusal.specs.declared.Refusal.TheVariants.{SetupEvents, SetupLines, SetupMeet, SetupValues}
 
 -- A test for each condition: it fails where the condition is met.
 unfoldable pub events_test : ℕ → Bool
@@ -26,11 +27,11 @@ lines_test lines = leb 1 lines && leb lines line_limit
 
 -- The first that fails.
 unfoldable pub kind_refusal : ValueKind → ℕ → List ℕ → Option Refusal
-kind_refusal (Numbered values) top meet = or_else (plain_unless (values_test values top) 2) (plain_unless (meet_test values top meet) 3)
-kind_refusal (Register lines) top meet = plain_unless (lines_test lines) 20
+kind_refusal (Numbered values) top meet = or_else (plain_unless (values_test values top) SetupValues) (plain_unless (meet_test values top meet) SetupMeet)
+kind_refusal (Register lines) top meet = plain_unless (lines_test lines) SetupLines
 
 unfoldable pub setup_refusal : Setup → Option Refusal
-setup_refusal s = or_else (plain_unless (events_test s.events) 1) (kind_refusal s.kind s.top s.meet)
+setup_refusal s = or_else (plain_unless (events_test s.events) SetupEvents) (kind_refusal s.kind s.top s.meet)
 
 -- What the private tests of the laws ask of a table: at most 16 values, and whole.
 pub record Square (values : ℕ) (meet : List ℕ) : Type 0 where

@@ -1,13 +1,15 @@
 // Document 01, "Value sets": the check of a set-up, the four-value set, values of either kind, their meet and how they compare.
 #![tactic(auto)]
 
-ghost use Rattle.std.specs.Prelude.{◌≡◌, true, ◌+◌, ◌^◌, ◌<◌, ◌≤◌, min, length, get_or};
+ghost use Rattle.std.specs.Prelude.{◌≡◌, true, ◌+◌, ◌*◌, ◌^◌, ◌<◌, ◌≤◌, min, length, get_or, IfOk};
 ghost use Rattle.refusal.specs.RefusalAnswers.{judgement};
-ghost use Rattle.limits.specs.Limits.{line_limit};
+ghost use Rattle.limits.specs.Limits.{line_limit, value_limit};
 ghost use Rattle.theory.specs.ValueSets.{meet_at, four_value_meet, pack, top_masks};
 ghost use Rattle.theory.specs.ValueSetTests.{idempotent_test, commutative_test, associative_test, neutral_test};
 ghost use Rattle.values.specs.DownSets.{down_set, pair_test, pairs_test, DownSets};
 ghost use Rattle.values.specs.Setup.{setup, register_setup};
+ghost use Rattle.values.specs.HandedIn.{setup_of, setup_of_set, IsNumbered, IsRegister};
+ghost use Rattle.refusal.specs.Refusal.{refusal_of};
 ghost use Rattle.values.specs.SetupTests.{events_test, values_test, lines_test, entries_test, meet_test, setup_refusal, Square};
 ghost use Rattle.values.specs.Setup.{value_width};
 ghost use Rattle.values.specs.Setup.{masks_value, value_from};
@@ -16,13 +18,41 @@ ghost use Rattle.values.specs.Setup.{meet_of};
 ghost use Rattle.values.specs.ValueTests.{masks_fit, value_fits, comparison};
 
 use limits::{EVENT_LIMIT, LINE_LIMIT, VALUE_LIMIT};
-use refusal::{Judgement, Refusal};
+use refusal::Refusal;
 
 // What the values are: so many numbers with a meet table, or registers of so many lines, whose value is low + 65536 * high.
 #[derive(Clone, Copy)]
 pub enum ValueKind {
     Numbered(u32),
     Register(u32),
+}
+
+// The values of an accepted set-up: their kind, the top value, and the meet table, which registers have none of.
+#[derive(Clone, Copy)]
+pub struct ValueSet<'a> {
+    pub kind: ValueKind,
+    pub top: u32,
+    pub meet: &'a [u8],
+}
+
+// The values of a set-up as it is handed in: so many numbers with a top and a meet table, or registers of so many lines.
+#[derive(Clone, Copy)]
+pub enum Values<'a> {
+    Numbered {
+        values: usize,
+        top: usize,
+        meet: &'a [u8],
+    },
+    Register {
+        lines: usize,
+    },
+}
+
+// A set-up as it is handed in.
+#[derive(Clone, Copy)]
+pub struct SetUp<'a> {
+    pub events: usize,
+    pub values: Values<'a>,
 }
 
 // What comparing two values tells (document 02, F-5).
@@ -42,26 +72,13 @@ pub fn four_values() -> [u8; 16]
     FOUR_VALUE_MEET
 }
 
-fn wide(x: u8) -> usize
-    ensures { result ≡ x }
-{
-    x as usize
-}
-
-fn wide32(x: u8) -> u32
-    ensures { (result ≡ x) × (result < 256) }
-{
-    x as u32
-}
-
 // The entry of a table, or 0 outside it.
 fn entry(table: &[u8], at: usize) -> u32
     ensures { result ≡ get_or table.now at 0 }
 {
-    if at < table.len() {
-        wide32(table[at])
-    } else {
-        0
+    match table.get(at) {
+        Some(entry) => u32::from(*entry),
+        None => 0,
     }
 }
 
@@ -121,7 +138,7 @@ pub fn value_width(kind: ValueKind) -> usize
 pub fn masks_value(a: u8, b: u8, c: u8, d: u8) -> u32
     ensures { result ≡ masks_value a b c d }
 {
-    wide32(a) + 256 * wide32(b) + 65536 * (wide32(c) + 256 * wide32(d))
+    u32::from(a) + 256 * u32::from(b) + 65536 * (u32::from(c) + 256 * u32::from(d))
 }
 
 // A byte, or 0 past the end.
@@ -172,86 +189,149 @@ pub fn compare(kind: ValueKind, table: &[u8], b: u32, c: u32) -> Comparison
     Comparison::StrictlyBelow
 }
 
-// The meet of two of so many values, in a table that is whole.
-fn meet_at(meet: &[u8], values: usize, a: usize, b: usize) -> usize
-    requires { Square values meet.now × (a < values) × (b < values) }
-    ensures { result ≡ meet_at values meet.now a b }
-{
-    wide(meet[a * values + b])
+// A whole meet table of at most 16 values.
+#[derive(Clone, Copy)]
+struct MeetTable<'a> {
+    values: usize,
+    entries: &'a [u8],
+    ghost small: { values ≤ value_limit },
+    ghost whole: { length entries.now ≡ values * values },
 }
 
-// Whether every entry is below values.
-fn entries_below(meet: &[u8], values: usize) -> bool
-    ensures { result ≡ entries_test values meet.now }
-{
-    for i in 0..meet.len() {
-        if values <= wide(meet[i]) {
-            return false;
-        }
+impl<'a> MeetTable<'a> {
+    fn meet(self, a: usize, b: usize) -> usize
+        requires { (a < self.values) × (b < self.values) }
+        ensures { result ≡ meet_at self.entry.values self.entry.entries.now a b }
+    {
+        usize::from(self.entries[a * self.values + b])
     }
-    true
-}
 
-// Whether the meet of each value with itself is that value.
-fn idempotent(meet: &[u8], values: usize) -> bool
-    requires { Square values meet.now }
-    ensures { result ≡ idempotent_test values meet.now }
-{
-    for a in 0..values {
-        if meet_at(meet, values, a, a) != a {
-            return false;
-        }
-    }
-    true
-}
-
-// Whether the order of every two values does not matter.
-fn commutative(meet: &[u8], values: usize) -> bool
-    requires { Square values meet.now }
-    ensures { result ≡ commutative_test values meet.now }
-{
-    for a in 0..values {
-        for b in 0..values {
-            if meet_at(meet, values, a, b) != meet_at(meet, values, b, a) {
+    // Whether every entry is below values.
+    fn is_closed(self) -> bool
+        ensures { result ≡ entries_test self.entry.values self.entry.entries.now }
+    {
+        for entry in self.entries {
+            if self.values <= usize::from(*entry) {
                 return false;
             }
         }
+        true
     }
-    true
-}
 
-// Whether the grouping of every three values does not matter; left at the first triple that breaks the law.
-fn associative(meet: &[u8], values: usize) -> bool
-    requires { Square values meet.now × (entries_test values meet.now ≡ true) }
-    ensures { result ≡ associative_test values meet.now }
-{
-    let mut holds = true;
-    'triples: for a in 0..values {
-        for b in 0..values {
-            for c in 0..values {
-                if meet_at(meet, values, meet_at(meet, values, a, b), c)
-                    != meet_at(meet, values, a, meet_at(meet, values, b, c))
-                {
-                    holds = false;
-                    break 'triples;
+    // Whether the meet of each value with itself is that value.
+    fn is_idempotent(self) -> bool
+        ensures { result ≡ idempotent_test self.entry.values self.entry.entries.now }
+    {
+        for a in 0..self.values {
+            if self.meet(a, a) != a {
+                return false;
+            }
+        }
+        true
+    }
+
+    // Whether the order of every two values does not matter.
+    fn is_commutative(self) -> bool
+        ensures { result ≡ commutative_test self.entry.values self.entry.entries.now }
+    {
+        for a in 0..self.values {
+            for b in 0..self.values {
+                if self.meet(a, b) != self.meet(b, a) {
+                    return false;
                 }
             }
         }
+        true
     }
-    holds
-}
 
-// Whether the meet of each value with top is that value.
-fn neutral(meet: &[u8], values: usize, top: usize) -> bool
-    requires { Square values meet.now × (top < values) }
-    ensures { result ≡ neutral_test values meet.now top }
-{
-    for a in 0..values {
-        if meet_at(meet, values, a, top) != a {
+    // Whether the grouping of every three values does not matter; left at the first triple that breaks the law.
+    fn is_associative(self) -> bool
+        requires { entries_test self.values self.entries.now ≡ true }
+        ensures { result ≡ associative_test self.entry.values self.entry.entries.now }
+    {
+        let values = self.values;
+        let mut holds = true;
+        'triples: for a in 0..values {
+            for b in 0..values {
+                for c in 0..values {
+                    if self.meet(self.meet(a, b), c) != self.meet(a, self.meet(b, c)) {
+                        holds = false;
+                        break 'triples;
+                    }
+                }
+            }
+        }
+        holds
+    }
+
+    // Whether the meet of each value with top is that value.
+    fn has_top(self, top: usize) -> bool
+        requires { top < self.values }
+        ensures { result ≡ neutral_test self.entry.values self.entry.entries.now top }
+    {
+        for a in 0..self.values {
+            if self.meet(a, top) != a {
+                return false;
+            }
+        }
+        true
+    }
+
+    // The values at or below a: those b whose meet with a is b. A bit for each value, that of 0 the highest.
+    fn down_set(self, a: usize) -> u32
+        requires { a < self.values }
+        ensures { result ≡ down_set self.entry.values self.entry.entries.now a }
+    {
+        let mut set: u32 = 0;
+        for b in 0..self.values {
+            set += set;
+            if self.meet(a, b) == b {
+                set += 1;
+            }
+        }
+        set
+    }
+
+    // The values at or below each value.
+    fn down_sets(self) -> [u32; VALUE_LIMIT]
+        ensures { DownSets self.entry.values self.entry.entries.now result }
+    {
+        let mut sets = [0u32; VALUE_LIMIT];
+        for a in 0..self.values {
+            sets[a] = self.down_set(a);
+        }
+        sets
+    }
+
+    // Whether the order of two values does not matter, their meet is a value, and what is at or below it is what is at or below both.
+    fn is_lawful_pair(self, sets: &[u32; VALUE_LIMIT], a: usize, b: usize) -> bool
+        requires { DownSets self.values self.entries.now sets.now × (a < self.values) × (b < self.values) }
+        ensures { result ≡ pair_test self.entry.values self.entry.entries.now a b }
+    {
+        let m = self.meet(a, b);
+        if m != self.meet(b, a) {
             return false;
         }
+        if self.values <= m {
+            return false;
+        }
+        sets[m] == sets[a] & sets[b]
     }
-    true
+
+    // Whether every two values pass that test; each pair is tested once.
+    fn has_lawful_pairs(self) -> bool
+        ensures { result ≡ pairs_test self.entry.values self.entry.entries.now }
+    {
+        let sets = self.down_sets();
+        for a in 0..self.values {
+            for b in 0..a {
+                if !self.is_lawful_pair(&sets, a, b) {
+                    return false;
+                }
+            }
+        }
+        true
+    }
 }
 
 // Whether the table is whole, its entries are values, and the laws hold.
@@ -262,77 +342,23 @@ fn lawful_meet(values: usize, top: usize, meet: &[u8]) -> bool
     if meet.len() != values * values {
         return false;
     }
-    if !entries_below(meet, values) {
+    let table = MeetTable {
+        values,
+        entries: meet,
+    };
+    if !table.is_closed() {
         return false;
     }
-    if !idempotent(meet, values) {
+    if !table.is_idempotent() {
         return false;
     }
-    if !commutative(meet, values) {
+    if !table.is_commutative() {
         return false;
     }
-    if !associative(meet, values) {
+    if !table.is_associative() {
         return false;
     }
-    neutral(meet, values, top)
-}
-
-// The values at or below a: those b whose meet with a is b. A bit for each value, that of 0 the highest.
-fn down_set(meet: &[u8], values: usize, a: usize) -> u32
-    requires { Square values meet.now × (a < values) }
-    ensures { result ≡ down_set values meet.now a }
-{
-    let mut set: u32 = 0;
-    for b in 0..values {
-        set += set;
-        if meet_at(meet, values, a, b) == b {
-            set += 1;
-        }
-    }
-    set
-}
-
-// The values at or below each value.
-fn down_sets(meet: &[u8], values: usize) -> [u32; VALUE_LIMIT]
-    requires { Square values meet.now }
-    ensures { DownSets values meet.now result }
-{
-    let mut sets = [0u32; VALUE_LIMIT];
-    for a in 0..values {
-        sets[a] = down_set(meet, values, a);
-    }
-    sets
-}
-
-// Whether the order of two values does not matter, their meet is a value, and what is at or below it is what is at or below both.
-fn lawful_pair(meet: &[u8], values: usize, sets: &[u32; VALUE_LIMIT], a: usize, b: usize) -> bool
-    requires { Square values meet.now × DownSets values meet.now sets.now × (a < values) × (b < values) }
-    ensures { result ≡ pair_test values meet.now a b }
-{
-    let m = meet_at(meet, values, a, b);
-    if m != meet_at(meet, values, b, a) {
-        return false;
-    }
-    if values <= m {
-        return false;
-    }
-    sets[m] == sets[a] & sets[b]
-}
-
-// Whether every two values pass that test; each pair is tested once.
-fn lawful_pairs(meet: &[u8], values: usize) -> bool
-    requires { Square values meet.now }
-    ensures { result ≡ pairs_test values meet.now }
-{
-    let sets = down_sets(meet, values);
-    for a in 0..values {
-        for b in 0..a {
-            if !lawful_pair(meet, values, &sets, a, b) {
-                return false;
-            }
-        }
-    }
-    true
+    table.has_top(top)
 }
 
 // The answer of `lawful_meet`, without a test of triples: where all pairs pass, the grouping of three values does not matter.
@@ -343,13 +369,17 @@ fn lawful_by_sets(values: usize, top: usize, meet: &[u8]) -> bool
     if meet.len() != values * values {
         return false;
     }
-    if !idempotent(meet, values) {
+    let table = MeetTable {
+        values,
+        entries: meet,
+    };
+    if !table.is_idempotent() {
         return false;
     }
-    if !lawful_pairs(meet, values) {
+    if !table.has_lawful_pairs() {
         return false;
     }
-    neutral(meet, values, top)
+    table.has_top(top)
 }
 
 // Whether events are 1 to 16.
@@ -375,34 +405,39 @@ pub fn values_in_limits(values: usize, top: usize) -> bool
     top < values
 }
 
-// The check of a set-up: refusals 1, 2 and 3, in this order.
-pub fn check_setup(events: usize, values: usize, top: usize, meet: &[u8]) -> Judgement
+// Refusals 1, 2 and 3, in this order.
+fn check_numbers(events: usize, values: usize, top: usize, meet: &[u8]) -> Result<(), Refusal>
     ensures { result ≡ judgement (setup_refusal (setup events values top meet.now)) }
 {
     if !events_in_limits(events) {
-        return Judgement::Refused(Refusal::Plain(refusal::SETUP_EVENTS));
+        return Err(Refusal::SetupEvents);
     }
     if !values_in_limits(values, top) {
-        return Judgement::Refused(Refusal::Plain(refusal::SETUP_VALUES));
+        return Err(Refusal::SetupValues);
     }
     if !lawful_meet(values, top, meet) {
-        return Judgement::Refused(Refusal::Plain(refusal::SETUP_MEET));
+        return Err(Refusal::SetupMeet);
     }
-    Judgement::Accepted
+    Ok(())
 }
 
-// The same check, with the laws tested by sets of values.
-pub fn check_setup_by_sets(events: usize, values: usize, top: usize, meet: &[u8]) -> Judgement
+// The same, with the laws tested by sets of values.
+fn check_numbers_by_sets(
+    events: usize,
+    values: usize,
+    top: usize,
+    meet: &[u8],
+) -> Result<(), Refusal>
     ensures { result ≡ judgement (setup_refusal (setup events values top meet.now)) }
 {
     if !events_in_limits(events) {
-        Judgement::Refused(Refusal::Plain(refusal::SETUP_EVENTS))
+        Err(Refusal::SetupEvents)
     } else if !values_in_limits(values, top) {
-        Judgement::Refused(Refusal::Plain(refusal::SETUP_VALUES))
+        Err(Refusal::SetupValues)
     } else if !lawful_by_sets(values, top, meet) {
-        Judgement::Refused(Refusal::Plain(refusal::SETUP_MEET))
+        Err(Refusal::SetupMeet)
     } else {
-        Judgement::Accepted
+        Ok(())
     }
 }
 
@@ -416,17 +451,17 @@ pub fn lines_in_limits(lines: usize) -> bool
     lines <= LINE_LIMIT
 }
 
-// The check of a register's set-up (document 02, F-7): refusals 1 and 20, in this order.
-pub fn check_register(events: usize, lines: usize) -> Judgement
+// Refusals 1 and 20, in this order (document 02, F-7).
+fn check_register(events: usize, lines: usize) -> Result<(), Refusal>
     ensures { result ≡ judgement (setup_refusal (register_setup events lines)) }
 {
     if !events_in_limits(events) {
-        return Judgement::Refused(Refusal::Plain(refusal::SETUP_EVENTS));
+        return Err(Refusal::SetupEvents);
     }
     if !lines_in_limits(lines) {
-        return Judgement::Refused(Refusal::Plain(refusal::SETUP_LINES));
+        return Err(Refusal::SetupLines);
     }
-    Judgement::Accepted
+    Ok(())
 }
 
 // Top of a register: all lines' bits in both masks. More lines than 16 are taken as 16.
@@ -438,4 +473,65 @@ pub fn register_top(lines: usize) -> u32
         return mask + 65536 * mask;
     }
     4294967295
+}
+
+fn numbered<'a>(values: usize, top: usize, meet: &'a [u8]) -> ValueSet<'a>
+    requires { values_test values top ≡ true }
+    ensures { IsNumbered values top meet.now result }
+{
+    let count = values as u32;
+    let top = top as u32;
+    ValueSet {
+        kind: ValueKind::Numbered(count),
+        top,
+        meet,
+    }
+}
+
+fn registers<'a>(lines: usize) -> ValueSet<'a>
+    requires { lines_test lines ≡ true }
+    ensures { IsRegister lines result }
+{
+    let count = lines as u32;
+    ValueSet {
+        kind: ValueKind::Register(count),
+        top: register_top(lines),
+        meet: &[],
+    }
+}
+
+impl<'a> SetUp<'a> {
+    // The check of a set-up: 1 to 3, or 1 and 20, in this order; an accepted one yields its values.
+    pub fn check(self) -> Result<ValueSet<'a>, Refusal>
+        ensures judged { refusal_of result ≡ setup_refusal (setup_of self.entry) }
+        ensures yields { IfOk result (λ v. setup_of self.entry ≡ setup_of_set self.entry.events v) }
+    {
+        match self.values {
+            Values::Numbered { values, top, meet } => {
+                check_numbers(self.events, values, top, meet)?;
+                Ok(numbered(values, top, meet))
+            }
+            Values::Register { lines } => {
+                check_register(self.events, lines)?;
+                Ok(registers(lines))
+            }
+        }
+    }
+
+    // The same check, with the laws tested by sets of values.
+    pub fn check_by_sets(self) -> Result<ValueSet<'a>, Refusal>
+        ensures judged { refusal_of result ≡ setup_refusal (setup_of self.entry) }
+        ensures yields { IfOk result (λ v. setup_of self.entry ≡ setup_of_set self.entry.events v) }
+    {
+        match self.values {
+            Values::Numbered { values, top, meet } => {
+                check_numbers_by_sets(self.events, values, top, meet)?;
+                Ok(numbered(values, top, meet))
+            }
+            Values::Register { lines } => {
+                check_register(self.events, lines)?;
+                Ok(registers(lines))
+            }
+        }
+    }
 }

@@ -4,8 +4,8 @@ use lib.ListN.{length}
 use Rattle.channel_file.proofs.{Storing.{meet_entries, TookItems}}
 use Rattle.channel_file.proofs.entries_at.Given as goal
 
-abbrev pub invariant-loop-p : goal.invariant-loop-p
-invariant-loop-p l = (l.i ≤ length l.text) × (l.n ≤ l.i) × TookItems meet_entries l.text l.at l.i l.initial.out l.out l.n l.k
+abbrev pub invariant-loop-v : goal.invariant-loop-v
+invariant-loop-v l = (l.i ≤ length l.text) × (l.n ≤ l.i) × TookItems meet_entries l.text l.at l.i l.initial.out l.out l.n l.k
 
-abbrev pub decreases-loop-p : goal.decreases-loop-p
-decreases-loop-p l = length l.text - l.i
+abbrev pub decreases-loop-v : goal.decreases-loop-v
+decreases-loop-v l = length l.text - l.i

@@ -1,6 +1,6 @@
--- `channel_file::number_at` meets its contract. The loop's invariant: what is left to read of the numeral-parse from here is what the numeral-parse is.
+-- `channel_file::number_at` meets its contract. The loop's invariant: what is left to read of the numeral from here is what the numeral is.
 use Rattle.text_format.specs.Decimal.{numeral_parse, more}
-use Prim.Native.Nat.{ℕ, ◌≤◌, ◌<◌}
+use Prim.Native.Nat.{ℕ, ◌-◌, ◌≤◌, ◌<◌}
 use mathlib.Core.{Path.{◌≡◌}}
 use lib.ListN.{length, drop}
 use Rattle.channel_file.proofs.number_at.Given as goal
@@ -9,9 +9,6 @@ use Rattle.channel_file.proofs.number_at.Given as goal
 abbrev pub Below : ℕ → ℕ → Type 0
 Below k v = (v < 100000) × (1 ≤ k → v < 10000) × (2 ≤ k → v < 1000) × (3 ≤ k → v < 100) × (4 ≤ k → v < 10)
 
-abbrev pub invariant-loop-k : goal.invariant-loop-k
-invariant-loop-k l =
-    (l.i ≤ length l.text) × (l.k ≤ 4) × Below l.k l.v × (numeral_parse l.more (drop l.at l.text) ≡ more l.k l.v (drop l.i l.text))
-
-abbrev pub decreases-loop-k : goal.decreases-loop-k
-decreases-loop-k l = l.k
+abbrev pub invariant-loop-i : goal.invariant-loop-i
+invariant-loop-i l =
+    (l.i ≤ length l.text) × (l.i ≤ l.end) × Below (l.end - l.i) l.v × (numeral_parse l.more (drop l.at l.text) ≡ more (l.end - l.i) l.v (drop l.i l.text))

@@ -25,22 +25,22 @@ as_number (Item.Output e a b) = refl
 
 pub returns-in-Numbered : goal.returns-in-Numbered
 returns-in-Numbered c =
-    let e1 : c.kind_of.result ≡ item_kind c.args.x = c.kind_of.ensures in
-    let e2 : c.first_of.result ≡ item_first c.args.x = c.first_of.ensures in
-    let e3 : c.second_of.result ≡ (item_masks c.args.x).low = c.second_of.ensures in
-    let e : c.kind_of.result ∷ clamp c.first_of.result ∷ clamp
-    c.second_of.result ∷ []
+    let e1 : c.kind.result ≡ item_kind c.args.x = c.kind.ensures in
+    let e2 : c.first.result ≡ item_first c.args.x = c.first.ensures in
+    let e3 : c.second.result ≡ (item_masks c.args.x).low = c.second.ensures in
+    let e : c.kind.result ∷ clamp c.first.result ∷ clamp
+    c.second.result ∷ []
     ≡ item_kind c.args.x ∷ clamp (item_first c.args.x) ∷ clamp (item_masks c.args.x).low ∷ [] = rw (e1, e2, e3) in
     of_kind c.args.x c.in-Numbered.is (puts_as (e ∙ as_number c.args.x)
     c.put_numbered.ensures)
 
 pub returns-in-Register : goal.returns-in-Register
 returns-in-Register c =
-    let e1 : c.kind_of-in-Register.result ≡ item_kind c.args.x = c.kind_of-in-Register.ensures in
-    let e2 : c.first_of-in-Register.result ≡ item_first c.args.x = c.first_of-in-Register.ensures in
-    let e3 : c.second_of-in-Register.result ≡ (item_masks c.args.x).low = c.second_of-in-Register.ensures in
-    let e4 : c.third_of.result ≡ (item_masks c.args.x).high = c.third_of.ensures in
-    let e : masked c.kind_of-in-Register.result c.first_of-in-Register.result
-    c.second_of-in-Register.result c.third_of.result
+    let e1 : c.kind-in-Register.result ≡ item_kind c.args.x = c.kind-in-Register.ensures in
+    let e2 : c.first-in-Register.result ≡ item_first c.args.x = c.first-in-Register.ensures in
+    let e3 : c.second-in-Register.result ≡ (item_masks c.args.x).low = c.second-in-Register.ensures in
+    let e4 : c.third.result ≡ (item_masks c.args.x).high = c.third.ensures in
+    let e : masked c.kind-in-Register.result c.first-in-Register.result
+    c.second-in-Register.result c.third.result
     ≡ code Values.Register (token_of Values.Register c.args.x) = rw (e1, e2, e3, e4) in
     of_kind c.args.x c.in-Register.is (puts_as e c.put_masked.ensures)

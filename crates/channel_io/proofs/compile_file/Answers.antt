@@ -1,28 +1,23 @@
 -- `compile_file` meets its contract: 4, or what is answered of the bytes that are judged.
-use mathlib.Core.Path.{sym}
-use lib.Seq.{length-take-le}
-use Rattle.channel_io.proofs.{ShownBytes.{off_form, holds}, Pairs.{compiles_off_form, compiles_held}}
+use mathlib.Core.{Path.{refl, sym, ◌∙◌}}
+use Rattle.refusal.proofs.Answers.{passed_on}
+use Rattle.channel_io.proofs.{ShownBytes.{off_form, holds}, Pairs.{judging_as, compiles_off_form, compiles_refused, compiles_held}}
 use Rattle.channel_io.proofs.compile_file.Goals as goal
 
-pub slice_bounds-compile_pair-end : goal.slice_bounds-compile_pair-end
-slice_bounds-compile_pair-end c =
-    let h = holds c.args.text.now c.read_arrays-arrays.ensures
-    c.hold.ensures c.in-File.is in
-    sym (length-take-le _ _ h.few_entries)
+pub returns-in_err-arrays : goal.returns-in_err-arrays
+returns-in_err-arrays c =
+    compiles_off_form c.args.meet.now c.args.to.now (passed_on c.from_residual.result c.in_err-arrays.field-0.0 c.from_residual.ensures.1)
+    (off_form c.args.text.now (sym c.in_err-arrays.was ∙ c.read_arrays.ensures))
 
-pub slice_bounds-compile_pair-end-in-File : goal.slice_bounds-compile_pair-end-in-File
-slice_bounds-compile_pair-end-in-File c =
-    let h = holds c.args.text.now c.read_arrays-arrays.ensures
-    c.hold.ensures c.in-File.is in
-    sym (length-take-le _ _ h.few_nodes)
+pub returns-in_err-states : goal.returns-in_err-states
+returns-in_err-states c =
+    compiles_refused c.args.meet.now c.args.to.now
+    (judging_as refl c.pair_of.ensures.set_up c.pair_of.ensures.nodes (holds c.args.text.now (sym c.in_ok-arrays.was ∙ c.read_arrays.ensures)))
+    c.compile.ensures (passed_on c.from_residual-in_err-states.result c.in_err-states.field-0.0 c.from_residual-in_err-states.ensures.1) c.in_err-states.was
 
-pub returns-in-Refused : goal.returns-in-Refused
-returns-in-Refused c =
-    compiles_off_form _ _ c.args.meet.now c.args.to.now
-    (off_form c.args.text.now c.read_arrays-arrays.ensures c.hold.ensures
-    c.in-Refused.is)
-
-pub returns-in-File : goal.returns-in-File
-returns-in-File c =
-    compiles_held _ _ c.args.meet.now c.args.to.now (holds c.args.text.now c.read_arrays-arrays.ensures c.hold.ensures
-    c.in-File.is).judging c.compile_pair.ensures
+pub returns : goal.returns
+returns c =
+    compiles_held c.args.meet.now c.args.to.now
+    (judging_as c.from.ensures c.pair_of.ensures.set_up c.pair_of.ensures.nodes
+    (holds c.args.text.now (sym c.in_ok-arrays.was ∙ c.read_arrays.ensures)))
+    c.compile.ensures c.in_ok-states.was

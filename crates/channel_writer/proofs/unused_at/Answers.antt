@@ -1,6 +1,6 @@
 -- `unused_at` meets its contract, by the kind of values.
 use Prim.Native.Nat.{ℕ, ◌+◌}
-use mathlib.Core.{Path.{◌≡◌, refl, sym, ap, ◌∙◌, subst}, Bool.{Bool, ◌&&◌}, List.{List}}
+use mathlib.Core.{Path.{◌≡◌, refl, sym, ap, ◌∙◌, subst}, Bool.{Bool, false, ◌&&◌}, List.{List}}
 use native.Mathlib.Omega.{arith}
 use borrow.Author.Tests.{eq-eqb, ne_eqb}
 use lib.Dec.{eqb}
@@ -39,6 +39,7 @@ returns-then-mask_of-eq0 c =
 pub returns-else-mask_of-eq0 : goal.returns-else-mask_of-eq0
 returns-else-mask_of-eq0 c =
     let j = c.args.i + 2 in
+    let low : eqb c.mask_of.result 0 ≡ false = ne_eqb _ 0 c.if-mask_of-eq0.false in
     of_kind c.args.nodes.now j _ c.in-Register.is
-    (ap (λ (b : Bool). b && eqb (mask_at c.args.nodes.now (j + 2)) 0)
+    (low ∙ ap (λ (b : Bool). b && eqb (mask_at c.args.nodes.now (j + 2)) 0)
     (sym (ne_eqb (mask_at c.args.nodes.now j) 0 (λ z. c.if-mask_of-eq0.false (c.mask_of.ensures.0 ∙ z)))))

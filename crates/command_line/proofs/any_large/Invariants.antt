@@ -1,11 +1,8 @@
--- `any_large` meets its contract. The loop's invariant: no word passed is large. Assumes nothing.
-use Prim.Native.Nat.{◌-◌}
-use lib.ListN.{length}
-use Rattle.command_line.proofs.{Large.{Passing}}
+-- No word passed is large.
+use Rattle.std.proofs.Common.{◌≡◌}
+use Rattle.command_line.specs.declared.Item.{Item}
+use Rattle.command_line.specs.{Words.{words}, Lists.{any_large}}
 use Rattle.command_line.proofs.any_large.Given as goal
 
-abbrev pub invariant-loop-at : goal.invariant-loop-at
-invariant-loop-at l = Passing l.values l.text l.this l.that l.at
-
-abbrev pub decreases-loop-at : goal.decreases-loop-at
-decreases-loop-at l = length l.text - l.at
+abbrev pub invariant-loop-word : goal.invariant-loop-word
+invariant-loop-word l = any_large l.this l.that (words l.word-iterator.0.now) ≡ any_large l.fn.first Item.Number (words l.text)

@@ -1,19 +1,13 @@
--- `put_item` meets its contract. Assumes nothing.
-use mathlib.Core.{Path.{sym, ap, ◌∙◌}, List.{[], ◌∷◌}}
-use Prim.Native.Nat.{ℕ}
+use Rattle.std.proofs.Common.{ℕ, [], ◌∷◌, ap}
 use Rattle.text_output.proofs.Outputs.{puts_as}
 use Rattle.command_line.proofs.Lists.{puts_some, puts_malformed, number_item, no_number_item}
 use Rattle.command_line.proofs.put_item.Goals as goal
 
-pub returns-then-value : goal.returns-then-value
-returns-then-value c = rw c.if-value.true c.put_value.ensures
+pub returns-in_err-v-in-Number : goal.returns-in_err-v-in-Number
+returns-in_err-v-in-Number c =
+    rw (c.from_residual.ensures, c.in-Number.is) (puts_malformed (no_number_item c.args.word.now c.in_err-v-in-Number.ensures))
 
-pub returns-in_default : goal.returns-in_default
-returns-in_default c =
-    rw c.if-value.false (puts_malformed (no_number_item _ (sym c.in_default.is ∙ c.read_number-found.ensures)))
-
-pub returns : goal.returns
-returns c =
-    rw c.if-value.false
-    (puts_some (number_item _ _ (sym c.in-Value.is ∙ c.read_number-found.ensures))
-    (puts_as (ap (λ (b : ℕ). b ∷ []) c.clip.ensures) c.put.ensures))
+pub returns-in_ok-v-in-Number : goal.returns-in_ok-v-in-Number
+returns-in_ok-v-in-Number c =
+    rw c.in-Number.is
+    (puts_some (number_item c.args.word.now _ c.in_ok-v-in-Number.ensures) (puts_as (ap (λ (b : ℕ). b ∷ []) c.min.ensures) c.put.ensures))

@@ -1,26 +1,18 @@
--- `skip_spaces` meets its contract. The loop's invariant: what was passed counts. Assumes nothing.
-use mathlib.Core.Path.{refl, ◌∙◌}
-use native.Mathlib.Omega.{arith}
-use borrow.Author.Rules.{rules}
-use Rattle.command_line.proofs.Words.{gap_on, gap_here, gap_over}
+use Rattle.std.proofs.Common.{ℕ, not, ◌∙◌, length, drop, sym, ap, arith, rules}
+use Rattle.std.proofs.lemmas.List.Sums.{position_or_len_is}
+use Rattle.std.proofs.lemmas.List.{take_rest, drop_all}
+use Rattle.command_line.specs.Words.{is_space}
+use Rattle.command_line.proofs.WordLemmas.{drop_gap}
 use Rattle.command_line.proofs.skip_spaces.Goals as goal
 
-pub loop-i-init : goal.loop-i-init
-loop-i-init c = (omega arith, c.requires, refl)
+pub returns-in-Some : goal.returns-in-Some
+returns-in-Some c =
+    let text = c.args.text.now in
+    let found = position_or_len_is (λ (b : ℕ). not (is_space b)) text c.in-Some.i 0 (search rules) (search rules) (search rules) in
+    take_rest text _ ∙ ap (λ n. drop n text) (sym found) ∙ drop_gap text
 
-pub returns-then-line-i-ne32 : goal.returns-then-line-i-ne32
-returns-then-line-i-ne32 c =
-    let z = gap_here c.args.line.now c.loop-i.i c.loop-i-test.true c.if-line-i-ne32.true in
-    record { from = search rules; within = search rules; same = omega arith }
-
-pub loop-i-preserved : goal.loop-i-preserved
-loop-i-preserved c = (
-  search rules,
-  search rules,
-  gap_on c.args.line.now c.loop-i.i c.loop-i-test.true c.if-line-i-ne32.false ∙ c.loop-i.invariant.2,
-)
-
-pub returns : goal.returns
-returns c =
-    let z = gap_over c.args.line.now c.loop-i.i c.loop-i-test.false in
-    record { from = search rules; within = search rules; same = omega arith }
+pub returns-in-None : goal.returns-in-None
+returns-in-None c =
+    let text = c.args.text.now in
+    let none = position_or_len_is (λ (b : ℕ). not (is_space b)) text (length text) 0 (omega arith) (search rules) (search rules) in
+    sym (drop_all (length text) text (omega arith)) ∙ ap (λ n. drop n text) (sym none) ∙ drop_gap text

@@ -1,75 +1,33 @@
--- `conformance::trial` meets its contract: a refused set-up, tables that are refused, or what the search over them answers.
-use mathlib.Core.Path.{sym, ◌∙◌}
-use native.Mathlib.Omega.{arith}
+-- `trial` meets its contract: a refused set-up, or the trial over its values.
+use mathlib.Core.Path.{sym, ◌∙◌, ap}
 use Rattle.limits.specs.Limits.{device_limit, table_limit}
-use Rattle.refusal.proofs.Refusals.{judgement_accepted}
-use Rattle.values.specs.{declared.ValueKind.TheVariants.{Numbered}, Setup.{setup}, SetupTests.{setup_refusal}}
-use Rattle.values.proofs.Setups.{setup_accepted}
-use Rattle.conformance.specs.{Trial.{input}, PairQueue.{small_queue}}
-use Rattle.conformance.proofs.Trials.{setup_refused, tables_refused, pairs_in, to_try, trial_searched}
+use Rattle.refusal.proofs.Answers.{passed_on}
+use Rattle.values.specs.{HandedIn.{setup_of}, SetupTests.{setup_refusal}}
+use Rattle.conformance.specs.{Trial.{input}, TrialAnswer.{trial_answer, trial_buffer}, declared.Pairing.{Pairing}}
+use Rattle.conformance.proofs.Trials.{setup_refused, refused_answer, refused_buffer, same_input}
 use Rattle.conformance.proofs.trial.Goals as goal
 
-pub overflow_cast-kind : goal.overflow_cast-kind
-overflow_cast-kind c =
-    let s = setup c.args.events c.args.values c.args.top c.args.meet.now in
-    let ok = judgement_accepted (setup_refusal s) (sym c.check_setup-judged.ensures ∙ c.in_default.is) in
-    omega (arith, ((setup_accepted s).0 ok).of_kind.few_values)
-
-pub overflow_mul-device_states : goal.overflow_mul-device_states
-overflow_mul-device_states c =
-    omega (
-      arith,
-      pairs_in c.args.events (Numbered c.args.values) c.args.meet.now c.args.states c.args.table.now c.args.device_states c.args.device_start c.args.device.now
-          c.args.word.now _
-          c.check_tables-handed.ensures c.in_default-handed.is,
-    )
-
-pub search_few-requires : goal.search_few-requires
-search_few-requires c =
-    let s = setup c.args.events c.args.values c.args.top c.args.meet.now in
-    let ok = judgement_accepted (setup_refusal s) (sym c.check_setup-judged.ensures ∙ c.in_default.is) in
-    to_try c.args.events (Numbered c.args.values) c.args.meet.now c.args.states c.args.table.now c.args.device_states c.args.device_start c.args.device.now
-    c.args.word.now
-    _ c.check_tables-handed.ensures c.in_default-handed.is ((setup_accepted s).0 ok).few_events small_queue
-    c.if-device_states-states-le-SMALL_QUEUE.true (omega arith)
-
-pub search_large-requires : goal.search_large-requires
-search_large-requires c =
-    let s = setup c.args.events c.args.values c.args.top c.args.meet.now in
-    let ok = judgement_accepted (setup_refusal s) (sym c.check_setup-judged.ensures ∙ c.in_default.is) in
-    (sym c.in_default-handed.is ∙ c.check_tables-handed.ensures, ((setup_accepted s).0 ok).few_events)
-
-pub returns-in-Refused : goal.returns-in-Refused
+pub returns-in_err-values : goal.returns-in_err-values
 unfolding input
-returns-in-Refused c =
-    let r = setup_refused device_limit table_limit
-    (input (setup c.args.events c.args.values c.args.top c.args.meet.now) c.args.states c.args.table.now c.args.device_states c.args.device_start
-    c.args.device.now)
-    c.args.word.now c.in-Refused.refusal (sym c.check_setup-judged.ensures ∙ c.in-Refused.is) in
-    record { answer = r.0; contents = r.1 }
+returns-in_err-values c =
+    let x = input (setup_of c.args.set_up) c.args.table.states c.args.table.entries.now c.args.device.table.states c.args.device.start
+    c.args.device.table.entries.now in
+    let z = setup_refused device_limit table_limit x c.args.word.now c.in_err-values.field-0.0 (sym c.in_err-values.ensures.judged) in
+    record {
+      answer =
+          passed_on c.from_residual.result c.in_err-values.field-0.0 c.from_residual.ensures.1
+          ∙ refused_answer device_limit table_limit x c.args.word.now c.in_err-values.field-0.0 z;
+      contents = refused_buffer device_limit table_limit x c.args.word.now c.in_err-values.field-0.0 z;
+    }
 
-pub returns-in-Refused-handed : goal.returns-in-Refused-handed
-returns-in-Refused-handed c =
-    let s = setup c.args.events c.args.values c.args.top c.args.meet.now in
-    let ok = judgement_accepted (setup_refusal s) (sym c.check_setup-judged.ensures ∙ c.in_default.is) in
-    let r = tables_refused c.args.events (Numbered c.args.values) c.args.meet.now c.args.states c.args.table.now c.args.device_states c.args.device_start
-    c.args.device.now c.args.word.now c.check_tables-handed.result c.check_tables-handed.ensures c.in-Refused-handed.refusal
-    c.in-Refused-handed.is c.args.top ok in
-    record { answer = r.0; contents = r.1 }
-
-pub returns-then-device_states-states-le-SMALL_QUEUE : goal.returns-then-device_states-states-le-SMALL_QUEUE
-returns-then-device_states-states-le-SMALL_QUEUE c =
-    let s = setup c.args.events c.args.values c.args.top c.args.meet.now in
-    let ok = judgement_accepted (setup_refusal s) (sym c.check_setup-judged.ensures ∙ c.in_default.is) in
-    let r = trial_searched c.args.events (Numbered c.args.values) c.args.meet.now c.args.states c.args.table.now c.args.device_states c.args.device_start
-    c.args.device.now c.args.word.now c.check_tables-handed.result c.check_tables-handed.ensures c.in_default-handed.is
-    ((setup_accepted s).0 ok).few_events small_queue c.if-device_states-states-le-SMALL_QUEUE.true (omega arith)
-    c.search_few.result c.search_few.new.word c.search_few.ensures c.args.top ok in
-    record { answer = r.0; contents = r.1 }
+pub judge-requires : goal.judge-requires
+judge-requires c = sym (c.in_ok-values.ensures.judged ∙ ap setup_refusal c.in_ok-values.ensures.yields)
 
 pub returns : goal.returns
 returns c =
-    let s = setup c.args.events c.args.values c.args.top c.args.meet.now in
-    let ok = judgement_accepted (setup_refusal s) (sym c.check_setup-judged.ensures ∙ c.in_default.is) in
-    let r = c.search_large.ensures c.args.top ok in
-    record { answer = r.0; contents = r.1 }
+    let p : Pairing = record { events = c.args.set_up.events; values = c.in_ok-values.values; table = c.args.table; device = c.args.device } in
+    let e = same_input p (setup_of c.args.set_up) c.in_ok-values.ensures.yields in
+    record {
+      answer = c.judge.ensures.answer ∙ ap (λ x. trial_answer device_limit table_limit x c.args.word.now) (sym e);
+      contents = c.judge.ensures.contents ∙ ap (λ x. trial_buffer device_limit table_limit x c.args.word.now) (sym e);
+    }

@@ -16,6 +16,6 @@ pub returns : goal.returns
 returns c =
     c.check_nodes.ensures
     ∙ ap (λ n. judgement (fields_refusal (field n.kinds) (field n.firsts) (field n.values) n.count (value_fits c.args.kind) c.args.events))
-    c.decode-nodes.ensures
+    c.decode.ensures
     ∙ ap judgement (decoded_refusal c.args.events c.args.kind c.args.bytes.now
     (sym c.count_fits.ensures ∙ c.if-not-count_fits.false))

@@ -1,40 +1,16 @@
--- `gurvazze_register_trial` meets its contract: a table too large for a small one's bytes, a refused file, or a trial against its rule's table.
+-- `gurvazze_register_trial` meets its contract: the large table has room for every table, and every answer has room in a code.
+use mathlib.Core.Path.{sym, subst}
+use native.Mathlib.Omega.{arith}
+use Rattle.channel_io.specs.RegisterFiles.{register_file}
 use Rattle.channel_file.proofs.RegisterClaims.{register_form}
-use Rattle.channel_io.proofs.Callers.{register_unmade, register_made_of}
-use Rattle.gurvazze_host.proofs.Calls.{register_room, unmade_small, other_stopped, trial_stopped, triable, trial_made, register_setup_is}
-use mathlib.Core.Path.{sym, ◌∙◌}
-use Rattle.theory.proofs.Pairs.{one_of, other_of}
+use Rattle.gurvazze_host.specs.Codes.{SmallVerdict}
+use Rattle.gurvazze_host.proofs.Calls.{trial_small}
 use Rattle.gurvazze_host.proofs.gurvazze_register_trial.Goals as goal
 
-pub returns-then-lacks_room : goal.returns-then-lacks_room
-returns-then-lacks_room c =
-    record {
-      answer = c.register_trial_large.ensures.answer;
-      contents = c.register_trial_large.ensures.contents;
-    }
+pub trial-requires : goal.trial-requires
+trial-requires c = record { small = omega arith; large = omega arith; room = λ d. omega arith }
 
-pub refusal_code-requires : goal.refusal_code-requires
-refusal_code-requires c = unmade_small register_form (register_unmade c.compile_file-made.ensures
-    c.in-Refused.is).0
-
-pub register_trial_made-requires : goal.register_trial_made-requires
-register_trial_made-requires c = let w = register_made_of c.compile_file-made.ensures
-    c.in-Made.is in
-    triable w (register_setup_is w)
-
-pub returns-else-lacks_room : goal.returns-else-lacks_room
-returns-else-lacks_room c = let u = register_unmade c.compile_file-made.ensures
-    c.in-Refused.is in
-    let r = trial_stopped (other_stopped register_room (sym c.lacks_room.ensures ∙ c.if-lacks_room.false) u.0) _ _ _ _ in
-    record {
-      answer = c.refusal_code.ensures ∙ r.0;
-      contents = r.1;
-    }
-
-pub returns-in-Made : goal.returns-in-Made
-returns-in-Made c = let w = register_made_of c.compile_file-made.ensures
-    c.in-Made.is in
-    record {
-      answer = one_of (trial_made w (register_setup_is w) _ _ _ _ _ _ c.register_trial_made.ensures.answer c.register_trial_made.ensures.contents);
-      contents = other_of (trial_made w (register_setup_is w) _ _ _ _ _ _ c.register_trial_made.ensures.answer c.register_trial_made.ensures.contents);
-    }
+pub verdict_code-requires : goal.verdict_code-requires
+verdict_code-requires c = subst SmallVerdict (sym c.trial.ensures.answer)
+    (trial_small register_file register_form c.args.text.now c.device_of-device.result.table.states c.device_of-device.result.start
+    c.device_of-device.result.table.entries.now c.args.word.now)

@@ -1,12 +1,7 @@
 -- `run` meets its contract: the loop's invariant is `Ran`.
-use lib.ListN.{length}
-use Prim.Native.Nat.{◌-◌}
-use Rattle.values.specs.declared.ValueKind.TheVariants.{Numbered}
+use Rattle.gurvazze_host.specs.FileCalls.{kind_of_width}
 use Rattle.gurvazze_host.proofs.Runs.{Ran}
 use Rattle.gurvazze_host.proofs.run.Given as goal
 
 abbrev pub invariant-loop-i : goal.invariant-loop-i
-invariant-loop-i l = Ran (Numbered 0) l.events l.states l.table l.word l.initial.to l.state l.to l.i
-
-abbrev pub decreases-loop-i : goal.decreases-loop-i
-decreases-loop-i l = length l.word - l.i
+invariant-loop-i g l = Ran (kind_of_width g.row.WIDTH) l.events l.table.states l.entries l.word l.initial.to l.state l.to l.i

@@ -18,4 +18,4 @@ returns c =
     c.value_fits.ensures ∙ c.if-not-value_fits.false in
     let place : c.args.at + c.args.width - 1 ≡ c.args.at + value_width c.args.kind = omega arith in
     sym
-    (ap₂ (λ b t. b && ltb t c.args.states) holds (sym (c.wide.ensures ∙ ap (λ x. get_or c.args.bytes.now x 0) place)))
+    (ap₂ (λ b t. b && ltb t c.args.states) holds (sym (c.from.ensures ∙ ap (λ x. get_or c.args.bytes.now x 0) place)))

@@ -1,5 +1,5 @@
 -- `machines::table_in_order` meets its contract: the first test that fails decides, and past the others the entries do.
-use mathlib.Core.{Bool.{true}, Path.{◌≡◌, sym, ◌∙◌, ap}}
+use mathlib.Core.{Bool.{true}, Path.{◌≡◌, sym, ◌∙◌, ap, subst}}
 use Prim.Native.Nat.{◌*◌, ◌/◌}
 use native.Mathlib.{Nat.{div-add-mod'}, Omega.{arith}}
 use borrow.Author.{Rules.{rules}}
@@ -25,16 +25,25 @@ returns-then-not-is_table_length c =
     ∙ sym c.is_table_length.ensures ∙ c.if-not-is_table_length.true in
     sym (wrong_length (entry_width c.args.kind) _ _ _ _ _ _ (search rules) (search rules) (search rules) wrong)
 
-pub entries_in_order-requires : goal.entries_in_order-requires
-entries_in_order-requires c =
-    let d = div-add-mod' (length c.args.bytes.now) c.entry_width-width.result in
-    (omega (arith, d, ap (λ x. length c.args.bytes.now / c.entry_width-width.result * x) c.entry_width-width.ensures.0), search rules, search rules)
-
-pub returns : goal.returns
-returns c =
+pub returns-in-Numbered : goal.returns-in-Numbered
+returns-in-Numbered c =
     let right : eqb (length c.args.bytes.now) (c.args.states * c.args.events * c.entry_width-width.result) ≡ true =
     sym c.is_table_length.ensures ∙ c.if-not-is_table_length.false in
-    c.entries_in_order.ensures
+    subst (λ k. c.all_in_order.result ≡ every (length c.args.bytes.now / entry_width k) (entry_test k c.args.states c.args.bytes.now)) (sym c.in-Numbered.is)
+    c.all_in_order.ensures
+    ∙ ap (λ w. every (length c.args.bytes.now / w) (entry_test c.args.kind c.args.states c.args.bytes.now)) (sym c.entry_width-width.ensures.0)
+    ∙ ap (λ n. every n (entry_test c.args.kind c.args.states c.args.bytes.now))
+    (quotient_of_product (length c.args.bytes.now) (c.args.states * c.args.events) c.entry_width-width.result (omega arith) right)
+    ∙ sym (entries_decide (entry_width c.args.kind) _ _ _ _ _ _ (search rules) (search rules) (search rules)
+    (ap (λ x. eqb (length c.args.bytes.now) (c.args.states * c.args.events * x)) (sym c.entry_width-width.ensures.0) ∙ right))
+
+pub returns-in-Register : goal.returns-in-Register
+returns-in-Register c =
+    let right : eqb (length c.args.bytes.now) (c.args.states * c.args.events * c.entry_width-width.result) ≡ true =
+    sym c.is_table_length.ensures ∙ c.if-not-is_table_length.false in
+    subst (λ k. c.all_in_order-in-Register.result ≡ every (length c.args.bytes.now / entry_width k) (entry_test k c.args.states c.args.bytes.now))
+    (sym c.in-Register.is) c.all_in_order-in-Register.ensures
+    ∙ ap (λ w. every (length c.args.bytes.now / w) (entry_test c.args.kind c.args.states c.args.bytes.now)) (sym c.entry_width-width.ensures.0)
     ∙ ap (λ n. every n (entry_test c.args.kind c.args.states c.args.bytes.now))
     (quotient_of_product (length c.args.bytes.now) (c.args.states * c.args.events) c.entry_width-width.result (omega arith) right)
     ∙ sym (entries_decide (entry_width c.args.kind) _ _ _ _ _ _ (search rules) (search rules) (search rules)

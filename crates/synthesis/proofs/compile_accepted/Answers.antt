@@ -1,36 +1,29 @@
 -- `compile_accepted` meets its contract: what the nodes are refused by, or what `compile_nodes` answers.
 use mathlib.Core.Path.{sym, ◌∙◌}
-use borrow.Author.Rules.{rules}
-use Rattle.values.specs.Setup.{setup_of_kind}
+use Rattle.refusal.proofs.Answers.{passed_on}
+use Rattle.values.specs.HandedIn.{setup_of_set}
 use Rattle.synthesis.proofs.{Compilation.{few_nodes}, LentTable.{few_events, rule_case, nodes_case}}
-use Rattle.theory.proofs.Pairs.{one_of, other_of}
 use Rattle.synthesis.proofs.compile_accepted.Goals as goal
 
-pub returns-in-Refused : goal.returns-in-Refused
-returns-in-Refused c =
+pub returns-in_err-judge_nodes : goal.returns-in_err-judge_nodes
+returns-in_err-judge_nodes c =
+    let v = c.args.value_set in
+    let w = rule_case c.args.events v.kind v.top v.meet.now c.args.rule.now c.requires.0 c.requires.1 c.decode-nodes.result c.decode-nodes.ensures
+    c.args.to.now _ (sym c.judge_nodes.ensures ∙ c.in_err-judge_nodes.was) in
     record {
-      answer = one_of (rule_case c.args.events c.args.kind c.args.top c.args.meet.now c.args.rule.now c.requires.0 c.requires.1 c.decode-nodes.result
-          c.decode-nodes.ensures c.args.to.now _ (sym c.judge_nodes-judged.ensures ∙ c.in-Refused.is));
-      contents = other_of (rule_case c.args.events c.args.kind c.args.top c.args.meet.now c.args.rule.now c.requires.0 c.requires.1 c.decode-nodes.result
-          c.decode-nodes.ensures c.args.to.now _ (sym c.judge_nodes-judged.ensures ∙ c.in-Refused.is));
+      answer = passed_on c.from_residual.result c.in_err-judge_nodes.field-0.0 c.from_residual.ensures.1 ∙ w.0;
+      contents = w.1;
     }
 
 pub compile_nodes-requires : goal.compile_nodes-requires
 compile_nodes-requires c = (
-  few_nodes c.args.kind c.args.rule.now c.decode-nodes.result c.decode-nodes.ensures,
-  few_events (setup_of_kind c.args.events c.args.kind c.args.top c.args.meet.now) c.requires.0,
-  search rules,
-  search rules,
-  search rules,
+  few_nodes c.args.value_set.kind c.args.rule.now c.decode-nodes.result c.decode-nodes.ensures,
+  few_events (setup_of_set c.args.events c.args.value_set) c.requires.0,
 )
 
 pub returns : goal.returns
 returns c =
-    record {
-      answer = one_of (nodes_case c.args.events c.args.kind c.args.top c.args.meet.now c.args.rule.now c.requires.0 c.requires.1 c.decode-nodes.result
-          c.decode-nodes.ensures (sym c.judge_nodes-judged.ensures ∙ c.in_default.is) c.args.to.now _ _
-          c.compile_nodes.ensures);
-      contents = other_of (nodes_case c.args.events c.args.kind c.args.top c.args.meet.now c.args.rule.now c.requires.0 c.requires.1 c.decode-nodes.result
-          c.decode-nodes.ensures (sym c.judge_nodes-judged.ensures ∙ c.in_default.is) c.args.to.now _ _
-          c.compile_nodes.ensures);
-    }
+    let v = c.args.value_set in
+    let w = nodes_case c.args.events v.kind v.top v.meet.now c.args.rule.now c.requires.0 c.requires.1 c.decode-nodes.result c.decode-nodes.ensures
+    (sym c.judge_nodes.ensures ∙ c.in_ok-judge_nodes.was) c.args.to.now _ _ c.compile_nodes.ensures in
+    record { answer = w.0; contents = w.1 }

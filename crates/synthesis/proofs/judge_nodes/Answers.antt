@@ -11,12 +11,14 @@ use Rattle.synthesis.proofs.judge_nodes.Goals as goal
 pub returns-then-not-count_fits : goal.returns-then-not-count_fits
 returns-then-not-count_fits c =
     bytes_misfit (count_fits (node_width c.args.kind) node_limit c.args.bytes)
-    (fields_refusal (field c.args.kinds.now) (field c.args.firsts.now) (field c.args.fields.now) c.args.count (value_fits c.args.kind) c.args.events)
+    (fields_refusal (field c.args.nodes.now.kinds) (field c.args.nodes.now.firsts) (field c.args.nodes.now.values) c.args.nodes.now.count
+    (value_fits c.args.kind) c.args.events)
     (sym c.count_fits.ensures ∙ c.if-not-count_fits.true)
 
 pub returns : goal.returns
 returns c =
     c.check_nodes.ensures
     ∙ bytes_fit (count_fits (node_width c.args.kind) node_limit c.args.bytes)
-    (fields_refusal (field c.args.kinds.now) (field c.args.firsts.now) (field c.args.fields.now) c.args.count (value_fits c.args.kind) c.args.events)
+    (fields_refusal (field c.args.nodes.now.kinds) (field c.args.nodes.now.firsts) (field c.args.nodes.now.values) c.args.nodes.now.count
+    (value_fits c.args.kind) c.args.events)
     (sym c.count_fits.ensures ∙ c.if-not-count_fits.false)

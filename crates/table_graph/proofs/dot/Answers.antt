@@ -1,31 +1,20 @@
 -- `dot` meets its contract.
-use mathlib.Core.Path.{refl, sym, ◌∙◌}
-use native.Mathlib.Omega.{arith}
-use Rattle.values.proofs.Setups.{values_small, top_below}
-use Rattle.refusal.proofs.Refusals.{judgement_accepted, judgement_refused}
-use Rattle.table_rows.proofs.Texts.{values_passed}
-use Rattle.table_rows.proofs.Renderings.{counts_passed, few_entries, renders_as, renders_refused}
+use mathlib.Core.Path.{sym, ap, ◌∙◌}
+use Rattle.refusal.specs.Refusal.{refusal_of}
+use Rattle.refusal.proofs.Answers.{passed_on}
+use Rattle.machines.specs.TableBytes.{machine_of}
+use Rattle.table_rows.proofs.Renderings.{renders_as, renders_refused}
+use Rattle.table_graph.specs.GraphText.{digraph_text}
 use Rattle.table_graph.proofs.dot.Goals as goal
 
-pub returns-in-Refused : goal.returns-in-Refused
-returns-in-Refused c =
-    renders_refused _ _ _ _ (judgement_refused _ _ (sym c.check_handed-handed.ensures ∙ c.in-Refused.is))
-
-pub overflow_cast-values : goal.overflow_cast-values
-overflow_cast-values c =
-    let passed = judgement_accepted _ (sym c.check_handed-handed.ensures ∙ c.in_default.is) in
-    omega (arith, values_small c.args.values c.args.top (values_passed _ _ _ (counts_passed _ _ _ _ _ passed)))
-
-pub overflow_cast-top : goal.overflow_cast-top
-overflow_cast-top c =
-    let passed = judgement_accepted _ (sym c.check_handed-handed.ensures ∙ c.in_default.is) in
-    let tested = values_passed c.args.events c.args.values c.args.top (counts_passed _ _ _ _ _ passed) in
-    omega (arith, values_small c.args.values c.args.top tested, top_below c.args.values c.args.top tested)
-
-pub draw-requires : goal.draw-requires
-draw-requires c =
-    few_entries _ _ _ _ _ (judgement_accepted _ (sym c.check_handed-handed.ensures ∙ c.in_default.is))
+pub returns-in_err-accepted : goal.returns-in_err-accepted
+returns-in_err-accepted c =
+    renders_refused _ _ _ (passed_on c.from_residual.result c.in_err-accepted.field-0.0 c.from_residual.ensures.1)
+    (sym c.check_handed.ensures.judged ∙ ap refusal_of c.in_err-accepted.was)
 
 pub returns : goal.returns
 returns c =
-    renders_as (sym (judgement_accepted _ (sym c.check_handed-handed.ensures ∙ c.in_default.is))) refl c.draw.ensures
+    let handed = c.in_ok-accepted.ensures.yields in
+    renders_as (sym (sym c.check_handed.ensures.judged ∙ ap refusal_of c.in_ok-accepted.was))
+    (λ i. digraph_text (handed.kind_is i) (handed.events_is i) (handed.table_is i).states (handed.top_is i)
+    (machine_of (handed.kind_is i) (handed.events_is i) (handed.table_is i).entries.now)) c.render.ensures

@@ -4,6 +4,7 @@ use Rattle.table_graph.proofs.put_arrow.Goals as goal
 
 pub returns : goal.returns
 returns c =
-    puts_as (arrow_parts c.args.kind c.args.top c.args.state c.args.event c.args.value c.args.next)
+    let e = c.args.entry in
+    puts_as (arrow_parts c.args.kind c.args.top e.state e.event e.value e.next)
     (puts_then c.put_field-a.ensures (puts_then c.put_field-b.ensures
-    (puts_then c.put_field-d.ensures (puts_then c.put_label-f.ensures c.put_word.ensures))))
+    (puts_then c.put_field-c.ensures (puts_then c.put_label-d.ensures c.put_word.ensures))))

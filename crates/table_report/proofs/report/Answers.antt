@@ -10,30 +10,30 @@ use Rattle.channel_io.proofs.Callers.{few_entries, unmade, made_of, events_are, 
 use Rattle.table_report.proofs.{ReportClaims.{one_report_claim}, Answers.{refused_reports, made_reports}}
 use Rattle.table_report.proofs.report.Goals as goal
 
-pub overflow_mul-size : goal.overflow_mul-size
-overflow_mul-size c =
-    omega (arith, (limits (made_of c.compile_file-made.ensures c.in-Made.is)).table_in)
+pub overflow_mul-table : goal.overflow_mul-table
+overflow_mul-table c =
+    omega (arith, (limits (made_of c.compile_file.ensures c.in-Ok.is)).table_in)
 
-pub overflow_mul-size-in-Made : goal.overflow_mul-size-in-Made
-overflow_mul-size-in-Made c =
-    omega (arith, (limits (made_of c.compile_file-made.ensures c.in-Made.is)).table_in)
+pub overflow_mul-table-in-Ok : goal.overflow_mul-table-in-Ok
+overflow_mul-table-in-Ok c =
+    omega (arith, (limits (made_of c.compile_file.ensures c.in-Ok.is)).table_in)
 
 pub slice_bounds-table-end : goal.slice_bounds-table-end
 slice_bounds-table-end c =
-    (limits (made_of c.compile_file-made.ensures c.in-Made.is)).table_in
+    (limits (made_of c.compile_file.ensures c.in-Ok.is)).table_in
 
-pub slice_bounds-rows-end : goal.slice_bounds-rows-end
-slice_bounds-rows-end c =
-    sym (length-take-le _ _ (limits (made_of c.compile_file-made.ensures c.in-Made.is)).table_in)
+pub slice_bounds-entries-end : goal.slice_bounds-entries-end
+slice_bounds-entries-end c =
+    sym (length-take-le _ _ (limits (made_of c.compile_file.ensures c.in-Ok.is)).table_in)
 
-pub returns-in-Refused : goal.returns-in-Refused
-returns-in-Refused c =
+pub returns-in-Err : goal.returns-in-Err
+returns-in-Err c =
     refused_reports one_report_claim.numbers (λ i ok. omega (arith, length-replicate {A = ℕ} meet_limit 0, few_entries i ok))
     (λ i. omega (arith, length-replicate {A = ℕ} table_bytes_limit 0))
-    (unmade c.compile_file-made.ensures c.in-Refused.is).0 c.report_refusal.ensures
+    (unmade c.compile_file.ensures c.in-Err.is).0 c.render.ensures
 
-pub returns-in-Made : goal.returns-in-Made
-returns-in-Made c =
-    let w = made_of c.compile_file-made.ensures c.in-Made.is in
+pub returns-in-Ok : goal.returns-in-Ok
+returns-in-Ok c =
+    let w = made_of c.compile_file.ensures c.in-Ok.is in
     made_reports one_report_claim.numbers w (events_are w) (ap (λ (n : FileNumbers). Numbered n.values) w.numbers_are) (limits w).table_taken
     c.rows.ensures

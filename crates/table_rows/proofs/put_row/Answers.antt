@@ -4,5 +4,6 @@ use Rattle.table_rows.proofs.put_row.Goals as goal
 
 pub returns : goal.returns
 returns c =
-    puts_as (row_parts c.args.kind c.args.state c.args.event c.args.value c.args.next)
-    (puts_then c.put_field-a.ensures (puts_then c.put_field-b.ensures (puts_then c.put_value-d.ensures c.put_line.ensures)))
+    let e = c.args.entry in
+    puts_as (row_parts c.args.kind e.state e.event e.value e.next)
+    (puts_then c.put_field-a.ensures (puts_then c.put_field-b.ensures (puts_then c.put_value-c.ensures c.put_line.ensures)))

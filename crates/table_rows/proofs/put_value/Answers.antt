@@ -9,4 +9,4 @@ returns-in-Numbered c = rw c.in-Numbered.is c.put_field.ensures
 pub returns-in-Register : goal.returns-in-Register
 returns-in-Register c =
     rw c.in-Register.is (puts_as (masks_parts c.in-Register.field-0 c.args.before.now c.args.between.now c.args.value)
-    (puts_then c.put_field-a.ensures c.put_field-in-Register.ensures))
+    (puts_then c.put_field-behind.ensures c.put_field-in-Register.ensures))

@@ -1,25 +1,18 @@
 -- `rows` meets its contract.
-use mathlib.Core.Path.{refl, sym, ◌∙◌}
-use native.Mathlib.Omega.{arith}
-use Rattle.values.specs.declared.ValueKind.TheVariants.{Numbered}
-use Rattle.refusal.proofs.Refusals.{judgement_accepted, judgement_refused}
-use Rattle.table_rows.proofs.Texts.{few_of_kind}
-use Rattle.table_rows.proofs.Renderings.{counts_passed, few_entries, renders_as, renders_refused}
+use mathlib.Core.Path.{sym, ap, ◌∙◌}
+use Rattle.refusal.specs.Refusal.{refusal_of}
+use Rattle.refusal.proofs.Answers.{passed_on}
+use Rattle.table_rows.specs.Rows.{rows_text}
+use Rattle.table_rows.proofs.Renderings.{renders_as, renders_refused}
 use Rattle.table_rows.proofs.rows.Goals as goal
 
-pub returns-in-Refused : goal.returns-in-Refused
-returns-in-Refused c =
-    renders_refused _ _ _ _ (judgement_refused _ _ (sym c.check_handed-handed.ensures ∙ c.in-Refused.is))
-
-pub overflow_cast-values : goal.overflow_cast-values
-overflow_cast-values c =
-    let passed = judgement_accepted _ (sym c.check_handed-handed.ensures ∙ c.in_default.is) in
-    omega (arith, few_of_kind c.args.events (Numbered c.args.values) 0 (counts_passed _ _ _ _ _ passed))
-
-pub print_rows-requires : goal.print_rows-requires
-print_rows-requires c =
-    few_entries _ _ _ _ _ (judgement_accepted _ (sym c.check_handed-handed.ensures ∙ c.in_default.is))
+pub returns-in_err-accepted : goal.returns-in_err-accepted
+returns-in_err-accepted c =
+    renders_refused _ _ _ (passed_on c.from_residual.result c.in_err-accepted.field-0.0 c.from_residual.ensures.1)
+    (sym c.check_handed.ensures.judged ∙ ap refusal_of c.in_err-accepted.was)
 
 pub returns : goal.returns
 returns c =
-    renders_as (sym (judgement_accepted _ (sym c.check_handed-handed.ensures ∙ c.in_default.is))) refl c.print_rows.ensures
+    let handed = c.in_ok-accepted.ensures.yields in
+    renders_as (sym (sym c.check_handed.ensures.judged ∙ ap refusal_of c.in_ok-accepted.was))
+    (λ i. rows_text (handed.events_is i) (handed.kind_is i) (handed.table_is i).states (handed.table_is i).entries.now) c.render.ensures

@@ -12,30 +12,26 @@ overflow_mul-values c = omega (arith, square_small (values_small _ _ c.requires)
 pub returns-then-meet-values : goal.returns-then-meet-values
 returns-then-meet-values c = sym (meet_test_length _ _ _ c.if-meet-values.true)
 
-pub idempotent-requires : goal.idempotent-requires
-idempotent-requires c = record { small = values_small _ _ c.requires; whole = c.if-meet-values.false }
-
-pub returns-then-not-idempotent : goal.returns-then-not-idempotent
-returns-then-not-idempotent c = sym
+pub returns-then-not-is_idempotent : goal.returns-then-not-is_idempotent
+returns-then-not-is_idempotent c = sym
     (meet_test_sets _ _ _ c.requires c.if-meet-values.false
-    ∙ and_failed _ (sym c.idempotent.ensures ∙ c.if-not-idempotent.true))
+    ∙ and_failed _ (sym c.is_idempotent.ensures ∙ c.if-not-is_idempotent.true))
 
-pub lawful_pairs-requires : goal.lawful_pairs-requires
-lawful_pairs-requires c = record { small = values_small _ _ c.requires; whole = c.if-meet-values.false }
-
-pub returns-then-not-lawful_pairs : goal.returns-then-not-lawful_pairs
-returns-then-not-lawful_pairs c = sym
+pub returns-then-not-has_lawful_pairs : goal.returns-then-not-has_lawful_pairs
+returns-then-not-has_lawful_pairs c = sym
     (meet_test_sets _ _ _ c.requires c.if-meet-values.false
-    ∙ and_passed (sym c.idempotent.ensures ∙ c.if-not-idempotent.false)
-    ∙ and_failed _ (sym c.lawful_pairs.ensures ∙ c.if-not-lawful_pairs.true))
-
-pub neutral-requires : goal.neutral-requires
-neutral-requires c =
-    (record { small = values_small _ _ c.requires; whole = c.if-meet-values.false }, top_below _ _ c.requires)
+    ∙ and_passed (sym c.is_idempotent.ensures ∙ c.if-not-is_idempotent.false)
+    ∙ and_failed _ (sym c.has_lawful_pairs.ensures ∙ c.if-not-has_lawful_pairs.true))
 
 pub returns : goal.returns
-returns c = c.neutral.ensures
+returns c = c.has_top.ensures
     ∙ sym
     (meet_test_sets _ _ _ c.requires c.if-meet-values.false
-    ∙ and_passed (sym c.idempotent.ensures ∙ c.if-not-idempotent.false)
-    ∙ and_passed (sym c.lawful_pairs.ensures ∙ c.if-not-lawful_pairs.false))
+    ∙ and_passed (sym c.is_idempotent.ensures ∙ c.if-not-is_idempotent.false)
+    ∙ and_passed (sym c.has_lawful_pairs.ensures ∙ c.if-not-has_lawful_pairs.false))
+
+pub invariant_of-table : goal.invariant_of-table
+invariant_of-table c = record { small = values_small _ _ c.requires; whole = c.if-meet-values.false }
+
+pub has_top-requires : goal.has_top-requires
+has_top-requires c = top_below _ _ c.requires

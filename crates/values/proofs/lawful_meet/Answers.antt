@@ -11,67 +11,46 @@ overflow_mul-values c = omega (arith, square_small (values_small _ _ c.requires)
 pub returns-then-meet-values : goal.returns-then-meet-values
 returns-then-meet-values c = sym (meet_test_length _ _ _ c.if-meet-values.true)
 
-pub returns-then-not-entries_below : goal.returns-then-not-entries_below
-returns-then-not-entries_below c = sym (meet_test_entries _ _ _ c.if-meet-values.false (sym c.entries_below.ensures ∙ c.if-not-entries_below.true))
+pub returns-then-not-is_closed : goal.returns-then-not-is_closed
+returns-then-not-is_closed c = sym (meet_test_entries _ _ _ c.if-meet-values.false (sym c.is_closed.ensures ∙ c.if-not-is_closed.true))
 
-pub idempotent-requires : goal.idempotent-requires
-idempotent-requires c = record { small = values_small _ _ c.requires; whole = c.if-meet-values.false }
-
-pub returns-then-not-idempotent : goal.returns-then-not-idempotent
-returns-then-not-idempotent c = sym
+pub returns-then-not-is_idempotent : goal.returns-then-not-is_idempotent
+returns-then-not-is_idempotent c = sym
     (meet_test_laws _ _ _ c.requires c.if-meet-values.false
-    (sym c.entries_below.ensures ∙ c.if-not-entries_below.false)
-    ∙ and_failed _ (sym c.idempotent.ensures ∙ c.if-not-idempotent.true))
+    (sym c.is_closed.ensures ∙ c.if-not-is_closed.false)
+    ∙ and_failed _ (sym c.is_idempotent.ensures ∙ c.if-not-is_idempotent.true))
 
-pub commutative-requires : goal.commutative-requires
-commutative-requires c = record {
-  small = values_small _ _ c.requires;
-  whole =
-      c.if-meet-values.false;
-}
-
-pub returns-then-not-commutative : goal.returns-then-not-commutative
-returns-then-not-commutative c = sym
+pub returns-then-not-is_commutative : goal.returns-then-not-is_commutative
+returns-then-not-is_commutative c = sym
     (meet_test_laws _ _ _ c.requires
-    c.if-meet-values.false (sym c.entries_below.ensures ∙ c.if-not-entries_below.false)
-    ∙ and_passed (sym c.idempotent.ensures ∙ c.if-not-idempotent.false)
-    ∙ and_failed _ (sym c.commutative.ensures ∙ c.if-not-commutative.true))
+    c.if-meet-values.false (sym c.is_closed.ensures ∙ c.if-not-is_closed.false)
+    ∙ and_passed (sym c.is_idempotent.ensures ∙ c.if-not-is_idempotent.false)
+    ∙ and_failed _ (sym c.is_commutative.ensures ∙ c.if-not-is_commutative.true))
 
-pub associative-requires : goal.associative-requires
-associative-requires c = (
-  record {
-    small = values_small _ _ c.requires;
-    whole =
-        c.if-meet-values.false;
-  },
-  sym c.entries_below.ensures ∙ c.if-not-entries_below.false,
-)
-
-pub returns-then-not-associative : goal.returns-then-not-associative
-returns-then-not-associative c = sym
+pub returns-then-not-is_associative : goal.returns-then-not-is_associative
+returns-then-not-is_associative c = sym
     (meet_test_laws _ _ _ c.requires
     c.if-meet-values.false
-    (sym c.entries_below.ensures ∙ c.if-not-entries_below.false)
-    ∙ and_passed (sym c.idempotent.ensures ∙ c.if-not-idempotent.false)
-    ∙ and_passed (sym c.commutative.ensures ∙ c.if-not-commutative.false)
-    ∙ and_failed _ (sym c.associative.ensures ∙ c.if-not-associative.true))
-
-pub neutral-requires : goal.neutral-requires
-neutral-requires c = (
-  record {
-    small = values_small _ _ c.requires;
-    whole = c.if-meet-values.false;
-  },
-  top_below _ _
-      c.requires,
-)
+    (sym c.is_closed.ensures ∙ c.if-not-is_closed.false)
+    ∙ and_passed (sym c.is_idempotent.ensures ∙ c.if-not-is_idempotent.false)
+    ∙ and_passed (sym c.is_commutative.ensures ∙ c.if-not-is_commutative.false)
+    ∙ and_failed _ (sym c.is_associative.ensures ∙ c.if-not-is_associative.true))
 
 pub returns : goal.returns
-returns c = c.neutral.ensures
+returns c = c.has_top.ensures
     ∙ sym
     (meet_test_laws _ _ _ c.requires
     c.if-meet-values.false
-    (sym c.entries_below.ensures ∙ c.if-not-entries_below.false)
-    ∙ and_passed (sym c.idempotent.ensures ∙ c.if-not-idempotent.false)
-    ∙ and_passed (sym c.commutative.ensures ∙ c.if-not-commutative.false)
-    ∙ and_passed (sym c.associative.ensures ∙ c.if-not-associative.false))
+    (sym c.is_closed.ensures ∙ c.if-not-is_closed.false)
+    ∙ and_passed (sym c.is_idempotent.ensures ∙ c.if-not-is_idempotent.false)
+    ∙ and_passed (sym c.is_commutative.ensures ∙ c.if-not-is_commutative.false)
+    ∙ and_passed (sym c.is_associative.ensures ∙ c.if-not-is_associative.false))
+
+pub invariant_of-table : goal.invariant_of-table
+invariant_of-table c = record { small = values_small _ _ c.requires; whole = c.if-meet-values.false }
+
+pub is_associative-requires : goal.is_associative-requires
+is_associative-requires c = sym c.is_closed.ensures ∙ c.if-not-is_closed.false
+
+pub has_top-requires : goal.has_top-requires
+has_top-requires c = top_below _ _ c.requires

@@ -1,22 +1,23 @@
 -- `registers::read_file` meets its contract: 4, or what is answered of the bytes that are judged.
-use mathlib.Core.{Path.{sym}, List.{[]}}
-use lib.Seq.{length-take-le}
-use Rattle.channel_io.proofs.{RegisterPairs.{off_form, holds}, Pairs.{reads_off_form, reads_held}}
+use mathlib.Core.{Path.{refl, sym, ◌∙◌}, List.{[]}}
+use Rattle.refusal.proofs.Answers.{passed_on}
+use Rattle.channel_io.proofs.{RegisterPairs.{off_form, holds}, Pairs.{judging_as, reads_off_form, reads_refused, reads_held, reads_bare}}
 use Rattle.channel_io.proofs.registers.read_file.Goals as goal
 
-pub slice_bounds-keep_rule-end : goal.slice_bounds-keep_rule-end
-slice_bounds-keep_rule-end c =
-    let h = holds c.args.text.now
-    c.read_arrays-arrays.ensures
-    c.hold.ensures c.in-File.is in
-    sym (length-take-le _ _ h.few_nodes)
+pub returns-in_err-arrays : goal.returns-in_err-arrays
+returns-in_err-arrays c =
+    reads_off_form [] c.args.rule.now (passed_on c.from_residual.result c.in_err-arrays.field-0.0 c.from_residual.ensures.1)
+    (off_form c.args.text.now (sym c.in_err-arrays.was ∙ c.read_arrays.ensures))
 
-pub returns-in-Refused : goal.returns-in-Refused
-returns-in-Refused c =
-    reads_off_form _ _ [] c.args.rule.now (off_form c.args.text.now c.read_arrays-arrays.ensures
-    c.hold.ensures c.in-Refused.is)
+pub returns-in_err-keep : goal.returns-in_err-keep
+returns-in_err-keep c =
+    reads_bare (reads_refused [] c.args.rule.now
+    (judging_as refl c.pair_of.ensures.set_up c.pair_of.ensures.nodes (holds c.args.text.now (sym c.in_ok-arrays.was ∙ c.read_arrays.ensures)))
+    c.keep.ensures (passed_on c.from_residual-in_err-keep.result c.in_err-keep.field-0.0 c.from_residual-in_err-keep.ensures.1) c.in_err-keep.was) c.keep.auto.meet
 
-pub returns-in-File : goal.returns-in-File
-returns-in-File c =
-    reads_held _ _ [] c.args.rule.now (holds c.args.text.now c.read_arrays-arrays.ensures c.hold.ensures
-    c.in-File.is).judging c.keep_rule.ensures
+pub returns : goal.returns
+returns c =
+    reads_bare (reads_held [] c.args.rule.now
+    (judging_as c.from.ensures c.pair_of.ensures.set_up c.pair_of.ensures.nodes
+    (holds c.args.text.now (sym c.in_ok-arrays.was ∙ c.read_arrays.ensures)))
+    c.keep.ensures c.in_ok-keep.was) c.keep.auto.meet

@@ -1,47 +1,29 @@
 -- `registers::write_text` meets its contract: the text is put into no buffer first, for its length, and then where it has room.
-use mathlib.Core.Path.{sym, ◌∙◌}
+use mathlib.Core.Path.{sym}
+use native.Mathlib.Omega.{arith}
+use lib.ListN.{length}
 use Rattle.channel_file.specs.RegisterFile.{text}
 use Rattle.channel_writer.specs.{RegisterWriting.{node_tokens}, Steps.{register_text}}
 use Rattle.channel_writer.proofs.Nodes.{is_some_true}
-use Rattle.channel_writer.proofs.Replies.{fine_register, no_register_nodes, no_register_tokens, writes_none, over_limit, over_buffer, written}
+use Rattle.channel_writer.proofs.Replies.{fine_register, not_none, over_room, written}
 use Rattle.channel_writer.proofs.registers.write_text.Goals as goal
 
-pub returns-then-nodes-eq0 : goal.returns-then-nodes-eq0
-returns-then-nodes-eq0 c =
-    writes_none text _ _ (no_register_nodes c.args.events c.args.lines c.args.nodes.now c.if-nodes-eq0.true)
-
-pub returns-then-not-has_tokens : goal.returns-then-not-has_tokens
-returns-then-not-has_tokens c =
-    writes_none text _ _ (no_register_tokens c.args.events c.args.lines (node_tokens c.args.nodes.now) (sym c.has_tokens.ensures ∙ c.if-not-has_tokens.true))
-
 pub put_lines-size-requires : goal.put_lines-size-requires
-put_lines-size-requires c =
-    is_some_true (node_tokens c.args.nodes.now) (sym
-    c.has_tokens.ensures ∙ c.if-not-has_tokens.false)
-
-pub returns-then-size-gt-FILE_LIMIT : goal.returns-then-size-gt-FILE_LIMIT
-returns-then-size-gt-FILE_LIMIT c =
-    over_limit text _ (register_text c.args.events c.args.lines c.args.nodes.now) _ _ _
-    (fine_register c.args.events c.args.lines c.args.nodes.now c.if-nodes-eq0.false
-    (is_some_true (node_tokens c.args.nodes.now) (sym c.has_tokens.ensures ∙ c.if-not-has_tokens.false)))
-    c.put_lines-size.ensures c.args.out.now c.if-size-gt-FILE_LIMIT.true
-
-pub returns-then-out-size : goal.returns-then-out-size
-returns-then-out-size c =
-    over_buffer text _ (register_text c.args.events c.args.lines c.args.nodes.now) _ _ _
-    (fine_register c.args.events c.args.lines c.args.nodes.now c.if-nodes-eq0.false
-    (is_some_true (node_tokens c.args.nodes.now) (sym c.has_tokens.ensures ∙ c.if-not-has_tokens.false)))
-    c.put_lines-size.ensures c.args.out.now c.if-out-size.true
+put_lines-size-requires c = is_some_true (node_tokens c.args.nodes.now) (sym c.if-not-has_tokens.ensures)
 
 pub put_lines-requires : goal.put_lines-requires
-put_lines-requires c =
-    is_some_true (node_tokens c.args.nodes.now) (sym
-    c.has_tokens.ensures ∙ c.if-not-has_tokens.false)
+put_lines-requires c = is_some_true (node_tokens c.args.nodes.now) (sym c.if-not-has_tokens.ensures)
+
+pub returns-then-min-size : goal.returns-then-min-size
+returns-then-min-size c =
+    over_room text _ (register_text c.args.events c.args.lines c.args.nodes.now) _ _ _
+    (fine_register c.args.events c.args.lines c.args.nodes.now (not_none (length c.args.nodes.now) c.if-is_empty.ensures)
+    (is_some_true (node_tokens c.args.nodes.now) (sym c.if-not-has_tokens.ensures)))
+    c.put_lines-size.ensures c.args.out.now (omega arith)
 
 pub returns : goal.returns
 returns c =
     written text _ (register_text c.args.events c.args.lines c.args.nodes.now) _ _ _
-    (fine_register c.args.events c.args.lines c.args.nodes.now c.if-nodes-eq0.false
-    (is_some_true (node_tokens c.args.nodes.now) (sym c.has_tokens.ensures ∙ c.if-not-has_tokens.false)))
-    c.put_lines-size.ensures c.args.out.now _ _
-    c.if-size-gt-FILE_LIMIT.false c.if-out-size.false c.put_lines.ensures
+    (fine_register c.args.events c.args.lines c.args.nodes.now (not_none (length c.args.nodes.now) c.if-is_empty.ensures)
+    (is_some_true (node_tokens c.args.nodes.now) (sym c.if-not-has_tokens.ensures)))
+    c.put_lines-size.ensures c.args.out.now _ _ (omega arith) c.put_lines.ensures

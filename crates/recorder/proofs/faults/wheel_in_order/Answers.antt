@@ -8,6 +8,7 @@ pub returns-then-turn_in_order : goal.returns-then-turn_in_order
 unfolding wheel_test
 returns-then-turn_in_order c = c.turn_in_order-then-turn_in_order.ensures ∙ sym (and_passed (sym c.turn_in_order.ensures ∙ c.if-turn_in_order.true))
 
-pub returns : goal.returns
+pub returns-else-turn_in_order : goal.returns-else-turn_in_order
 unfolding wheel_test
-returns c = sym (and_failed _ (sym c.turn_in_order.ensures ∙ c.if-turn_in_order.false))
+returns-else-turn_in_order c =
+    c.if-turn_in_order.false ∙ sym (and_failed _ (sym c.turn_in_order.ensures ∙ c.if-turn_in_order.false))

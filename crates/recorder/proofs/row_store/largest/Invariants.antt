@@ -7,7 +7,7 @@ use Rattle.recorder.specs.Decisions.{together}
 use Rattle.recorder.proofs.row_store.largest.Given as goal
 
 abbrev pub invariant-loop-i : goal.invariant-loop-i
-invariant-loop-i l = (l.i ≤ l.end) × (l.end ≤ store_limit - l.from) × (l.most ≡ together max l.i (λ j. get_or l.entries (l.from + j) 0))
+invariant-loop-i l = (l.i ≤ l.i-end) × (l.i-end ≤ store_limit - l.from) × (l.most ≡ together max l.i (λ j. get_or l.entries (l.from + j) 0))
 
 abbrev pub decreases-loop-i : goal.decreases-loop-i
-decreases-loop-i l = l.end - l.i
+decreases-loop-i l = l.i-end - l.i

@@ -9,13 +9,15 @@ use Rattle.recorder.proofs.row_store.room_for.Goals as goal
 
 pub overflow_mul-result : goal.overflow_mul-result
 overflow_mul-result c =
-    let h : c.wide-n.result ≤ 255 = search rules in
-    omega (arith, mul-le-mul c.wide16.ensures.1 h)
+    let h : c.from-n.result ≤ 255 = search rules in
+    let k : c.from.result ≤ 65535 = search rules in
+    omega (arith, mul-le-mul k h)
 
 pub overflow_mul-result-2 : goal.overflow_mul-result-2
 overflow_mul-result-2 c =
-    let h : c.wide-n.result ≤ 255 = search rules in
-    omega (arith, mul-le-mul c.wide16-2.ensures.1 h)
+    let h : c.from-n.result ≤ 255 = search rules in
+    let k : c.from-2.result ≤ 65535 = search rules in
+    omega (arith, mul-le-mul k h)
 
 pub overflow_sub-result : goal.overflow_sub-result
 overflow_sub-result c =
@@ -29,7 +31,7 @@ overflow_sub-result c =
 
 pub overflow_mul-result-3 : goal.overflow_mul-result-3
 overflow_mul-result-3 c =
-    let h : c.wide-n.result ≤ 255 = search rules in
+    let h : c.from-n.result ≤ 255 = search rules in
     let l : c.rows_before-all.result - c.rows_before-passed.result ≤ 524280 = omega
     (arith, c.rows_before-all.ensures.1) in
     omega (arith, mul-le-mul l h)
@@ -37,13 +39,13 @@ overflow_mul-result-3 c =
 pub returns : goal.returns
 returns c =
     rw (
-      c.wide16-2.ensures.0,
+      c.from-2.ensures,
       c.rows_before-passed.ensures.0,
       c.rows_before-all.ensures.0,
       add-one c.args.channel,
-      c.wide16.ensures.0,
+      c.from.ensures,
       c.rows_start.ensures,
-      c.wide-n.ensures,
+      c.from-n.ensures,
     ) (
       refl,
       record {

@@ -13,9 +13,9 @@ loop-i-init c = (search rules, sym (before_none c.args.states.now), search rules
 pub loop-i-preserved : goal.loop-i-preserved
 loop-i-preserved c = (
   search rules,
-  ap₂ ◌+◌ c.loop-i.invariant.1 c.wide16-rows.ensures.0 ∙ sym (before_next c.args.states.now c.loop-i.i) ∙ ap (rows_before c.args.states.now)
+  ap₂ ◌+◌ c.loop-i.invariant.1 c.from-rows.ensures ∙ sym (before_next c.args.states.now c.loop-i.i) ∙ ap (rows_before c.args.states.now)
       (sym (add-one c.loop-i.i)),
-  omega (arith, c.loop-i.invariant.2, c.wide16-rows.ensures.1),
+  omega (arith, c.loop-i.invariant.2),
 )
 
 pub returns : goal.returns

@@ -10,10 +10,10 @@ use Rattle.recorder.proofs.row_store.rows_left.Goals as goal
 
 pub overflow_sub-result : goal.overflow_sub-result
 overflow_sub-result c =
-    omega (arith, c.wide16-own.ensures.0, c.rows_before-rows.ensures.0, own_in_all c.args.states.now c.args.channel (omega arith))
+    omega (arith, c.from-own.ensures, c.rows_before-rows.ensures.0, own_in_all c.args.states.now c.args.channel (omega arith))
 
 pub returns : goal.returns
 returns c =
-    let e : c.rows_before-rows.result - c.wide16-own.result + c.args.new ≡ row_count (set c.args.states.now c.args.channel c.args.new) =
-    omega (arith, c.wide16-own.ensures.0, c.rows_before-rows.ensures.0, others_and c.args.states.now c.args.channel (omega arith) c.args.new (omega arith)) in
+    let e : c.rows_before-rows.result - c.from-own.result + c.args.new ≡ row_count (set c.args.states.now c.args.channel c.args.new) =
+    omega (arith, c.from-own.ensures, c.rows_before-rows.ensures.0, others_and c.args.states.now c.args.channel (omega arith) c.args.new (omega arith)) in
     ap (λ x. leb x row_limit) e

@@ -8,9 +8,9 @@ use Rattle.recorder.proofs.row_store.rows_start.Goals as goal
 
 pub overflow_mul-result : goal.overflow_mul-result
 overflow_mul-result c =
-    let h : c.wide.result ≤ 255 = search rules in
+    let h : c.from.result ≤ 255 = search rules in
     omega (arith, mul-le-mul c.rows_before.ensures.1 h)
 
 pub returns : goal.returns
 unfolding rows_start
-returns c = ap₂ ◌*◌ c.rows_before.ensures.0 c.wide.ensures
+returns c = ap₂ ◌*◌ c.rows_before.ensures.0 c.from.ensures

@@ -10,9 +10,9 @@ use Rattle.run_files.proofs.registers.show.Goals as goal
 pub slice_bounds-out-end : goal.slice_bounds-out-end
 slice_bounds-out-end c =
     let room = length-replicate {A = ℕ} register_report_limit 0 in
-    omega (arith, count_within c.report-answer.ensures (omega arith) c.in-Count.is)
+    omega (arith, count_within c.report-answer.ensures (omega arith) c.in-Ok.is)
 
 pub slice_bounds-write_all-end : goal.slice_bounds-write_all-end
 slice_bounds-write_all-end c =
     let room = length-replicate {A = ℕ} register_report_limit 0 in
-    sym (length-take-le _ _ (omega (arith, count_within c.report-answer.ensures (omega arith) c.in-Count.is)))
+    sym (length-take-le _ _ (omega (arith, count_within c.report-answer.ensures (omega arith) c.in-Ok.is)))

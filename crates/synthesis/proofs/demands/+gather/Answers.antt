@@ -1,95 +1,84 @@
 -- `gather` meets its contract. The nodes left fall.
-use mathlib.Core.Path.{refl, ap, subst}
+use mathlib.Core.{List.{[]}, Path.{refl, sym, ◌∙◌, ap, subst}}
+use Prim.Native.Nat.{◌+◌}
+use lib.ListN.{get_or, replicate}
+use Rattle.theory.specs.DemandSets.{empty, only}
 use native.Mathlib.Omega.{arith}
+use Rattle.std.specs.Prelude.{Some}
+use Rattle.formulas.specs.declared.NodeKind.TheVariants.{Variable, Transition, Output, Conjunction, Greatest}
 use Rattle.synthesis.specs.{NodeWords.{row}, NodeWalks.{EndsFrom}}
+use Rattle.synthesis.proofs.NodeKinds.{IsTruth, kind_read, leaf_without, variable_without, output_without, unknown_leaf, leaf_parts}
+use Rattle.synthesis.proofs.NodeWords.{no_nodes}
 use Rattle.synthesis.proofs.NodeWalks.{end_leaf, transition_end}
-use Rattle.synthesis.proofs.DemandRows.{gathered_none, gathered_one, gathers_truth, gathers_variable, gathers_transition, gathers_output}
+use Rattle.synthesis.proofs.DemandRows.{row_stored, gathered_none, gathered_one, gathers_truth, gathers_variable, gathers_transition, gathers_output}
 use Rattle.synthesis.proofs.DemandRows.{gathered_greatest, gathered_conjunction}
+use mathlib.Core.Logic.{inl}
 use borrow.Author.Rules.{rules}
 use Rattle.synthesis.proofs.demands.+gather.Goals as goal
 
 pub returns-then-left-eq0 : goal.returns-then-left-eq0
-returns-then-left-eq0 t c =
-    gathered_none c.args.kinds.now c.args.binders.now _ _ c.if-left-eq0.true _ (search rules)
+returns-then-left-eq0 t c = gathered_none c.args.nodes.now.kinds c.args.binders.now _ _ c.if-left-eq0.true _
 
-pub returns-then-kind-eq-VARIABLE : goal.returns-then-kind-eq-VARIABLE
-returns-then-kind-eq-VARIABLE t c =
-    gathered_one c.args.kinds.now c.args.binders.now _ _ _ _ _ c.store_copy.ensures _ (search rules) (search rules)
-    (end_leaf c.args.kinds.now _ _ (λ e. omega (arith, e, c.if-kind-eq-VARIABLE.true)) (λ e. omega (arith, e, c.if-kind-eq-VARIABLE.true))
-    (λ e. omega (arith, e, c.if-kind-eq-VARIABLE.true)))
-    (gathers_variable c.args.kinds.now c.args.binders.now _ _ _ _ _ c.store_copy.ensures (ap (row c.args.rows.now) c.wide-binder.ensures.0)
-    c.if-kind-eq-VARIABLE.true)
+pub returns-in_default : goal.returns-in_default
+returns-in_default t c =
+    let s = row_stored c.args.at (replicate 4 0) c.args.rows.now empty (omega arith) no_nodes in
+    gathered_one c.args.nodes.now.kinds c.args.binders.now _ _ _ _ _ s _ (search rules) (search rules)
+    (end_leaf c.args.nodes.now.kinds _ _ (leaf_without _ (unknown_leaf _ c.of.ensures c.in_default.is)))
+    (gathers_truth c.args.nodes.now.kinds c.args.binders.now _ _ _ _ _ s refl (subst IsTruth (sym c.in_default.is ∙ c.of.ensures) tt))
 
-pub returns-then-kind-eq-TRANSITION : goal.returns-then-kind-eq-TRANSITION
-returns-then-kind-eq-TRANSITION t c =
-    let w = transition_end c.args.kinds.now c.args.ends.now c.args.at c.args.left (omega arith) c.requires.5 c.if-kind-eq-TRANSITION.true in
-    gathered_one c.args.kinds.now c.args.binders.now _ _ _ _ _ c.store_self.ensures _ w.0 w.1.high w.1.end
-    (gathers_transition c.args.kinds.now c.args.binders.now _ _ _ _ _ c.store_self.ensures refl c.if-kind-eq-TRANSITION.true)
+pub returns-in-Truth : goal.returns-in-Truth
+returns-in-Truth t c =
+    let s = row_stored c.args.at (replicate 4 0) c.args.rows.now empty (omega arith) no_nodes in
+    gathered_one c.args.nodes.now.kinds c.args.binders.now _ _ _ _ _ s _ (search rules) (search rules)
+    (end_leaf c.args.nodes.now.kinds _ _ (leaf_parts _ c.of.ensures c.in-Some.is (inl c.in-Truth.is)))
+    (gathers_truth c.args.nodes.now.kinds c.args.binders.now _ _ _ _ _ s refl
+    (subst IsTruth (ap Some (sym c.in-Truth.is) ∙ sym c.in-Some.is ∙ c.of.ensures) tt))
 
-pub returns-then-kind-eq-OUTPUT : goal.returns-then-kind-eq-OUTPUT
-returns-then-kind-eq-OUTPUT t c =
-    gathered_one c.args.kinds.now c.args.binders.now _ _ _ _ _ c.store_self-then-kind-eq-OUTPUT.ensures _ (search rules) (search rules)
-    (end_leaf c.args.kinds.now _ _ (λ e. omega (arith, e, c.if-kind-eq-OUTPUT.true)) (λ e. omega (arith, e, c.if-kind-eq-OUTPUT.true))
-    (λ e. omega (arith, e, c.if-kind-eq-OUTPUT.true)))
-    (gathers_output c.args.kinds.now c.args.binders.now _ _ _ _ _ c.store_self-then-kind-eq-OUTPUT.ensures refl c.if-kind-eq-OUTPUT.true)
+pub returns-in-Variable : goal.returns-in-Variable
+returns-in-Variable t c =
+    let k = kind_read _ Variable c.of.ensures c.in-Some.is c.in-Variable.is in
+    let s = row_stored c.args.at (get_or c.args.rows.now c.from-binder.result []) c.args.rows.now (row c.args.rows.now c.from-binder.result)
+    (omega arith) refl in
+    gathered_one c.args.nodes.now.kinds c.args.binders.now _ _ _ _ _ s _ (search rules) (search rules)
+    (end_leaf c.args.nodes.now.kinds _ _ (variable_without _ k))
+    (gathers_variable c.args.nodes.now.kinds c.args.binders.now _ _ _ _ _ s (ap (row c.args.rows.now) c.from-binder.ensures) k)
+
+pub returns-in-Transition : goal.returns-in-Transition
+returns-in-Transition t c =
+    let k = kind_read _ Transition c.of.ensures c.in-Some.is c.in-Transition.is in
+    let w = transition_end c.args.nodes.now.kinds c.args.ends.now c.args.at c.args.left (omega arith) c.requires.1 k in
+    let s = row_stored c.args.at c.single.result c.args.rows.now (only c.args.at) (omega arith) c.single.ensures in
+    gathered_one c.args.nodes.now.kinds c.args.binders.now _ _ _ _ _ s _ w.0 w.1.high w.1.end
+    (gathers_transition c.args.nodes.now.kinds c.args.binders.now _ _ _ _ _ s refl k)
+
+pub returns-in-Output : goal.returns-in-Output
+returns-in-Output t c =
+    let k = kind_read _ Output c.of.ensures c.in-Some.is c.in-Output.is in
+    let s = row_stored c.args.at c.single-in-Output.result c.args.rows.now (only c.args.at) (omega arith) c.single-in-Output.ensures in
+    gathered_one c.args.nodes.now.kinds c.args.binders.now _ _ _ _ _ s _ (search rules) (search rules)
+    (end_leaf c.args.nodes.now.kinds _ _ (output_without _ k))
+    (gathers_output c.args.nodes.now.kinds c.args.binders.now _ _ _ _ _ s refl k)
 
 pub gather-second-requires : goal.gather-second-requires
-gather-second-requires t c = (
-  search rules,
-  (
-    search rules,
-    search rules,
-    search rules,
-    search rules,
-    search rules,
-    subst (λ m. EndsFrom c.args.kinds.now m c.args.ends.now 0)
-        (omega arith) c.requires.5,
-  ),
-)
+gather-second-requires t c =
+    (search rules, (search rules, subst (λ m. EndsFrom c.args.nodes.now.kinds m c.args.ends.now 0) (omega arith) c.requires.1))
 
 pub gather-end-requires : goal.gather-end-requires
-gather-end-requires t c = (
-  search rules,
-  (
-    search rules,
-    search rules,
-    search rules,
-    search rules,
-    c.gather-second.ensures.sized,
-    subst
-        (λ m. EndsFrom c.args.kinds.now m c.args.ends.now 0) (omega arith) c.requires.5,
-  ),
-)
+gather-end-requires t c =
+    (search rules, (search rules, subst (λ m. EndsFrom c.args.nodes.now.kinds m c.args.ends.now 0) (omega arith) c.requires.1))
 
-pub returns-then-kind-eq-CONJUNCTION : goal.returns-then-kind-eq-CONJUNCTION
-returns-then-kind-eq-CONJUNCTION t c =
-    gathered_conjunction c.args.kinds.now c.args.binders.now _ _ _ _ _ _ c.gather-second.result _
-    c.gather-second.ensures c.gather-end.ensures c.store_union.ensures (omega arith)
-    c.if-kind-eq-CONJUNCTION.true
+pub returns-in-Conjunction : goal.returns-in-Conjunction
+returns-in-Conjunction t c =
+    gathered_conjunction c.args.nodes.now.kinds c.args.binders.now _ _ _ _ _ _ c.gather-second.result _
+    c.gather-second.ensures c.gather-end.ensures (row_stored c.args.at c.unite.result _ _ (omega arith) c.unite.ensures) (omega arith)
+    (kind_read _ Conjunction c.of.ensures c.in-Some.is c.in-Conjunction.is)
 
-pub gather-end-requires-then-kind-eq-GREATEST : goal.gather-end-requires-then-kind-eq-GREATEST
-gather-end-requires-then-kind-eq-GREATEST t c = (
-  search rules,
-  (
-    search rules,
-    search rules,
-    search rules,
-    search rules,
-    search rules,
-    subst (λ m. EndsFrom c.args.kinds.now m c.args.ends.now 0)
-        (omega arith) c.requires.5,
-  ),
-)
+pub gather-end-requires-in-Greatest : goal.gather-end-requires-in-Greatest
+gather-end-requires-in-Greatest t c =
+    (search rules, (search rules, subst (λ m. EndsFrom c.args.nodes.now.kinds m c.args.ends.now 0) (omega arith) c.requires.1))
 
-pub returns-then-kind-eq-GREATEST : goal.returns-then-kind-eq-GREATEST
-returns-then-kind-eq-GREATEST t c =
-    gathered_greatest c.args.kinds.now c.args.binders.now _ _ _ _ _ _ c.gather-end-then-kind-eq-GREATEST.ensures
-    c.store_copy-then-kind-eq-GREATEST.ensures (omega arith)
-    c.if-kind-eq-GREATEST.true
-
-pub returns : goal.returns
-returns t c =
-    gathered_one c.args.kinds.now c.args.binders.now _ _ _ _ _ c.store_none.ensures _ (search rules) (search rules)
-    (end_leaf c.args.kinds.now _ _ c.if-kind-eq-TRANSITION.false c.if-kind-eq-CONJUNCTION.false c.if-kind-eq-GREATEST.false)
-    (gathers_truth c.args.kinds.now c.args.binders.now _ _ _ _ _ c.store_none.ensures refl c.if-kind-eq-VARIABLE.false c.if-kind-eq-TRANSITION.false
-    c.if-kind-eq-OUTPUT.false c.if-kind-eq-CONJUNCTION.false c.if-kind-eq-GREATEST.false)
+pub returns-in-Greatest : goal.returns-in-Greatest
+returns-in-Greatest t c =
+    gathered_greatest c.args.nodes.now.kinds c.args.binders.now _ _ _ _ _ _ c.gather-end-in-Greatest.ensures
+    (row_stored c.args.at (get_or c.gather-end-in-Greatest.new.rows (c.args.at + 1) []) c.gather-end-in-Greatest.new.rows _ (omega arith) refl)
+    (omega arith) (kind_read _ Greatest c.of.ensures c.in-Some.is c.in-Greatest.is)

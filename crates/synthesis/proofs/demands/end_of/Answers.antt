@@ -1,21 +1,18 @@
-use Rattle.synthesis.proofs.NodeWalks.{here_leaf, here_transition, here_greatest, here_conjunction}
+-- `end_of` meets its contract, kind by kind.
+use Rattle.formulas.specs.declared.NodeKind.TheVariants.{Conjunction}
+use Rattle.synthesis.proofs.{NodeKinds.{kind_read, unknown_leaf, leaf_without, leaf_parts}, NodeWalks.{here_leaf, here_part, here_conjunction}}
 use Rattle.synthesis.proofs.demands.end_of.Goals as goal
 
-pub returns-then-kind-eq-CONJUNCTION : goal.returns-then-kind-eq-CONJUNCTION
-returns-then-kind-eq-CONJUNCTION c =
-    here_conjunction c.args.kinds.now c.args.ends.now _
-    c.if-kind-eq-CONJUNCTION.true
+pub returns-in_default : goal.returns-in_default
+returns-in_default c =
+    here_leaf c.args.nodes.now.kinds c.args.ends.now _ (leaf_without _ (unknown_leaf _ c.of.ensures c.in_default.is))
 
-pub returns-then-kind-eq-TRANSITION : goal.returns-then-kind-eq-TRANSITION
-returns-then-kind-eq-TRANSITION c =
-    here_transition c.args.kinds.now c.args.ends.now _ c.if-kind-eq-TRANSITION.true
+pub returns-in-Truth : goal.returns-in-Truth
+returns-in-Truth c = here_leaf c.args.nodes.now.kinds c.args.ends.now _ (leaf_parts _ c.of.ensures c.in-Some.is c.in-Truth.is)
 
-pub returns-then-kind-eq-GREATEST : goal.returns-then-kind-eq-GREATEST
-returns-then-kind-eq-GREATEST c =
-    here_greatest c.args.kinds.now c.args.ends.now _
-    c.if-kind-eq-GREATEST.true
+pub returns-in-Transition : goal.returns-in-Transition
+returns-in-Transition c = here_part c.args.nodes.now.kinds c.args.ends.now _ c.of.ensures c.in-Some.is c.in-Transition.is
 
-pub returns : goal.returns
-returns c =
-    here_leaf c.args.kinds.now c.args.ends.now _ c.if-kind-eq-TRANSITION.false
-    c.if-kind-eq-CONJUNCTION.false c.if-kind-eq-GREATEST.false
+pub returns-in-Conjunction : goal.returns-in-Conjunction
+returns-in-Conjunction c =
+    here_conjunction c.args.nodes.now.kinds c.args.ends.now _ (kind_read _ Conjunction c.of.ensures c.in-Some.is c.in-Conjunction.is)

@@ -7,7 +7,4 @@ use Rattle.synthesis.specs.NodeWalks.{EndsFrom}
 use Rattle.synthesis.proofs.demands.fill_ends.Given as goal
 
 abbrev pub invariant-loop-i : goal.invariant-loop-i
-invariant-loop-i l = (l.i ≤ l.count) × (length l.ends ≡ (node_limit + 1)) × EndsFrom l.kinds l.count l.ends l.i
-
-abbrev pub decreases-loop-i : goal.decreases-loop-i
-decreases-loop-i l = l.i
+invariant-loop-i l = (l.i ≤ l.nodes.count) × (length l.ends ≡ (node_limit + 1)) × EndsFrom l.nodes.kinds l.nodes.count l.ends l.i

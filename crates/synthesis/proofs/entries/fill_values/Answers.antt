@@ -14,45 +14,43 @@ row_fits events n state h = omega (arith, mul-le-mul_right events h, add-mul sta
 
 pub loop-state-init : goal.loop-state-init
 loop-state-init c =
-    (search rules, search rules, λ x h. absurd (omega (arith, h, zero-mul c.args.events)))
+    (search rules, λ x h. absurd (omega (arith, h, zero-mul c.args.events)))
 
 pub open_row-requires : goal.open_row-requires
 open_row-requires c = (
   omega (arith, c.loop-state-test.true, c.requires.1),
   search rules,
   omega
-      (arith, c.requires.7, c.loop-state.invariant.1, row_fits c.args.events c.args.n c.loop-state.state c.loop-state-test.true),
+      (arith, c.requires.4, c.loop-state.invariant.0, row_fits c.args.events c.args.n c.loop-state.state c.loop-state-test.true),
 )
 
 pub meet_row-requires : goal.meet_row-requires
 meet_row-requires c = (
   omega (arith, c.loop-state-test.true, c.requires.1),
   search rules,
-  search rules,
-  search rules,
-  c.marks_of-marks.ensures.0,
-  omega (arith, c.loop-state-test.true, c.requires.6),
-  omega (arith, c.requires.7, c.open_row.ensures.sized, c.loop-state.invariant.1, row_fits c.args.events c.args.n c.loop-state.state c.loop-state-test.true),
+  omega (arith, c.requires.4, c.open_row.ensures.sized, c.loop-state.invariant.0, row_fits c.args.events c.args.n c.loop-state.state c.loop-state-test.true),
 )
 
 pub loop-state-preserved : goal.loop-state-preserved
 loop-state-preserved c =
-    let f = state_value (meet_of c.args.kind c.args.meet.now) c.args.top c.args.kinds.now c.args.firsts.now c.args.values.now c.args.count c.args.states.now in
+    let f = state_value (meet_of c.args.value_set.kind c.args.value_set.meet.now) c.args.value_set.top c.args.nodes.now.kinds c.args.nodes.now.firsts
+    c.args.nodes.now.values c.args.nodes.now.count c.args.states.now in
     let r = row_again (f c.loop-state.state) _ c.args.events c.loop-state.state c.loop-state.to _ _ c.open_row.ensures
-    (row_of_marked (meet_of c.args.kind c.args.meet.now) c.args.top c.args.kinds.now c.args.firsts.now c.args.values.now
+    (row_of_marked (meet_of c.args.value_set.kind c.args.value_set.meet.now) c.args.value_set.top c.args.nodes.now.kinds c.args.nodes.now.firsts
+    c.args.nodes.now.values
     (row c.args.states.now c.loop-state.state)
-    c.args.count c.args.events c.loop-state.state _ _ _ c.marks_of-marks.ensures.1 c.open_row.ensures.entries c.meet_row.ensures) in
+    c.args.nodes.now.count c.args.events c.loop-state.state _ _ _ c.marks_of-marks.ensures c.open_row.ensures.entries c.meet_row.ensures) in
     let z : c.loop-state.state * c.args.events + c.args.events ≡ (c.loop-state.state + 1) * c.args.events = omega
     (arith, add-mul c.loop-state.state 1 c.args.events) in (
-      search rules,
-      r.sized ∙ c.loop-state.invariant.1,
-      λ x h. row_filled f c.args.events c.loop-state.state _ _ r c.loop-state.invariant.2 x (omega (arith, h, z)),
+      r.sized ∙ c.loop-state.invariant.0,
+      λ x h. row_filled f c.args.events c.loop-state.state _ _ r c.loop-state.invariant.1 x (omega (arith, h, z)),
     )
 
 pub returns : goal.returns
 returns c =
     let q : c.loop-state.state ≡ c.args.n = omega arith in (
-      c.loop-state.invariant.1,
-      subst (λ m. EntriesTo (state_value (meet_of c.args.kind c.args.meet.now) c.args.top c.args.kinds.now c.args.firsts.now c.args.values.now c.args.count
-          c.args.states.now) c.args.events (m * c.args.events) c.loop-state.to) q c.loop-state.invariant.2,
+      c.loop-state.invariant.0,
+      subst (λ m. EntriesTo (state_value (meet_of c.args.value_set.kind c.args.value_set.meet.now) c.args.value_set.top c.args.nodes.now.kinds
+          c.args.nodes.now.firsts c.args.nodes.now.values c.args.nodes.now.count
+          c.args.states.now) c.args.events (m * c.args.events) c.loop-state.to) q c.loop-state.invariant.1,
     )

@@ -1,5 +1,5 @@
 -- `fill_values` meets its contract. The loop's invariant: the entries of the states passed are right.
-use Prim.Native.Nat.{◌≤◌, ◌-◌, ◌*◌}
+use Prim.Native.Nat.{◌*◌}
 use mathlib.Core.Path.{◌≡◌}
 use lib.ListN.{length}
 use Rattle.values.specs.Setup.{meet_of}
@@ -8,8 +8,6 @@ use Rattle.synthesis.proofs.entries.fill_values.Given as goal
 
 abbrev pub invariant-loop-state : goal.invariant-loop-state
 invariant-loop-state l =
-    (l.state ≤ l.n) × (length l.to ≡ length l.initial.to)
-    × EntriesTo (state_value (meet_of l.kind l.meet) l.top l.kinds l.firsts l.values l.count l.states) l.events (l.state * l.events) l.to
-
-abbrev pub decreases-loop-state : goal.decreases-loop-state
-decreases-loop-state l = l.n - l.state
+    (length l.to ≡ length l.initial.to)
+    × EntriesTo (state_value (meet_of l.value_set.kind l.value_set.meet.now) l.value_set.top l.nodes.kinds l.nodes.firsts l.nodes.values l.nodes.count
+    l.states) l.events (l.state * l.events) l.to

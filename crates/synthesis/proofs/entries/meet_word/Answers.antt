@@ -10,7 +10,7 @@ use Rattle.synthesis.proofs.entries.meet_word.Goals as goal
 
 pub loop-rest-init : goal.loop-rest-init
 loop-rest-init c =
-    let step = Met (meet_of c.args.kind c.args.meet.now) c.args.firsts.now c.args.values.now c.args.events c.args.state in
+    let step = Met (meet_of c.args.value_set.kind c.args.value_set.meet.now) c.args.nodes.now.firsts c.args.nodes.now.values c.args.events c.args.state in
     (search rules, walk_start step c.args.word c.args.base c.args.to.now c.ranges.word.fits)
 
 pub power-rest-requires : goal.power-rest-requires
@@ -27,9 +27,7 @@ meet_node-requires c = (
   omega (arith, c.last_set-end.ensures.low),
   search rules,
   search rules,
-  search rules,
-  search rules,
-  omega (arith, c.loop-rest.invariant.0, c.requires.5),
+  omega (arith, c.loop-rest.invariant.0, c.requires.3),
 )
 
 pub loop-rest-smaller : goal.loop-rest-smaller

@@ -8,7 +8,8 @@ use Rattle.synthesis.proofs.entries.meet_word.Given as goal
 
 abbrev pub invariant-loop-rest : goal.invariant-loop-rest
 invariant-loop-rest l =
-    (length l.to ≡ length l.initial.to) × WordWalk (Met (meet_of l.kind l.meet) l.firsts l.values l.events l.state) l.word l.base l.initial.to l.rest l.end l.to
+    (length l.to ≡ length l.initial.to) × WordWalk (Met (meet_of l.value_set.kind l.value_set.meet.now) l.nodes.firsts l.nodes.values l.events l.state)
+    l.word l.base l.initial.to l.rest l.end l.to
 
 abbrev pub decreases-loop-rest : goal.decreases-loop-rest
 decreases-loop-rest l = l.end

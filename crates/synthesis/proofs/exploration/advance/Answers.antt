@@ -2,29 +2,26 @@
 use borrow.Author.Rules.{rules}
 use mathlib.Core.Path.{◌≡◌}
 use native.Mathlib.Omega.{arith}
-use Rattle.synthesis.specs.{NodeWords.{set_at}, MarkedNodes.{none_yet}}
+use Rattle.synthesis.specs.{NodeWords.{set_of}, MarkedNodes.{none_yet}}
 use Rattle.synthesis.proofs.{MarkedNodes.{words_next, words_done}, NextSets.{next_sets}}
 use Rattle.synthesis.proofs.exploration.advance.Goals as goal
 
 pub loop-w-init : goal.loop-w-init
-loop-w-init c = (search rules, c.clear.ensures.0, none_yet)
+loop-w-init c = (search rules, none_yet)
 
 pub advance_word-requires : goal.advance_word-requires
 advance_word-requires c =
-    (omega arith, search rules, search rules, search rules, c.loop-w.invariant.1)
+    (omega arith, search rules)
 
 pub loop-w-preserved : goal.loop-w-preserved
 loop-w-preserved c = (
   omega (arith, c.loop-w.invariant.0),
-  c.advance_word.ensures.0,
-  words_next _ c.args.states.now c.args.base c.args.marks.now _ c.loop-w.w c.loop-w.sets _
-      c.loop-w-test.true c.loop-w.invariant.0 c.loop-w.invariant.2 c.advance_word.ensures.1,
+  words_next _ c.args.set.now c.args.marks.now _ c.loop-w.w c.loop-w.sets _
+      c.loop-w-test.true c.loop-w.invariant.0 c.loop-w.invariant.1 c.advance_word.ensures,
 )
 
 pub returns : goal.returns
 returns c =
-    let none : c.loop-w.w ≡ 0 = omega arith in (
-      c.loop-w.invariant.1,
-      next_sets c.args.marks.now c.args.firsts.now c.args.rows.now (set_at c.args.states.now c.args.base) c.args.events _ c.loop-w.sets
-          c.clear.ensures.1 (words_done _ c.args.states.now c.args.base c.args.marks.now _ c.loop-w.w c.loop-w.sets none c.loop-w.invariant.2),
-    )
+    let none : c.loop-w.w ≡ 0 = omega arith in
+    next_sets c.args.marks.now c.args.nodes.now.firsts c.args.rows.now (set_of c.args.set.now) c.args.events _ c.loop-w.sets
+    c.clear.ensures (words_done _ c.args.set.now c.args.marks.now _ c.loop-w.w c.loop-w.sets none c.loop-w.invariant.1)

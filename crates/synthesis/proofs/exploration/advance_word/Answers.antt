@@ -8,8 +8,8 @@ use Rattle.synthesis.proofs.exploration.advance_word.Goals as goal
 
 pub loop-rest-init : goal.loop-rest-init
 loop-rest-init c =
-    let step = PassedStates c.args.firsts.now c.args.rows.now c.args.events in
-    (search rules, walk_start step c.args.word c.args.base c.args.sets.now c.ranges.word.fits)
+    let step = PassedStates c.args.nodes.now.firsts c.args.rows.now c.args.events in
+    walk_start step c.args.word c.args.base c.args.sets.now c.ranges.word.fits
 
 pub power-rest-requires : goal.power-rest-requires
 power-rest-requires c = c.last_set-end.ensures.low
@@ -22,18 +22,16 @@ overflow_add-base c = omega (arith, c.last_set-end.ensures.low)
 
 pub advance_node-requires : goal.advance_node-requires
 advance_node-requires c =
-    (omega (arith, c.last_set-end.ensures.low), search rules, search rules, search rules, c.loop-rest.invariant.0)
+    (omega (arith, c.last_set-end.ensures.low), search rules)
 
 pub loop-rest-smaller : goal.loop-rest-smaller
 loop-rest-smaller c =
-    walk_less _ _ _ _ _ _ _ c.loop-rest.invariant.1 c.last_set-end.result c.last_set-end.ensures
+    walk_less _ _ _ _ _ _ _ c.loop-rest.invariant c.last_set-end.result c.last_set-end.ensures
 
 pub loop-rest-preserved : goal.loop-rest-preserved
-loop-rest-preserved c = (
-  c.advance_node.ensures.0,
-  walk_next _ _ _ _ _ _ _ c.loop-rest.invariant.1 c.last_set-end.result c.last_set-end.ensures _ _ c.power-rest.ensures
-      c.advance_node.ensures.1,
-)
+loop-rest-preserved c =
+    walk_next _ _ _ _ _ _ _ c.loop-rest.invariant c.last_set-end.result c.last_set-end.ensures _ _ c.power-rest.ensures
+    c.advance_node.ensures
 
 pub returns : goal.returns
-returns c = (c.loop-rest.invariant.0, walk_done _ _ _ _ _ _ _ c.loop-rest.invariant.1 (omega arith))
+returns c = walk_done _ _ _ _ _ _ _ c.loop-rest.invariant (omega arith)

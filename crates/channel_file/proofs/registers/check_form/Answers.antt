@@ -1,5 +1,0 @@
--- `channel_file::registers::check_form` meets its contract: the reply of reading into no room. Assumes nothing.
-use Rattle.channel_file.proofs.registers.check_form.Goals as goal
-
-pub returns : goal.returns
-returns c = c.read_form.ensures.reply

@@ -1,7 +1,0 @@
--- `recorder::registers::check_tool_setup` meets its contract: 1 and 20, then 18.
-use mathlib.Core.Path.{◌∙◌}
-use Rattle.recorder.proofs.Held.{judged_is}
-use Rattle.recorder.proofs.registers.check_tool_setup.Goals as goal
-
-pub returns : goal.returns
-returns c = rw c.check_register.ensures at c.judged_wheel.ensures ∙ judged_is _
