@@ -2,7 +2,7 @@
 use mathlib.Core.{Path.{◌≡◌, sym, ◌∙◌, ap}, List.{List, [], ◌∷◌, ◌++◌, append_assoc, append-nil}}
 use Prim.Native.Nat.{ℕ, suc, ◌+◌, ◌*◌, ◌≤◌, ◌<◌}
 use native.Mathlib.{Omega.{arith}}
-use lib.{ListN.{length, get_or, take, set, length-append, length-take}, Seq.{take_at, sets, sets-eq}}
+use lib.{ListN.{length, get_or, take, set, length-append, length-take}, Seq.{take_at, sets, sets-eq, length-sets}}
 use Rattle.limits.specs.Limits.{node_limit}
 use Rattle.theory.specs.Formula.{Node}
 use Rattle.values.specs.declared.ValueKind.{ValueKind}
@@ -26,40 +26,69 @@ pub node_room : (kind : ValueKind) {at : ℕ} → at < node_limit → at * node_
 node_room (Numbered n) below = omega arith
 node_room (Register lines) below = omega arith
 
--- One node.
-module _ (l : NodeList) (after : NodeList) (n : Node ℕ) {number first value place : ℕ} (room : length l.bytes ≡ node_limit * 6)
-    (below : l.count < node_limit) (kind_is : after.kind ≡ l.kind) (count_is : after.count ≡ l.count + 1) (place_is : place ≡ l.count * node_width l.kind)
-    (number_is : number ≡ kind_number n) (first_is : first ≡ first_field n) (value_is : value ≡ value_field n)
-    (stored : after.bytes ≡ sets (set (set l.bytes place number) (place + 1) first) (place + 2) (value_bytes l.kind value)) where
-  whole : after.bytes ≡ sets l.bytes (l.count * node_width l.kind) (node_bytes l.kind n)
-  whole =
-      let one : place + 1 ≡ suc (l.count * node_width l.kind) = omega (arith, place_is) in
-      let two : place + 2 ≡ suc (suc (l.count * node_width l.kind)) = omega (arith, place_is) in
-      let fields : after.bytes ≡ sets l.bytes (l.count * node_width l.kind) (kind_number n ∷ first_field n ∷ value_bytes l.kind (value_field n))
-      = stored ∙ cc (one, two, place_is, number_is, first_is, value_is) in
-      fields ∙ ap (sets l.bytes (l.count * node_width l.kind)) (sym (fields_same l.kind n))
+-- The bytes that are stored for a node.
+pub stored_node :
+    (kind : ValueKind) (l : List ℕ) (n : Node ℕ) (place : ℕ) {number first value : ℕ} → number ≡ kind_number n → first ≡ first_field n → value ≡ value_field n
+    → sets (set (set l place number) (place + 1) first) (place + 2) (value_bytes kind value) ≡ sets l place (node_bytes kind n)
+stored_node kind l n place number_is first_is value_is =
+    let one : place + 1 ≡ suc place = omega arith in
+    let two : place + 2 ≡ suc (suc place) = omega arith in
+    cc (one, two, number_is, first_is, value_is) ∙ ap (sets l place) (sym (fields_same kind n))
 
-  long : length (node_bytes l.kind n) ≡ node_width l.kind
-  long = (node_code l.kind).length_is n
+-- The first bytes after so many are stored behind those.
+take_stored : (l bs : List ℕ) (at after : ℕ) → at + length bs ≤ length l → after ≡ at + length bs → take after (sets l at bs) ≡ take at l ++ bs
+take_stored l bs at after fits after_is =
+    ap (take after) (sets-eq bs l at fits)
+    ∙ take_at (take at l ++ bs) _ after (length-append (take at l) bs ∙ omega (arith, length-take at l, fits, after_is))
 
-  fits : l.count * node_width l.kind + length (node_bytes l.kind n) ≤ length l.bytes
-  fits = omega (arith, long, node_room l.kind below, width_is l.kind, room)
+-- One node, and two.
+module _ (l after : NodeList) (room : length l.bytes ≡ node_limit * 6) (kind_is : after.kind ≡ l.kind) where
+  long : (n : Node ℕ) → length (node_bytes l.kind n) ≡ node_width l.kind
+  long n = (node_code l.kind).length_is n
 
-  taken : length (listed l ++ node_bytes l.kind n) ≡ (l.count + 1) * node_width l.kind
-  taken =
-      length-append (listed l) (node_bytes l.kind n)
-      ∙ omega (arith, long, length-take (l.count * node_width l.kind) l.bytes, fits, next_node l.kind l.count)
+  fits : (n : Node ℕ) {at : ℕ} → at < node_limit → at * node_width l.kind + length (node_bytes l.kind n) ≤ node_limit * 6
+  fits n below = omega (arith, long n, node_room l.kind below, width_is l.kind)
 
-  pub one_node : Appended (n ∷ []) l after
-  one_node =
+  next : (n : Node ℕ) (at : ℕ) → (at + 1) * node_width l.kind ≡ at * node_width l.kind + length (node_bytes l.kind n)
+  next n at = omega (arith, next_node l.kind at, long n)
+
+  taken : (n : Node ℕ) → l.count < node_limit
+      → take ((l.count + 1) * node_width l.kind) (sets l.bytes (l.count * node_width l.kind) (node_bytes l.kind n)) ≡ listed l ++ node_bytes l.kind n
+  taken n below =
+      take_stored l.bytes (node_bytes l.kind n) (l.count * node_width l.kind) _ (omega (arith, fits n below, room)) (next n l.count)
+
+  pub one_node :
+      (n : Node ℕ) → l.count < node_limit → after.count ≡ l.count + 1
+      → after.bytes ≡ sets l.bytes (l.count * node_width l.kind) (node_bytes l.kind n) → Appended (n ∷ []) l after
+  one_node n below count_is stored =
       record {
         same_kind = kind_is;
         count_is = omega (arith, count_is);
         bytes_are =
-            cc (kind_is, count_is)
-            ∙ ap (take ((l.count + 1) * node_width l.kind)) (whole ∙ sets-eq (node_bytes l.kind n) l.bytes (l.count * node_width l.kind) fits)
-            ∙ take_at (listed l ++ node_bytes l.kind n) _ ((l.count + 1) * node_width l.kind) taken
+            cc (kind_is, count_is, stored)
+            ∙ taken n below
             ∙ ap (λ b. listed l ++ b) (sym (append-nil (node_bytes l.kind n)));
+      }
+
+  pub two_nodes :
+      (n m : Node ℕ) → l.count + 1 < node_limit → after.count ≡ l.count + 2
+      → after.bytes
+      ≡ sets (sets l.bytes (l.count * node_width l.kind) (node_bytes l.kind n)) ((l.count + 1) * node_width l.kind) (node_bytes l.kind m)
+      → Appended (n ∷ m ∷ []) l after
+  two_nodes n m below count_is stored =
+      let front = sets l.bytes (l.count * node_width l.kind) (node_bytes l.kind n) in
+      let two : l.count + 2 ≡ l.count + 1 + 1 = omega arith in
+      record {
+        same_kind = kind_is;
+        count_is = omega (arith, count_is);
+        bytes_are =
+            cc (kind_is, count_is, stored, two)
+            ∙ take_stored front (node_bytes l.kind m) ((l.count + 1) * node_width l.kind) ((l.count + 1 + 1) * node_width l.kind)
+            (omega (arith, fits m below, room, length-sets l.bytes (l.count * node_width l.kind) (node_bytes l.kind n)))
+            (next m (l.count + 1))
+            ∙ ap (λ b. b ++ node_bytes l.kind m) (taken n (omega (arith, below)))
+            ∙ append_assoc (listed l) (node_bytes l.kind n) (node_bytes l.kind m)
+            ∙ ap (λ b. listed l ++ (node_bytes l.kind n ++ b)) (sym (append-nil (node_bytes l.kind m)));
       }
 
 -- Some nodes and then more.

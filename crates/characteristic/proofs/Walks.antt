@@ -37,7 +37,7 @@ same_path {d} {e} {o} {u} {states} d_is o_is h = subst (λ x. IsPath e x states)
 module _ (m : Machine) (state : ℕ) {p : OpenStates} {l l_after : NodeList} where
   -- A state that is open on the path.
   pub walk_open :
-      {i : ℕ} {r : Option (Unit {0})} → place_of p state ≡ Some i → Appends (variable_node i) l l_after r
+      {i : ℕ} {r : Option (Unit {0})} → place_of p state ≡ Some i → Appends (variable_node i ∷ []) l l_after r
       → WalksState m state p p l l_after r
   walk_open {i} {r} there x =
       record {
@@ -137,7 +137,7 @@ module _ (m : Machine) (state event : ℕ) {next : ℕ} {p p_end : OpenStates} {
     -- The row of the last event.
     pub walk_last :
         {value : ℕ} {l_after : NodeList} {r : Option (Unit {0})} → value ≡ (mealy_of m).value state event → event + 1 ≡ m.events
-        → Appends (output_node event value) l_end l_after r → WalksRows m state event p p_end l l_after r
+        → Appends (output_node event value ∷ []) l_end l_after r → WalksRows m state event p p_end l l_after r
     walk_last {value} {l_after} {r} value_is last z =
         record {
           walked = λ e.
@@ -151,7 +151,7 @@ module _ (m : Machine) (state event : ℕ) {next : ℕ} {p p_end : OpenStates} {
                 longest_is = λ states o φ w. longest' o φ w;
                 written = λ states o φ w. written' o a φ w;
               };
-          too_many = λ h states o φ w. many o (z.too_many h) φ w;
+          too_many = λ h states o φ w. many o (omega (arith, z.too_many h)) φ w;
         }
       where
         longest' : {states : List ℕ} → IsPath p.depth p.opened states → (φ : Formula ℕ) → Rows (mealy_of m) m.events states state event φ
@@ -173,7 +173,7 @@ module _ (m : Machine) (state event : ℕ) {next : ℕ} {p p_end : OpenStates} {
     -- The row of another event, and those after it.
     module _ (more : ¬ (event + 1 ≡ m.events)) where
       pub walk_row_outgrown :
-          {l_after : NodeList} {r : Option (Unit {0})} → node_limit ≤ l_end.count + 1 → r ≡ None → WalksRows m state event p p_end l l_after r
+          {l_after : NodeList} {r : Option (Unit {0})} → node_limit < l_end.count + 2 → r ≡ None → WalksRows m state event p p_end l l_after r
       walk_row_outgrown full r_is = walk_outgrown r_is (λ states o φ w. many o φ w)
         where
           many : {states : List ℕ} → IsPath p.depth p.opened states → (φ : Formula ℕ) → Rows (mealy_of m) m.events states state event φ

@@ -1,5 +1,5 @@
 -- What the parts of the walk over a table promise: nodes appended to a list up to the limit, and the path of open states.
-use mathlib.Core.{Path.{◌≡◌}, List.{List, [], ◌∷◌, ◌++◌}}
+use mathlib.Core.{Path.{◌≡◌}, List.{List, ◌++◌}}
 use Rattle.std.specs.Prelude.{ℕ, ◌+◌, ◌*◌, ◌-◌, ◌≤◌, ◌<◌, max, length, get_or, take, Option, None, Some, option_map, Result}
 use Rattle.limits.specs.Limits.{table_limit, node_limit}
 use Rattle.theory.specs.MealyMachine.{Machine as MealyMachine}
@@ -41,10 +41,10 @@ pub record Appended (ns : List (Node ℕ)) (before after : NodeList) : Type 0 wh
   pub count_is : after.count ≡ before.count + length ns
   pub bytes_are : listed after ≡ listed before ++ encode_all (node_bytes before.kind) ns
 
--- A node is appended, or there are too many.
-pub record Appends (n : Node ℕ) (before after : NodeList) (r : Option (Unit {0})) : Type 0 where
-  pub appended : r ≡ Some tt → Appended (n ∷ []) before after
-  pub too_many : r ≡ None → node_limit ≤ before.count
+-- Nodes are appended, or there are too many.
+pub record Appends (ns : List (Node ℕ)) (before after : NodeList) (r : Option (Unit {0})) : Type 0 where
+  pub appended : r ≡ Some tt → Appended ns before after
+  pub too_many : r ≡ None → node_limit < before.count + length ns
 
 -- These states are open, the innermost first: of each open state the array has how many were open with it when it was opened.
 pub record IsPath (depth : ℕ) (opened : List (Option ℕ)) (states : List ℕ) : Type 0 where

@@ -19,6 +19,8 @@ use path::Path;
 use refusal::Refusal;
 use values::SetUp;
 
+// The recursion follows document 01's "Rule of a table": `write_state` its rule of a state, `write_rows` its rows.
+
 // Appends the rule of a state: X where it is open on the path; otherwise V and its rows, with the state open. As a call
 // of its own it took a quarter more of a rule of many states.
 #[cycle(write_rows_write_state)]
@@ -54,15 +56,13 @@ fn write_rows(
     requires { Ready machine.now state path.old nodes.old × (event < machine.now.events) }
     ensures { WalksRows machine.now state event path.old path.new nodes.old nodes.new result }
 {
-    nodes.put(Node::Conjunction)?;
-    nodes.put(Node::Transition(event))?;
+    nodes.put_both(Node::Conjunction, Node::Transition(event))?;
     write_state(machine, machine.next(state, event), path, nodes)?;
     let output = Node::Output(event, machine.value(state, event));
     if event + 1 == machine.events {
         return nodes.put(output);
     }
-    nodes.put(Node::Conjunction)?;
-    nodes.put(output)?;
+    nodes.put_both(Node::Conjunction, output)?;
     write_rows(machine, state, event + 1, path, nodes)
 }
 

@@ -4,10 +4,10 @@ ghost use Rattle.std.specs.Prelude.{◌≤◌};
 use limits::TABLE_LIMIT;
 
 // Of each open state, how many states were open with it when it was opened; of each other state none. `longest` is the length of the
-// longest path so far.
+// longest path so far. Narrow entries, as all are cleared for each rule.
 #[derive(Drop)]
 pub struct Path {
-    pub opened: [Option<usize>; TABLE_LIMIT],
+    pub opened: [Option<u16>; TABLE_LIMIT],
     pub depth: usize,
     pub longest: usize,
     pub ghost counted: { depth ≤ longest },
@@ -36,7 +36,7 @@ impl Path {
         requires { (state < table_limit) × Held self.now }
         ensures { result ≡ place_of self.now state }
     {
-        self.opened[state].map(|depth| self.depth - depth)
+        self.opened[state].map(|depth| self.depth - usize::from(depth))
     }
 
     // Opens a state.
@@ -47,7 +47,7 @@ impl Path {
         ensures longest { self.new.longest ≡ max self.old.longest (self.old.depth + 1) }
     {
         self.depth += 1;
-        self.opened[state] = Some(self.depth);
+        self.opened[state] = Some(self.depth as u16);
         self.longest = self.longest.max(self.depth);
     }
 

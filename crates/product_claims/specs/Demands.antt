@@ -88,7 +88,7 @@ pub record DemandOne : Type 1 where
   pub compiling : (s : Setup) (rule old : List ℕ) →
       JudgedCall (compile_conditions state_limit s rule old) (refusal_of (compile_answer state_limit s rule old)) old
       (compile_contents state_limit s rule old)
-  -- characteristic `write_rule` and `write_register_rule`
+  -- characteristic `write_rule`
   pub writing_a_rule : (s : Setup) (states start : ℕ) (table old : List ℕ) →
       JudgedCall (write_conditions table_limit node_limit s states start table (length old))
       (refusal_of (write_answer table_limit node_limit s states start table old)) old (write_contents table_limit node_limit s states start table old)
@@ -96,7 +96,7 @@ pub record DemandOne : Type 1 where
   pub trying : (x : TrialInput) (old : List ℕ) →
       JudgedCall (trial_conditions device_limit table_limit x old) (refusal_of (trial_answer device_limit table_limit x old)) old
       (trial_buffer device_limit table_limit x old)
-  -- recorder `set_up`; `load`, `event`, `restart`, `restart_all` and `clear`; `replay`; and those of its module `registers`
+  -- recorder `set_up`; `load`, `event`, `restart`, `restart_all` and `clear`; `replay`; of both kinds of tools
   pub setting_up : (s : ToolSetup) → Judged (tool_setup_conditions s) (reply_refusal (set_up_called s).0)
   pub calling : (t : Store) (call : Call Occurrence) → JudgedCall (call_conditions t call) (reply_refusal (called call t).0) t (called call t).1
   pub replaying : (t : Store) (c : ℕ) (word : List Occurrence) (old : List ℕ) →

@@ -3,7 +3,7 @@
 use mathlib.Core.Path.{sym, ◌∙◌}
 use Rattle.std.proofs.Common.{rules}
 use native.Mathlib.Omega.{arith}
-use Rattle.characteristic.proofs.{Appended.{both}, Walks.{walk_open, walk_new, walk_new_outgrown, walk_last, walk_row_outgrown, walk_more, ready_rows}}
+use Rattle.characteristic.proofs.{Walks.{walk_open, walk_new, walk_new_outgrown, walk_last, walk_row_outgrown, walk_more, ready_rows}}
 use Rattle.characteristic.proofs.+write_rows_write_state.Goals as goal
 
 pub write_state-returns-in-Some : goal.write_state-returns-in-Some
@@ -35,26 +35,16 @@ write_state-returns t c =
 
 pub write_rows-returns-then-event-machine : goal.write_rows-returns-then-event-machine
 write_rows-returns-then-event-machine t c =
-    walk_last c.args.machine.now c.args.state c.args.event
-    (both (c.put.ensures.appended c.in_ok-put.was) (c.put-2.ensures.appended c.in_ok-put-2.was)) c.next.ensures.next
-    c.write_state.ensures c.in_ok-write_state.was c.value.ensures.value c.if-event-machine.true c.put-then-event-machine.ensures
+    walk_last c.args.machine.now c.args.state c.args.event (c.put_both.ensures.appended c.in_ok-put_both.was) c.next.ensures.next
+    c.write_state.ensures c.in_ok-write_state.was c.value.ensures.value c.if-event-machine.true c.put.ensures
 
-pub write_rows-returns-in_err-put-3 : goal.write_rows-returns-in_err-put-3
-write_rows-returns-in_err-put-3 t c =
-    walk_row_outgrown c.args.machine.now c.args.state c.args.event
-    (both (c.put.ensures.appended c.in_ok-put.was) (c.put-2.ensures.appended c.in_ok-put-2.was)) c.next.ensures.next
-    c.write_state.ensures c.in_ok-write_state.was c.if-event-machine.false (omega (arith, c.put-3.ensures.too_many c.in_err-put-3.was)) (search rules)
-
-pub write_rows-returns-in_err-put-4 : goal.write_rows-returns-in_err-put-4
-write_rows-returns-in_err-put-4 t c =
-    walk_row_outgrown c.args.machine.now c.args.state c.args.event
-    (both (c.put.ensures.appended c.in_ok-put.was) (c.put-2.ensures.appended c.in_ok-put-2.was)) c.next.ensures.next
-    c.write_state.ensures c.in_ok-write_state.was c.if-event-machine.false
-    (omega (arith, c.put-4.ensures.too_many c.in_err-put-4.was, (c.put-3.ensures.appended c.in_ok-put-3.was).count_is)) (search rules)
+pub write_rows-returns-in_err-put_both-2 : goal.write_rows-returns-in_err-put_both-2
+write_rows-returns-in_err-put_both-2 t c =
+    walk_row_outgrown c.args.machine.now c.args.state c.args.event (c.put_both.ensures.appended c.in_ok-put_both.was) c.next.ensures.next
+    c.write_state.ensures c.in_ok-write_state.was c.if-event-machine.false (c.put_both-2.ensures.too_many c.in_err-put_both-2.was) (search rules)
 
 pub write_rows-returns : goal.write_rows-returns
 write_rows-returns t c =
-    walk_more c.args.machine.now c.args.state c.args.event
-    (both (c.put.ensures.appended c.in_ok-put.was) (c.put-2.ensures.appended c.in_ok-put-2.was)) c.next.ensures.next
+    walk_more c.args.machine.now c.args.state c.args.event (c.put_both.ensures.appended c.in_ok-put_both.was) c.next.ensures.next
     c.write_state.ensures c.in_ok-write_state.was c.if-event-machine.false c.value.ensures.value
-    (both (c.put-3.ensures.appended c.in_ok-put-3.was) (c.put-4.ensures.appended c.in_ok-put-4.was)) c.write_rows.ensures
+    (c.put_both-2.ensures.appended c.in_ok-put_both-2.was) c.write_rows.ensures
