@@ -11,9 +11,10 @@ returns-in_err-arrays c =
 
 pub returns-in_err-states : goal.returns-in_err-states
 returns-in_err-states c =
+    let passed = passed_on c.from_residual-in_err-states.result c.in_err-states.field-0.0 c.from_residual-in_err-states.ensures.1 in
     compiles_bare (compiles_refused [] c.args.to.now
     (judging_as refl c.pair_of.ensures.set_up c.pair_of.ensures.nodes (holds c.args.text.now (sym c.in_ok-arrays.was ∙ c.read_arrays.ensures)))
-    c.compile.ensures (passed_on c.from_residual-in_err-states.result c.in_err-states.field-0.0 c.from_residual-in_err-states.ensures.1) c.in_err-states.was) c.compile.auto.meet
+    c.compile.ensures passed c.in_err-states.was) c.compile.auto.meet
 
 pub returns : goal.returns
 returns c =

@@ -11,9 +11,10 @@ returns-in_err-arrays c =
 
 pub returns-in_err-keep : goal.returns-in_err-keep
 returns-in_err-keep c =
+    let passed = passed_on c.from_residual-in_err-keep.result c.in_err-keep.field-0.0 c.from_residual-in_err-keep.ensures.1 in
     reads_bare (reads_refused [] c.args.rule.now
     (judging_as refl c.pair_of.ensures.set_up c.pair_of.ensures.nodes (holds c.args.text.now (sym c.in_ok-arrays.was ∙ c.read_arrays.ensures)))
-    c.keep.ensures (passed_on c.from_residual-in_err-keep.result c.in_err-keep.field-0.0 c.from_residual-in_err-keep.ensures.1) c.in_err-keep.was) c.keep.auto.meet
+    c.keep.ensures passed c.in_err-keep.was) c.keep.auto.meet
 
 pub returns : goal.returns
 returns c =
