@@ -80,7 +80,7 @@ pub record FilesJudged (C : FileCalls) : Type 1 where
   pub reporting : (t old new : List ℕ) (r : Result ℕ Refusal) → C.Reports_by t old new r → JudgedCall (report_conditions C.form t old) (refusal_of r) old new
 
 -- Demand 1: "any public entry takes any input of its type: the call .. accepts or refuses by document 01's list, and a refusal changes no
--- lent memory." That calls end and do nothing undefined is what a proved crate is; no public function has a requires but two of recorder's trait `Kind`.
+-- lent memory." That calls end and do nothing undefined is what a proved crate is; no public function has a requires.
 pub record DemandOne : Type 1 where
   -- values `SetUp::check`: of both kinds of values (document 02, F-7), here and below
   pub checking_a_set_up : (s : Setup) → Judged (setup_conditions s) (refusal_of (judgement (setup_refusal s)))

@@ -1,7 +1,10 @@
 -- Columns of a table's bytes; three copies into zeros make a splice.
-use mathlib.Core.{Path.{◌≡◌, refl, sym, ◌∙◌, ap, ap₂}, List.{List, ◌++◌, append_assoc}}
-use Prim.Native.Nat.{ℕ, ◌+◌, ◌*◌, ◌-◌, ◌≤◌, ◌<◌}
-use native.Mathlib.{Nat.{add-zero, add-mul, one-mul, mul-le-mul_right}, Omega.{arith}}
+use mathlib.Core.{Path.{◌≡◌, refl, sym, ◌∙◌, ap, ap₂}, Bool.{Bool, true, false, ◌&&◌, cond}, List.{List, ◌++◌, append_assoc}}
+use Prim.Native.Nat.{ℕ, ◌+◌, ◌*◌, ◌/◌, ◌-◌, ◌≤◌, ◌<◌}
+use lib.Dec.{leb}
+use borrow.Author.Tests.{le-leb, lt-leb, leb-true}
+use Rattle.theory.proofs.ValueSets.{and_left, and_right}
+use native.Mathlib.{Nat.{add-zero, add-mul, one-mul, mul-le-mul_right, le-div_iff_mul-le}, Omega.{arith}}
 use lib.ListN.{length, get_or, take, drop, replicate, length-append, length-drop, length-replicate}
 use lib.Seq.{paste, length-paste, length-take-le, take_all, take-take, take-append_seam, take-append-le, drop-append-le, drop_at}
 use Rattle.limits.specs.Limits.{store_limit}
@@ -10,7 +13,7 @@ use Rattle.values.specs.{declared.ValueKind.{ValueKind}, declared.ValueKind.TheV
 use Rattle.machines.specs.TableBytes.{entry_width}
 use Rattle.values.specs.ValueTests.{masks_from}
 use Rattle.recorder.specs.Splicing.{spliced, column, mask_column, entry_values, entry_nexts}
-use Rattle.recorder.specs.{declared.row_store.Room.{Room}, Store.{Store}, Called.{with_rows, with_entries}, Decisions.{room_of, roomed}}
+use Rattle.recorder.specs.{declared.row_store.Room.{Room}, Store.{Store}, Called.{with_rows, with_entries}, Decisions.{room_of, roomed, RoomFits, room_test, spliced_column}}
 use Rattle.recorder.proofs.Rows.{same_padded}
 
 module _ (width which : ℕ) (table : List ℕ) (n : ℕ) where
@@ -115,6 +118,50 @@ module _ (rows new : List ℕ) (at old n later : ℕ) (sized : length rows ≡ s
       ∙ ap (λ x. take at rows ++ x ++ (b ++ z)) (take_all n new (omega (arith, counted)))
       ∙ ap (λ k. take at rows ++ new ++ (b ++ replicate (store_limit - (at + k + later)) 0)) (sym counted)
       ∙ sym (append_assoc (take at rows ++ new) b (replicate (store_limit - (at + length new + later)) 0))
+
+-- A store has room exactly if the test of a room says so.
+pub room_fits : (room : Room) → room_test room ≡ true → RoomFits room
+room_fits room e =
+    let old : Bool = leb (room.at + room.later + room.old) store_limit in
+    let new : Bool = leb (room.at + room.later + room.new) store_limit in
+    record {
+      old_fits = omega (arith, leb-true (room.at + room.later + room.old) store_limit (and_left old new e));
+      new_fits = omega (arith, leb-true (room.at + room.later + room.new) store_limit (and_right old new e));
+    }
+
+pub room_there : (room : Room) → RoomFits room → room_test room ≡ true
+room_there room f =
+    ap₂ (λ a b. a && b) (le-leb (room.at + room.later + room.old) store_limit (omega (arith, f.old_fits)))
+    (le-leb (room.at + room.later + room.new) store_limit (omega (arith, f.new_fits)))
+
+-- A table that has the bytes of so many entries has so many entries.
+pub enough_entries : (kind : ValueKind) (n k : ℕ) → k * entry_width kind ≤ n → k ≤ n / entry_width kind
+enough_entries (Numbered v) n k h = (le-div_iff_mul-le {k = 2} {x = k} {y = n} (omega arith)).1 h
+enough_entries (Register l) n k h = (le-div_iff_mul-le {k = 5} {x = k} {y = n} (omega arith)).1 h
+
+-- A column is spliced where there is room and the table has enough, and kept where not.
+module _ (kind : ValueKind) (room : Room) (table rows : List ℕ) where
+  abbrev in_place : List ℕ
+  in_place = spliced rows room.at room.old (entry_values kind table room.new) room.later
+
+  abbrev enough : Bool
+  enough = leb room.new (length table / entry_width kind)
+
+  pub spliced_there : room_test room ≡ true → room.new ≤ length table / entry_width kind → spliced_column kind room table rows ≡ in_place
+  unfolding spliced_column
+  spliced_there e f = ap₂ (λ a b. cond (a && b) in_place rows) e (le-leb room.new (length table / entry_width kind) f)
+
+  pub kept_without_room : room_test room ≡ false → spliced_column kind room table rows ≡ rows
+  unfolding spliced_column
+  kept_without_room e = ap (λ a. cond (a && enough) in_place rows) e
+
+  pub kept_short : length table / entry_width kind < room.new → spliced_column kind room table rows ≡ rows
+  unfolding spliced_column
+  kept_short h = ap (λ b. cond (room_test room && b) in_place rows) (lt-leb room.new (length table / entry_width kind) h) ∙ go (room_test room)
+    where
+      go : (a : Bool) → cond (a && false) in_place rows ≡ rows
+      go true = refl
+      go false = refl
 
 -- What is stored: both lists spliced with what is read from a table's bytes.
 pub stored_is :

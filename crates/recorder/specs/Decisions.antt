@@ -1,16 +1,18 @@
 -- What the private functions of the tool find: the first refusal so far, as each call goes on, and what an accepted call needs.
-use mathlib.Core.{Bool.{Bool}, List.{List, [], ◌∷◌, ◌++◌}, Option.{Option}}
-use Rattle.std.specs.Prelude.{ℕ, zero, suc, ◌+◌, ◌*◌, ◌-◌, ◌≤◌, ◌<◌, Result, Ok, Err}
+use mathlib.Core.{Bool.{Bool, ◌&&◌, cond}, List.{List, [], ◌∷◌, ◌++◌}, Option.{Option}}
+use Rattle.std.specs.Prelude.{ℕ, zero, suc, ◌+◌, ◌*◌, ◌-◌, ◌/◌, ◌≤◌, ◌<◌, leb, Result, Ok, Err}
 use lib.{ListN.{get_or, length, set, take, drop, replicate}}
 use Rattle.limits.specs.Limits.{channel_limit, event_limit, table_limit, entry_limit, row_limit, store_limit, turn_limit, total_limit}
 use Rattle.theory.specs.MealyMachine.{Machine}
 use Rattle.refusal.specs.{declared.Refusal.{Refusal}, declared.Refusal.TheVariants.{ToolContents}}
 use Rattle.refusal.specs.RefusalAnswers.{or_else, plain_unless}
+use Rattle.values.specs.declared.ValueKind.{ValueKind}
+use Rattle.machines.specs.TableBytes.{entry_width}
 use Rattle.channel_log.specs.{Calls.{Reply, accepted, returned, refused, restart}, Distance.{Wheel, Reading, reading}}
 use Rattle.channel_log.specs.CallSteps.{channel_refusal, empty_refusal}
 use Rattle.channel_log.specs.{Log.{rows_refusal}, Rows.{all_rows}}
 use Rattle.recorder.specs.{Store.{Store, reply_of, table_at, rows_start, channels, rows}, Called.{with_current, fault_refusal}}
-use Rattle.recorder.specs.Splicing.{row_count, own_entries, later_entries}
+use Rattle.recorder.specs.Splicing.{row_count, own_entries, later_entries, spliced, entry_values}
 use Rattle.recorder.specs.{declared.row_store.Room.{Room}, declared.Step.{Step}, declared.Settled.{Settled}}
 
 -- 17 by its test, and 25; of the named channel, then 14; then 15.
@@ -72,6 +74,15 @@ room_of events states c k =
 pub record RoomFits (room : Room) : Type 0 where
   pub old_fits : room.at + room.old + room.later ≤ store_limit
   pub new_fits : room.at + room.new + room.later ≤ store_limit
+
+abbrev pub room_test : Room → Bool
+room_test room = leb (room.at + room.later + room.old) store_limit && leb (room.at + room.later + room.new) store_limit
+
+-- A column with a table's values in such a room; as it was where they don't fit, or the table has fewer.
+unfoldable pub spliced_column : ValueKind → Room → List ℕ → List ℕ → List ℕ
+spliced_column kind room table rows =
+    cond (room_test room && leb room.new (length table / entry_width kind))
+    (spliced rows room.at room.old (entry_values kind table room.new) room.later) rows
 
 -- The rows up to the end of the place for so many new entries, the later ones right behind it, then zeros.
 abbrev pub roomed : {A : Type 0} → A → List A → ℕ → ℕ → ℕ → ℕ → List A

@@ -8,8 +8,7 @@ ghost use Rattle.values.specs.HandedIn.{setup_of};
 ghost use Rattle.machines.specs.TableBytes.{entry_width};
 ghost use Rattle.synthesis.specs.Compilation.{compile_answer, compile_contents};
 ghost use Rattle.recorder.specs.Store.{Meaning, number_meaning, register_meaning, counted_setup};
-ghost use Rattle.recorder.specs.Splicing.{spliced, entry_values};
-ghost use Rattle.recorder.specs.Decisions.{RoomFits};
+ghost use Rattle.recorder.specs.Decisions.{spliced_column};
 
 use crate::row_store::{Room, copy_column, copy_masks, entries_below, make_room, masks_in_order};
 use limits::{MEET_LIMIT, REGISTER_TABLE_BYTES, STORE_LIMIT, TABLE_BYTES};
@@ -43,18 +42,16 @@ pub trait Kind: Copy {
     fn blank() -> Self::Column
         ensures { meaning.cells result ≡ replicate store_limit 0 };
 
+    // The value at a place; behind the end it is 0.
     fn value_at(column: &Self::Column, place: usize) -> Self::Value
-        requires { place < store_limit }
         ensures { meaning.number result ≡ get_or (meaning.cells column.now) place 0 };
 
     fn wide(value: Self::Value) -> u32
         ensures { result ≡ meaning.number value };
 
-    // The values of a table's entries for the old ones at a place.
+    // The values of a table's entries for the old ones at a place. Where they don't fit, or the table has fewer, nothing is changed.
     fn splice(&self, column: &mut Self::Column, room: Room, table: &[u8])
-        requires { RoomFits room × (room.new * entry_width (meaning.kind self.now) ≤ length table.now) }
-        ensures { meaning.cells column.new
-            ≡ spliced (meaning.cells column.old) room.at room.old (entry_values (meaning.kind self.now) table.now room.new) room.later };
+        ensures { meaning.cells column.new ≡ spliced_column (meaning.kind self.now) room table.now (meaning.cells column.old) };
 
     // Room for the bytes of the largest table.
     fn blank_table(&self) -> Self::Table
@@ -132,7 +129,7 @@ impl Kind for Numbers {
     }
 
     fn value_at(column: &[u8; STORE_LIMIT], place: usize) -> u8 {
-        column[place]
+        column.get(place).copied().unwrap_or(0)
     }
 
     fn wide(value: u8) -> u32 {
@@ -140,6 +137,9 @@ impl Kind for Numbers {
     }
 
     fn splice(&self, column: &mut [u8; STORE_LIMIT], room: Room, table: &[u8]) {
+        if !room.fits() || table.len() / 2 < room.new {
+            return;
+        }
         make_room(column, room, 0);
         copy_column(column, room.at, table, 2, 0, room.new);
     }
@@ -199,7 +199,7 @@ impl Kind for Registers {
     }
 
     fn value_at(column: &[u32; STORE_LIMIT], place: usize) -> u32 {
-        column[place]
+        column.get(place).copied().unwrap_or(0)
     }
 
     fn wide(value: u32) -> u32 {
@@ -207,6 +207,9 @@ impl Kind for Registers {
     }
 
     fn splice(&self, column: &mut [u32; STORE_LIMIT], room: Room, table: &[u8]) {
+        if !room.fits() || table.len() / 5 < room.new {
+            return;
+        }
         make_room(column, room, 0);
         copy_masks(column, room.at, table, room.new);
     }

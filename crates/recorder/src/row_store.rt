@@ -8,7 +8,7 @@ ghost use Rattle.theory.specs.ValueSetTests.{every};
 ghost use Rattle.values.specs.ValueTests.{masks_fit};
 ghost use Rattle.recorder.specs.Store.{rows_start};
 ghost use Rattle.recorder.specs.Splicing.{rows_before, row_count, column, mask_column};
-ghost use Rattle.recorder.specs.Decisions.{together, Storable, room_of, RoomFits, roomed};
+ghost use Rattle.recorder.specs.Decisions.{together, Storable, room_of, RoomFits, room_test, roomed};
 
 use limits::{CHANNEL_LIMIT, ROW_LIMIT, STORE_LIMIT};
 use machines::value_at;
@@ -21,6 +21,17 @@ pub struct Room {
     pub old: usize,
     pub new: usize,
     pub later: usize,
+}
+
+impl Room {
+    // Whether the store has room for the old entries and for the new ones, with the later ones behind them.
+    pub fn fits(self) -> bool
+        ensures { result ≡ room_test self }
+    {
+        let fixed = self.at.saturating_add(self.later);
+        fixed.saturating_add(self.old) <= STORE_LIMIT
+            && fixed.saturating_add(self.new) <= STORE_LIMIT
+    }
 }
 
 // The rows of the first so many channels.
