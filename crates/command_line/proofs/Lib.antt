@@ -3,5 +3,6 @@ pub mod WordLemmas
 pub mod Numbers
 pub mod Items
 pub mod Lists
+pub mod Names
 pub mod Claims
 pub mod Parts

@@ -81,7 +81,7 @@ abbrev pub large_item : Item → List ℕ → Bool
 large_item Item.Number w = large 255 (number_of w)
 large_item Item.Value w = large 65535 (number_of (low_part w)) || large 65535 (number_of (high_part w))
 
--- Whether one of Some words has such a number; this and that are as in `Items`.
+-- Whether one of some words has such a number; this and that are as in `Items`.
 unfoldable pub any_large : Item → Item → List (List ℕ) → Bool
 any_large this that [] = false
 any_large this that (w ∷ ws) = cond (large_item this w) true (any_large that this ws)

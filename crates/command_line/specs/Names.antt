@@ -1,5 +1,5 @@
 -- The names of the commands.
-use Rattle.std.specs.Prelude.{ℕ, List, [], ◌∷◌, cond, Option, Some, None}
+use Rattle.std.specs.Prelude.{ℕ, eqb, Bool, true, false, ◌&&◌, List, [], ◌∷◌, cond, Option, Some, None}
 use Rattle.std.specs.Str.{bytes_eq}
 use Rattle.text_format.specs.Texts.{ascii}
 use Rattle.command_line.specs.declared.Command.{Command}
@@ -23,6 +23,13 @@ names =
     ∷ (ascii "dot", Command.Dot)
     ∷ (ascii "help", Command.Help)
     ∷ []
+
+-- Whether two lists are the same.
+unfoldable pub equal : List ℕ → List ℕ → Bool
+equal [] [] = true
+equal [] (b ∷ t) = false
+equal (a ∷ s) [] = false
+equal (a ∷ s) (b ∷ t) = eqb a b && equal s t
 
 -- The command that stands beside a word; none where the word is no name.
 abbrev pub found : List (List ℕ × Command) → List ℕ → Option Command

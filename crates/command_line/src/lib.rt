@@ -9,7 +9,7 @@ ghost use Rattle.command_line.specs.Words.{words, before, after_spaces, rest, wo
 ghost use Rattle.command_line.specs.Parts.{before_divider, first_part, second_part};
 ghost use Rattle.command_line.specs.Numbers.{number_of, number_limit, capped};
 ghost use Rattle.command_line.specs.Lists.{clamp_mask, low_part, high_part, item_of, list_of, Lists, large, large_item, any_large};
-ghost use Rattle.command_line.specs.Names.{named};
+ghost use Rattle.command_line.specs.Names.{equal, named};
 ghost use Rattle.command_line.specs.Steps.{PutsAny};
 
 use text_output::{put, put_word};
@@ -267,6 +267,13 @@ pub fn has_large_masked(text: &[u8]) -> bool
     ensures { result ≡ any_large Value Number (words text.now) }
 {
     any_large(Item::Value, text)
+}
+
+// Whether two lists of bytes are the same.
+pub fn equal(a: &[u8], b: &[u8]) -> bool
+    ensures { result ≡ equal a.now b.now }
+{
+    a == b
 }
 
 // The offset of the first ` / ` of a text; its length where there is none.

@@ -3,7 +3,7 @@ use crate::answers::{Fault, Item, List, ValueText};
 use crate::numbers::{has_word, list_from, numbers, only_numbers};
 use crate::rules::read_rule;
 use crate::setups::Kind;
-use command_line::{Command, NUMBER_LIMIT, rest, word};
+use command_line::{Command, NUMBER_LIMIT, equal, rest, word};
 use limits::CHANNEL_LIMIT;
 use recorder::{Reading, Reply, Tool};
 use refusal::Refusal;
@@ -51,7 +51,7 @@ fn events<'a>(line: &[u8], list: &'a mut [u8]) -> Result<Call<'a>, Fault> {
 
 // restart C, restart all
 fn restart<'a>(line: &[u8]) -> Result<Call<'a>, Fault> {
-    if word(line, 1) == b"all".as_slice() && !has_word(line, 2) {
+    if equal(word(line, 1), b"all") && !has_word(line, 2) {
         return Ok(Call::RestartAll);
     }
     let [channel] = only_numbers::<1>(line)?;
