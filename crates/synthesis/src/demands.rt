@@ -7,7 +7,7 @@ ghost use Rattle.synthesis.specs.Binding.{OwnBinder, Bound};
 ghost use Rattle.synthesis.specs.DemandRows.{Gathered, RowsTo};
 ghost use Rattle.synthesis.specs.KeptDemands.{KeepsDemands};
 
-use crate::node_sets::{EMPTY, NodeSet, ROWS, single, unite};
+use crate::node_sets::{EMPTY, NodeSet, ROWS, set_single, unite};
 use formulas::{NodeKind, Nodes};
 use limits::{BINDER_LIMIT, NODE_LIMIT};
 
@@ -120,11 +120,11 @@ fn gather(
             at + 1
         }
         NodeKind::Transition => {
-            rows[at] = single(at);
+            set_single(&mut rows[at], at);
             ends[at + 1]
         }
         NodeKind::Output => {
-            rows[at] = single(at);
+            set_single(&mut rows[at], at);
             at + 1
         }
         NodeKind::Conjunction => {

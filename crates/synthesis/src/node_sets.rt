@@ -25,14 +25,14 @@ pub fn power(k: usize) -> u64
     1u64 << (k as u64)
 }
 
-// The set of one node.
-pub fn single(node: usize) -> NodeSet
+// The set of one node, in its place: as a value it would pass through the stack.
+#[inline(always)]
+pub fn set_single(set: &mut NodeSet, node: usize)
     requires { node < node_limit }
-    ensures { set_of result ≡ only node }
+    ensures { set_of set.new ≡ only node }
 {
-    let mut set = EMPTY;
+    *set = EMPTY;
     set[node / 64] |= power(node % 64);
-    set
 }
 
 // The nodes of either set. Its words one by one: no plainer as a loop.

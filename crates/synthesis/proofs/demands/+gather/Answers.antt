@@ -47,14 +47,14 @@ pub returns-in-Transition : goal.returns-in-Transition
 returns-in-Transition t c =
     let k = kind_read _ Transition c.of.ensures c.in-Some.is c.in-Transition.is in
     let w = transition_end c.args.nodes.now.kinds c.args.ends.now c.args.at c.args.left (omega arith) c.requires.1 k in
-    let s = row_stored c.args.at c.single.result c.args.rows.now (only c.args.at) (omega arith) c.single.ensures in
+    let s = row_stored c.args.at c.set_single.new.set c.args.rows.now (only c.args.at) (omega arith) c.set_single.ensures in
     gathered_one c.args.nodes.now.kinds c.args.binders.now _ _ _ _ _ s _ w.0 w.1.high w.1.end
     (gathers_transition c.args.nodes.now.kinds c.args.binders.now _ _ _ _ _ s refl k)
 
 pub returns-in-Output : goal.returns-in-Output
 returns-in-Output t c =
     let k = kind_read _ Output c.of.ensures c.in-Some.is c.in-Output.is in
-    let s = row_stored c.args.at c.single-in-Output.result c.args.rows.now (only c.args.at) (omega arith) c.single-in-Output.ensures in
+    let s = row_stored c.args.at c.set_single-in-Output.new.set c.args.rows.now (only c.args.at) (omega arith) c.set_single-in-Output.ensures in
     gathered_one c.args.nodes.now.kinds c.args.binders.now _ _ _ _ _ s _ (search rules) (search rules)
     (end_leaf c.args.nodes.now.kinds _ _ (output_without _ k))
     (gathers_output c.args.nodes.now.kinds c.args.binders.now _ _ _ _ _ s refl k)

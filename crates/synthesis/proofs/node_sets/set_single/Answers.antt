@@ -1,4 +1,4 @@
--- `single` meets its contract: the node's bit is set where none was.
+-- `set_single` meets its contract: the node's bit is set where none was.
 use mathlib.Core.Path.{◌∙◌, ap}
 use Prim.Native.Nat.{◌/◌}
 use native.Mathlib.Omega.{arith}
@@ -7,7 +7,7 @@ use Rattle.theory.specs.DemandSets.{only, union}
 use Rattle.theory.proofs.NodeSets.{empty_union}
 use Rattle.synthesis.specs.NodeWords.{set_of}
 use Rattle.synthesis.proofs.NodeWords.{set_insert, no_nodes}
-use Rattle.synthesis.proofs.node_sets.single.Goals as goal
+use Rattle.synthesis.proofs.node_sets.set_single.Goals as goal
 
 pub returns : goal.returns
 returns c =
