@@ -18,6 +18,7 @@ use channel_writer::write_text;
 use formulas::check_rule;
 use refusal::Refusal;
 use synthesis::compile;
+use text_output::put_word;
 use values::{SetUp, Values};
 
 // The numbers of a file: those of its set-up, and how many meet entries and nodes it has.
@@ -88,7 +89,8 @@ impl<'a> Pair<'a> {
         let entries = self.entries();
         let room = table_room(entries.len(), meet.len(), to.len());
         let states = compile(self.set_up, self.nodes, &mut to[..room])?;
-        meet[..entries.len()].copy_from_slice(entries);
+        // Byte by byte: `copy_from_slice` would have the static library ask for memmove.
+        put_word(meet, 0, entries);
         Ok(states)
     }
 }
