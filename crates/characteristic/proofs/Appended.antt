@@ -1,19 +1,19 @@
 -- Nodes appended to a list one after the other.
-use mathlib.Core.{Path.{◌≡◌, sym, ◌∙◌, ap}, List.{List, [], ◌∷◌, ◌++◌, append_assoc, append-nil}}
-use Prim.Native.Nat.{ℕ, suc, ◌+◌, ◌*◌, ◌≤◌, ◌<◌}
+use mathlib.Core.{Path.{◌≡◌, refl, sym, ◌∙◌, ap}, List.{List, [], ◌∷◌, ◌++◌, append_assoc, append-nil}}
+use Prim.Native.Nat.{ℕ, ◌+◌, ◌*◌, ◌/◌, ◌%◌, ◌≤◌, ◌<◌}
 use native.Mathlib.{Omega.{arith}}
-use lib.{ListN.{length, get_or, take, set, length-append, length-take}, Seq.{take_at, sets, sets-eq, length-sets}}
+use lib.{ListN.{length, get_or, take, drop, length-append, length-take}, Seq.{take_at, sets, sets-eq}}
 use Rattle.limits.specs.Limits.{node_limit}
 use Rattle.theory.specs.Formula.{Node}
 use Rattle.values.specs.declared.ValueKind.{ValueKind}
 use Rattle.values.specs.declared.ValueKind.TheVariants.{Numbered, Register}
-use Rattle.values.specs.Setup.{value_width, value_bytes}
+use Rattle.values.specs.Setup.{mask_bytes, value_bytes}
+use Rattle.theory.specs.ValueSets.{unpack}
 use Rattle.formulas.specs.RuleConditions.{encode_all, node_width, node_bytes}
-use Rattle.formulas.proofs.{Encoding.{encode_append}, NodeCodes.{fields_same, node_code, next_node, width_is}}
+use Rattle.formulas.proofs.{Encoding.{encode_append}, NodeCodes.{fields_same, node_code}}
 use Rattle.machines.specs.TableRefusal.{entry_value}
 use Rattle.machines.specs.Claims.{OfBytes}
-use Rattle.characteristic.specs.declared.nodes.NodeList.{NodeList}
-use Rattle.characteristic.specs.NodeOutput.{Appended, listed}
+use Rattle.characteristic.specs.NodeOutput.{Listing, Appended, listed}
 use Rattle.formulas.specs.NodeCode.{kind_number, first_field, value_field}
 
 -- What is read from bytes fits them.
@@ -21,79 +21,71 @@ pub read_fits : (kind : ValueKind) (bytes : List ℕ) (i : ℕ) → ((j : ℕ) �
 read_fits (Numbered n) bytes i small = small (i * 2)
 read_fits (Register lines) bytes i small = tt
 
--- The bytes of one node more lie within those of all nodes that a rule may have.
-pub node_room : (kind : ValueKind) {at : ℕ} → at < node_limit → at * node_width kind + 2 + value_width kind ≤ node_limit * 6
+-- The bytes that are stored for one node more lie within those of all nodes that a rule may have.
+pub node_room : (kind : ValueKind) {at : ℕ} → at < node_limit → at * node_width kind + 6 ≤ node_limit * 6
 node_room (Numbered n) below = omega arith
 node_room (Register lines) below = omega arith
 
--- The bytes that are stored for a node.
-pub stored_node :
-    (kind : ValueKind) (l : List ℕ) (n : Node ℕ) (place : ℕ) {number first value : ℕ} → number ≡ kind_number n → first ≡ first_field n → value ≡ value_field n
-    → sets (set (set l place number) (place + 1) first) (place + 2) (value_bytes kind value) ≡ sets l place (node_bytes kind n)
-stored_node kind l n place number_is first_is value_is =
-    let one : place + 1 ≡ suc place = omega arith in
-    let two : place + 2 ≡ suc (suc place) = omega arith in
-    cc (one, two, number_is, first_is, value_is) ∙ ap (sets l place) (sym (fields_same kind n))
+-- The bytes of a node, from its fields.
+pub node_fields_are :
+    (kind : ValueKind) (n : Node ℕ) {number first value : ℕ} → number ≡ kind_number n → first ≡ first_field n → value ≡ value_field n
+    → number ∷ first ∷ value_bytes kind value ≡ node_bytes kind n
+node_fields_are kind n number_is first_is value_is = cc (number_is, first_is, value_is) ∙ sym (fields_same kind n)
 
--- The first bytes after so many are stored behind those.
-take_stored : (l bs : List ℕ) (at after : ℕ) → at + length bs ≤ length l → after ≡ at + length bs → take after (sets l at bs) ≡ take at l ++ bs
-take_stored l bs at after fits after_is =
-    ap (take after) (sets-eq bs l at fits)
-    ∙ take_at (take at l ++ bs) _ after (length-append (take at l) bs ∙ omega (arith, length-take at l, fits, after_is))
+-- The four bytes of a value, the low one first, and of these the ones that a number does not have.
+pub four_bytes :
+    (v : ℕ) → v < 4294967296
+    → v % 256 ∷ v / 256 % 256 ∷ v / 65536 % 256 ∷ v / 16777216 % 256 ∷ [] ≡ mask_bytes (unpack v).low ++ mask_bytes (unpack v).high
+unfolding unpack
+four_bytes v small =
+    let a : v % 256 ≡ v % 65536 % 256 = omega arith in
+    let b : v / 256 % 256 ≡ v % 65536 / 256 = omega arith in
+    let d : v / 16777216 % 256 ≡ v / 65536 / 256 = omega (arith, small) in
+    cc (a, b, d)
 
--- One node, and two.
-module _ (l after : NodeList) (room : length l.bytes ≡ node_limit * 6) (kind_is : after.kind ≡ l.kind) where
-  long : (n : Node ℕ) → length (node_bytes l.kind n) ≡ node_width l.kind
-  long n = (node_code l.kind).length_is n
+abbrev pub behind : ValueKind → ℕ → List ℕ
+behind (Numbered n) v = v / 256 % 256 ∷ v / 65536 % 256 ∷ v / 16777216 % 256 ∷ []
+behind (Register lines) v = []
 
-  fits : (n : Node ℕ) {at : ℕ} → at < node_limit → at * node_width l.kind + length (node_bytes l.kind n) ≤ node_limit * 6
-  fits n below = omega (arith, long n, node_room l.kind below, width_is l.kind)
+pub value_first : (kind : ValueKind) (v : ℕ) → OfBytes kind v → mask_bytes (unpack v).low ++ mask_bytes (unpack v).high ≡ value_bytes kind v ++ behind kind v
+value_first (Numbered n) v small =
+    let a : v % 256 ≡ v = omega (arith, small) in sym (four_bytes v (omega (arith, small))) ∙ ap (λ b. b ∷ behind (Numbered n) v) a
+value_first (Register lines) v small = sym (append-nil (value_bytes (Register lines) v))
 
-  next : (n : Node ℕ) (at : ℕ) → (at + 1) * node_width l.kind ≡ at * node_width l.kind + length (node_bytes l.kind n)
-  next n at = omega (arith, next_node l.kind at, long n)
+-- With the two bytes before it they are six.
+pub six_bytes : (kind : ValueKind) (v : ℕ) → length (value_bytes kind v ++ behind kind v) ≡ 4
+six_bytes (Numbered n) v = refl
+six_bytes (Register lines) v = refl
 
-  taken : (n : Node ℕ) → l.count < node_limit
-      → take ((l.count + 1) * node_width l.kind) (sets l.bytes (l.count * node_width l.kind) (node_bytes l.kind n)) ≡ listed l ++ node_bytes l.kind n
-  taken n below =
-      take_stored l.bytes (node_bytes l.kind n) (l.count * node_width l.kind) _ (omega (arith, fits n below, room)) (next n l.count)
+pub node_long : (kind : ValueKind) (number first v : ℕ) → node_width kind ≡ length (number ∷ first ∷ value_bytes kind v)
+node_long (Numbered n) number first v = refl
+node_long (Register lines) number first v = refl
 
-  pub one_node :
-      (n : Node ℕ) → l.count < node_limit → after.count ≡ l.count + 1
-      → after.bytes ≡ sets l.bytes (l.count * node_width l.kind) (node_bytes l.kind n) → Appended (n ∷ []) l after
-  one_node n below count_is stored =
-      record {
-        same_kind = kind_is;
-        count_is = omega (arith, count_is);
-        bytes_are =
-            cc (kind_is, count_is, stored)
-            ∙ taken n below
-            ∙ ap (λ b. listed l ++ b) (sym (append-nil (node_bytes l.kind n)));
-      }
+-- The first bytes after more are stored behind those.
+pub take_stored :
+    (l bs more : List ℕ) (at after : ℕ) → at + length (bs ++ more) ≤ length l → after ≡ at + length bs
+    → take after (sets l at (bs ++ more)) ≡ take at l ++ bs
+take_stored l bs more at after fits after_is =
+    ap (take after)
+    (sets-eq (bs ++ more) l at fits
+    ∙ ap (λ b. b ++ drop (at + length (bs ++ more)) l) (sym (append_assoc (take at l) bs more))
+    ∙ append_assoc (take at l ++ bs) more (drop (at + length (bs ++ more)) l))
+    ∙ take_at (take at l ++ bs) _ after (length-append (take at l) bs ∙ omega (arith, length-take at l, fits, after_is, length-append bs more))
 
-  pub two_nodes :
-      (n m : Node ℕ) → l.count + 1 < node_limit → after.count ≡ l.count + 2
-      → after.bytes
-      ≡ sets (sets l.bytes (l.count * node_width l.kind) (node_bytes l.kind n)) ((l.count + 1) * node_width l.kind) (node_bytes l.kind m)
-      → Appended (n ∷ m ∷ []) l after
-  two_nodes n m below count_is stored =
-      let front = sets l.bytes (l.count * node_width l.kind) (node_bytes l.kind n) in
-      let two : l.count + 2 ≡ l.count + 1 + 1 = omega arith in
-      record {
-        same_kind = kind_is;
-        count_is = omega (arith, count_is);
-        bytes_are =
-            cc (kind_is, count_is, stored, two)
-            ∙ take_stored front (node_bytes l.kind m) ((l.count + 1) * node_width l.kind) ((l.count + 1 + 1) * node_width l.kind)
-            (omega (arith, fits m below, room, length-sets l.bytes (l.count * node_width l.kind) (node_bytes l.kind n)))
-            (next m (l.count + 1))
-            ∙ ap (λ b. b ++ node_bytes l.kind m) (taken n (omega (arith, below)))
-            ∙ append_assoc (listed l) (node_bytes l.kind n) (node_bytes l.kind m)
-            ∙ ap (λ b. listed l ++ (node_bytes l.kind n ++ b)) (sym (append-nil (node_bytes l.kind m)));
-      }
+-- One node.
+pub one_node :
+    {before after : Listing} (n : Node ℕ) → after.kind ≡ before.kind → after.count ≡ before.count + 1
+    → listed after ≡ listed before ++ node_bytes before.kind n → Appended (n ∷ []) before after
+one_node {before} n kind_is count_is stored =
+    record {
+      same_kind = kind_is;
+      count_is = omega (arith, count_is);
+      bytes_are = stored ∙ ap (λ b. listed before ++ b) (sym (append-nil (node_bytes before.kind n)));
+    }
 
 -- Some nodes and then more.
 pub both :
-    {xs ys : List (Node ℕ)} {before between after : NodeList} → Appended xs before between → Appended ys between after
+    {xs ys : List (Node ℕ)} {before between after : Listing} → Appended xs before between → Appended ys between after
     → Appended (xs ++ ys) before after
 both {xs} {ys} {before} {between} {after} x y =
     record {

@@ -15,7 +15,7 @@ use Rattle.formulas.proofs.{Prefix.{length_nodes}, Encoding.{formula_length}, No
 use Rattle.characteristic.specs.declared.{machine.Machine.{Machine}, nodes.NodeList.{NodeList}, path.Path.{Path as OpenStates}}
 use Rattle.characteristic.specs.RuleOfTable.{IsRuleOf}
 use Rattle.characteristic.specs.RuleWriting.{output_refusal}
-use Rattle.characteristic.specs.NodeOutput.{IsPath, Ready, WalksState, Answered, WritesRule, listed}
+use Rattle.characteristic.specs.NodeOutput.{Listing, first_nodes, IsPath, Ready, WalksState, Answered, WritesRule, listed}
 use Rattle.characteristic.proofs.{OpenPath.{path_empty}, Walks.{same_path}}
 
 -- ---- 12, 23 and 13
@@ -66,20 +66,21 @@ module _ {kind : ValueKind} {events start : ℕ} {table : List ℕ} (old : List 
 
 -- What the walk asks of the start, with no state open and no nodes yet.
 pub start_ready :
-    (m : Machine) (start : ℕ) {p : OpenStates} {l : NodeList} → p.opened ≡ replicate table_limit None → p.depth ≡ 0 → l.kind ≡ m.kind → start < table_limit
-    → Ready m start p l
-start_ready m start none_open no_depth kind_is small =
+    (m : Machine) (start : ℕ) {p : OpenStates} {l : Listing} → p.opened ≡ replicate table_limit None → p.depth ≡ 0 → l.kind ≡ m.kind → l.count ≡ 0
+    → start < table_limit → Ready m start p l
+start_ready m start none_open no_depth kind_is no_nodes small =
     record {
       same_kind = kind_is;
       held = record { states = []; is_path = same_path (sym no_depth) (sym none_open) (path_empty table_limit) };
       shallow = omega (arith, no_depth);
+      few = omega (arith, no_nodes);
       small_state = small;
     }
 
 -- The walk from the start, and what is made of it.
-module _ (m : Machine) (start : ℕ) {p p_after : OpenStates} {l l_after : NodeList} {walk : Option (Unit {0})}
+module _ (m : Machine) (start : ℕ) {p p_after : OpenStates} {l : Listing} {after : NodeList} {walk : Option ℕ}
     (none_open : p.opened ≡ replicate table_limit None) (no_depth : p.depth ≡ 0) (kind_is : l.kind ≡ m.kind) (no_nodes : l.count ≡ 0)
-    (y : WalksState m start p p_after l l_after walk) (old : List ℕ) where
+    (y : WalksState m start p p_after l after walk) (old : List ℕ) where
   abbrev Ends : List ℕ → Result ℕ Refusal → Type 0
   Ends after r = WritesRule m start old after r
 
@@ -95,16 +96,19 @@ module _ (m : Machine) (start : ℕ) {p p_after : OpenStates} {l l_after : NodeL
       (refused_by old WrittenSize λ φ w. over_limit m.kind node_limit φ (length old) (omega (arith, no_nodes, y.too_many d [] started φ w)))
 
   -- Past 12 what is listed is the rule, and the longest path is its own.
-  module _ (done : walk ≡ Some tt) where
-    same : (φ : Formula ℕ) → IsRule φ → l_after.count ≡ size φ
-    same φ w = omega (arith, ((y.walked done).written [] started φ w).count_is, length_nodes φ, no_nodes)
+  module _ {count : ℕ} (done : walk ≡ Some count) where
+    abbrev l_after : Listing
+    l_after = first_nodes after count
+
+    same : (φ : Formula ℕ) → IsRule φ → count ≡ size φ
+    same φ w = omega (arith, ((y.walked count done).written [] started φ w).count_is, length_nodes φ, no_nodes)
 
     few : (φ : Formula ℕ) → IsRule φ → size φ ≤ node_limit
-    few φ w = omega (arith, l_after.within, same φ w)
+    few φ w = omega (arith, y.few count done, same φ w)
 
     its_bytes : (φ : Formula ℕ) → IsRule φ → listed l_after ≡ encode_formula (node_bytes m.kind) φ
     its_bytes φ w =
-        ((y.walked done).written [] started φ w).bytes_are
+        ((y.walked count done).written [] started φ w).bytes_are
         ∙ ap (λ n. take (n * node_width l.kind) l.bytes ++ encode_formula (node_bytes l.kind) φ) no_nodes
         ∙ ap (λ n. take n l.bytes ++ encode_formula (node_bytes l.kind) φ) (zero-mul (node_width l.kind))
         ∙ ap (λ k. encode_formula (node_bytes k) φ) kind_is
@@ -114,7 +118,7 @@ module _ (m : Machine) (start : ℕ) {p p_after : OpenStates} {l l_after : NodeL
 
     module _ (no_longest : p.longest ≡ 0) where
       depth_is : (φ : Formula ℕ) → IsRule φ → p_after.longest ≡ binder_depth φ
-      depth_is φ w = omega (arith, (y.walked done).longest_is [] started φ w, no_longest, no_depth)
+      depth_is φ w = omega (arith, (y.walked count done).longest_is [] started φ w, no_longest, no_depth)
 
       pub path_too_long : binder_limit < p_after.longest → Ends old (Err BinderDepth)
       path_too_long k =
@@ -129,7 +133,7 @@ module _ (m : Machine) (start : ℕ) {p p_after : OpenStates} {l l_after : NodeL
             refused_by old BufferLength λ φ w.
             over_room m.kind node_limit φ (length old) (few φ w) (not_deep φ w) (omega (arith, k, byte_count φ w))
 
-        pub all_copied : {after : List ℕ} → length (listed l_after) ≤ length old → after ≡ put (listed l_after) old → Ends after (Ok l_after.count)
+        pub all_copied : {filled : List ℕ} → length (listed l_after) ≤ length old → filled ≡ put (listed l_after) old → Ends filled (Ok count)
         all_copied k copied =
             given old λ φ w.
             let done =

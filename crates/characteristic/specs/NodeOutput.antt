@@ -31,19 +31,34 @@ node_of Greatest = greatest_node
 abbrev pub FitsBytes : ValueKind → Node ℕ → Type 0
 FitsBytes kind n = (first_field n < 256) × OfBytes kind (value_field n)
 
--- The bytes of the nodes of a list.
-abbrev pub listed : NodeList → List ℕ
+-- So many nodes at the front of bytes.
+pub record Listing : Type 0 where
+  pub kind : ValueKind
+  pub bytes : List ℕ
+  pub count : ℕ
+
+-- The first nodes of a list.
+abbrev pub first_nodes : NodeList → ℕ → Listing
+first_nodes l n = record { kind = l.kind; bytes = l.bytes; count = n }
+
+-- All its nodes.
+abbrev pub all_nodes : NodeList → Listing
+all_nodes l = first_nodes l l.count
+
+-- The bytes of the nodes.
+abbrev pub listed : Listing → List ℕ
 listed l = take (l.count * node_width l.kind) l.bytes
 
--- Nodes are appended to a list.
-pub record Appended (ns : List (Node ℕ)) (before after : NodeList) : Type 0 where
+-- Nodes are appended.
+pub record Appended (ns : List (Node ℕ)) (before after : Listing) : Type 0 where
   pub same_kind : after.kind ≡ before.kind
   pub count_is : after.count ≡ before.count + length ns
   pub bytes_are : listed after ≡ listed before ++ encode_all (node_bytes before.kind) ns
 
--- Nodes are appended, or there are too many.
-pub record Appends (ns : List (Node ℕ)) (before after : NodeList) (r : Option (Unit {0})) : Type 0 where
-  pub appended : r ≡ Some tt → Appended ns before after
+-- Nodes are appended, with the count told, or there are too many.
+pub record Appends (ns : List (Node ℕ)) (before : Listing) (after : NodeList) (r : Option ℕ) : Type 0 where
+  pub appended : (n : ℕ) → r ≡ Some n → Appended ns before (first_nodes after n)
+  pub few : (n : ℕ) → r ≡ Some n → n ≤ node_limit
   pub too_many : r ≡ None → node_limit < before.count + length ns
 
 -- These states are open, the innermost first: of each open state the array has how many were open with it when it was opened.
@@ -61,18 +76,20 @@ pub record Held (p : OpenStates) : Type 0 where
   pub states : List ℕ
   pub is_path : IsPath p.depth p.opened states
 
--- What the walk asks: values of the machine's kind, a path no longer than the list, and a state that indexes the table.
-pub record Ready (m : Machine) (state : ℕ) (p : OpenStates) (l : NodeList) : Type 0 where
+-- What the walk asks: values of the machine's kind, a path no longer than the nodes, no more of these than a rule may have, and a
+-- state that indexes the table.
+pub record Ready (m : Machine) (state : ℕ) (p : OpenStates) (l : Listing) : Type 0 where
   pub same_kind : l.kind ≡ m.kind
   pub held : Held p
   pub shallow : p.depth ≤ l.count
+  pub few : l.count ≤ node_limit
   pub small_state : state < table_limit
 
 -- A formula for each path of open states.
-module _ (Of : List ℕ → Formula ℕ → Type 0) (p p_after : OpenStates) (l l_after : NodeList) where
+module _ (Of : List ℕ → Formula ℕ → Type 0) (p p_after : OpenStates) (l : Listing) where
   -- The nodes of each formula that is the one to be written below the open path are appended, the path is as it was, and the
   -- longest path of open states so far is kept.
-  pub record Walked : Type 0 where
+  pub record Walked (l_after : Listing) : Type 0 where
     pub same_kind : l_after.kind ≡ l.kind
     pub rises : l.count ≤ l_after.count
     pub same_opened : p_after.opened ≡ p.opened
@@ -87,16 +104,21 @@ module _ (Of : List ℕ → Formula ℕ → Type 0) (p p_after : OpenStates) (l 
   abbrev pub Outgrown : Type 0
   Outgrown = (states : List ℕ) → IsPath p.depth p.opened states → (φ : Formula ℕ) → Of states φ → node_limit < l.count + size φ
 
-  -- What the walk yields.
-  pub record Walks (r : Option (Unit {0})) : Type 0 where
-    pub walked : r ≡ Some tt → Walked
+  -- What the walk yields: the count is told, or kept in the list.
+  pub record Counts (after : NodeList) (r : Option ℕ) : Type 0 where
+    pub walked : (n : ℕ) → r ≡ Some n → Walked (first_nodes after n)
+    pub few : (n : ℕ) → r ≡ Some n → n ≤ node_limit
+    pub too_many : r ≡ None → Outgrown
+
+  pub record Walks (after : NodeList) (r : Option (Unit {0})) : Type 0 where
+    pub walked : r ≡ Some tt → Walked (all_nodes after)
     pub too_many : r ≡ None → Outgrown
 
 -- The rule of a state; and the rows of a state from an event on.
-abbrev pub WalksState : Machine → ℕ → (p p_after : OpenStates) (l l_after : NodeList) → Option (Unit {0}) → Type 0
-WalksState m state = Walks (λ states. Writes (mealy_of m) m.events states state)
+abbrev pub WalksState : Machine → ℕ → (p p_after : OpenStates) (l : Listing) (after : NodeList) → Option ℕ → Type 0
+WalksState m state = Counts (λ states. Writes (mealy_of m) m.events states state)
 
-abbrev pub WalksRows : Machine → (state event : ℕ) (p p_after : OpenStates) (l l_after : NodeList) → Option (Unit {0}) → Type 0
+abbrev pub WalksRows : Machine → (state event : ℕ) (p p_after : OpenStates) (l : Listing) (after : NodeList) → Option (Unit {0}) → Type 0
 WalksRows m state event = Walks (λ states. Rows (mealy_of m) m.events states state event)
 
 -- The answer and the buffer after the rule of a table is written, 12, 23 and 13 judged.

@@ -5,7 +5,7 @@ ghost use Rattle.std.specs.Prelude.{◌≡◌, ◌≤◌, ◌<◌, length};
 ghost use Rattle.limits.specs.Limits.{table_limit, node_limit};
 ghost use Rattle.values.specs.HandedIn.{setup_of};
 ghost use Rattle.characteristic.specs.RuleWriting.{write_answer, write_contents};
-ghost use Rattle.characteristic.specs.NodeOutput.{Ready, WalksState, WalksRows, WritesRule};
+ghost use Rattle.characteristic.specs.NodeOutput.{Ready, WalksState, WalksRows, WritesRule, first_nodes};
 
 mod machine;
 mod nodes;
@@ -21,8 +21,8 @@ use values::SetUp;
 
 // The recursion follows document 01's "Rule of a table": `write_state` its rule of a state, `write_rows` its rows.
 
-// Appends the rule of a state: X where it is open on the path; otherwise V and its rows, with the state open. As a call
-// of its own it took a quarter more of a rule of many states.
+// Appends the rule of a state behind so many nodes: X where it is open on the path; otherwise V and its rows, with the state open. The
+// answer is how many nodes there are then. As a call of its own it took a quarter more of a rule of many states.
 #[cycle(write_rows_write_state)]
 #[inline(always)]
 fn write_state(
@@ -30,21 +30,23 @@ fn write_state(
     state: usize,
     path: &mut Path,
     nodes: &mut NodeList,
-) -> Option<()>
-    requires { Ready machine.now state path.old nodes.old }
-    ensures { WalksState machine.now state path.old path.new nodes.old nodes.new result }
+    count: usize,
+) -> Option<usize>
+    requires { Ready machine.now state path.old (first_nodes nodes.old count) }
+    ensures { WalksState machine.now state path.old path.new (first_nodes nodes.old count) nodes.new result }
 {
     if let Some(binders) = path.place(state) {
-        return nodes.put(Node::Variable(binders));
+        return nodes.put(count, Node::Variable(binders));
     }
-    nodes.put(Node::Greatest)?;
+    let part = nodes.put(count, Node::Greatest)?;
     path.open(state);
-    write_rows(machine, state, 0, path, nodes)?;
+    write_rows(machine, state, 0, path, nodes, part)?;
     path.close(state);
-    Some(())
+    Some(nodes.count)
 }
 
-// Appends the rows of a state from an event on: A, G event, the rule of the next state, O event.value, nested to the right.
+// Appends the rows of a state from an event on: A, G event, the rule of the next state, O event.value, nested to the right. The count
+// goes from call to call, and is kept in the list at the end.
 #[cycle(write_rows_write_state)]
 fn write_rows(
     machine: &Machine<'_>,
@@ -52,18 +54,21 @@ fn write_rows(
     event: usize,
     path: &mut Path,
     nodes: &mut NodeList,
+    count: usize,
 ) -> Option<()>
-    requires { Ready machine.now state path.old nodes.old × (event < machine.now.events) }
-    ensures { WalksRows machine.now state event path.old path.new nodes.old nodes.new result }
+    requires { Ready machine.now state path.old (first_nodes nodes.old count) × (event < machine.now.events) }
+    ensures { WalksRows machine.now state event path.old path.new (first_nodes nodes.old count) nodes.new result }
 {
-    nodes.put_both(Node::Conjunction, Node::Transition(event))?;
-    write_state(machine, machine.next(state, event), path, nodes)?;
-    let output = Node::Output(event, machine.value(state, event));
+    let part = nodes.put_both(count, Node::Conjunction, Node::Transition(event))?;
+    let (next, value) = machine.row(state, event);
+    let end = write_state(machine, next, path, nodes, part)?;
+    let output = Node::Output(event, value);
     if event + 1 == machine.events {
-        return nodes.put(output);
+        nodes.count = nodes.put(end, output)?;
+        return Some(());
     }
-    nodes.put_both(Node::Conjunction, output)?;
-    write_rows(machine, state, event + 1, path, nodes)
+    let rest = nodes.put_both(end, Node::Conjunction, output)?;
+    write_rows(machine, state, event + 1, path, nodes, rest)
 }
 
 // Writes the rule of a table that is in order: refusals 12, 23 and 13, and the output.
@@ -73,7 +78,8 @@ fn write_nodes(machine: &Machine<'_>, start: usize, to: &mut [u8]) -> Result<usi
 {
     let mut path = Path::new();
     let mut nodes = NodeList::new(machine.kind);
-    write_state(machine, start, &mut path, &mut nodes).ok_or(Refusal::WrittenSize)?;
+    let count = write_state(machine, start, &mut path, &mut nodes, 0);
+    nodes.count = count.ok_or(Refusal::WrittenSize)?;
     if BINDER_LIMIT < path.longest {
         return Err(Refusal::BinderDepth);
     }

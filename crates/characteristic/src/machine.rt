@@ -34,21 +34,17 @@ impl<'a> Machine<'a> {
         }
     }
 
-    // The next state of a state on an event.
-    pub fn next(&self, state: usize, event: usize) -> usize
+    // The next state and the value of a state on an event. Both by one index: a rule over many events is written faster.
+    #[inline(always)]
+    pub fn row(&self, state: usize, event: usize) -> (usize, u32)
         requires { (state < table_limit) × (event < self.now.events) }
-        ensures next { result ≡ (mealy_of self.now).next state event }
-        ensures small { result < table_limit }
+        ensures next { result.0 ≡ (mealy_of self.now).next state event }
+        ensures small { result.0 < table_limit }
+        ensures value { result.1 ≡ (mealy_of self.now).value state event }
+        ensures fits { OfBytes self.now.kind result.1 }
     {
-        next_at(self.kind, self.entries, state * self.events + event)
-    }
-
-    // The value of a state on an event.
-    pub fn value(&self, state: usize, event: usize) -> u32
-        requires { (state < table_limit) × (event < self.now.events) }
-        ensures value { result ≡ (mealy_of self.now).value state event }
-        ensures fits { OfBytes self.now.kind result }
-    {
-        value_at(self.kind, self.entries, state * self.events + event)
+        let i = state * self.events + event;
+        let next = next_at(self.kind, self.entries, i);
+        (next, value_at(self.kind, self.entries, i))
     }
 }

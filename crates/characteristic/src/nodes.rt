@@ -1,9 +1,10 @@
 // The nodes of a rule, as they are appended to a buffer of the walk's own.
-ghost use Rattle.std.specs.Prelude.{◌≡◌, ◌+◌, ◌*◌, ◌≤◌, ◌<◌, length, set};
+ghost use Rattle.std.specs.Prelude.{◌≡◌, ◌∷◌, ◌++◌, ◌+◌, ◌*◌, ◌≤◌, ◌<◌, length};
 ghost use Rattle.formulas.specs.RuleConditions.{node_width};
-ghost use Rattle.std.proofs.lemmas.List.Edits.{sets};
 ghost use Rattle.limits.specs.Limits.{node_limit};
-ghost use Rattle.values.specs.Setup.{value_width, value_bytes};
+ghost use Rattle.std.proofs.lemmas.List.Edits.{sets};
+ghost use Rattle.theory.specs.ValueSets.{unpack};
+ghost use Rattle.values.specs.Setup.{mask_bytes};
 ghost use Rattle.machines.specs.Claims.{OfBytes};
 
 use formulas::{NodeKind, node_width};
@@ -23,36 +24,29 @@ pub enum Node {
     Greatest,
 }
 
-// The first nodes of a rule, with values of a kind: `count` nodes at the front of `bytes`.
+// The first nodes of a rule, with values of a kind: at the front of `bytes`, `width` bytes each. How many there are goes from call to
+// call, and is kept in `count` where the rows of a state end: to store it with each node makes a rule over many events slower.
 #[derive(Drop)]
 pub struct NodeList {
     pub kind: ValueKind,
+    pub width: usize,
     pub bytes: [u8; RULE_BYTES],
     pub count: usize,
     pub ghost within: { count ≤ node_limit },
+    pub ghost width_is: { width ≡ node_width kind },
 }
 
-// Stores the fields of a node: a value takes one byte for a number, four for masks. One branch on the kind a node is faster than one for
-// the place and one for the value.
-fn put_fields(kind: ValueKind, to: &mut [u8], count: usize, number: u8, first: u8, value: u32)
-    requires { (count * node_width kind + 2 + value_width kind ≤ length to.old) × OfBytes kind value }
-    ensures { to.new ≡ sets (set (set to.old (count * node_width kind) number) (count * node_width kind + 1) first)
-        (count * node_width kind + 2) (value_bytes kind value) }
+// Stores the fields of a node behind so many others of a width, its value in four bytes: of a number the first counts, and the next node
+// is stored over the others. No branch on the kind of value: a rule of many nodes takes up to a quarter longer with one, by where its
+// code lies.
+fn put_fields(to: &mut [u8], width: usize, count: usize, number: u8, first: u8, value: u32)
+    requires { count * width + 6 ≤ length to.old }
+    ensures { to.new ≡ sets to.old (count * width) (number ∷ first ∷ mask_bytes (unpack value).low ++ mask_bytes (unpack value).high) }
 {
-    match kind {
-        ValueKind::Numbered(_) => {
-            let at = count * 3;
-            to[at] = number;
-            to[at + 1] = first;
-            to[at + 2] = value as u8;
-        }
-        ValueKind::Register(_) => {
-            let at = count * 6;
-            to[at] = number;
-            to[at + 1] = first;
-            to[at + 2..at + 6].copy_from_slice(&value.to_le_bytes());
-        }
-    }
+    let at = count * width;
+    to[at] = number;
+    to[at + 1] = first;
+    to[at + 2..at + 6].copy_from_slice(&value.to_le_bytes());
 }
 
 impl Node {
@@ -78,7 +72,7 @@ impl Node {
 
 impl NodeList {
     ghost use Rattle.std.specs.Prelude.{◌≡◌, [], ◌∷◌};
-    ghost use Rattle.characteristic.specs.NodeOutput.{node_of, FitsBytes, Appends, listed};
+    ghost use Rattle.characteristic.specs.NodeOutput.{node_of, FitsBytes, Appends, first_nodes, all_nodes, listed};
     ghost use Rattle.formulas.specs.RuleConditions.{node_bytes};
 
     // No nodes yet.
@@ -88,6 +82,7 @@ impl NodeList {
     {
         NodeList {
             kind,
+            width: node_width(kind),
             bytes: [0; RULE_BYTES],
             count: 0,
         }
@@ -95,16 +90,16 @@ impl NodeList {
 
     // Stores a node behind so many others.
     #[inline(always)]
-    fn store(&mut self, kind: ValueKind, count: usize, node: Node)
-        requires { (kind ≡ self.old.kind) × (count < node_limit) × FitsBytes kind (node_of node) }
+    fn store(&mut self, count: usize, node: Node)
+        requires { (count < node_limit) × FitsBytes self.old.kind (node_of node) }
         ensures kind { self.new.kind ≡ self.old.kind }
         ensures count { self.new.count ≡ self.old.count }
-        ensures bytes { self.new.bytes ≡ sets self.old.bytes (count * node_width kind) (node_bytes kind (node_of node)) }
+        ensures bytes { listed (first_nodes self.new (count + 1)) ≡ listed (first_nodes self.old count) ++ node_bytes self.old.kind (node_of node) }
     {
         let (node_kind, first, value) = node.fields();
         put_fields(
-            kind,
             &mut self.bytes,
+            self.width,
             count,
             node_kind.number(),
             first as u8,
@@ -112,43 +107,38 @@ impl NodeList {
         );
     }
 
-    // Appends a node; nothing where there are already as many as a rule may have. Inlined, with the count in a local: a rule of many
-    // nodes is written faster.
+    // Appends a node behind so many others: how many they are then; nothing where they are already as many as a rule may have.
+    // Inlined: a rule of many nodes is written faster.
     #[inline(always)]
-    pub fn put(&mut self, node: Node) -> Option<()>
-        requires { FitsBytes self.old.kind (node_of node) }
-        ensures { Appends (node_of node ∷ []) self.old self.new result }
+    pub fn put(&mut self, count: usize, node: Node) -> Option<usize>
+        requires { (count ≤ node_limit) × FitsBytes self.old.kind (node_of node) }
+        ensures { Appends (node_of node ∷ []) (first_nodes self.old count) self.new result }
     {
-        if self.count == NODE_LIMIT {
+        if count == NODE_LIMIT {
             return None;
         }
-        let count = self.count;
-        self.store(self.kind, count, node);
-        self.count = count + 1;
-        Some(())
+        self.store(count, node);
+        Some(count + 1)
     }
 
     // Appends two nodes, or nothing: faster than one after the other.
     #[inline(always)]
-    pub fn put_both(&mut self, one: Node, other: Node) -> Option<()>
-        requires { FitsBytes self.old.kind (node_of one) × FitsBytes self.old.kind (node_of other) }
-        ensures { Appends (node_of one ∷ node_of other ∷ []) self.old self.new result }
+    pub fn put_both(&mut self, count: usize, one: Node, other: Node) -> Option<usize>
+        requires { (count ≤ node_limit) × FitsBytes self.old.kind (node_of one) × FitsBytes self.old.kind (node_of other) }
+        ensures { Appends (node_of one ∷ node_of other ∷ []) (first_nodes self.old count) self.new result }
     {
-        if NODE_LIMIT <= self.count + 1 {
+        if NODE_LIMIT <= count + 1 {
             return None;
         }
-        let kind = self.kind;
-        let count = self.count;
-        self.store(kind, count, one);
-        self.store(kind, count + 1, other);
-        self.count = count + 2;
-        Some(())
+        self.store(count, one);
+        self.store(count + 1, other);
+        Some(count + 2)
     }
 
     // The bytes of the nodes.
     pub fn bytes(&self) -> &[u8]
-        ensures { result.now ≡ listed self.now }
+        ensures { result.now ≡ listed (all_nodes self.now) }
     {
-        &self.bytes[..self.count * node_width(self.kind)]
+        &self.bytes[..self.count * self.width]
     }
 }
