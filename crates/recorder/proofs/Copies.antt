@@ -13,7 +13,8 @@ use Rattle.values.specs.{declared.ValueKind.{ValueKind}, declared.ValueKind.TheV
 use Rattle.machines.specs.TableBytes.{entry_width}
 use Rattle.values.specs.ValueTests.{masks_from}
 use Rattle.recorder.specs.Splicing.{spliced, column, mask_column, entry_values, entry_nexts}
-use Rattle.recorder.specs.{declared.row_store.Room.{Room}, Store.{Store}, Called.{with_rows, with_entries}, Decisions.{room_of, roomed, RoomFits, room_test, spliced_column}}
+use Rattle.recorder.specs.{declared.row_store.Room.{Room}, Store.{Store}, Called.{with_rows, with_entries}}
+use Rattle.recorder.specs.Decisions.{room_of, roomed, RoomFits, room_test, spliced_column}
 use Rattle.recorder.proofs.Rows.{same_padded}
 
 module _ (width which : ℕ) (table : List ℕ) (n : ℕ) where
