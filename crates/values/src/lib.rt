@@ -244,7 +244,9 @@ impl<'a> MeetTable<'a> {
         true
     }
 
-    // Whether the grouping of every three values does not matter; left at the first triple that breaks the law.
+    // Whether the grouping of every three values does not matter; left at the first triple that breaks the law. It stays a function of its
+    // own: inside the whole check its inner loop took up to 1.7 times as long, by the place of the code.
+    #[inline(never)]
     fn is_associative(self) -> bool
         requires { entries_test self.values self.entries.now ≡ true }
         ensures { result ≡ associative_test self.entry.values self.entry.entries.now }
